@@ -1,0 +1,14 @@
+pub mod AnswerFaults
+pub mod Appended
+pub mod Best
+pub mod Cases
+pub mod Holding
+pub mod LegalReplies
+pub mod LowestFree
+pub mod Places
+pub mod Prefixes
+pub mod Records
+pub mod Steps
+pub mod Waiting
+pub mod WorkedJournals
+pub mod WorkedRefusals
