@@ -12,3 +12,11 @@ pub mod Steps
 pub mod Waiting
 pub mod WorkedJournals
 pub mod WorkedRefusals
+pub mod OwnerLines
+pub mod Frames
+pub mod NamedWaits
+pub mod Waiters
+pub mod HeldQueues
+pub mod Pending
+pub mod OwnersKeep
+pub mod OpenReplies

@@ -9,3 +9,5 @@ pub mod Notices
 pub mod Waits
 pub mod Answer
 pub mod OnePass
+pub mod Owners
+pub mod OwnersNoted

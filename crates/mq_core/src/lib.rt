@@ -5,3 +5,4 @@ pub mod entries;
 pub mod faults;
 pub mod journals;
 pub mod names;
+pub mod owners;
