@@ -1,87 +1,71 @@
--- The best of some messages, found in one pass.
-use Rattle.std.proofs.Common.{◌≡◌, ℕ, ◌==◌, Bool, true, false, List, [], ◌∷◌, Option, Some, None, if◌then◌else◌, refl, sym, ◌∙◌, ap, arith, eqb-true, eq-eqb}
+-- The best of a list, found in one pass.
+use Rattle.std.proofs.Common.{◌≡◌, ℕ, Bool, true, false, ◌&&◌, ◌||◌, ◌==◌, List, [], ◌∷◌, Option, Some, None, if◌then◌else◌, refl, sym, ◌∙◌, ap, arith}
+use Rattle.std.specs.Prelude.{nat_lt, nat_le}
 use Rattle.std.specs.List.{find, list_all}
-use Rattle.std.proofs.lemmas.Bool.{and_parts, and_from, or_right}
+use Rattle.std.proofs.lemmas.Bool.{and_parts, and_from}
 use Rattle.std.proofs.lemmas.Bool.Decides.{nat_tests}
 use Rattle.mq_core.specs.Record.{Past}
-use Rattle.mq_core.specs.Messages.{is_in, goes_first}
-use Rattle.mq_core.specs.OnePass.{best_of}
+use Rattle.mq_core.specs.Messages.{goes_first, present, best}
+use Rattle.mq_core.specs.OnePass.{better, best_of}
 use Rattle.mq_core.proofs.Places.{split, clash}
 
-before-refl : (past : Past) (x : ℕ) → goes_first past x x ≡ true
-before-refl past x = grind (arith, nat_tests)
+-- which of two goes first: one of any two, and it is an order but for ties
+pub record IsRanking {X : Type 0} (first : X → X → Bool) : Type 0 where
+  pub self : (x : X) → first x x ≡ true
+  pub chain : (x y z : X) → first x y ≡ true → first y z ≡ true → first x z ≡ true
+  pub other : (x y : X) → first x y ≡ false → first y x ≡ true
 
-before-trans : (past : Past) (x y z : ℕ) → goes_first past x y ≡ true → goes_first past y z ≡ true → goes_first past x z ≡ true
-before-trans past x y z p q = grind (arith, nat_tests)
+pub all-weaker : {X : Type 0} (first : X → X → Bool) → IsRanking first → (x y : X) → first x y ≡ true → (xs : List X) → list_all (first y) xs ≡ true → list_all (first x) xs ≡ true
+all-weaker first is x y p [] h = refl
+all-weaker first is x y p (z ∷ xs) h =
+    let parts = and_parts (first y z) (list_all (first y) xs) h in
+    and_from _ _ (is.chain x y z p parts.0) (all-weaker first is x y p xs parts.1)
 
-before-total : (past : Past) (x y : ℕ) → goes_first past x y ≡ false → goes_first past y x ≡ true
-before-total past x y p = grind (arith, nat_tests)
-
-before-antisym : (past : Past) (x y : ℕ) → goes_first past x y ≡ true → goes_first past y x ≡ true → x ≡ y
-before-antisym past x y p q = grind (arith, nat_tests)
-
-all-weaker : (past : Past) (x y : ℕ) → goes_first past x y ≡ true → (xs : List ℕ) → list_all (goes_first past y) xs ≡ true → list_all (goes_first past x) xs ≡ true
-all-weaker past x y p [] h = refl
-all-weaker past x y p (z ∷ xs) h =
-    let parts = and_parts (goes_first past y z) (list_all (goes_first past y) xs) h in
-    and_from _ _ (before-trans past x y z p parts.0) (all-weaker past x y p xs parts.1)
-
--- what is found is in the list, and goes before all of it
-pub record IsFound (past : Past) (xs : List ℕ) (m : ℕ) : Type 0 where
-  pub inside : is_in xs m ≡ true
-  pub before_all : list_all (goes_first past m) xs ≡ true
-
-pub best_of-nil : (past : Past) (xs : List ℕ) → best_of past xs ≡ None → xs ≡ []
-best_of-nil past [] h = refl
-best_of-nil past (x ∷ xs) h = absurd (cc)
-
-found-one : (past : Past) (x : ℕ) → IsFound past (x ∷ []) x
-found-one past x = record { inside = rw (eq-eqb x x refl) refl; before_all = rw (before-refl past x) refl }
-
-found-step : (past : Past) (x : ℕ) (xs : List ℕ) (m : ℕ) (o : Option ℕ) → best_of past xs ≡ o → ((n : ℕ) → best_of past xs ≡ Some n → IsFound past xs n) → best_of past (x ∷ xs) ≡ Some m → IsFound past (x ∷ xs) m
-found-step past x xs m None e rest h =
-    let em : Some x ≡ Some m = rw e at h in
-    let same : x ≡ m = cc in
-    rw (best_of-nil past xs e, ← same) (found-one past x)
-found-step past x xs m (Some n) e rest h =
-    let em : Some (if goes_first past x n then x else n) ≡ Some m = rw e at h in
-    let was : IsFound past xs n = rest n e in
-    split (goes_first past x n)
-    (λ t. let e2 : Some x ≡ Some m = rw t at em in let same : x ≡ m = cc in
-    let one : IsFound past (x ∷ xs) x = record { inside = rw (eq-eqb x x refl) refl; before_all = and_from _ _ (before-refl past x) (all-weaker past x n t xs was.before_all) } in
-    rw (← same) one)
-    (λ f. let e2 : Some n ≡ Some m = rw f at em in let same : n ≡ m = cc in
-    let one : IsFound past (x ∷ xs) n = record { inside = or_right (x == n) _ was.inside; before_all = and_from _ _ (before-total past x n f) was.before_all } in
-    rw (← same) one)
-
-pub best_of-found : (past : Past) (xs : List ℕ) (m : ℕ) → best_of past xs ≡ Some m → IsFound past xs m
-best_of-found past [] m h = absurd (cc)
-best_of-found past (x ∷ xs) m h = found-step past x xs m (best_of past xs) refl (λ n e. best_of-found past xs n e) h
-
-at : (t : ℕ → Bool) (xs : List ℕ) (m : ℕ) → is_in xs m ≡ true → list_all t xs ≡ true → t m ≡ true
-at t [] m h all = absurd (cc)
-at t (x ∷ xs) m h all =
-    let parts = and_parts (t x) (list_all t xs) all in
-    split (x == m)
-    (λ here. let e : x ≡ m = eqb-true _ _ here in rw (← e) parts.0)
-    (λ other. let rest : is_in xs m ≡ true = rw other at h in at t xs m rest parts.1)
-
--- the first that passes is the only one that does
-find-only : (t : ℕ → Bool) (xs : List ℕ) (m : ℕ) → is_in xs m ≡ true → t m ≡ true → ((n : ℕ) → is_in xs n ≡ true → t n ≡ true → n ≡ m) → find t xs ≡ Some m
-find-only t [] m h p only = absurd (cc)
-find-only t (x ∷ xs) m h p only =
+find-passes : {X : Type 0} (t s : X → Bool) (xs : List X) (n : X) → find t xs ≡ Some n → list_all s xs ≡ true → s n ≡ true
+find-passes t s [] n e all = absurd (cc)
+find-passes t s (x ∷ xs) n e all =
+    let parts = and_parts (s x) (list_all s xs) all in
     split (t x)
-    (λ passes. rw passes (ap Some (only x (rw (eq-eqb x x refl) refl) passes)))
-    (λ fails. rw fails (split (x == m)
-    (λ here. let e : x ≡ m = eqb-true _ _ here in let not_m : t m ≡ false = rw (← e) fails in clash _ p not_m)
-    (λ other. let rest : is_in xs m ≡ true = rw other at h in find-only t xs m rest p (λ n inside passes. only n (or_right (x == n) _ inside) passes))))
+    (λ y. let here : Some x ≡ Some n = rw y at e in let same : x ≡ n = cc in rw (← same) parts.0)
+    (λ f. let rest : find t xs ≡ Some n = rw f at e in find-passes t s xs n rest parts.1)
 
-best_of-is : (past : Past) (xs : List ℕ) (o : Option ℕ) → best_of past xs ≡ o → best_of past xs ≡ find (λ m. list_all (goes_first past m) xs) xs
-best_of-is past xs None e = rw (best_of-nil past xs e) refl
-best_of-is past xs (Some m) e =
-    let found : IsFound past xs m = best_of-found past xs m e in
-    e ∙ sym (find-only (λ m. list_all (goes_first past m) xs) xs m found.inside found.before_all
-    (λ n inside all. before-antisym past n m (at (goes_first past n) xs m found.inside all) (at (goes_first past m) xs n inside found.before_all)))
+pub find-test : {X : Type 0} (t : X → Bool) (xs : List X) (n : X) → find t xs ≡ Some n → t n ≡ true
+find-test t [] n e = absurd (cc)
+find-test t (x ∷ xs) n e = split (t x)
+    (λ y. let here : Some x ≡ Some n = rw y at e in let same : x ≡ n = cc in rw (← same) y)
+    (λ f. let rest : find t xs ≡ Some n = rw f at e in find-test t xs n rest)
 
-pub best_of-best : (past : Past) (xs : List ℕ) → best_of past xs ≡ find (λ m. list_all (goes_first past m) xs) xs
-best_of-best past xs = best_of-is past xs (best_of past xs) refl
+find-narrower : {X : Type 0} (t s : X → Bool) (xs : List X) (n : X) → find t xs ≡ Some n → s n ≡ true → find (λ m. s m && t m) xs ≡ Some n
+find-narrower t s [] n e p = absurd (cc)
+find-narrower t s (x ∷ xs) n e p = split (t x)
+    (λ y. let here : Some x ≡ Some n = rw y at e in let same : x ≡ n = cc in let passes : s x ≡ true = rw same p in rw (passes, y) here)
+    (λ f. let rest : find t xs ≡ Some n = rw f at e in
+      split (s x) (λ y. rw (y, f) (find-narrower t s xs n rest p)) (λ g. rw g (find-narrower t s xs n rest p)))
+
+none-left : {X : Type 0} (first : X → X → Bool) (xs : List X) → best_of first xs ≡ None → xs ≡ []
+none-left first [] e = refl
+none-left first (x ∷ xs) e = absurd (cc)
+
+-- the one found in one pass is the first that goes before all
+pub best_of-best : {X : Type 0} (first : X → X → Bool) → IsRanking first → (xs : List X) → best_of first xs ≡ find (λ m. list_all (first m) xs) xs
+best_of-best first is [] = refl
+best_of-best first is (x ∷ xs) = step (best_of first xs) refl (best_of-best first is xs)
+  where
+    step : (o : Option _) → best_of first xs ≡ o → best_of first xs ≡ find (λ m. list_all (first m) xs) xs → Some (better first x (best_of first xs)) ≡ find (λ m. first m x && list_all (first m) xs) (x ∷ xs)
+    step None e rest = rw (e, none-left first xs e, is.self x) refl
+    step (Some n) e rest =
+        let found : find (λ m. list_all (first m) xs) xs ≡ Some n = sym rest ∙ e in
+        let all : list_all (first n) xs ≡ true = find-test (λ m. list_all (first m) xs) xs n found in
+        rw e (split (first x n)
+          (λ t. let mine : list_all (first x) xs ≡ true = all-weaker first is x n t xs all in rw (t, is.self x, mine) refl)
+          (λ f. let back : first n x ≡ true = is.other x n f in
+            let fails : list_all (first x) xs ≡ false = split (list_all (first x) xs) (λ t. clash (first x n) (find-passes (λ m. list_all (first m) xs) (first x) xs n found t) f) (λ g. g) in
+            rw (f, is.self x, fails) (sym (find-narrower (λ m. list_all (first m) xs) (λ m. first m x) xs n found back))))
+
+-- messages by priority and place
+pub messages-ranking : (past : Past) → IsRanking (goes_first past)
+messages-ranking past = record { self = λ x. grind (arith, nat_tests); chain = λ x y z p q. grind (arith, nat_tests); other = λ x y p. grind (arith, nat_tests) }
+
+-- with no best message there is none
+pub best-none : (past : Past) (q : ℕ) → best past q ≡ None → present past q ≡ []
+best-none past q e = none-left (goes_first past) (present past q) (best_of-best (goes_first past) (messages-ranking past) (present past q) ∙ e)

@@ -38,7 +38,7 @@ filter-same s t (x ∷ xs) same =
     let rest : filter s xs ≡ filter t xs = filter-same s t xs (λ y h. same y (split (x == y) (λ e. rw e refl) (λ n. rw (n, h) refl))) in
     rw (here, rest) refl
 
-created-below : (past : Past) (q : ℕ) → is_in (created past) q ≡ true → q < length past
+pub created-below : (past : Past) (q : ℕ) → is_in (created past) q ≡ true → q < length past
 created-below [] q h = absurd (cc)
 created-below (r ∷ past) q h = split (creates r.entry.call r.entry.reply)
     (λ t. let h' : (length past == q || is_in (created past) q) ≡ true = rw t at h in

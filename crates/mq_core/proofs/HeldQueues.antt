@@ -48,7 +48,7 @@ setattr-cases X (MqSetattr e nonblock) d before h is old = split (e == d)
 setattr-cases X call d before h is old = old h is refl
 
 -- what is held behind an entry of its process: what an open made, or what was held before, on the same queue
-after-cases : (X : Type 0) (past : Past) (call : Call) (name : List ℕ) (reply : Reply) (d : ℕ) (before : Option Description) (h : Description) → held_after past call name reply d before ≡ Some h →
+pub after-cases : (X : Type 0) (past : Past) (call : Call) (name : List ℕ) (reply : Reply) (d : ℕ) (before : Option Description) (h : Description) → held_after past call name reply d before ≡ Some h →
     ((k : Description) → before ≡ Some k → k.queue ≡ h.queue → X) →
     ((flags : OpenFlags) (attr : Option Attr) (new : Bool) → call ≡ MqOpen flags attr → reply ≡ Opened d new → opened_queue past name new ≡ h.queue → X) → X
 after-cases X past call name (Opened e new) d before h is old opens =
@@ -61,7 +61,7 @@ any-more : (t : Holder → Bool) (p : ℕ) (o : Option ℕ) (xs : List Holder) �
 any-more t p None xs h = h
 any-more t p (Some d) xs h = split (t (record { process = p; d = d })) (λ y. rw y refl) (λ n. rw (n, h) refl)
 
-any-opener : (past : Past) (p d : ℕ) (h : Description) → held past p d ≡ Some h → (t : Holder → Bool) → t (record { process = p; d = d }) ≡ true → list_any t (openers past) ≡ true
+pub any-opener : (past : Past) (p d : ℕ) (h : Description) → held past p d ≡ Some h → (t : Holder → Bool) → t (record { process = p; d = d }) ≡ true → list_any t (openers past) ≡ true
 any-opener [] p d h e t passes = absurd (cc)
 any-opener (r ∷ past) p d h e t passes = split (r.entry.process == p)
     (λ own. let mine : r.entry.process ≡ p = eqb-true _ _ own in
@@ -72,10 +72,10 @@ any-opener (r ∷ past) p d h e t passes = split (r.entry.process == p)
     (λ other. let was : held past p d ≡ Some h = rw other at e in
     any-more t r.entry.process (opened_number r.entry.call r.entry.reply) (openers past) (any-opener past p d h was t passes))
 
-created-more : (past : Past) (r : Record) (q : ℕ) → is_in (created past) q ≡ true → is_in (created (r ∷ past)) q ≡ true
+pub created-more : (past : Past) (r : Record) (q : ℕ) → is_in (created past) q ≡ true → is_in (created (r ∷ past)) q ≡ true
 created-more past r q h = split (creates r.entry.call r.entry.reply) (λ t. rw t (split (length past == q) (λ y. rw y refl) (λ n. rw (n, h) refl))) (λ f. rw f h)
 
-bound-created : (past : Past) (name : List ℕ) (q : ℕ) → bound_queue past name ≡ Some q → is_in (created past) q ≡ true
+pub bound-created : (past : Past) (name : List ℕ) (q : ℕ) → bound_queue past name ≡ Some q → is_in (created past) q ≡ true
 bound-created [] name q e = absurd (cc)
 bound-created (r ∷ past) name q e = split (creates r.entry.call r.entry.reply && bytes_eq r.payload name)
     (λ t. let here : Some (length past) ≡ Some q = rw t at e in let same : length past ≡ q = cc in rw ((and_parts (creates r.entry.call r.entry.reply) (bytes_eq r.payload name) t).0, eq-eqb (length past) q same) refl)
@@ -92,7 +92,7 @@ opened-bound past p flags attr name d e =
     (λ f. either (λ reply. reply ≡ Opened d false → is_some (bound_queue past name) ≡ true) (not (is_some (bound_queue past name)) && nat_le 64 (length (alive past))) (Refused NoSpace) _ (λ t g. absurd (cc))
     (λ f g. let bound : not (is_some (bound_queue past name)) ≡ false = cc in split (is_some (bound_queue past name)) (λ y. y) (λ n. let bad : true ≡ false = rw n at bound in absurd (cc))))))) e
 
-created-held : (past : Past) → Legal past → (p d : ℕ) (h : Description) → held past p d ≡ Some h → is_in (created past) h.queue ≡ true
+pub created-held : (past : Past) → Legal past → (p d : ℕ) (h : Description) → held past p d ≡ Some h → is_in (created past) h.queue ≡ true
 created-held [] legal p d h e = absurd (cc)
 created-held (r ∷ past) legal p d h e = split (r.entry.process == p)
     (λ own.

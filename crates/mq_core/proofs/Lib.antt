@@ -20,3 +20,5 @@ pub mod HeldQueues
 pub mod Pending
 pub mod OwnersKeep
 pub mod OpenReplies
+pub mod Untouched
+pub mod Alive

@@ -7,7 +7,7 @@ use Rattle.mq_core.specs.Descriptors.{is_place, is_on, called_queue, held}
 use Rattle.mq_core.specs.Messages.{is_in, if_in, taken, present, admitted, best, least, blocked_sends, blocked_receives, blocks_send, handed_waits, admitted_waits, waiting_sends, waiting_receives}
 use Rattle.mq_core.specs.Answer.{Legal}
 use Rattle.mq_core.proofs.Places.{split, is_in-filter, find-in}
-use Rattle.mq_core.proofs.Best.{best_of-best, best_of-nil}
+use Rattle.mq_core.proofs.Best.{best-none}
 use Rattle.mq_core.proofs.Cases.{Says}
 use Rattle.mq_core.proofs.LegalReplies.{legal_says}
 use Rattle.mq_core.proofs.Steps.{without, filter-both, blocked_sends-below, if_in-inside}
@@ -16,10 +16,6 @@ use Rattle.mq_core.specs.declared.entries.Call.{Call}
 use Rattle.mq_core.specs.declared.entries.Call.TheVariants.{MqOpen, MqClose, MqUnlink, MqSend, MqReceive, MqGetattr, MqSetattr, MqNotify, NextNotice, Collect}
 use Rattle.mq_core.specs.declared.entries.Reply.{Reply}
 use Rattle.mq_core.specs.declared.entries.Reply.TheVariants.{Opened, Queued, Handed, Waits, Got, Collected, Attrs, Notice, Done, Refused}
-
--- with no best message there is none
-best-none : (past : Past) (q : ℕ) → best past q ≡ None → present past q ≡ []
-best-none past q e = best_of-nil past (present past q) (best_of-best past (present past q) ∙ e)
 
 least-none : (xs : List ℕ) → least xs ≡ None → xs ≡ []
 least-none [] e = refl

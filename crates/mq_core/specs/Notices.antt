@@ -23,10 +23,6 @@ abbrev pub only_if : Bool → Option Registration → Option Registration
 only_if b None = None
 only_if b (Some n) = if b then Some n else None
 
--- the registration that an entry makes on queue q
-abbrev pub registers : Past → Entry → ℕ → Option Registration
-registers past e q = only_if (is_on past e q) (registration_of (length past) e.process e.call e.reply)
-
 -- the place of the registration that a reply notified
 abbrev pub notified : Reply → Option ℕ
 notified (Queued k) = k
@@ -51,25 +47,36 @@ abbrev pub closes : Call → Reply → ℕ → Bool
 closes call Done d = is_close_of call d
 closes call _ d = false
 
--- an entry ends a registration on queue q: its reply notifies it, or its process removes it, or its process closes the
--- descriptor that it used
-abbrev pub ends : Past → Entry → ℕ → Registration → Bool
-ends past e q n =
+-- an entry ends a registration: its reply notifies it, or its process removes it by a call on the registration's queue, or
+-- its process closes the descriptor that it used
+abbrev pub ends : Bool → Entry → Registration → Bool
+ends on e n =
     is_place n.place (notified e.reply)
-    || ((removes e.call e.reply && is_on past e q || closes e.call e.reply n.d) && e.process == n.process)
+    || ((removes e.call e.reply && on || closes e.call e.reply n.d) && e.process == n.process)
 
 abbrev pub unless : (Registration → Bool) → Option Registration → Option Registration
-unless ends None = None
-unless ends (Some n) = if ends n then None else Some n
+unless ended None = None
+unless ended (Some n) = if ended n then None else Some n
 
 abbrev pub or_else : Option Registration → Option Registration → Option Registration
 or_else None before = before
 or_else (Some n) before = Some n
 
+-- the registration on a queue behind the entry at place `here`, where it was before and the entry's call is made on the
+-- queue or not: the one that the entry makes there, else the one before unless the entry ended it
+abbrev pub registration_after : Bool → ℕ → Entry → Option Registration → Option Registration
+registration_after on here e before = or_else (only_if on (registration_of here e.process e.call e.reply)) (unless (ends on e) before)
+
+-- a call that makes or ends registrations where it is done
+abbrev pub is_about_registrations : Call → Bool
+is_about_registrations (MqNotify d value) = true
+is_about_registrations (MqClose d) = true
+is_about_registrations _ = false
+
 -- the registration that stands on a queue: the latest one made there, unless a later entry ended it
 abbrev pub registered : Past → ℕ → Option Registration
 registered [] q = None
-registered (r ∷ past) q = or_else (registers past r.entry q) (unless (ends past r.entry q) (registered past q))
+registered (r ∷ past) q = registration_after (is_on past r.entry q) (length past) r.entry (registered past q)
 
 -- the place of the registration that stands on a queue
 abbrev pub registered_place : Past → ℕ → Option ℕ

@@ -6,3 +6,4 @@ pub mod faults;
 pub mod journals;
 pub mod names;
 pub mod owners;
+pub mod registrations;

@@ -1,0 +1,4 @@
+//! The message queues of one thread: each call appends the entry that the definitions say.
+#![tactic(auto)]
+
+pub mod order;
