@@ -22,3 +22,5 @@ pub mod OwnersKeep
 pub mod OpenReplies
 pub mod Untouched
 pub mod Alive
+pub mod Presence
+pub mod NoticeSteps
