@@ -1,1 +1,3 @@
 pub mod Slotted
+pub mod QueueLines
+pub mod QueuesKeep

@@ -1,5 +1,5 @@
 //! The order of one queue: which of its messages is received next.
-ghost use Rattle.std.specs.Prelude.{◌≡◌, ◌<◌, ◌≤◌, ◌+◌, [], ◌∷◌, length, IfOk, IfSome, IsSome, IsTrue, ◌↔◌, filter, not, ◌==◌, Some, None, vec_capacity};
+ghost use Rattle.std.specs.Prelude.{◌≡◌, ◌<◌, ◌≤◌, ◌+◌, ◌-◌, [], ◌∷◌, length, IfOk, IfSome, IsSome, IsTrue, ◌↔◌, filter, not, ◌==◌, Some, None, vec_capacity};
 ghost use Rattle.std.specs.Option.{option_map};
 
 use std::alloc::{AllocError, Global};
@@ -60,7 +60,7 @@ impl Order {
     pub fn push(&mut self, slot: Slot)
         requires { 0 < self.old.room }
         ensures slots { self.new.slots ≡ slot ∷ self.old.slots }
-        ensures room { self.old.room ≤ self.new.room + 1 }
+        ensures room { self.new.room ≡ self.old.room - 1 }
     {
         self.slots.push_reserved(slot);
     }
@@ -85,7 +85,7 @@ impl Order {
     /// Takes the message at a place out.
     pub fn remove(&mut self, place: u64)
         ensures slots { self.new.slots ≡ without place self.old.slots }
-        ensures room { self.new.room + length (without place self.old.slots) ≡ self.old.room + length self.old.slots }
+        ensures room { self.new.room ≡ (self.old.room + length self.old.slots) - length (without place self.old.slots) }
     {
         drop_slot(&mut self.slots, place);
     }

@@ -1,0 +1,8 @@
+use Rattle.std.proofs.Common.{rules}
+use Rattle.std.proofs.lemmas.Fn.{filter_same}
+use Rattle.mq_state.specs.Queues.{without_queue}
+use Rattle.mq_state.proofs.queues.remove.Goals as goal
+
+pub returns : goal.returns
+unfolding without_queue
+returns c = filter_same _ _ _ (λ x b f' k. search rules) _ _ c.retain.ensures.filtered

@@ -1,0 +1,126 @@
+-- What the table of queues says of each, and what it becomes behind one more entry. It defines nothing new: where a table
+-- mirrors a journal, each word here is the definition of the same name over the journal.
+use Rattle.std.specs.Prelude.{ℕ, ◌≡◌, ◌<◌, ◌≤◌, ◌+◌, ◌-◌, Bool, true, false, ◌&&◌, ◌||◌, not, ◌==◌, List, [], ◌∷◌, ◌++◌, length, Option, Some, None, if◌then◌else◌, map, int_le, pos, reverse}
+use Rattle.std.specs.List.{find, filter}
+use Rattle.std.specs.Str.{bytes_eq}
+use Rattle.std.specs.Option.{option_map, option_and_then, unwrap_or}
+use Rattle.mq_core.specs.Record.{Past}
+use Rattle.mq_core.specs.Names.{attributes, name_of}
+use Rattle.mq_core.specs.Descriptors.{alive, is_named}
+use Rattle.mq_core.specs.Messages.{present, priority, priority_given}
+use Rattle.mq_core.specs.Notices.{registered, registration_after}
+use Rattle.mq_core.specs.Owners.{is_held_in}
+use Rattle.mq_core.specs.declared.owners.Owner.{Owner}
+use Rattle.mq_core.specs.declared.entries.Registration.{Registration}
+use Rattle.mq_core.specs.declared.entries.Entry.{Entry}
+use Rattle.mq_core.specs.declared.entries.Call.{Call}
+use Rattle.mq_core.specs.declared.entries.Call.TheVariants.{MqClose, MqUnlink}
+use Rattle.mq_core.specs.declared.entries.Reply.{Reply}
+use Rattle.mq_core.specs.declared.entries.Reply.TheVariants.{Queued, Got, Done}
+use Rattle.mq_state.specs.declared.order.Slot.{Slot}
+use Rattle.mq_state.specs.SlotOrder.{without, best_slot}
+use Rattle.mq_state.specs.QueueShown.{QueueShown}
+
+unfoldable pub queue_in : List QueueShown → ℕ → Option QueueShown
+queue_in queues q = find (λ x. x.place == q) queues
+
+unfoldable pub slots_in : List QueueShown → ℕ → List Slot
+slots_in queues q = unwrap_or (option_map (λ x. x.slots) (queue_in queues q)) []
+
+unfoldable pub registration_in : List QueueShown → ℕ → Option Registration
+registration_in queues q = option_and_then (λ x. x.registration) (queue_in queues q)
+
+unfoldable pub is_named_in : List QueueShown → ℕ → Bool
+is_named_in queues q = unwrap_or (option_map (λ x. x.named) (queue_in queues q)) false
+
+-- the queue that a name is bound to
+unfoldable pub bound_in : Past → List QueueShown → List ℕ → Option ℕ
+bound_in past queues name = option_map (λ x. x.place) (find (λ x. x.named && bytes_eq (name_of past x.place) name) queues)
+
+-- the table with the line of queue q changed
+abbrev pub changed : (QueueShown → QueueShown) → List QueueShown → ℕ → List QueueShown
+changed f [] q = []
+changed f (x ∷ queues) q = if x.place == q then f x ∷ queues else x ∷ changed f queues q
+
+unfoldable pub without_queue : List QueueShown → ℕ → List QueueShown
+without_queue queues q = filter (λ x. not (x.place == q)) queues
+
+-- one line behind an entry -------------------------------------------------------------------------------------------------
+
+abbrev pub with_slot : Slot → QueueShown → QueueShown
+with_slot s x = record { place = x.place; named = x.named; registration = x.registration; slots = s ∷ x.slots; room = x.room - 1 }
+
+abbrev pub without_slot : ℕ → QueueShown → QueueShown
+without_slot m x = record { place = x.place; named = x.named; registration = x.registration; slots = without m x.slots; room = (x.room + length x.slots) - length (without m x.slots) }
+
+abbrev pub unnamed : QueueShown → QueueShown
+unnamed x = record { place = x.place; named = false; registration = x.registration; slots = x.slots; room = x.room }
+
+abbrev pub admitting : Option ℕ → ℕ → QueueShown → QueueShown
+admitting None prio x = x
+admitting (Some w) prio x = with_slot (record { prio = prio; place = w }) x
+
+abbrev pub renewed_done : Call → QueueShown → QueueShown
+renewed_done MqUnlink x = unnamed x
+renewed_done _ x = x
+
+-- the line of the entry's queue: its messages, and whether it is still named. An admitted message has this priority
+abbrev pub renewed : ℕ → Call → Reply → ℕ → QueueShown → QueueShown
+renewed here call (Queued notified) prio x = with_slot (record { prio = priority_given call; place = here }) x
+renewed here call (Got place admitted notified) prio x = admitting admitted prio (without_slot place x)
+renewed here call Done prio x = renewed_done call x
+renewed here call _ prio x = x
+
+abbrev pub HasRoomFor : Option ℕ → QueueShown → Type 0
+HasRoomFor None x = Unit {0}
+HasRoomFor (Some w) x = 0 < x.room
+
+-- there is room for the message that the entry lets in
+abbrev pub HasRoom : Reply → QueueShown → Type 0
+HasRoom (Queued notified) x = 0 < x.room
+HasRoom (Got place admitted notified) x = HasRoomFor admitted (without_slot place x)
+HasRoom _ x = Unit {0}
+
+-- any line: its registration, where the entry's call is made on queue q
+abbrev pub reregistered : ℕ → ℕ → Entry → QueueShown → QueueShown
+reregistered q here e x = record { place = x.place; named = x.named; registration = registration_after (q == x.place) here e x.registration; slots = x.slots; room = x.room }
+
+abbrev pub frees : Call → Bool
+frees (MqClose d) = true
+frees MqUnlink = true
+frees _ = false
+
+-- an entry behind which its queue may be needed no longer
+abbrev pub may_free : Call → Reply → Bool
+may_free call Done = frees call
+may_free call _ = false
+
+abbrev pub released : List Owner → Bool → List QueueShown → ℕ → List QueueShown
+released owners freed queues q = if freed && not (is_named_in queues q || is_held_in owners q) then without_queue queues q else queues
+
+-- the table behind the entry at place `here`, made on queue q; the table of processes is the one behind it
+abbrev pub noted_queues : List Owner → ℕ → Entry → ℕ → ℕ → List QueueShown → List QueueShown
+noted_queues owners here e q prio queues =
+    released owners (may_free e.call e.reply) (changed (renewed here e.call e.reply prio) (map (reregistered q here e) queues) q) q
+
+-- a queue that was just created
+abbrev pub fresh : ℕ → ℕ → QueueShown
+fresh here room = record { place = here; named = true; registration = None; slots = []; room = room }
+
+-- the table says what the definitions say of the journal -----------------------------------------------------------------
+
+abbrev pub slot_of : Past → ℕ → Slot
+slot_of past m = record { prio = priority past m; place = m }
+
+abbrev pub slots_of : Past → List ℕ → List Slot
+slots_of past places = map (slot_of past) places
+
+pub record LineMirror (past : Past) (x : QueueShown) : Type 0 where
+  pub named : x.named ≡ is_named past x.place
+  pub registration : x.registration ≡ registered past x.place
+  pub slots : x.slots ≡ slots_of past (present past x.place)
+  pub room : int_le (attributes past x.place).maxmsg (pos (x.room + length x.slots)) ≡ true
+
+pub record QueuesMirror (past : Past) (queues : List QueueShown) : Type 0 where
+  pub places : map (λ x. x.place) queues ≡ reverse (alive past)
+  pub lines : (q : ℕ) (x : QueueShown) → queue_in queues q ≡ Some x → LineMirror past x
