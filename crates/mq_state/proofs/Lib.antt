@@ -1,3 +1,4 @@
 pub mod Slotted
 pub mod QueueLines
 pub mod QueuesKeep
+pub mod QueuesNoted

@@ -92,7 +92,7 @@ slots_of-older past r (x ∷ xs) below =
 eqb-swap : (a b : ℕ) → (a == b) ≡ (b == a)
 eqb-swap a b = split (a == b) (λ t. t ∙ sym (eq-eqb b a (sym (eqb-true _ _ t)))) (λ n. n ∙ sym (ne_eqb b a (λ e. eqb-false _ _ n (sym e))))
 
-slots_of-without : (past : Past) (m : ℕ) (xs : List ℕ) → without_place m (slots_of past xs) ≡ slots_of past (without m xs)
+pub slots_of-without : (past : Past) (m : ℕ) (xs : List ℕ) → without_place m (slots_of past xs) ≡ slots_of past (without m xs)
 slots_of-without past m [] = refl
 slots_of-without past m (x ∷ xs) = split (x == m)
     (λ t. let back : (m == x) ≡ true = eqb-swap m x ∙ t in rw (t, back) (slots_of-without past m xs))
@@ -137,18 +137,18 @@ on-done : (b c : Bool) (here p : ℕ) (call : Call) (before : Option Registratio
 on-done b c here p (MqNotify d v) before same = ap (λ x. registration_after x here (record { process = p; call = MqNotify d v; reply = Done }) before) (same d v refl)
 on-done b c here p call before same = refl
 
-registration-on : (b c : Bool) (here p : ℕ) (call : Call) (reply : Reply) (before : Option Registration) → ((d : ℕ) (v : Option ℕ) → call ≡ MqNotify d v → reply ≡ Done → b ≡ c) → registration_after b here (record { process = p; call = call; reply = reply }) before ≡ registration_after c here (record { process = p; call = call; reply = reply }) before
+pub registration-on : (b c : Bool) (here p : ℕ) (call : Call) (reply : Reply) (before : Option Registration) → ((d : ℕ) (v : Option ℕ) → call ≡ MqNotify d v → reply ≡ Done → b ≡ c) → registration_after b here (record { process = p; call = call; reply = reply }) before ≡ registration_after c here (record { process = p; call = call; reply = reply }) before
 registration-on b c here p call Done before same = on-done b c here p call before (λ d v e. same d v e refl)
 registration-on b c here p call reply before same = refl
 
-renewed-registration : (here : ℕ) (call : Call) (reply : Reply) (prio : ℕ) (x : QueueShown) → (renewed here call reply prio x).registration ≡ x.registration
+pub renewed-registration : (here : ℕ) (call : Call) (reply : Reply) (prio : ℕ) (x : QueueShown) → (renewed here call reply prio x).registration ≡ x.registration
 renewed-registration here call (Got m None n) prio x = refl
 renewed-registration here call (Got m (Some w) n) prio x = refl
 renewed-registration here MqUnlink Done prio x = refl
 renewed-registration here call Done prio x = refl
 renewed-registration here call reply prio x = refl
 
-renewed-place : (here : ℕ) (call : Call) (reply : Reply) (prio : ℕ) (x : QueueShown) → (renewed here call reply prio x).place ≡ x.place
+pub renewed-place : (here : ℕ) (call : Call) (reply : Reply) (prio : ℕ) (x : QueueShown) → (renewed here call reply prio x).place ≡ x.place
 renewed-place here call (Got m None n) prio x = refl
 renewed-place here call (Got m (Some w) n) prio x = refl
 renewed-place here MqUnlink Done prio x = refl
@@ -161,7 +161,7 @@ pub int-room : (a : ℤ) (m n : ℕ) → int_le a (pos m) ≡ true → int_le a 
 int-room (pos k) m n h g = grind (arith, nat_tests)
 int-room (negsuc k) m n h g = absurd (let bad : true ≡ false = g in cc)
 
-total : QueueShown → ℕ
+unfoldable pub total : QueueShown → ℕ
 total x = x.room + length x.slots
 
 with_slot-total : (s : Slot) (x : QueueShown) → 0 < x.room → total (with_slot s x) ≡ total x
@@ -172,7 +172,7 @@ without_slot-total : (m : ℕ) (x : QueueShown) → total (without_slot m x) ≡
 unfolding total
 without_slot-total m x = omega (arith, length-without m x.slots)
 
-renewed-total : (here : ℕ) (call : Call) (reply : Reply) (prio : ℕ) (x : QueueShown) → HasRoom reply x → total (renewed here call reply prio x) ≡ total x
+pub renewed-total : (here : ℕ) (call : Call) (reply : Reply) (prio : ℕ) (x : QueueShown) → HasRoom reply x → total (renewed here call reply prio x) ≡ total x
 unfolding total
 renewed-total here call (Queued n) prio x room = with_slot-total (record { prio = priority_given call; place = here }) x room
 renewed-total here call (Got m None n) prio x room = without_slot-total m x
@@ -183,7 +183,7 @@ renewed-total here call reply prio x room = refl
 
 -- one line ---------------------------------------------------------------------------------------------------------------
 
-abbrev line_after : ℕ → ℕ → Entry → ℕ → QueueShown → QueueShown
+abbrev pub line_after : ℕ → ℕ → Entry → ℕ → QueueShown → QueueShown
 line_after q here e prio x = if q == x.place then renewed here e.call e.reply prio (reregistered q here e x) else reregistered q here e x
 
 -- the lines of other queues, and of this one, by what is present
@@ -191,7 +191,7 @@ pub record Presence (past : Past) (p : ℕ) (call : Call) (reply : Reply) (paylo
   pub elsewhere : (k : ℕ) → k < length past → k ≢ q → present (rec p call reply payload ∷ past) k ≡ present past k
   pub here : (x : QueueShown) → x.slots ≡ slots_of past (present past q) → q < length past → (renewed (length past) call reply prio x).slots ≡ slots_of (rec p call reply payload ∷ past) (present (rec p call reply payload ∷ past) q)
 
-same-slots : (past : Past) (r : Record) (k : ℕ) (x : QueueShown) → x.slots ≡ slots_of past (present past k) → present (r ∷ past) k ≡ present past k → x.slots ≡ slots_of (r ∷ past) (present (r ∷ past) k)
+pub same-slots : (past : Past) (r : Record) (k : ℕ) (x : QueueShown) → x.slots ≡ slots_of past (present past k) → present (r ∷ past) k ≡ present past k → x.slots ≡ slots_of (r ∷ past) (present (r ∷ past) k)
 same-slots past r k x is same = is ∙ sym (slots_of-older past r (present past k) (present-below past k)) ∙ ap (slots_of (r ∷ past)) (sym same)
 
 presence-quiet : (past : Past) (p : ℕ) (call : Call) (reply : Reply) (payload : List ℕ) (q prio : ℕ) → ((k : ℕ) → present (rec p call reply payload ∷ past) k ≡ present past k) → ((x : QueueShown) → (renewed (length past) call reply prio x).slots ≡ x.slots) → Presence past p call reply payload q prio
