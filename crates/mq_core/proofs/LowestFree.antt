@@ -1,4 +1,4 @@
--- The first of the numbers from low on that passes a test.
+-- The first of the descriptor numbers that passes a test.
 use Rattle.std.proofs.Common.{◌≡◌, ℕ, zero, suc, ◌+◌, ◌<◌, ◌≤◌, ◌==◌, Bool, true, false, Some, None, refl, arith, eqb-true, is_none}
 use Rattle.std.specs.List.{find}
 use Rattle.std.proofs.lemmas.Bool.{eqb-false}
@@ -21,12 +21,12 @@ find-none_from t low (suc n) none =
     let fails : t low ≡ false = none low (omega arith) (omega arith) in
     rw fails (find-none_from t (low + 1) n (λ e above below. none e (omega arith) (omega arith)))
 
--- d is the lowest number that the process does not hold
-pub lowest_free-Some : (past : Past) (p d : ℕ) → d < 16 → is_none (held past p d) ≡ true → ((e : ℕ) → e < d → is_none (held past p e) ≡ false) → lowest_free past p ≡ Some d
+-- d is the first number that passes
+pub first-Some : (t : ℕ → Bool) (d : ℕ) → d < 16 → t d ≡ true → ((e : ℕ) → e < d → t e ≡ false) → find t descriptor_numbers ≡ Some d
 unfolding descriptor_numbers
-lowest_free-Some past p d lt free before = find-from (λ e. is_none (held past p e)) 0 16 d (omega arith) (omega arith) free (λ e above below. before e below)
+first-Some t d lt passes before = find-from t 0 16 d (omega arith) (omega arith) passes (λ e above below. before e below)
 
--- the process holds all of them
-pub lowest_free-None : (past : Past) (p : ℕ) → ((e : ℕ) → e < 16 → is_none (held past p e) ≡ false) → lowest_free past p ≡ None
+-- none of them passes
+pub first-None : (t : ℕ → Bool) → ((e : ℕ) → e < 16 → t e ≡ false) → find t descriptor_numbers ≡ None
 unfolding descriptor_numbers
-lowest_free-None past p all = find-none_from (λ e. is_none (held past p e)) 0 16 (λ e above below. all e (omega arith))
+first-None t all = find-none_from t 0 16 (λ e above below. all e (omega arith))

@@ -12,7 +12,7 @@ use Rattle.mq_core.specs.Descriptors.{held, held_after, after_open, after_close,
 use Rattle.mq_core.specs.Messages.{is_in, is_send, is_receive, blocks_send, blocks_receive, least, waiting_sends, waiting_receives}
 use Rattle.mq_core.specs.Waits.{is_wait, named_wait, names_wait, open_wait, answered_by}
 use Rattle.mq_core.specs.Answer.{Legal, IsLegalNext, may_call, answer}
-use Rattle.mq_core.specs.Owners.{held_in, wait_in, answer_in, with_wait, with_answer, with_slot, with_flag, waiter_in, OwnersMirror, blocked}
+use Rattle.mq_core.specs.Owners.{held_in, wait_in, answer_in, with_wait, with_answer, with_slot, with_flag, waiter_in, OwnersMirror, blocked, waiting}
 use Rattle.mq_core.specs.OwnersNoted.{FitsSlots, noted, noted_open, noted_done, noted_attributes, with_answer_at}
 use Rattle.mq_core.specs.declared.owners.OpenWait.{OpenWait}
 use Rattle.mq_core.specs.declared.owners.Owner.{Owner}
@@ -30,7 +30,7 @@ use Rattle.mq_core.proofs.Cases.{Says, answer_says}
 use Rattle.mq_core.proofs.LegalReplies.{legal_says}
 use Rattle.mq_core.proofs.OwnerLines.{line-exists, HasSlots, held_in-with_slot, held_in-number, held_in-process, held_in-with_wait, held_in-with_answer, wait_in-with_wait, wait_in-with_answer, wait_in-with_slot, answer_in-with_wait, answer_in-with_answer, answer_in-with_slot, slots-with_slot, slots-with_wait, slots-with_answer}
 use Rattle.mq_core.proofs.Frames.{open_wait-same, answered_by-none, answered_by-step, blocked-older}
-use Rattle.mq_core.proofs.Waiters.{same-waiter, waiter, waiting, admits-least, hands-least}
+use Rattle.mq_core.proofs.Waiters.{same-waiter, waiter, admits-least, hands-least}
 use Rattle.mq_core.proofs.OpenReplies.{opened-says, lowest_free-is}
 use Rattle.mq_core.proofs.NamedWaits.{least-in}
 

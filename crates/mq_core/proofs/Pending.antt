@@ -7,13 +7,13 @@ use Rattle.mq_core.specs.Record.{Past}
 use Rattle.mq_core.specs.Messages.{is_in, least}
 use Rattle.mq_core.specs.Waits.{open_wait, answered_by}
 use Rattle.mq_core.specs.Answer.{Legal}
-use Rattle.mq_core.specs.Owners.{wait_in, answer_in, pending, pending_in, is_kind, IsFirstWait, OwnersMirror, blocked}
+use Rattle.mq_core.specs.Owners.{wait_in, answer_in, pending, pending_in, is_kind, IsFirstWait, OwnersMirror, blocked, waiting}
 use Rattle.mq_core.specs.declared.owners.OpenWait.{OpenWait}
 use Rattle.mq_core.specs.declared.owners.Owner.{Owner}
 use Rattle.mq_core.proofs.Places.{split, is_in-filter}
 use Rattle.mq_core.proofs.OwnerLines.{pending_in-past}
 use Rattle.mq_core.proofs.NamedWaits.{blocked-once}
-use Rattle.mq_core.proofs.Waiters.{waiting, named_waits, waiting-filter, in-filter, waiter, unnamed, least-none, least-some}
+use Rattle.mq_core.proofs.Waiters.{named_waits, waiting-filter, in-filter, waiter, unnamed, least-none, least-some}
 
 -- what a pending wait is
 record IsPending (owners : List Owner) (p q : ℕ) (sends : Bool) (w : ℕ) : Type 0 where

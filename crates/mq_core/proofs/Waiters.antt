@@ -13,7 +13,7 @@ use Rattle.mq_core.proofs.Cases.{Says}
 use Rattle.mq_core.proofs.LegalReplies.{legal_says}
 use Rattle.mq_core.proofs.Steps.{Below, not-below}
 use Rattle.mq_core.proofs.Prefixes.{record_at-below}
-use Rattle.mq_core.specs.Owners.{blocked}
+use Rattle.mq_core.specs.Owners.{blocked, waiting}
 use Rattle.mq_core.proofs.Frames.{record_at-older}
 use Rattle.mq_core.proofs.NamedWaits.{blocked-once, blocked-cases, blocked-below, newest-receive, newest-send, unhanded, least-in}
 use Rattle.mq_core.specs.declared.entries.Call.{Call}
@@ -21,11 +21,7 @@ use Rattle.mq_core.specs.declared.entries.Call.TheVariants.{MqOpen, MqClose, MqU
 use Rattle.mq_core.specs.declared.entries.Reply.{Reply}
 use Rattle.mq_core.specs.declared.entries.Reply.TheVariants.{Opened, Queued, Handed, Waits, Got, Collected, Attrs, Notice, Done, Refused}
 
--- the waits of a kind on a queue, and those of the kind that an entry names
-abbrev pub waiting : Past → Bool → ℕ → List ℕ
-waiting past true q = waiting_sends past q
-waiting past false q = waiting_receives past q
-
+-- the waits of a kind that an entry names
 abbrev pub named_waits : Past → Bool → List ℕ
 named_waits past true = admitted_waits past
 named_waits past false = handed_waits past

@@ -1,5 +1,5 @@
 -- Which descriptors the processes hold, and which queues exist (mq_open, mq_close, mq_setattr, mq_unlink).
-use Rattle.std.specs.Prelude.{ℕ, zero, suc, ◌+◌, Bool, false, ◌||◌, ◌==◌, List, [], ◌∷◌, length, Option, Some, None, is_none, if◌then◌else◌}
+use Rattle.std.specs.Prelude.{ℕ, zero, suc, ◌+◌, Bool, false, ◌||◌, ◌==◌, List, [], ◌∷◌, length, Option, Some, None, is_none, is_some, if◌then◌else◌}
 use Rattle.std.specs.List.{list_any, filter, find}
 use Rattle.std.specs.Option.{option_map, option_and_then, unwrap_or}
 use Rattle.mq_core.specs.Record.{Past}
@@ -62,6 +62,10 @@ descriptor_numbers = numbers_from 0 16
 -- the lowest descriptor that process p does not hold
 abbrev pub lowest_free : Past → ℕ → Option ℕ
 lowest_free past p = find (λ d. is_none (held past p d)) descriptor_numbers
+
+-- the lowest descriptor that process p holds
+abbrev pub lowest_held : Past → ℕ → Option ℕ
+lowest_held past p = find (λ d. is_some (held past p d)) descriptor_numbers
 
 -- this is place k
 abbrev pub is_place : ℕ → Option ℕ → Bool

@@ -5,7 +5,7 @@ use Rattle.std.specs.List.{count_by, list_any, position, find}
 use Rattle.std.specs.Option.{option_map, option_and_then, unwrap_or}
 use Rattle.mq_core.specs.Record.{Past}
 use Rattle.mq_core.specs.Descriptors.{held, is_place, with_nonblock, descriptor_numbers}
-use Rattle.mq_core.specs.Messages.{is_in, blocked_sends, blocked_receives}
+use Rattle.mq_core.specs.Messages.{is_in, blocked_sends, blocked_receives, waiting_sends, waiting_receives}
 use Rattle.mq_core.specs.Waits.{open_wait, answered_by}
 use Rattle.mq_core.specs.declared.entries.Description.{Description}
 use Rattle.mq_core.specs.declared.owners.OpenWait.{OpenWait}
@@ -26,6 +26,10 @@ answer_in owners p = option_and_then (λ o. o.answer) (slice_get owners p)
 -- the lowest descriptor that process p does not hold
 abbrev pub free_number_in : List Owner → ℕ → Option ℕ
 free_number_in owners p = find (λ d. is_none (held_in owners p d)) descriptor_numbers
+
+-- the lowest descriptor that process p holds
+abbrev pub lowest_held_in : List Owner → ℕ → Option ℕ
+lowest_held_in owners p = find (λ d. is_some (held_in owners p d)) descriptor_numbers
 
 -- a wait is of the kind looked for: a send, or a receive
 abbrev pub is_kind : Bool → Bool → Bool
@@ -88,6 +92,11 @@ free_owner = record { descriptors = replicate 16 None; wait = None; answer = Non
 abbrev pub blocked : Past → Bool → ℕ → List ℕ
 blocked past true q = blocked_sends past q
 blocked past false q = blocked_receives past q
+
+-- the sends, or receives, that wait on a queue
+abbrev pub waiting : Past → Bool → ℕ → List ℕ
+waiting past true q = waiting_sends past q
+waiting past false q = waiting_receives past q
 
 -- the table says what the definitions say of the journal
 pub record OwnersMirror (past : Past) (owners : List Owner) : Type 0 where

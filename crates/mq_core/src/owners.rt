@@ -28,7 +28,7 @@ pub struct Owner {
     pub answer: Option<u64>,
 }
 
-ghost use Rattle.mq_core.specs.Owners.{free_owner, holds, is_kind, held_in, wait_in, answer_in, pending_in, free_number_in, with_wait, with_answer, with_slot, with_flag, waiter_in, waits_count, is_held_in, IsFirstWait};
+ghost use Rattle.mq_core.specs.Owners.{free_owner, holds, is_kind, held_in, wait_in, answer_in, pending_in, free_number_in, lowest_held_in, with_wait, with_answer, with_slot, with_flag, waiter_in, waits_count, is_held_in, IsFirstWait};
 ghost use Rattle.mq_core.specs.OwnersNoted.{noted, noted_open, noted_done, noted_attributes, with_answer_at, FitsSlots, FitsDone, FitsAttributes};
 
 impl Owner {
@@ -295,4 +295,28 @@ pub fn note(owners: &mut [Owner], here: u64, entry: Entry, queue: u64)
         } => answer_wait(owners, wait, here),
         _ => {}
     }
+}
+
+/// The lowest descriptor that process p does not hold.
+pub fn free_number(owners: &[Owner], p: u32) -> Option<u32>
+    ensures { result ≡ free_number_in owners.now p }
+{
+    for d in 0..16u32 {
+        if held(owners, p, d).is_none() {
+            return Some(d);
+        }
+    }
+    None
+}
+
+/// The lowest descriptor that process p holds.
+pub fn lowest_held(owners: &[Owner], p: u32) -> Option<u32>
+    ensures { result ≡ lowest_held_in owners.now p }
+{
+    for d in 0..16u32 {
+        if held(owners, p, d).is_some() {
+            return Some(d);
+        }
+    }
+    None
 }

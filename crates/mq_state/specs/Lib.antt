@@ -4,3 +4,8 @@ pub mod Order
 pub mod QueueShown
 pub mod Queues
 pub mod QueueModel
+pub mod InboxShown
+pub mod InboxModel
+pub mod Decided
+pub mod Tables
+pub mod Inboxes

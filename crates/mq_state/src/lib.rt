@@ -1,5 +1,8 @@
 //! The message queues of one thread: each call appends the entry that the definitions say.
 #![tactic(auto)]
 
+pub mod decided;
+pub mod notices;
 pub mod order;
 pub mod queues;
+pub mod tables;

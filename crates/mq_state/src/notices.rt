@@ -1,0 +1,83 @@
+//! The notices that each process has not yet taken.
+ghost use Rattle.std.specs.Prelude.{◌≡◌, ◌<◌, ◌≤◌, ◌++◌, ◌∷◌, [], length, IfOk, OnOk, OnErr, drop, slice_get, Some, None, ◌+◌, ◌-◌, replicate};
+
+ghost use Rattle.mq_state.specs.Inboxes.{notices_in};
+
+use std::alloc::{AllocError, Global};
+use std::collections::VecDeque;
+use std::marker::Model;
+
+/// The notices of one process, the oldest first.
+#[derive(Debug, Drop)]
+pub struct Inbox {
+    values: VecDeque<u64>,
+}
+
+impl Model for Inbox {
+    ghost use Rattle.mq_state.specs.InboxShown.{InboxShown};
+
+    ghost Value = { InboxShown };
+
+    ghost use Rattle.mq_state.specs.InboxModel.{shown};
+
+    ghost view = { shown };
+}
+
+impl Inbox {
+    /// No notice, which takes no memory.
+    pub fn new(alloc: Global) -> Inbox
+        ensures { result.values ≡ [] }
+    {
+        Inbox {
+            values: VecDeque::new(alloc),
+        }
+    }
+
+    /// Makes room for that many more notices.
+    pub fn reserve(&mut self, more: usize) -> Result<(), AllocError>
+        ensures values { self.new.values ≡ self.old.values }
+        ensures ok { OnOk result (more ≤ self.new.room) }
+    {
+        self.values.reserve(more)
+    }
+
+    /// Adds a notice behind the others, in room that is there.
+    pub fn push(&mut self, value: u64)
+        requires { 0 < self.old.room }
+        ensures { self.new.values ≡ self.old.values ++ value ∷ [] }
+    {
+        self.values.push_back_reserved(value);
+    }
+
+    /// Takes the oldest notice out.
+    pub fn pop(&mut self)
+        ensures { self.new.values ≡ drop 1 self.old.values }
+    {
+        let _ = self.values.pop_front();
+    }
+
+    /// The oldest notice.
+    pub fn first(&self) -> Option<u64>
+        ensures { result ≡ slice_get self.now.values 0 }
+    {
+        self.values.front().copied()
+    }
+
+    /// How many notices there are.
+    pub fn len(&self) -> usize
+        ensures { result ≡ length self.now.values }
+    {
+        self.values.len()
+    }
+}
+
+/// The oldest notice of process p.
+#[tactic(auto, unfolding(crate::specs::Inboxes::notices_in))]
+pub fn first(inboxes: &[Inbox], p: u32) -> Option<u64>
+    ensures { result ≡ slice_get (notices_in inboxes.now p) 0 }
+{
+    match inboxes.get(p as usize) {
+        None => None,
+        Some(inbox) => inbox.first(),
+    }
+}
