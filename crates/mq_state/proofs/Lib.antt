@@ -2,3 +2,4 @@ pub mod Slotted
 pub mod QueueLines
 pub mod QueuesKeep
 pub mod QueuesNoted
+pub mod Reading

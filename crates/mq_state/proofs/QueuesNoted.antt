@@ -276,7 +276,7 @@ filter-reverse t (x ∷ xs) = ap (filter t) (reverse-cons x xs) ∙ filter-appen
     (λ y. rw (y, filter-reverse t xs) (sym (reverse-cons x (filter t xs))))
     (λ n. rw (n, filter-reverse t xs) (append-nil (reverse (filter t xs))))
 
-bound-alive : (past : Past) (name : List ℕ) (q : ℕ) → bound_queue past name ≡ Some q → is_in (alive past) q ≡ true
+pub bound-alive : (past : Past) (name : List ℕ) (q : ℕ) → bound_queue past name ≡ Some q → is_in (alive past) q ≡ true
 bound-alive past name q e = in-filter (λ q. is_named past q || is_held past q) (created past) q (bound-created past name q e) (rw (bound-named past name q e) refl)
 
 -- the entry's queue exists, where the entry may free it

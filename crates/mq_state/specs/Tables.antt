@@ -17,6 +17,6 @@ AreAtMost n past = All (λ r. r.entry.process ≤ n) past
 pub record TablesMirror (past : Past) (n : ℕ) (owners : List Owner) (queues : List QueueShown) (inboxes : List InboxShown) : Type 0 where
   pub owner_count : length owners ≡ n + 1
   pub inbox_count : length inboxes ≡ n + 1
-  pub owners : OwnersMirror past owners
-  pub queues : QueuesMirror past queues
+  pub lines : OwnersMirror past owners
+  pub existing : QueuesMirror past queues
   pub notices : (p : ℕ) → notices_in inboxes p ≡ notices past p

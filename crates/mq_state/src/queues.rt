@@ -1,5 +1,5 @@
 //! The queues that exist: which are still named, who is registered on them, and their messages.
-ghost use Rattle.std.specs.Prelude.{◌≡◌, ◌<◌, ◌==◌, ◌++◌, ◌∷◌, [], IfOk, position, length, not, Some, None, map, ℕ};
+ghost use Rattle.std.specs.Prelude.{◌≡◌, ◌<◌, ◌^◌, ◌==◌, ◌++◌, ◌∷◌, [], IfOk, position, length, not, Some, None, map, ℕ};
 ghost use Rattle.std.specs.Option.{option_map};
 ghost use Rattle.std.specs.Str.{bytes_eq};
 ghost use Rattle.mq_core.specs.Names.{name_of};
@@ -74,7 +74,8 @@ impl Queue {
 
     /// How many messages are present.
     pub fn len(&self) -> usize
-        ensures { result ≡ length self.now.slots }
+        ensures count { result ≡ length self.now.slots }
+        ensures bound { result < 2 ^ 63 }
     {
         self.order.len()
     }
@@ -179,7 +180,8 @@ pub fn find(queues: &[Queue], q: u64) -> Option<&Queue>
 /// How many messages are present in queue q.
 #[tactic(auto, unfolding(crate::specs::Queues::slots_in))]
 pub fn message_count(queues: &[Queue], q: u64) -> usize
-    ensures { result ≡ length (slots_in queues.now q) }
+    ensures count { result ≡ length (slots_in queues.now q) }
+    ensures bound { result < 2 ^ 63 }
 {
     match find(queues, q) {
         None => 0,

@@ -78,12 +78,8 @@ impl Tables {
         ensures { result ≡ status_of journal.now.records h }
     {
         let attributes = decided::attributes(journal, h.queue);
-        Status {
-            nonblock: h.nonblock,
-            maxmsg: attributes.maxmsg,
-            msgsize: attributes.msgsize,
-            curmsgs: queues::message_count(&self.queues, h.queue) as i64,
-        }
+        let count = queues::message_count(&self.queues, h.queue);
+        decided::status(attributes, h.nonblock, count)
     }
 
     // The reply to a getattr, and to a setattr.
@@ -165,8 +161,8 @@ impl Tables {
     {
         let attributes = decided::attributes(journal, h.queue);
         let count = queues::message_count(&self.queues, h.queue);
-        let long = decided::is_too_long(attributes.msgsize, len);
-        let full = decided::is_full(attributes.maxmsg, count as u64);
+        let long = decided::is_too_long(attributes, len);
+        let full = decided::is_full(attributes, count);
         let wait = self.first_wait(journal, h.queue, false);
         let registered = self.registered_place(journal, h.queue);
         decided::send(h.access, h.nonblock, prio, long, full, wait, count == 0, registered)
@@ -206,7 +202,7 @@ impl Tables {
         requires few { self.now.n ≤ 32 }
         ensures { result ≡ answer_receive journal.now.records (Some h) room }
     {
-        let short = decided::is_too_short(room, decided::attributes(journal, h.queue).msgsize);
+        let short = decided::is_too_short(room, decided::attributes(journal, h.queue));
         let best = self.best(journal, h.queue);
         let wait = self.first_wait(journal, h.queue, true);
         let only = queues::message_count(&self.queues, h.queue) == 1;
