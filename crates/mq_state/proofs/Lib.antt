@@ -3,3 +3,5 @@ pub mod QueueLines
 pub mod QueuesKeep
 pub mod QueuesNoted
 pub mod Reading
+pub mod InboxLines
+pub mod TablesKeep

@@ -1,16 +1,22 @@
 //! The tables beside the journal, the replies that they give, and how they note an entry.
-ghost use Rattle.std.specs.Prelude.{◌≡◌, ◌<◌, ◌≤◌, ◌+◌, IfOk, OnOk, OnErr, IsSome, Some, None, IsTrue, ℕ, length, [], pos, int_le};
+ghost use Rattle.std.specs.Prelude.{◌≡◌, ◌<◌, ◌≤◌, ◌+◌, IfOk, OnOk, OnErr, IsSome, Some, None, IsTrue, ℕ, length, [], pos, int_le, map};
+ghost use Rattle.mq_core.specs.declared.entries.Registration.{Registration};
 ghost use Rattle.mq_core.specs.Descriptors.{held, lowest_held, alive};
 ghost use Rattle.mq_core.specs.Messages.{is_in, best, least};
-ghost use Rattle.mq_core.specs.Notices.{registered, registered_place};
+ghost use Rattle.mq_core.specs.Notices.{registered, registered_place, gives_notice};
 ghost use Rattle.mq_core.specs.Answer.{Legal, answer, answer_attributes, answer_send, answer_receive};
 ghost use Rattle.mq_core.specs.Owners.{waiting};
+ghost use Rattle.std.specs.Option.{option_map, unwrap_or};
+ghost use Rattle.mq_core.specs.Names.{bound_queue};
+ghost use Rattle.mq_core.specs.Messages.{priority};
+ghost use Rattle.mq_state.specs.Tables.{entry_queue, admitted_priority};
 ghost use Rattle.mq_state.specs.Decided.{decided_notify, status_of};
 ghost use Rattle.mq_core.specs.Waits.{open_wait, answered_by};
 
 use crate::decided;
 use crate::notices;
 use crate::notices::Inbox;
+use crate::order::Order;
 use crate::queues;
 use crate::queues::Queue;
 use mq_core::entries::{Attr, Call, Description, Entry, OpenFlags, Reply, Status};
@@ -18,6 +24,7 @@ use mq_core::faults::Fault;
 use mq_core::journals::Journal;
 use mq_core::owners;
 use mq_core::owners::Owner;
+use mq_core::registrations;
 use std::alloc::{AllocError, Global};
 
 /// How many queues exist at most.
@@ -221,5 +228,130 @@ impl Tables {
             Some(h) => self.answer_receive_on(journal, h, room),
             None => Reply::Refused(Fault::BadDescriptor),
         }
+    }
+
+    // The queue of the descriptor that a call names, or the place of its entry.
+    fn descriptor_queue(&self, journal: &Journal, p: u32, d: u32) -> u64
+        requires mirror { TablesMirror journal.now.records self.now.n self.now.owners.items self.now.queues.items self.now.inboxes.items }
+        ensures { result ≡ unwrap_or (option_map (λ h. h.queue) (held journal.now.records p d)) (length journal.now.records) }
+    {
+        match owners::held(&self.owners, p, d) {
+            Some(h) => h.queue,
+            None => journal.len(),
+        }
+    }
+
+    // The queue that a name is bound to, or the place of the entry.
+    fn named_queue(&self, journal: &Journal, name: &[u8]) -> u64
+        requires mirror { TablesMirror journal.now.records self.now.n self.now.owners.items self.now.queues.items self.now.inboxes.items }
+        ensures { result ≡ unwrap_or (bound_queue journal.now.records name.now) (length journal.now.records) }
+    {
+        match queues::bound(journal, &self.queues, name) {
+            Some(q) => q,
+            None => journal.len(),
+        }
+    }
+
+    // The queue that an entry is made on.
+    fn entry_queue(&self, journal: &Journal, p: u32, call: Call, name: &[u8]) -> u64
+        requires mirror { TablesMirror journal.now.records self.now.n self.now.owners.items self.now.queues.items self.now.inboxes.items }
+        ensures { result ≡ entry_queue journal.now.records p call name.now }
+    {
+        match call {
+            Call::MqOpen { .. } | Call::MqUnlink => self.named_queue(journal, name),
+            Call::MqClose { d }
+            | Call::MqSend { d, .. }
+            | Call::MqReceive { d, .. }
+            | Call::MqGetattr { d }
+            | Call::MqSetattr { d, .. }
+            | Call::MqNotify { d, .. } => self.descriptor_queue(journal, p, d),
+            Call::NextNotice | Call::Collect => journal.len(),
+        }
+    }
+}
+
+impl Tables {
+    ghost use Rattle.std.specs.Prelude.{vec_len, vec_capacity};
+    ghost use Rattle.mq_core.specs.OwnersNoted.{noted, FitsSlots};
+    ghost use Rattle.mq_state.specs.Queues.{queue_in, reregistered, noted_queues, registration_in, HasRoom};
+    ghost use Rattle.mq_state.specs.Inboxes.{notices_in, HasNoticeRoom};
+    ghost use Rattle.mq_state.specs.QueueShown.{QueueShown};
+    ghost use Rattle.mq_state.specs.Tables.{BringsOrder, HasRoomToNotify, noted_values, notified_values, with_fresh};
+
+    // Notes in the inboxes what an entry made on queue q brings and takes.
+    fn note_notices(&mut self, entry: Entry, q: u64)
+        requires process { entry.process < length self.old.inboxes.items }
+        requires registered { (n : Registration) → registration_in self.old.queues.items q ≡ Some n → n.process < length self.old.inboxes.items }
+        requires notice { HasRoomToNotify self.old.queues.items self.old.inboxes.items q entry.reply }
+        ensures owners { self.new.owners.items ≡ self.old.owners.items }
+        ensures queues { self.new.queues ≡ self.old.queues }
+        ensures n { self.new.n ≡ self.old.n }
+        ensures count { length self.new.inboxes.items ≡ length self.old.inboxes.items }
+        ensures inboxes { (k : ℕ) → notices_in self.new.inboxes.items k ≡ noted_values entry.process (registration_in self.old.queues.items q) entry.reply k (notices_in self.old.inboxes.items k) }
+    {
+        if registrations::notified(entry.reply).is_some() {
+            if let Some(n) = queues::registration(&self.queues, q) {
+                notices::push(&mut self.inboxes, n.process, n.value);
+            }
+        }
+        if gives_notice(entry.reply) {
+            notices::take(&mut self.inboxes, entry.process);
+        }
+    }
+
+    // Notes an entry made on queue q, which brings the order of a queue that it creates.
+    fn note(&mut self, journal: &Journal, entry: Entry, q: u64, fresh: Option<Order>)
+        requires process { (entry.process < length self.old.owners.items) × (entry.process < length self.old.inboxes.items) }
+        requires numbers { FitsSlots entry.call entry.reply }
+        requires room { (x : QueueShown) → queue_in (map (reregistered q (length journal.now.records) entry) self.old.queues.items) q ≡ Some x → HasRoom entry.reply x }
+        requires registered { (n : Registration) → registration_in self.old.queues.items q ≡ Some n → n.process < length self.old.inboxes.items }
+        requires notice { HasRoomToNotify self.old.queues.items self.old.inboxes.items q entry.reply }
+        requires brings { BringsOrder entry.call entry.reply (vec_len self.old.queues) (vec_capacity self.old.queues) fresh }
+        ensures n { self.new.n ≡ self.old.n }
+        ensures owners { self.new.owners.items ≡ noted self.old.owners.items (length journal.now.records) entry.process entry.call entry.reply q }
+        ensures queues { self.new.queues.items ≡ with_fresh fresh (length journal.now.records) (noted_queues self.new.owners.items (length journal.now.records) entry q (admitted_priority journal.now.records entry.reply) self.old.queues.items) }
+        ensures count { length self.new.inboxes.items ≡ length self.old.inboxes.items }
+        ensures inboxes { (k : ℕ) → notices_in self.new.inboxes.items k ≡ noted_values entry.process (registration_in self.old.queues.items q) entry.reply k (notices_in self.old.inboxes.items k) }
+    {
+        let here = journal.len();
+        let prio = admitted_priority(journal, entry.reply);
+        self.note_notices(entry, q);
+        owners::note(&mut self.owners, here, entry, q);
+        queues::note(&mut self.queues, &self.owners, here, entry, q, prio);
+        if let Some(order) = fresh {
+            queues::add(&mut self.queues, here, order);
+        }
+    }
+}
+
+fn gives_notice(reply: Reply) -> bool
+    ensures { result ≡ gives_notice reply }
+{
+    match reply {
+        Reply::Notice(Some(_)) => true,
+        _ => false,
+    }
+}
+
+// The priority of the send that a reply admits.
+fn admitted_priority(journal: &Journal, reply: Reply) -> u32
+    ensures { result ≡ admitted_priority journal.now.records reply }
+{
+    match reply {
+        Reply::Got {
+            place: _,
+            admitted: Some(wait),
+            notified: _,
+        } => priority_at(journal, wait),
+        _ => 0,
+    }
+}
+
+fn priority_at(journal: &Journal, place: u64) -> u32
+    ensures { result ≡ priority journal.now.records place }
+{
+    match journal.entry(place) {
+        Some(entry) => queues::priority_given(entry.call),
+        None => 0,
     }
 }
