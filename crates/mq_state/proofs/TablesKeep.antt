@@ -154,3 +154,176 @@ entry-queue past p call (Collected b) payload q prio on = tt
 entry-queue past p call (Attrs s) payload q prio on = tt
 entry-queue past p call (Notice v) payload q prio on = tt
 entry-queue past p call (Refused f) payload q prio on = tt
+
+-- notices ----------------------------------------------------------------------------------------------------------------
+
+-- the registration that a reply notifies stands on the entry's queue
+record IsNotified (past : Past) (q k : ℕ) : Type 0 where
+  registration : Registration
+  stands : registered past q ≡ Some registration
+  place : registration.place ≡ k
+
+notified-of : (past : Past) (q k : ℕ) → registered_place past q ≡ Some k → IsNotified past q k
+notified-of past q k e = by (registered past q) refl e
+  where
+    by : (o : Option Registration) → registered past q ≡ o → option_map (λ n. n.place) (registered past q) ≡ Some k → IsNotified past q k
+    by None is e = absurd (let bad : None ≡ Some k = rw is at e in cc)
+    by (Some n) is e = let at : Some n.place ≡ Some k = rw is at e in record { registration = n; stands = is; place = cc }
+
+chosen : (b : Bool) (o : Option ℕ) (k : ℕ) → Some k ≡ (if b then o else None) → o ≡ Some k
+chosen true o k e = sym e
+chosen false o k e = absurd (cc)
+
+queued-notified : (past : Past) (p : ℕ) (call : Call) (k : ℕ) (payload : List ℕ) → Says past p call (Queued (Some k)) → IsNotified past (entry_queue past p call payload) k
+queued-notified past p (MqSend d prio len) k payload says =
+    let at : unwrap_or (option_map (λ h. h.queue) (held past p d)) (length past) ≡ says.0.queue = rw says.1 refl in
+    subst (λ q. IsNotified past q k) (sym at) (notified-of past says.0.queue k (chosen (length (present past says.0.queue) == 0) (registered_place past says.0.queue) k says.3.2))
+queued-notified past p (MqOpen flags attr) k payload says = absurd says
+queued-notified past p (MqClose d) k payload says = absurd says.0
+queued-notified past p MqUnlink k payload says = absurd says
+queued-notified past p (MqReceive d room) k payload says = absurd says.3
+queued-notified past p (MqGetattr d) k payload says = absurd says
+queued-notified past p (MqSetattr d nonblock) k payload says = absurd says
+queued-notified past p (MqNotify d value) k payload says = absurd says
+queued-notified past p NextNotice k payload says = absurd (cc)
+queued-notified past p Collect k payload says = absurd (cc)
+
+got-notified : (past : Past) (p : ℕ) (call : Call) (m : ℕ) (a : Option ℕ) (k : ℕ) (payload : List ℕ) → Says past p call (Got m a (Some k)) → IsNotified past (entry_queue past p call payload) k
+got-notified past p (MqReceive d room) m a k payload says =
+    let at : unwrap_or (option_map (λ h. h.queue) (held past p d)) (length past) ≡ says.0.queue = rw says.1 refl in
+    subst (λ q. IsNotified past q k) (sym at) (notified-of past says.0.queue k (chosen (is_some a && length (present past says.0.queue) == 1) (registered_place past says.0.queue) k says.3.2))
+got-notified past p (MqOpen flags attr) m a k payload says = absurd says
+got-notified past p (MqClose d) m a k payload says = absurd says.0
+got-notified past p MqUnlink m a k payload says = absurd says
+got-notified past p (MqSend d prio len) m a k payload says = absurd says.3
+got-notified past p (MqGetattr d) m a k payload says = absurd says
+got-notified past p (MqSetattr d nonblock) m a k payload says = absurd says
+got-notified past p (MqNotify d value) m a k payload says = absurd says
+got-notified past p NextNotice m a k payload says = absurd (cc)
+got-notified past p Collect m a k payload says = absurd (cc)
+
+-- a reply that notifies nobody brings nothing
+brings-nothing : (o : Option Registration) (reply : Reply) (k : ℕ) (values : List ℕ) → notified reply ≡ None → notified_values o reply k values ≡ values
+brings-nothing None reply k values e = refl
+brings-nothing (Some n) reply k values e = rw e refl
+
+brings-value : (n : Registration) (reply : Reply) (p k : ℕ) (values : List ℕ) → is_some (notified reply) ≡ true → gives_notice reply ≡ false → noted_values p (Some n) reply k values ≡ (if n.process == k then values ++ n.value ∷ [] else values)
+brings-value n reply p k values some quiet = rw (quiet, some) refl
+
+brings-one : (past : Past) → Legal past → (p : ℕ) (call : Call) (reply : Reply) (payload : List ℕ) (q j : ℕ) → IsNotified past q j → notified reply ≡ Some j → gives_notice reply ≡ false → (o : Option Registration) → o ≡ registered past q → (k : ℕ) →
+    noted_values p o reply k (notices past k) ≡ notices (rec p call reply payload ∷ past) k
+brings-one past legal p call reply payload q j x is quiet o same k =
+    let n = x.registration in
+    let place : notified reply ≡ Some n.place = is ∙ ap Some (sym x.place) in
+    let now = notices-notified past legal (rec p call reply payload) q n k x.stands place quiet in
+    ap (λ r. noted_values p r reply k (notices past k)) (same ∙ x.stands) ∙ brings-value n reply p k (notices past k) (ap is_some is) quiet ∙ sym now
+
+pub notices-keep : (past : Past) → Legal past → (p : ℕ) (call : Call) (reply : Reply) (payload : List ℕ) → IsLegalNext past (rec p call reply payload) → (o : Option Registration) → (is_some (notified reply) ≡ true → o ≡ registered past (entry_queue past p call payload)) → (k : ℕ) →
+    noted_values p o reply k (notices past k) ≡ notices (rec p call reply payload ∷ past) k
+notices-keep past legal p call (Queued (Some j)) payload next o same k = brings-one past legal p call (Queued (Some j)) payload (entry_queue past p call payload) j (queued-notified past p call j payload (legal_says past (rec p call (Queued (Some j)) payload) next)) refl refl o (same refl) k
+notices-keep past legal p call (Queued None) payload next o same k = brings-nothing o (Queued None) k (notices past k) refl ∙ sym (notices-same past (rec p call (Queued None) payload) k refl refl)
+notices-keep past legal p call (Got m a (Some j)) payload next o same k = brings-one past legal p call (Got m a (Some j)) payload (entry_queue past p call payload) j (got-notified past p call m a j payload (legal_says past (rec p call (Got m a (Some j)) payload) next)) refl refl o (same refl) k
+notices-keep past legal p call (Got m a None) payload next o same k = brings-nothing o (Got m a None) k (notices past k) refl ∙ sym (notices-same past (rec p call (Got m a None) payload) k refl refl)
+notices-keep past legal p call (Notice (Some v)) payload next o same k = ap (λ values. if p == k then drop 1 values else values) (brings-nothing o (Notice (Some v)) k (notices past k) refl) ∙ sym (notices-given past p call v payload k)
+notices-keep past legal p call (Notice None) payload next o same k = brings-nothing o (Notice None) k (notices past k) refl ∙ sym (notices-same past (rec p call (Notice None) payload) k refl refl)
+notices-keep past legal p call (Opened d c) payload next o same k = brings-nothing o (Opened d c) k (notices past k) refl ∙ sym (notices-same past (rec p call (Opened d c) payload) k refl refl)
+notices-keep past legal p call (Handed w) payload next o same k = brings-nothing o (Handed w) k (notices past k) refl ∙ sym (notices-same past (rec p call (Handed w) payload) k refl refl)
+notices-keep past legal p call Waits payload next o same k = brings-nothing o Waits k (notices past k) refl ∙ sym (notices-same past (rec p call Waits payload) k refl refl)
+notices-keep past legal p call (Collected b) payload next o same k = brings-nothing o (Collected b) k (notices past k) refl ∙ sym (notices-same past (rec p call (Collected b) payload) k refl refl)
+notices-keep past legal p call (Attrs s) payload next o same k = brings-nothing o (Attrs s) k (notices past k) refl ∙ sym (notices-same past (rec p call (Attrs s) payload) k refl refl)
+notices-keep past legal p call Done payload next o same k = brings-nothing o Done k (notices past k) refl ∙ sym (notices-same past (rec p call Done payload) k refl refl)
+notices-keep past legal p call (Refused f) payload next o same k = brings-nothing o (Refused f) k (notices past k) refl ∙ sym (notices-same past (rec p call (Refused f) payload) k refl refl)
+
+-- a reply that notifies was made on a queue that exists
+notifies-alive : (past : Past) → Legal past → (p : ℕ) (call : Call) (reply : Reply) (payload : List ℕ) → IsLegalNext past (rec p call reply payload) → is_some (notified reply) ≡ true → is_in (alive past) (entry_queue past p call payload) ≡ true
+notifies-alive past legal p call (Queued n) payload next e = called-alive past legal p call (entry_queue past p call payload) (queued-on past p call n payload (legal_says past (rec p call (Queued n) payload) next))
+notifies-alive past legal p call (Got m a n) payload next e = by call (legal_says past (rec p call (Got m a n) payload) next)
+  where
+    by : (call : Call) → Says past p call (Got m a n) → is_in (alive past) (entry_queue past p call payload) ≡ true
+    by (MqReceive d room) says = called-alive past legal p (MqReceive d room) (entry_queue past p (MqReceive d room) payload) (held-called past p d says.0 says.1)
+    by (MqOpen flags attr) says = absurd says
+    by (MqClose d) says = absurd says.0
+    by MqUnlink says = absurd says
+    by (MqSend d prio len) says = absurd says.3
+    by (MqGetattr d) says = absurd says
+    by (MqSetattr d nonblock) says = absurd says
+    by (MqNotify d value) says = absurd says
+    by NextNotice says = absurd (cc)
+    by Collect says = absurd (cc)
+notifies-alive past legal p call (Opened d c) payload next e = absurd (cc)
+notifies-alive past legal p call (Handed w) payload next e = absurd (cc)
+notifies-alive past legal p call Waits payload next e = absurd (cc)
+notifies-alive past legal p call (Collected b) payload next e = absurd (cc)
+notifies-alive past legal p call (Attrs s) payload next e = absurd (cc)
+notifies-alive past legal p call (Notice v) payload next e = absurd (cc)
+notifies-alive past legal p call Done payload next e = absurd (cc)
+notifies-alive past legal p call (Refused f) payload next e = absurd (cc)
+
+-- all tables -------------------------------------------------------------------------------------------------------------
+
+-- the tables behind an entry, as the code leaves them
+pub record IsNotedBy (past : Past) (e : Entry) (q : ℕ) (brought : Option Slots) (owners after_owners : List Owner) (queues after_queues : List QueueShown) (inboxes after_inboxes : List InboxShown) : Type 0 where
+  pub owners_are : after_owners ≡ noted owners (length past) e.process e.call e.reply q
+  pub queues_are : after_queues ≡ with_fresh brought (length past) (noted_queues after_owners (length past) e q (admitted_priority past e.reply) queues)
+  pub inbox_count : length after_inboxes ≡ length inboxes
+  pub inboxes_are : (k : ℕ) → notices_in after_inboxes k ≡ noted_values e.process (registration_in queues q) e.reply k (notices_in inboxes k)
+
+creates-open : (past : Past) → Legal past → (owners : List Owner) (queues : List QueueShown) → QueuesMirror past queues → (p : ℕ) (call : Call) (reply : Reply) (payload : List ℕ) (q prio : ℕ) (len capacity : ℕ) (o : Slots) → IsLegalNext past (rec p call reply payload) → EntryOn past p call payload reply q prio → creates call reply ≡ true → IsFresh call len capacity o →
+    QueuesMirror (rec p call reply payload ∷ past) (noted_queues owners (length past) (record { process = p; call = call; reply = reply }) q prio queues ++ fresh (length past) o.room ∷ [])
+creates-open past legal owners queues m p (MqOpen flags attr) (Opened d true) payload q prio len capacity o next on c f = noted-queues-creates past legal owners queues m p flags attr d payload q prio o.room next on f.roomy
+creates-open past legal owners queues m p (MqOpen flags attr) (Opened d false) payload q prio len capacity o next on c f = absurd (let bad : false ≡ true = c in cc)
+creates-open past legal owners queues m p (MqClose e) (Opened d true) payload q prio len capacity o next on c f = absurd (let bad : false ≡ true = c in cc)
+creates-open past legal owners queues m p (MqClose e) (Opened d false) payload q prio len capacity o next on c f = absurd (let bad : false ≡ true = c in cc)
+creates-open past legal owners queues m p MqUnlink (Opened d true) payload q prio len capacity o next on c f = absurd (let bad : false ≡ true = c in cc)
+creates-open past legal owners queues m p MqUnlink (Opened d false) payload q prio len capacity o next on c f = absurd (let bad : false ≡ true = c in cc)
+creates-open past legal owners queues m p (MqSend e pr l) (Opened d true) payload q prio len capacity o next on c f = absurd (let bad : false ≡ true = c in cc)
+creates-open past legal owners queues m p (MqSend e pr l) (Opened d false) payload q prio len capacity o next on c f = absurd (let bad : false ≡ true = c in cc)
+creates-open past legal owners queues m p (MqReceive e rm) (Opened d true) payload q prio len capacity o next on c f = absurd (let bad : false ≡ true = c in cc)
+creates-open past legal owners queues m p (MqReceive e rm) (Opened d false) payload q prio len capacity o next on c f = absurd (let bad : false ≡ true = c in cc)
+creates-open past legal owners queues m p (MqGetattr e) (Opened d true) payload q prio len capacity o next on c f = absurd (let bad : false ≡ true = c in cc)
+creates-open past legal owners queues m p (MqGetattr e) (Opened d false) payload q prio len capacity o next on c f = absurd (let bad : false ≡ true = c in cc)
+creates-open past legal owners queues m p (MqSetattr e nb) (Opened d true) payload q prio len capacity o next on c f = absurd (let bad : false ≡ true = c in cc)
+creates-open past legal owners queues m p (MqSetattr e nb) (Opened d false) payload q prio len capacity o next on c f = absurd (let bad : false ≡ true = c in cc)
+creates-open past legal owners queues m p (MqNotify e v) (Opened d true) payload q prio len capacity o next on c f = absurd (let bad : false ≡ true = c in cc)
+creates-open past legal owners queues m p (MqNotify e v) (Opened d false) payload q prio len capacity o next on c f = absurd (let bad : false ≡ true = c in cc)
+creates-open past legal owners queues m p NextNotice (Opened d true) payload q prio len capacity o next on c f = absurd (let bad : false ≡ true = c in cc)
+creates-open past legal owners queues m p NextNotice (Opened d false) payload q prio len capacity o next on c f = absurd (let bad : false ≡ true = c in cc)
+creates-open past legal owners queues m p Collect (Opened d true) payload q prio len capacity o next on c f = absurd (let bad : false ≡ true = c in cc)
+creates-open past legal owners queues m p Collect (Opened d false) payload q prio len capacity o next on c f = absurd (let bad : false ≡ true = c in cc)
+creates-open past legal owners queues m p call (Queued n) payload q prio len capacity o next on c f = absurd (let bad : false ≡ true = c in cc)
+creates-open past legal owners queues m p call (Handed w) payload q prio len capacity o next on c f = absurd (let bad : false ≡ true = c in cc)
+creates-open past legal owners queues m p call Waits payload q prio len capacity o next on c f = absurd (let bad : false ≡ true = c in cc)
+creates-open past legal owners queues m p call (Got k a n) payload q prio len capacity o next on c f = absurd (let bad : false ≡ true = c in cc)
+creates-open past legal owners queues m p call (Collected b) payload q prio len capacity o next on c f = absurd (let bad : false ≡ true = c in cc)
+creates-open past legal owners queues m p call (Attrs s) payload q prio len capacity o next on c f = absurd (let bad : false ≡ true = c in cc)
+creates-open past legal owners queues m p call (Notice v) payload q prio len capacity o next on c f = absurd (let bad : false ≡ true = c in cc)
+creates-open past legal owners queues m p call Done payload q prio len capacity o next on c f = absurd (let bad : false ≡ true = c in cc)
+creates-open past legal owners queues m p call (Refused x) payload q prio len capacity o next on c f = absurd (let bad : false ≡ true = c in cc)
+
+-- the tables behind an entry are those of the journal with it
+pub tables-keep : (past : Past) → Legal past → (n : ℕ) (owners after_owners : List Owner) (queues after_queues : List QueueShown) (inboxes after_inboxes : List InboxShown) → TablesMirror past n owners queues inboxes →
+    (p : ℕ) (call : Call) (reply : Reply) (payload : List ℕ) (len capacity : ℕ) (brought : Option Slots) → IsLegalNext past (rec p call reply payload) → p ≤ n → BringsOrder call reply len capacity brought →
+    HasRoomIn queues (entry_queue past p call payload) (length past) (record { process = p; call = call; reply = reply }) →
+    IsNotedBy past (record { process = p; call = call; reply = reply }) (entry_queue past p call payload) brought owners after_owners queues after_queues inboxes after_inboxes →
+    length after_owners ≡ length owners →
+    TablesMirror (rec p call reply payload ∷ past) n after_owners after_queues after_inboxes
+tables-keep past legal n owners after_owners queues after_queues inboxes after_inboxes m p call reply payload len capacity brought next le brings room by count =
+    let q = entry_queue past p call payload in
+    let prio = admitted_priority past reply in
+    let on = entry-on past p call reply payload next in
+    let noted_lines : OwnersMirror (rec p call reply payload ∷ past) (noted owners (length past) p call reply q) =
+      noted-keeps past owners m.lines legal (rec p call reply payload) q next (let c = m.owner_count in omega (arith, c)) (entry-queue past p call reply payload q prio on) in
+    let lines : OwnersMirror (rec p call reply payload ∷ past) after_owners = subst (OwnersMirror (rec p call reply payload ∷ past)) (sym by.owners_are) noted_lines in
+    record {
+      owner_count = count ∙ m.owner_count;
+      inbox_count = by.inbox_count ∙ m.inbox_count;
+      lines = lines;
+      existing = subst (QueuesMirror (rec p call reply payload ∷ past)) (sym by.queues_are) (queues-by brought brings lines on);
+      notices = λ k. by.inboxes_are k ∙ ap (noted_values p (registration_in queues q) reply k) (m.notices k)
+        ∙ notices-keep past legal p call reply payload next (registration_in queues q) (λ some. registration-read past queues m.existing q (notifies-alive past legal p call reply payload next some)) k
+    }
+  where
+    queues-by : (brought : Option Slots) → BringsOrder call reply len capacity brought → OwnersMirror (rec p call reply payload ∷ past) after_owners → EntryOn past p call payload reply (entry_queue past p call payload) (admitted_priority past reply) →
+        QueuesMirror (rec p call reply payload ∷ past) (with_fresh brought (length past) (noted_queues after_owners (length past) (record { process = p; call = call; reply = reply }) (entry_queue past p call payload) (admitted_priority past reply) queues))
+    queues-by None brings lines on = noted-queues-keeps past legal after_owners queues m.existing p call reply payload (entry_queue past p call payload) (admitted_priority past reply) next on room lines brings
+    queues-by (Some o) brings lines on = creates-open past legal after_owners queues m.existing p call reply payload (entry_queue past p call payload) (admitted_priority past reply) len capacity o next on brings.0 brings.1
