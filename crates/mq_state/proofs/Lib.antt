@@ -5,3 +5,4 @@ pub mod QueuesNoted
 pub mod Reading
 pub mod InboxLines
 pub mod TablesKeep
+pub mod WaitsNoted

@@ -327,3 +327,21 @@ tables-keep past legal n owners after_owners queues after_queues inboxes after_i
         QueuesMirror (rec p call reply payload ∷ past) (with_fresh brought (length past) (noted_queues after_owners (length past) (record { process = p; call = call; reply = reply }) (entry_queue past p call payload) (admitted_priority past reply) queues))
     queues-by None brings lines on = noted-queues-keeps past legal after_owners queues m.existing p call reply payload (entry_queue past p call payload) (admitted_priority past reply) next on room lines brings
     queues-by (Some o) brings lines on = creates-open past legal after_owners queues m.existing p call reply payload (entry_queue past p call payload) (admitted_priority past reply) len capacity o next on brings.0 brings.1
+
+-- a send queues its message where the queue is not full
+pub queued-free : (past : Past) (p : ℕ) (call : Call) (reply : Reply) (payload : List ℕ) → IsLegalNext past (rec p call reply payload) → (n : Option ℕ) → reply ≡ Queued n → is_full past (entry_queue past p call payload) ≡ false
+queued-free past p call reply payload next n e = by call (subst (Says past p call) e (legal_says past (rec p call reply payload) next))
+  where
+    by : (call : Call) → Says past p call (Queued n) → is_full past (entry_queue past p call payload) ≡ false
+    by (MqSend d prio len) says =
+        let at : unwrap_or (option_map (λ h. h.queue) (held past p d)) (length past) ≡ says.0.queue = rw says.1 refl in
+        ap (is_full past) at ∙ says.3.1
+    by (MqOpen flags attr) says = absurd says
+    by (MqClose d) says = absurd says.0
+    by MqUnlink says = absurd says
+    by (MqReceive d room) says = absurd says.3
+    by (MqGetattr d) says = absurd says
+    by (MqSetattr d nonblock) says = absurd says
+    by (MqNotify d value) says = absurd says
+    by NextNotice says = absurd (cc)
+    by Collect says = absurd (cc)

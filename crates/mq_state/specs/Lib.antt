@@ -9,3 +9,4 @@ pub mod InboxModel
 pub mod Decided
 pub mod Tables
 pub mod Inboxes
+pub mod Kept

@@ -13,6 +13,8 @@ ghost use Rattle.mq_state.specs.Tables.{entry_queue, admitted_priority};
 ghost use Rattle.mq_state.specs.Decided.{decided_notify, status_of};
 ghost use Rattle.mq_core.specs.Waits.{open_wait, answered_by};
 
+mod calls;
+
 use crate::decided;
 use crate::notices;
 use crate::notices::Inbox;
