@@ -6,3 +6,4 @@ pub mod Reading
 pub mod InboxLines
 pub mod TablesKeep
 pub mod WaitsNoted
+pub mod Starting

@@ -10,3 +10,4 @@ pub mod Decided
 pub mod Tables
 pub mod Inboxes
 pub mod Kept
+pub mod Buffers

@@ -1,5 +1,5 @@
 //! The reply to a call, from what the tables say: the cases of the standard in their order.
-ghost use Rattle.std.specs.Prelude.{◌≡◌, ◌<◌, ◌^◌, pos, int_lt, int_le, Some, None};
+ghost use Rattle.std.specs.Prelude.{◌≡◌, ◌<◌, ◌^◌, pos, int_lt, int_le, Some, None, true};
 ghost use Rattle.mq_core.specs.Names.{are_within_limits, attributes_given, attributes};
 ghost use Rattle.mq_core.specs.Answer.{is_read_only, is_write_only};
 ghost use Rattle.mq_state.specs.Decided.{decided_open, decided_accepted, decided_send, decided_found, decided_receive, is_registered_by, decided_notify};
@@ -239,4 +239,14 @@ pub fn status(attributes: Attr, nonblock: bool, count: usize) -> Status
         msgsize: attributes.msgsize,
         curmsgs: count as i64,
     }
+}
+
+/// How many messages a queue with these attributes is to have room for.
+pub fn slots_for(attributes: Attr) -> usize
+    ensures { int_le attributes.maxmsg (pos result) ≡ true }
+{
+    if attributes.maxmsg <= 0 {
+        return 0;
+    }
+    attributes.maxmsg as usize
 }

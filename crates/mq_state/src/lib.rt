@@ -1,6 +1,8 @@
 //! The message queues of one thread: each call appends the entry that the definitions say.
 #![tactic(auto)]
 
+pub mod buffers;
+pub mod collected;
 pub mod decided;
 pub mod notices;
 pub mod order;

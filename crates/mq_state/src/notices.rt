@@ -99,13 +99,14 @@ pub fn take(inboxes: &mut [Inbox], p: u32)
     inboxes[p as usize].pop();
 }
 
-/// Makes room for one more notice of process p.
-pub fn make_room(inboxes: &mut [Inbox], p: u32) -> Result<(), AllocError>
-    requires { p < length inboxes.old }
+/// Makes room for that many more notices of process p, at least one.
+pub fn make_room(inboxes: &mut [Inbox], p: u32, more: usize) -> Result<(), AllocError>
+    requires process { p < length inboxes.old }
+    requires more { 0 < more }
     ensures same { (k : ℕ) → notices_in inboxes.new k ≡ notices_in inboxes.old k }
     ensures room { OnOk result (HasNoticeRoom inboxes.new p) }
 {
-    inboxes[p as usize].reserve(1)
+    inboxes[p as usize].reserve(more)
 }
 
 /// Inboxes of so many processes, with no notice.

@@ -1,20 +1,20 @@
 //! The tables beside the journal, the replies that they give, and how they note an entry.
-ghost use Rattle.std.specs.Prelude.{◌≡◌, ◌<◌, ◌≤◌, ◌+◌, IfOk, OnOk, OnErr, IsSome, Some, None, IsTrue, ℕ, length, [], pos, int_le, map};
+ghost use Rattle.std.specs.Prelude.{◌≡◌, ◌<◌, ◌≤◌, ◌+◌, IfOk, OnOk, OnErr, IsSome, Some, None, IsTrue, ℕ, length, [], pos, int_le, map, replicate};
 ghost use Rattle.mq_core.specs.declared.entries.Registration.{Registration};
 ghost use Rattle.mq_core.specs.Descriptors.{held, lowest_held, alive};
 ghost use Rattle.mq_core.specs.Messages.{is_in, best, least};
 ghost use Rattle.mq_core.specs.Notices.{registered, registered_place, gives_notice};
 ghost use Rattle.mq_core.specs.Answer.{Legal, answer, answer_attributes, answer_send, answer_receive};
-ghost use Rattle.mq_core.specs.Owners.{waiting};
+ghost use Rattle.mq_core.specs.Owners.{waiting, waits_count, free_owner};
 ghost use Rattle.std.specs.Option.{option_map, unwrap_or};
 ghost use Rattle.mq_core.specs.Names.{bound_queue};
-ghost use Rattle.mq_core.specs.Messages.{priority};
 ghost use Rattle.mq_state.specs.Tables.{entry_queue, admitted_priority};
 ghost use Rattle.mq_state.specs.Decided.{decided_notify, status_of};
 ghost use Rattle.mq_core.specs.Waits.{open_wait, answered_by};
 
 mod calls;
 
+use crate::buffers;
 use crate::decided;
 use crate::notices;
 use crate::notices::Inbox;
@@ -35,6 +35,7 @@ const MOST_QUEUES: usize = 64;
 /// What each process has, process p's line and inbox at index p, and the queues that exist.
 #[derive(Debug, Drop)]
 pub struct Tables {
+    alloc: Global,
     n: u32,
     owners: Vec<Owner>,
     queues: Vec<Queue>,
@@ -43,6 +44,30 @@ pub struct Tables {
 
 impl Tables {
     ghost use Rattle.mq_state.specs.Tables.{TablesMirror};
+
+    /// The tables of n processes that have nothing, with no queue.
+    pub fn new(alloc: Global, n: u32) -> Result<Tables, AllocError>
+        requires { n ≤ 32 }
+        ensures { IfOk result (λ t. (t.n ≡ n) × TablesMirror [] t.n t.owners.items t.queues.items t.inboxes.items × (waits_count t.owners.items ≡ 0)) }
+    {
+        let count = n as usize + 1;
+        let owners = free_owners(alloc, count)?;
+        let inboxes = notices::empty(alloc, count)?;
+        Ok(Tables {
+            alloc,
+            n,
+            owners,
+            queues: Vec::new(alloc),
+            inboxes,
+        })
+    }
+
+    /// How many processes there are.
+    pub fn processes(&self) -> u32
+        ensures { result ≡ self.now.n }
+    {
+        self.n
+    }
 
     // The reply to an open.
     fn answer_open(&self, journal: &Journal, p: u32, name: &[u8], flags: OpenFlags, attr: Option<Attr>) -> Reply
@@ -326,6 +351,14 @@ impl Tables {
     }
 }
 
+// A table of so many processes that have nothing.
+fn free_owners(alloc: Global, count: usize) -> Result<Vec<Owner>, AllocError>
+    ensures { IfOk result (λ v. v.items ≡ replicate count free_owner) }
+{
+    let owners = vec![in alloc; Owner::free(); count]?;
+    Ok(owners)
+}
+
 fn gives_notice(reply: Reply) -> bool
     ensures { result ≡ gives_notice reply }
 {
@@ -344,16 +377,7 @@ fn admitted_priority(journal: &Journal, reply: Reply) -> u32
             place: _,
             admitted: Some(wait),
             notified: _,
-        } => priority_at(journal, wait),
+        } => buffers::priority_at(journal, wait),
         _ => 0,
-    }
-}
-
-fn priority_at(journal: &Journal, place: u64) -> u32
-    ensures { result ≡ priority journal.now.records place }
-{
-    match journal.entry(place) {
-        Some(entry) => queues::priority_given(entry.call),
-        None => 0,
     }
 }
