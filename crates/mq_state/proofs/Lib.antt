@@ -7,3 +7,4 @@ pub mod InboxLines
 pub mod TablesKeep
 pub mod WaitsNoted
 pub mod Starting
+pub mod Fitting
