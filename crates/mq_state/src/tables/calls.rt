@@ -3,11 +3,14 @@ ghost use Rattle.std.specs.Prelude.{◌≡◌, ◌≢◌, ◌<◌, ◌≤◌, �
 ghost use Rattle.mq_core.specs.Name.{is_name};
 ghost use Rattle.mq_core.specs.Waits.{open_wait, answered_by};
 ghost use Rattle.mq_core.specs.Answer.{Appends, answer, may_call, is_payload, payload_of, is_refused, Legal, IsLegalNext};
-ghost use Rattle.mq_core.specs.Owners.{waits_count};
+ghost use Rattle.std.specs.Option.{option_map};
+ghost use Rattle.mq_core.specs.Owners.{waits_count, answer_in, wait_in, lowest_held_in};
+ghost use Rattle.mq_state.specs.Buffers.{filled};
 ghost use Rattle.mq_core.specs.declared.entries.Registration.{Registration};
 ghost use Rattle.mq_state.specs.Tables.{entry_queue, HasRoomToNotify, BringsOrder};
 ghost use Rattle.mq_state.specs.Kept.{IsKeptBy, HasEntryRoom};
 
+use crate::buffers;
 use crate::decided;
 use crate::notices;
 use crate::order::Order;
@@ -288,5 +291,66 @@ impl Tables {
         let reply = self.answer_send(journal, p, d, prio, len);
         self.record(journal, p, Call::MqSend { d, prio, len }, reply, bytes, None);
         reply
+    }
+
+    /// A receive, which fills the front of the buffer where it gets a message (`mq_receive`).
+    pub fn receive(&mut self, journal: &mut Journal, p: u32, d: u32, buf: &mut [u8]) -> Reply
+        requires kept { IsKeptBy journal.old self.old }
+        requires process { (1 ≤ p) × (p ≤ self.old.n) }
+        requires no_wait { open_wait journal.old.records p ≡ None }
+        ensures entry { result ≢ Reply.Refused Fault.NoMemory → Appends journal.old.records journal.new.records p (Call.MqReceive d (length buf.old)) [] result }
+        ensures no_memory { result ≡ Reply.Refused Fault.NoMemory → journal.new.records ≡ journal.old.records }
+        ensures buffer { buf.new ≡ filled journal.old.records result buf.old }
+        ensures kept { IsKeptBy journal.new self.new }
+        ensures n { self.new.n ≡ self.old.n }
+    {
+        if journal.reserve(self.open_waits() + 2, 0).is_err() {
+            return Reply::Refused(Fault::NoMemory);
+        }
+        let q = self.descriptor_queue(journal, p, d);
+        if self.make_notice_room(journal, q).is_err() {
+            return Reply::Refused(Fault::NoMemory);
+        }
+        let room = buf.len() as u64;
+        let reply = self.answer_receive(journal, p, d, room);
+        buffers::fill(journal, reply, buf);
+        self.record(journal, p, Call::MqReceive { d, room }, reply, &[], None);
+        reply
+    }
+
+    /// The open wait of process p with the place of the entry that answers it, if one does.
+    pub fn answer(&self, p: u32) -> Option<u64>
+        ensures { result ≡ answer_in self.now.owners.items p }
+    {
+        owners::answer(&self.owners, p)
+    }
+
+    /// The place of the open wait of process p.
+    pub fn wait(&self, p: u32) -> Option<u64>
+        ensures { result ≡ option_map (λ w. w.place) (wait_in self.now.owners.items p) }
+    {
+        match owners::wait(&self.owners, p) {
+            None => None,
+            Some(wait) => Some(wait.place),
+        }
+    }
+
+    /// The lowest descriptor that process p holds.
+    pub fn lowest_open(&self, p: u32) -> Option<u32>
+        ensures { result ≡ lowest_held_in self.now.owners.items p }
+    {
+        owners::lowest_held(&self.owners, p)
+    }
+
+    /// The end of the open wait of process p, which the entry at a place answers.
+    pub fn collect(&mut self, journal: &mut Journal, p: u32, by: u64)
+        requires kept { IsKeptBy journal.old self.old }
+        requires process { (1 ≤ p) × (p ≤ self.old.n) }
+        requires answered { answered_by journal.old.records p ≡ Some by }
+        ensures appends { Appends journal.old.records journal.new.records p Call.Collect [] (Reply.Collected by) }
+        ensures kept { IsKeptBy journal.new self.new }
+        ensures n { self.new.n ≡ self.old.n }
+    {
+        self.record(journal, p, Call::Collect, Reply::Collected { by }, &[], None);
     }
 }
