@@ -8,3 +8,4 @@ pub mod TablesKeep
 pub mod WaitsNoted
 pub mod Starting
 pub mod Fitting
+pub mod Collecting

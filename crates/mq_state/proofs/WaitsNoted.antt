@@ -83,7 +83,7 @@ waits-here past owners m p w e = by (wait_in owners p) refl
     by (Some x) is = (x, is)
 
 -- an answered process waits
-answered-waits : (past : Past) (p : ℕ) (by : ℕ) → answered_by past p ≡ Some by → (w : ℕ) × (open_wait past p ≡ Some w)
+pub answered-waits : (past : Past) (p : ℕ) (by : ℕ) → answered_by past p ≡ Some by → (w : ℕ) × (open_wait past p ≡ Some w)
 answered-waits past p by e = cases (open_wait past p) refl
   where
     cases : (o : Option ℕ) → open_wait past p ≡ o → (w : ℕ) × (open_wait past p ≡ Some w)

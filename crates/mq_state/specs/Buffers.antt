@@ -63,3 +63,8 @@ room_of _ = 0
 -- the length of the buffer of the receive that waits, or 0 for a send
 abbrev pub waiting_room : Past → ℕ → Option ℕ
 waiting_room past p = option_map (λ w. room_of (waiting_call past p)) (open_wait past p)
+
+-- the message that a wait in a call comes to, answered at place `by`, has room in a buffer
+abbrev pub FitsOutcome : Past → Call → ℕ → ℕ → Type 0
+FitsOutcome past (MqReceive d room) by len = length (message_at past by) ≤ len
+FitsOutcome past _ by len = Unit {0}

@@ -11,3 +11,4 @@ pub mod Tables
 pub mod Inboxes
 pub mod Kept
 pub mod Buffers
+pub mod BooksModel
