@@ -1,1 +1,3 @@
 pub mod KnownBytes
+pub mod Numbers
+pub mod WordCounts

@@ -1,9 +1,11 @@
 // Runs a script of message queue calls: standard input to standard output.
 #![tactic(auto)]
 
+mod command;
 mod fault;
 mod input;
 mod output;
+mod words;
 
 use std::io;
 use std::process::ExitCode;
