@@ -24,9 +24,13 @@ None >>= f = None
 abbrev pub Word : Type 0
 Word = List ℕ
 
--- the words of a line: the pieces between spaces that are not empty
+-- what ends a word: a space, or the feed that ends the line
+abbrev pub is_separator : ℕ → Bool
+is_separator b = b == 32 || b == 10
+
+-- the words of a line: the pieces between separators that are not empty
 abbrev pub words_of : List ℕ → List Word
-words_of line = filter (λ word. nat_lt 0 (length word)) (slice_split (λ b. b == 32) line)
+words_of line = filter (λ word. nat_lt 0 (length word)) (slice_split is_separator line)
 
 -- decimal digits, one or more, whose value fits k bits
 abbrev pub is_number : ℕ → Word → Bool
@@ -35,6 +39,12 @@ is_number k word = nat_lt 0 (length word) && (list_all is_ascii_digit word && na
 -- the number of k bits that a word writes
 abbrev pub number_written : ℕ → Word → Option ℕ
 number_written k word = if is_number k word then Some (digits_value 10 word) else None
+
+-- a number from 1 to most
+abbrev pub count_written : ℕ → Word → Option ℕ
+count_written most word = do
+  n ← number_written 32 word
+  if nat_le 1 n && nat_le n most then Some n else None
 
 -- the integer of 64 bits that a word writes: digits, or a '-' and digits
 abbrev pub integer_written : Word → Option ℤ

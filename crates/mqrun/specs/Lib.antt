@@ -1,3 +1,4 @@
 pub mod Grammar
 pub mod Output
 pub mod RunFault
+pub mod Script

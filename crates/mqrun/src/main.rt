@@ -4,7 +4,9 @@
 mod command;
 mod fault;
 mod input;
+mod line;
 mod output;
+mod script;
 mod words;
 
 use std::io;
