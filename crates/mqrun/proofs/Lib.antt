@@ -1,4 +1,5 @@
 pub mod KnownBytes
 pub mod Lines
 pub mod Numbers
+pub mod ScriptLines
 pub mod WordCounts

@@ -1,4 +1,5 @@
 pub mod Grammar
 pub mod Output
+pub mod Phases
 pub mod RunFault
 pub mod Script

@@ -12,6 +12,7 @@ use Rattle.mqrun.specs.declared.line.ScriptCall.{ScriptCall}
 use Rattle.mqrun.specs.declared.line.Line.{Line}
 use Rattle.mqrun.specs.declared.line.Line.TheVariants.{Skipped, Processes, PhaseEnd, Call}
 use Rattle.mqrun.specs.declared.script.Place.{Place}
+use Rattle.mqrun.specs.declared.script.Script.{Script}
 
 -- a line without words, or one whose first word begins with '#'
 abbrev pub is_skipped : List Word → Bool
@@ -60,11 +61,11 @@ place_behind at bytes line = record { lines = at.lines + 1; bytes = at.bytes + l
 abbrev pub is_within_limits : Place → Bool
 is_within_limits at = nat_le at.bytes 1048576 && nat_le at.calls 1000
 
--- the bytes of a line write this, and do not pass the limits
-abbrev pub line_read : Option ℕ → Place → List ℕ → Option (Line Word)
+-- what the bytes of a line write, with the place behind it, which is within the limits
+abbrev pub line_read : Option ℕ → Place → List ℕ → Option (Line Word × Place)
 line_read processes at bytes = do
   line ← line_written processes (at.lines + 1) (words_of bytes)
-  if is_within_limits (place_behind at bytes line) then Some line else None
+  if is_within_limits (place_behind at bytes line) then Some (line, place_behind at bytes line) else None
 
 -- a script, with the calls of its first phase and of its later ones
 pub record Written : Type 0 where
@@ -94,7 +95,7 @@ abbrev pub script_read : Option ℕ → Place → List (List ℕ) → Result Wri
 script_read processes at [] = or_fault processes (at.lines + 1) (λ count. Ok (record { processes = count; first = []; later = [] }))
 script_read processes at (bytes ∷ rest) =
     or_fault (line_read processes at bytes) (at.lines + 1)
-    (λ line. result_map (with_line line) (script_read (processes_behind line processes) (place_behind at bytes line) rest))
+    (λ read. result_map (with_line read.0) (script_read (processes_behind read.0 processes) read.1 rest))
 
 -- a byte in front of the first line
 abbrev pub onto_first_line : ℕ → List (List ℕ) → List (List ℕ)
@@ -109,9 +110,17 @@ lines_of (b ∷ bs) = if b == 10 then (b ∷ []) ∷ lines_of bs else onto_first
 abbrev pub start : Place
 start = record { lines = 0; bytes = 0; calls = 0 }
 
+-- a script: the number of its processes, and the calls of its phases
+pub record Whole : Type 0 where
+  pub processes : ℕ
+  pub phases : List (List (ScriptCall Word))
+
+abbrev pub whole_of : Written → Whole
+whole_of script = record { processes = script.processes; phases = script.first ∷ script.later }
+
 -- the script that bytes write, or the first line at fault
-abbrev pub script_written : List ℕ → Result Written ℕ
-script_written text = script_read None start (lines_of text)
+abbrev pub script_written : List ℕ → Result Whole ℕ
+script_written text = result_map whole_of (script_read None start (lines_of text))
 
 -- calls, lines and phases of the program, seen without where their bytes lie
 abbrev pub said_call : ScriptCall (Bor Word) → ScriptCall Word
@@ -129,8 +138,16 @@ said_calls calls = map said_call calls
 abbrev pub said_phases : List (Vec (ScriptCall (Bor Word)) Global) → List (List (ScriptCall Word))
 said_phases phases = map (λ phase. said_calls phase.items) phases
 
+abbrev pub said_script : Script → Whole
+said_script script = record { processes = script.processes; phases = said_phases script.phases.items }
+
 -- a run that ends with this fault has read a script with this outcome
 abbrev pub Fails : {A : Type 0} → RunFault → Result A ℕ → Type 0
 Fails (fault.BadCall line) read = read ≡ Err line
 Fails fault.NoMemory read = Unit {0}
 Fails other read = ⊥
+
+-- what a function returned, seen by view, is what reading gives, unless memory ran out
+abbrev pub Gives : {A B : Type 0} → (A → B) → Result A RunFault → Result B ℕ → Type 0
+Gives view (Ok x) read = read ≡ Ok (view x)
+Gives view (Err fault) read = Fails fault read
