@@ -1,0 +1,13 @@
+pub mod Fault
+pub mod Name
+pub mod Record
+pub mod Stored
+pub mod Names
+pub mod Descriptors
+pub mod Messages
+pub mod Notices
+pub mod Waits
+pub mod Answer
+pub mod OnePass
+pub mod Owners
+pub mod OwnersNoted

@@ -1,0 +1,19 @@
+-- The form of a queue's name (mq_open).
+use Rattle.std.specs.Prelude.{ℕ, Bool, ◌&&◌, not, ◌==◌, nat_lt, nat_le, List, slice_index, drop, length}
+use Rattle.std.specs.List.{list_all}
+
+-- a byte that may stand behind the slash: neither a slash nor 0
+abbrev pub is_name_byte : ℕ → Bool
+is_name_byte b = not (b == 47) && not (b == 0)
+
+-- a slash, and behind it at least one byte, each of them one that may stand there
+abbrev pub has_name_form : List ℕ → Bool
+has_name_form bytes = nat_lt 1 (length bytes) && slice_index bytes 0 == 47 && list_all is_name_byte (drop 1 bytes)
+
+-- at most 255 bytes stand behind the slash
+abbrev pub is_short : List ℕ → Bool
+is_short bytes = nat_le (length bytes) 256
+
+-- the bytes of a name
+abbrev pub is_name : List ℕ → Bool
+is_name bytes = has_name_form bytes && is_short bytes

@@ -1,0 +1,8 @@
+//! The types, the journal and the definitions of the message queues.
+#![tactic(auto)]
+
+pub mod entries;
+pub mod faults;
+pub mod journals;
+pub mod names;
+pub mod owners;
