@@ -1,5 +1,6 @@
 pub mod Grammar
 pub mod Output
 pub mod Phases
+pub mod Replies
 pub mod RunFault
 pub mod Script

@@ -6,6 +6,7 @@ mod fault;
 mod input;
 mod line;
 mod output;
+mod reply;
 mod script;
 mod words;
 
