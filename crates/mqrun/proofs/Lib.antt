@@ -1,3 +1,4 @@
+pub mod Buffers
 pub mod KnownBytes
 pub mod Lines
 pub mod Numbers

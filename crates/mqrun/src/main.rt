@@ -6,7 +6,9 @@ mod fault;
 mod input;
 mod line;
 mod output;
+mod phase;
 mod reply;
+mod run;
 mod script;
 mod words;
 
@@ -15,15 +17,12 @@ use std::process::ExitCode;
 
 fn main(rt: HostRuntime) -> ExitCode {
     let (mut input, mut output) = (rt.reader(), io::writer(&rt));
-    let text = match input::read_all(rt.alloc(), &mut input) {
-        Ok(text) => text,
-        Err(fault) => {
-            let _ = eprintln!(rt; "{fault}");
-            return ExitCode::from(fault.status());
-        }
-    };
-    match output::write_bytes(&mut output, text.as_slice()) {
+    match run::run_script(rt.alloc(), &mut input, &mut output) {
         Ok(()) => ExitCode::SUCCESS,
-        Err(fault) => ExitCode::from(fault.status()),
+        Err(fault) => {
+            // Nothing is left to do where this line cannot be written.
+            let _ = eprintln!(rt; "{fault}");
+            ExitCode::from(fault.status())
+        }
     }
 }

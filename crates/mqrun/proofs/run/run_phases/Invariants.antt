@@ -1,0 +1,6 @@
+use Rattle.std.proofs.Common.{◌≡◌}
+use Rattle.mqrun.specs.Runs.{NobodyWaits}
+use Rattle.mqrun.proofs.run.run_phases.Given as goal
+
+abbrev pub invariant-loop-calls : goal.invariant-loop-calls
+invariant-loop-calls g l = record { processes : l.books.n ≡ l.script.processes; nobody_waits : NobodyWaits l.books.records }

@@ -1,0 +1,43 @@
+// A script, from its bytes to the bytes of its replies.
+ghost use Rattle.std.specs.Prelude.{◌≡◌, ◌≤◌, IsErrOf};
+ghost use Rattle.mqrun.specs.declared.fault.RunFault.TheVariants.{Input};
+
+use crate::fault::RunFault;
+use crate::input::read_all;
+use crate::output::write_bytes;
+use crate::phase::run_phase;
+use crate::script::{Script, read_script};
+use mq_state::books::Books;
+use std::alloc::Global;
+use std::io::{Read, Write};
+
+/// Reads a script, checks it whole, makes its calls and writes their replies, phase by phase. `RunFault::BadCall`: a line of
+/// the script is at fault, or its call would wait for ever. `RunFault::Input`, `RunFault::Output`: a read or a write failed.
+/// `RunFault::NoMemory`: a growth was refused outside a call.
+pub fn run_script<R: Read, W: Write>(
+    alloc: Global,
+    input: &mut R,
+    output: &mut W,
+) -> Result<(), RunFault>
+    ensures input { IsErrOf result Input → W.contents output.new ≡ W.contents output.old }
+{
+    let text = read_all(alloc, input)?;
+    let script = read_script(alloc, text.as_slice())?;
+    run_phases(alloc, &script, output)
+}
+
+// Makes the calls of a script, and writes the replies of each phase behind it.
+fn run_phases<W: Write>(
+    alloc: Global,
+    script: &Script<'_>,
+    output: &mut W,
+) -> Result<(), RunFault>
+    requires { (1 ≤ script.now.processes) × (script.now.processes ≤ 32) }
+{
+    let mut books = Books::new(alloc, script.processes)?;
+    for calls in &script.phases {
+        let text = run_phase(alloc, &mut books, script.processes, calls.as_slice())?;
+        write_bytes(output, text.as_slice())?;
+    }
+    write_bytes(output, b"history ok\n")
+}
