@@ -1,8 +1,9 @@
 // A phase in one thread: each process in turn makes its calls.
-ghost use Rattle.std.specs.Prelude.{◌≡◌, ◌≢◌, ◌≤◌, ◌<◌, ◌+◌, ℕ, IfOk, IfSome, OnOk, OnErr, OnSome, length};
+ghost use Rattle.std.specs.Prelude.{◌≡◌, ◌≢◌, ◌≤◌, ◌<◌, ◌+◌, ℕ, IfErr, IfOk, IfSome, OnOk, OnErr, OnSome, length};
 ghost use Rattle.mq_core.specs.Messages.{priority_given};
 ghost use Rattle.mq_state.specs.Buffers.{received_at};
 ghost use Rattle.mqrun.specs.Replies.{HasMessage};
+ghost use Rattle.mqrun.specs.RunFault.{IsLate};
 ghost use Rattle.mqrun.specs.Runs.{NobodyWaits, outcome_of};
 
 use crate::command::Command;
@@ -31,6 +32,7 @@ pub fn run_phase(
     requires nobody_waits { NobodyWaits books.old.records }
     ensures processes { books.new.n ≡ books.old.n }
     ensures nobody_waits { OnOk result (NobodyWaits books.new.records) }
+    ensures fault { IfErr result IsLate }
 {
     let mut text = Vec::new(alloc);
     for process in 1..processes + 1 {
@@ -55,6 +57,7 @@ fn run_call(
     requires nobody_waits { NobodyWaits books.old.records }
     ensures processes { books.new.n ≡ books.old.n }
     ensures nobody_waits { OnOk result (NobodyWaits books.new.records) }
+    ensures fault { IfErr result IsLate }
 {
     let room = match call.command {
         Command::Receive { d: _, room } => room,

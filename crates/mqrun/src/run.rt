@@ -1,9 +1,12 @@
 // A script, from its bytes to the bytes of its replies.
-ghost use Rattle.std.specs.Prelude.{◌≡◌, ◌≤◌, IsErrOf};
+ghost use Rattle.std.specs.Prelude.{◌≡◌, ◌≤◌, ◌+◌, ℕ, List, IfErr, IsErrOf, OnOk, Some, Err, take};
+ghost use Rattle.mqrun.specs.Output.{AppendsRun};
+ghost use Rattle.mqrun.specs.RunFault.{IsLate, StopsAt};
+ghost use Rattle.mqrun.specs.Script.{script_written};
 ghost use Rattle.mqrun.specs.declared.fault.RunFault.TheVariants.{Input};
 
 use crate::fault::RunFault;
-use crate::input::read_all;
+use crate::input::{MOST_BYTES, read_all};
 use crate::output::write_bytes;
 use crate::phase::run_phase;
 use crate::script::{Script, read_script};
@@ -20,6 +23,10 @@ pub fn run_script<R: Read, W: Write>(
     output: &mut W,
 ) -> Result<(), RunFault>
     ensures input { IsErrOf result Input → W.contents output.new ≡ W.contents output.old }
+    ensures bad_call { (all : List ℕ) (line : ℕ) → R.remaining input.old ≡ Some all →
+        script_written (take (MOST_BYTES + 1) all) ≡ Err line →
+        StopsAt line result × (W.contents output.new ≡ W.contents output.old) }
+    ensures done { OnOk result (AppendsRun (W.contents output.old) (W.contents output.new)) }
 {
     let text = read_all(alloc, input)?;
     let script = read_script(alloc, text.as_slice())?;
@@ -33,6 +40,8 @@ fn run_phases<W: Write>(
     output: &mut W,
 ) -> Result<(), RunFault>
     requires { (1 ≤ script.now.processes) × (script.now.processes ≤ 32) }
+    ensures fault { IfErr result IsLate }
+    ensures done { OnOk result (AppendsRun (W.contents output.old) (W.contents output.new)) }
 {
     let mut books = Books::new(alloc, script.processes)?;
     for calls in &script.phases {
