@@ -49,11 +49,11 @@ count_written most word = do
 -- the integer of 64 bits that a word writes: digits, or a '-' and digits
 abbrev pub integer_written : Word → Option ℤ
 integer_written word = if starts_with_minus word then (do
-    n ← number_written 64 (drop 1 word)
-    if nat_le n (2 ^ 63) then Some (neg_ℤ (pos n)) else None)
-  else (do
-    n ← number_written 63 word
-    Some (pos n))
+  n ← number_written 64 (drop 1 word)
+  if nat_le n (2 ^ 63) then Some (neg_ℤ (pos n)) else None)
+    else (do
+      n ← number_written 63 word
+      Some (pos n))
 
 -- the access that a letter gives: r, w or b
 abbrev pub access_written : ℕ → Option Access
@@ -100,8 +100,8 @@ room_written word = do
 -- a value, or none for `-`
 abbrev pub value_written : Word → Option (Option ℕ)
 value_written word = if bytes_eq word (codes "-") then Some None else (do
-    value ← number_written 64 word
-    Some (Some value))
+  value ← number_written 64 word
+  Some (Some value))
 
 -- the limits of a queue, which may be left out
 abbrev pub attr_written : List Word → Option (Option Attr)

@@ -98,11 +98,7 @@ fn processes_of(words: &[&[u8]]) -> Option<u32>
     }
 }
 
-fn call_of<'s>(
-    processes: u32,
-    number: u64,
-    words: &[&'s [u8]],
-) -> Option<ScriptCall<&'s [u8]>>
+fn call_of<'s>(processes: u32, number: u64, words: &[&'s [u8]]) -> Option<ScriptCall<&'s [u8]>>
     ensures { option_map said_call result ≡ call_line_written processes number (map (λ word. word.now) words.now) }
 {
     match words {

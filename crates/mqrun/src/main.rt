@@ -10,6 +10,8 @@ mod phase;
 mod reply;
 mod run;
 mod script;
+#[cfg(test)]
+mod tests;
 mod words;
 
 use std::io;

@@ -64,8 +64,9 @@ fn run_call(
         _ => 0,
     };
     let mut buffer = vec![in alloc; 0; room]?;
-    let outcome = perform(books, process, &call.command, buffer.as_mut_slice())
-        .ok_or(RunFault::BadCall(call.line))?;
+    let outcome = perform(books, process, &call.command, buffer.as_mut_slice()).ok_or(
+        RunFault::BadCall(call.line),
+    )?;
     push_reply(alloc, text, process, &outcome, buffer.as_slice())?;
     Ok(())
 }
@@ -238,11 +239,7 @@ fn priority_given(call: Call) -> u32
     ensures { result ≡ priority_given call }
 {
     match call {
-        Call::MqSend {
-            d: _,
-            prio,
-            len: _,
-        } => prio,
+        Call::MqSend { d: _, prio, len: _ } => prio,
         _ => 0,
     }
 }

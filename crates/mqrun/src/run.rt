@@ -34,11 +34,7 @@ pub fn run_script<R: Read, W: Write>(
 }
 
 // Makes the calls of a script, and writes the replies of each phase behind it.
-fn run_phases<W: Write>(
-    alloc: Global,
-    script: &Script<'_>,
-    output: &mut W,
-) -> Result<(), RunFault>
+fn run_phases<W: Write>(alloc: Global, script: &Script<'_>, output: &mut W) -> Result<(), RunFault>
     requires { (1 ≤ script.now.processes) × (script.now.processes ≤ 32) }
     ensures fault { IfErr result IsLate }
     ensures done { OnOk result (AppendsRun (W.contents output.old) (W.contents output.new)) }
