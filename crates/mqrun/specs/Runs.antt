@@ -1,5 +1,7 @@
 -- What the calls of a script leave.
-use Rattle.std.specs.Prelude.{◌≡◌, ◌≢◌, ℕ, Option, Some, None}
+use Rattle.std.specs.Prelude.{◌≡◌, ◌≢◌, ℕ, List, [], length, MatchBool, Option, Some, None, if◌then◌else◌}
+use Rattle.mq_core.specs.Answer.{Appends}
+use Rattle.mq_core.specs.Name.{NAME_WORDS}
 use Rattle.mq_core.specs.Record.{Past}
 use Rattle.mq_core.specs.Waits.{open_wait}
 use Rattle.mq_core.specs.declared.entries.Reply.{Reply}

@@ -64,9 +64,9 @@ fn run_call(
         _ => 0,
     };
     let mut buffer = vec![in alloc; 0; room]?;
-    let outcome = perform(books, process, &call.command, buffer.as_mut_slice()).ok_or(
-        RunFault::BadCall(call.line),
-    )?;
+    let Some(outcome) = perform(books, process, &call.command, buffer.as_mut_slice()) else {
+        return Err(RunFault::BadCall(call.line));
+    };
     push_reply(alloc, text, process, &outcome, buffer.as_slice())?;
     Ok(())
 }
