@@ -1,14 +1,20 @@
 -- What the calls of a script leave.
-use Rattle.std.specs.Prelude.{◌≡◌, ◌≢◌, ℕ, List, [], length, MatchBool, Option, Some, None, if◌then◌else◌}
+use Rattle.std.specs.Prelude.{◌≡◌, ◌≢◌, ℕ, List, [], length, IsFalse, IsTrue, Option, Some, None}
 use Rattle.mq_core.specs.Answer.{Appends}
-use Rattle.mq_core.specs.Name.{NAME_WORDS}
+use Rattle.mq_core.specs.Name.{has_name_form, is_name, is_short}
 use Rattle.mq_core.specs.Record.{Past}
 use Rattle.mq_core.specs.Waits.{open_wait}
+use Rattle.mq_core.specs.declared.entries.Call.{Call}
+use Rattle.mq_core.specs.declared.entries.Call.TheVariants.{MqOpen, MqClose, MqUnlink, MqSend, MqReceive, MqGetattr, MqSetattr, MqNotify, NextNotice}
 use Rattle.mq_core.specs.declared.entries.Reply.{Reply}
-use Rattle.mq_core.specs.declared.entries.Reply.TheVariants as reply
-use Rattle.mq_state.specs.Buffers.{received_at}
+use Rattle.mq_core.specs.declared.entries.Reply.TheVariants as replies
+use Rattle.mq_core.specs.declared.faults.Fault.TheVariants.{Invalid, NameTooLong, NoMemory}
+use Rattle.mq_state.specs.Buffers.{filled, received_at}
+use Rattle.mqrun.specs.Grammar.{Word}
+use Rattle.mqrun.specs.declared.command.Command.{Command}
+use Rattle.mqrun.specs.declared.command.Command.TheVariants as command
 use Rattle.mqrun.specs.declared.reply.Outcome.{Outcome}
-use Rattle.mqrun.specs.declared.reply.Outcome.TheVariants as outcome
+use Rattle.mqrun.specs.declared.reply.Outcome.TheVariants as outcomes
 
 -- no process has an open wait
 abbrev pub NobodyWaits : Past → Type 0
@@ -16,11 +22,50 @@ NobodyWaits past = (p : ℕ) → open_wait past p ≡ None
 
 -- what is printed of a reply that gives no message. A call that waits has come to nothing yet
 abbrev pub outcome_of : Reply → Option Outcome
-outcome_of (reply.Opened d created) = Some (outcome.Opened d)
-outcome_of (reply.Queued notified) = Some outcome.Done
-outcome_of (reply.Handed wait) = Some outcome.Done
-outcome_of reply.Done = Some outcome.Done
-outcome_of (reply.Attrs status) = Some (outcome.Attrs status)
-outcome_of (reply.Notice value) = Some (outcome.Notice value)
-outcome_of (reply.Refused fault) = Some (outcome.Refused fault)
+outcome_of (replies.Opened d created) = Some (outcomes.Opened d)
+outcome_of (replies.Queued notified) = Some outcomes.Done
+outcome_of (replies.Handed wait) = Some outcomes.Done
+outcome_of replies.Done = Some outcomes.Done
+outcome_of (replies.Attrs status) = Some (outcomes.Attrs status)
+outcome_of (replies.Notice value) = Some (outcomes.Notice value)
+outcome_of (replies.Refused fault) = Some (outcomes.Refused fault)
 outcome_of _ = None
+
+-- a call was made, and this is printed of its reply: one record was added, or for want of memory none
+pub record Makes (old new : Past) (p : ℕ) (call : Call) (given : List ℕ) (result : Option Outcome) : Type 0 where
+  pub reply : Reply
+  pub added : reply ≢ replies.Refused NoMemory → Appends old new p call given reply
+  pub unchanged : reply ≡ replies.Refused NoMemory → new ≡ old
+  pub outcome : result ≡ outcome_of reply
+
+-- what is printed of the reply to a receive, where these are the records behind it
+abbrev pub printed : Past → Reply → Option Outcome
+printed past (replies.Got place admitted notified) = Some (outcomes.Got (received_at past place))
+printed past reply = outcome_of reply
+
+-- a receive was made, the message got lies in the front of the buffer, and this is printed of its reply
+pub record Receives (old new : Past) (p d : ℕ) (before behind : List ℕ) (result : Option Outcome) : Type 0 where
+  pub reply : Reply
+  pub added : reply ≢ replies.Refused NoMemory → Appends old new p (MqReceive d (length before)) [] reply
+  pub unchanged : reply ≡ replies.Refused NoMemory → new ≡ old
+  pub buffer : behind ≡ filled old reply before
+  pub outcome : result ≡ printed new reply
+
+-- a call on a name was made, or the name was refused before it
+pub record MakesNamed (old new : Past) (p : ℕ) (call : Call) (name : List ℕ) (result : Option Outcome) : Type 0 where
+  pub made : IsTrue (is_name name) → Makes old new p call name result
+  pub too_long : IsTrue (has_name_form name) → IsFalse (is_short name) → (new ≡ old) × (result ≡ Some (outcomes.Refused NameTooLong))
+  pub invalid : IsFalse (has_name_form name) → (new ≡ old) × (result ≡ Some (outcomes.Refused Invalid))
+
+-- the command of process p was carried out; the buffer is changed by a receive alone. What an exit closes is not said here
+abbrev pub Performs : ℕ → Command Word → List ℕ → List ℕ → Past → Past → Option Outcome → Type 0
+Performs p (command.Open name flags attr) before behind old new result = MakesNamed old new p (MqOpen flags attr) name result
+Performs p (command.Close d) before behind old new result = Makes old new p (MqClose d) [] result
+Performs p (command.Unlink name) before behind old new result = MakesNamed old new p MqUnlink name result
+Performs p (command.Send d prio message) before behind old new result = Makes old new p (MqSend d prio (length message)) message result
+Performs p (command.Receive d room) before behind old new result = Receives old new p d before behind result
+Performs p (command.Getattr d) before behind old new result = Makes old new p (MqGetattr d) [] result
+Performs p (command.Setattr d nonblock) before behind old new result = Makes old new p (MqSetattr d nonblock) [] result
+Performs p (command.Notify d value) before behind old new result = Makes old new p (MqNotify d value) [] result
+Performs p command.Notice before behind old new result = Makes old new p NextNotice [] result
+Performs p command.Exit before behind old new result = Unit {0}

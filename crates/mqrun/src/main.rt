@@ -1,6 +1,7 @@
 // Runs a script of message queue calls: standard input to standard output.
 #![tactic(auto)]
 
+mod calls;
 mod command;
 mod fault;
 mod input;

@@ -1,6 +1,6 @@
 use Rattle.std.proofs.Common.{rules, ◌≡◌, length}
 use Rattle.mqrun.proofs.Buffers.{message-fits}
-use Rattle.mqrun.proofs.phase.receive.Goals as goal
+use Rattle.mqrun.proofs.calls.receive.Goals as goal
 
 pub returns-in-Got-clause-message : goal.returns-in-Got-clause-message
 returns-in-Got-clause-message c =
