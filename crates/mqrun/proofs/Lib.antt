@@ -3,4 +3,5 @@ pub mod KnownBytes
 pub mod Lines
 pub mod Numbers
 pub mod ScriptLines
+pub mod Turns
 pub mod WordCounts

@@ -1,5 +1,5 @@
 -- What the calls of a script leave.
-use Rattle.std.specs.Prelude.{◌≡◌, ◌≢◌, ℕ, List, [], length, IsFalse, IsTrue, Option, Some, None}
+use Rattle.std.specs.Prelude.{◌≡◌, ◌≢◌, ◌==◌, ◌++◌, ℕ, zero, suc, List, [], ◌∷◌, filter, length, replicate, IsFalse, IsTrue, Option, Some, None}
 use Rattle.mq_core.specs.Answer.{Appends}
 use Rattle.mq_core.specs.Name.{has_name_form, is_name, is_short}
 use Rattle.mq_core.specs.Record.{Past}
@@ -13,6 +13,8 @@ use Rattle.mq_state.specs.Buffers.{filled, received_at}
 use Rattle.mqrun.specs.Grammar.{Word}
 use Rattle.mqrun.specs.declared.command.Command.{Command}
 use Rattle.mqrun.specs.declared.command.Command.TheVariants as command
+use Rattle.mqrun.specs.declared.line.ScriptCall.{ScriptCall}
+use Rattle.mqrun.specs.Replies.{reply_line}
 use Rattle.mqrun.specs.declared.reply.Outcome.{Outcome}
 use Rattle.mqrun.specs.declared.reply.Outcome.TheVariants as outcomes
 
@@ -69,3 +71,26 @@ Performs p (command.Setattr d nonblock) before behind old new result = Makes old
 Performs p (command.Notify d value) before behind old new result = Makes old new p (MqNotify d value) [] result
 Performs p command.Notice before behind old new result = Makes old new p NextNotice [] result
 Performs p command.Exit before behind old new result = Unit {0}
+
+-- the buffer that a call is given: that of a receive, and else none
+abbrev pub buffer_given : Command Word → List ℕ
+buffer_given (command.Receive d room) = replicate room 0
+buffer_given other = []
+
+-- a call of a script was carried out, and the line of its reply is behind the text
+pub record RunsCall (call : ScriptCall Word) (old new : Past) (before behind : List ℕ) : Type 0 where
+  pub buffer : List ℕ
+  pub came : Outcome
+  pub performed : Performs call.process call.command (buffer_given call.command) buffer old new (Some came)
+  pub line : behind ≡ before ++ reply_line call.process came buffer
+
+-- calls were carried out one behind the other
+abbrev pub RunsCalls : List (ScriptCall Word) → Past → Past → List ℕ → List ℕ → Type 0
+RunsCalls [] old new before behind = (new ≡ old) × (behind ≡ before)
+RunsCalls (call ∷ calls) old new before behind =
+    (mid : Past) × (text : List ℕ) × RunsCall call old mid before text × RunsCalls calls mid new text behind
+
+-- the calls of processes 1 to p, each in its turn
+abbrev pub in_turn : ℕ → List (ScriptCall Word) → List (ScriptCall Word)
+in_turn zero calls = []
+in_turn (suc p) calls = in_turn p calls ++ filter (λ call. call.process == suc p) calls

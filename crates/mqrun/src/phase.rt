@@ -1,7 +1,8 @@
 // A phase in one thread: each process in turn makes its calls.
-ghost use Rattle.std.specs.Prelude.{◌≡◌, ◌≢◌, ◌≤◌, ◌<◌, ◌+◌, ℕ, IfErr, IfOk, IfSome, OnOk, OnErr, OnSome, length};
+ghost use Rattle.std.specs.Prelude.{◌≡◌, ◌≤◌, ℕ, [], IfErr, IfOk, OnOk};
 ghost use Rattle.mqrun.specs.RunFault.{IsLate};
-ghost use Rattle.mqrun.specs.Runs.{NobodyWaits};
+ghost use Rattle.mqrun.specs.Runs.{NobodyWaits, RunsCall, RunsCalls, in_turn};
+ghost use Rattle.mqrun.specs.Script.{said_call, said_calls};
 
 use crate::calls::perform;
 use crate::command::Command;
@@ -24,12 +25,13 @@ pub fn run_phase(
     ensures processes { books.new.n ≡ books.old.n }
     ensures nobody_waits { OnOk result (NobodyWaits books.new.records) }
     ensures fault { IfErr result IsLate }
+    ensures runs { IfOk result (λ text. RunsCalls (in_turn processes (said_calls calls.now)) books.old.records books.new.records [] text.items) }
 {
     let mut text = Vec::new(alloc);
     for process in 1..processes + 1 {
         for call in calls {
             if call.process == process {
-                run_call(alloc, books, process, call, &mut text)?;
+                run_call(alloc, books, call, &mut text)?;
             }
         }
     }
@@ -40,24 +42,24 @@ pub fn run_phase(
 fn run_call(
     alloc: Global,
     books: &mut Books,
-    process: u32,
     call: &ScriptCall<&[u8]>,
     text: &mut Vec<u8>,
 ) -> Result<(), RunFault>
-    requires process { (1 ≤ process) × (process ≤ books.old.n) }
+    requires process { (1 ≤ call.now.process) × (call.now.process ≤ books.old.n) }
     requires nobody_waits { NobodyWaits books.old.records }
     ensures processes { books.new.n ≡ books.old.n }
     ensures nobody_waits { OnOk result (NobodyWaits books.new.records) }
     ensures fault { IfErr result IsLate }
+    ensures runs { OnOk result (RunsCall (said_call call.now) books.old.records books.new.records text.old.items text.new.items) }
 {
     let room = match call.command {
         Command::Receive { d: _, room } => room,
         _ => 0,
     };
     let mut buffer = vec![in alloc; 0; room]?;
-    let Some(outcome) = perform(books, process, &call.command, buffer.as_mut_slice()) else {
+    let Some(outcome) = perform(books, call.process, &call.command, buffer.as_mut_slice()) else {
         return Err(RunFault::BadCall(call.line));
     };
-    push_reply(alloc, text, process, &outcome, buffer.as_slice())?;
+    push_reply(alloc, text, call.process, &outcome, buffer.as_slice())?;
     Ok(())
 }
