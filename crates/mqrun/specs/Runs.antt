@@ -1,5 +1,5 @@
 -- What the calls of a script leave.
-use Rattle.std.specs.Prelude.{◌≡◌, ◌≢◌, ◌==◌, ◌++◌, ℕ, zero, suc, List, [], ◌∷◌, filter, length, replicate, IsFalse, IsTrue, Option, Some, None}
+use Rattle.std.specs.Prelude.{◌≡◌, ◌≢◌, ◌==◌, ◌++◌, ℕ, zero, suc, List, [], ◌∷◌, codes, filter, length, replicate, IsFalse, IsTrue, Option, Some, None}
 use Rattle.mq_core.specs.Answer.{Appends}
 use Rattle.mq_core.specs.Name.{has_name_form, is_name, is_short}
 use Rattle.mq_core.specs.Record.{Past}
@@ -15,6 +15,8 @@ use Rattle.mqrun.specs.declared.command.Command.{Command}
 use Rattle.mqrun.specs.declared.command.Command.TheVariants as command
 use Rattle.mqrun.specs.declared.line.ScriptCall.{ScriptCall}
 use Rattle.mqrun.specs.Replies.{reply_line}
+use Rattle.mqrun.specs.Script.{Whole}
+use Rattle.std.specs.Io.KnownBytes as known
 use Rattle.mqrun.specs.declared.reply.Outcome.{Outcome}
 use Rattle.mqrun.specs.declared.reply.Outcome.TheVariants as outcomes
 
@@ -94,3 +96,22 @@ RunsCalls (call ∷ calls) old new before behind =
 abbrev pub in_turn : ℕ → List (ScriptCall Word) → List (ScriptCall Word)
 in_turn zero calls = []
 in_turn (suc p) calls = in_turn p calls ++ filter (λ call. call.process == suc p) calls
+
+-- a phase was run: its calls in turn, and the lines of their replies are behind the text
+pub record RunsPhase (processes : ℕ) (calls : List (ScriptCall Word)) (old new : Past) (before behind : List ℕ) : Type 0 where
+  pub replies : List ℕ
+  pub calls_ran : RunsCalls (in_turn processes calls) old new [] replies
+  pub written : behind ≡ before ++ replies
+
+-- phases were run one behind the other
+abbrev pub RunsPhases : ℕ → List (List (ScriptCall Word)) → Past → Past → List ℕ → List ℕ → Type 0
+RunsPhases processes [] old new before behind = (new ≡ old) × (behind ≡ before)
+RunsPhases processes (calls ∷ phases) old new before behind =
+    (mid : Past) × (text : List ℕ) × RunsPhase processes calls old mid before text × RunsPhases processes phases mid new text behind
+
+-- a script was run whole: known bytes have grown by the replies to its phases, and the line that ends a whole run
+pub record RunsScript (script : Whole) (old new : Option (List ℕ)) : Type 0 where
+  pub records : Past
+  pub replies : List ℕ
+  pub ran : RunsPhases script.processes script.phases [] records [] replies
+  pub written : known.Appends old new (replies ++ (codes "history ok" ++ 10 ∷ []))

@@ -1,8 +1,8 @@
 // A script, from its bytes to the bytes of its replies.
-ghost use Rattle.std.specs.Prelude.{◌≡◌, ◌≤◌, ◌+◌, ℕ, List, IfErr, IsErrOf, OnOk, Some, Err, take};
-ghost use Rattle.mqrun.specs.Output.{AppendsRun};
+ghost use Rattle.std.specs.Prelude.{◌≡◌, ◌≤◌, ◌+◌, ℕ, List, IfErr, IsErrOf, OnOk, Some, Ok, Err, take};
 ghost use Rattle.mqrun.specs.RunFault.{IsLate, StopsAt};
-ghost use Rattle.mqrun.specs.Script.{script_written};
+ghost use Rattle.mqrun.specs.Runs.{RunsScript};
+ghost use Rattle.mqrun.specs.Script.{Whole, said_script, script_written};
 ghost use Rattle.mqrun.specs.declared.fault.RunFault.TheVariants.{Input};
 
 use crate::fault::RunFault;
@@ -26,7 +26,9 @@ pub fn run_script<R: Read, W: Write>(
     ensures bad_call { (all : List ℕ) (line : ℕ) → R.remaining input.old ≡ Some all →
         script_written (take (MOST_BYTES + 1) all) ≡ Err line →
         StopsAt line result × (W.contents output.new ≡ W.contents output.old) }
-    ensures done { OnOk result (AppendsRun (W.contents output.old) (W.contents output.new)) }
+    ensures done { (all : List ℕ) (script : Whole) → R.remaining input.old ≡ Some all →
+        script_written (take (MOST_BYTES + 1) all) ≡ Ok script →
+        OnOk result (RunsScript script (W.contents output.old) (W.contents output.new)) }
 {
     let text = read_all(alloc, input)?;
     let script = read_script(alloc, text.as_slice())?;
@@ -37,7 +39,7 @@ pub fn run_script<R: Read, W: Write>(
 fn run_phases<W: Write>(alloc: Global, script: &Script<'_>, output: &mut W) -> Result<(), RunFault>
     requires { (1 ≤ script.now.processes) × (script.now.processes ≤ 32) }
     ensures fault { IfErr result IsLate }
-    ensures done { OnOk result (AppendsRun (W.contents output.old) (W.contents output.new)) }
+    ensures done { OnOk result (RunsScript (said_script script.now) (W.contents output.old) (W.contents output.new)) }
 {
     let mut books = Books::new(alloc, script.processes)?;
     for calls in &script.phases {
