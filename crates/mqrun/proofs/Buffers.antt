@@ -1,16 +1,11 @@
 -- A message that was received has room in the buffer that it was put into.
-use Rattle.std.proofs.Common.{◌≡◌, ◌≢◌, ◌≤◌, ◌==◌, ◌++◌, ◌+◌, ℕ, List, [], ◌∷◌, Bool, true, false, Option, None, Some, length, drop, IfSome, inl, inr, refl, ap, ◌∙◌, sym, arith, length-append, length-drop}
-use Rattle.std.specs.Option.{option_map, unwrap_or}
+use Rattle.std.proofs.Common.{◌≡◌, ◌≤◌, ◌==◌, ◌+◌, ℕ, List, [], ◌∷◌, Option, length, drop, inl, inr, refl, ap, ◌∙◌, arith, length-append}
 use Rattle.std.proofs.lemmas.Bool.{cases_Bool}
-use Rattle.mq_core.specs.Record.{Past, Record, record_at}
+use Rattle.mq_core.specs.Record.{Past, Record}
 use Rattle.mq_core.specs.Answer.{Appends}
 use Rattle.mq_core.specs.declared.entries.Call.TheVariants as call
-use Rattle.mq_core.specs.declared.entries.Reply.{Reply}
 use Rattle.mq_core.specs.declared.entries.Reply.TheVariants as reply
-use Rattle.mq_core.specs.declared.faults.Fault.TheVariants as fault
 use Rattle.mq_state.specs.Buffers.{filled, message_at, with_front}
-use Rattle.mqrun.specs.Replies.{HasMessage}
-use Rattle.mqrun.specs.Runs.{outcome_of}
 
 -- behind a record without a payload, the message at a place is the same or empty
 message_at-behind : (past : Past) (r : Record) (m room : ℕ) → r.payload ≡ [] → length (message_at past m) ≤ room → length (message_at (r ∷ past) m) ≤ room

@@ -1,5 +1,5 @@
 -- Phases that are run one behind the other.
-use Rattle.std.proofs.Common.{◌≡◌, ◌<◌, ◌+◌, ◌++◌, ℕ, List, [], ◌∷◌, length, get_or, take, map, refl, ap, sym, ◌∙◌, subst, Vec, Global, Bor}
+use Rattle.std.proofs.Common.{◌≡◌, ◌<◌, ◌+◌, ◌++◌, ℕ, List, [], ◌∷◌, length, get_or, take, refl, ap, sym, ◌∙◌, subst, Vec, Global, Bor}
 use Rattle.std.proofs.lemmas.List.{take_more, map-append}
 use Rattle.mq_core.specs.Record.{Past}
 use Rattle.mqrun.specs.Grammar.{Word}

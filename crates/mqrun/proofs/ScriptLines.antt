@@ -1,5 +1,5 @@
 -- One line of a script, and what is behind it.
-use Rattle.std.proofs.Common.{◌≡◌, ◌+◌, ℕ, List, [], ◌∷◌, refl, ap, sym, ◌∙◌, Option, Some, None, Result, Ok, Err}
+use Rattle.std.proofs.Common.{◌≡◌, ◌+◌, ℕ, List, ◌∷◌, refl, ap, sym, ◌∙◌, Option, Some, None, Result, Ok, Err}
 use Rattle.mqrun.specs.declared.line.Line.{Line}
 use Rattle.mqrun.specs.declared.script.Place.{Place}
 use Rattle.mqrun.specs.declared.script.Phases.{Phases}

@@ -1,5 +1,5 @@
 -- Words in a number that no call has.
-use Rattle.std.proofs.Common.{◌≡◌, ◌<◌, ◌≢◌, ℕ, List, [], ◌∷◌, length, map, refl, arith, None, Bor}
+use Rattle.std.proofs.Common.{◌≡◌, ◌<◌, ◌≢◌, List, [], ◌∷◌, length, map, refl, arith, None, Bor}
 use Rattle.mqrun.specs.Grammar.{Word, open_written, attr_written}
 
 -- the words that references point to

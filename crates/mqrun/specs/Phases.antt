@@ -1,5 +1,5 @@
 -- The phases of a script, as far as they were read.
-use Rattle.std.specs.Prelude.{◌≡◌, ℕ, List, [], ◌∷◌, ◌++◌}
+use Rattle.std.specs.Prelude.{◌∷◌, ◌++◌}
 use Rattle.mqrun.specs.declared.script.Phases.{Phases}
 use Rattle.mqrun.specs.Script.{Written, Whole, said_calls, said_phases}
 

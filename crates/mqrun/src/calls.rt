@@ -45,7 +45,13 @@ pub fn perform(
     }
 }
 
-fn open(books: &mut Books, process: u32, name: &[u8], flags: OpenFlags, attr: Option<Attr>) -> Option<Outcome>
+fn open(
+    books: &mut Books,
+    process: u32,
+    name: &[u8],
+    flags: OpenFlags,
+    attr: Option<Attr>,
+) -> Option<Outcome>
     requires process { (1 ≤ process) × (process ≤ books.old.n) }
     requires nobody_waits { NobodyWaits books.old.records }
     ensures processes { books.new.n ≡ books.old.n }

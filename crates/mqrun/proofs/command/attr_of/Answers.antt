@@ -1,4 +1,4 @@
-use Rattle.std.proofs.Common.{arith, ◌≡◌, length}
+use Rattle.std.proofs.Common.{arith}
 use Rattle.mqrun.proofs.WordCounts.{attr_none}
 use Rattle.mqrun.proofs.command.attr_of.Goals as goal
 

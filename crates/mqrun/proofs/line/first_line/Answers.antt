@@ -1,6 +1,5 @@
-use Rattle.std.proofs.Common.{rules, ◌≡◌, ◌∷◌, Some, None, sym, ◌∙◌}
+use Rattle.std.proofs.Common.{◌≡◌, Some, None, sym, ◌∙◌}
 use Rattle.std.specs.List.{position}
-use Rattle.mqrun.specs.Script.{lines_of}
 use Rattle.mqrun.proofs.Lines.{is_feed, lines_of-found, lines_of-none}
 use Rattle.mqrun.proofs.line.first_line.Goals as goal
 

@@ -1,4 +1,4 @@
-use Rattle.std.proofs.Common.{rules, arith, ◌≡◌, ◌-◌, take}
+use Rattle.std.proofs.Common.{rules, ◌≡◌, ◌-◌, take}
 use Rattle.std.proofs.lemmas.List.{take_all}
 use Rattle.mqrun.specs.Runs.{in_turn}
 use Rattle.mqrun.specs.Script.{said_calls}

@@ -1,4 +1,4 @@
-use Rattle.std.proofs.Common.{◌≡◌, ◌≤◌, ◌-◌, ◌++◌, [], take}
+use Rattle.std.proofs.Common.{◌≡◌, ◌-◌, ◌++◌, [], take}
 use Rattle.mqrun.specs.Runs.{NobodyWaits, RunsCalls, in_turn}
 use Rattle.mqrun.specs.Script.{said_calls}
 use Rattle.mqrun.proofs.Turns.{turn}

@@ -1,4 +1,4 @@
-use Rattle.std.proofs.Common.{rules, ◌≡◌, ◌<◌, ◌++◌, ◌∙◌, ap, refl, sym, length, get_or, Vec, Global, Bor}
+use Rattle.std.proofs.Common.{◌≡◌, ◌<◌, ◌++◌, ◌∙◌, ap, refl, sym, length, get_or, Vec, Global, Bor}
 use Rattle.mqrun.specs.Grammar.{Word}
 use Rattle.mqrun.specs.Script.{said_calls}
 use Rattle.mqrun.specs.Runs.{RunsPhase}

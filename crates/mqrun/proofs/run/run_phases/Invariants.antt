@@ -9,5 +9,5 @@ invariant-loop-calls g l = record {
   processes : l.books.n ≡ l.script.processes;
   nobody_waits : NobodyWaits l.books.records;
   written : (replies : List ℕ) × Appends (g.W.Write.contents l.initial.output) (g.W.Write.contents l.output) replies
-    × RunsPhases l.script.processes (said_phases (take l.calls-index l.script.phases.items)) [] l.books.records [] replies;
+      × RunsPhases l.script.processes (said_phases (take l.calls-index l.script.phases.items)) [] l.books.records [] replies;
 }

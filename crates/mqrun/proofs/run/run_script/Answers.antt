@@ -1,4 +1,4 @@
-use Rattle.std.proofs.Common.{rules, ◌≡◌, ◌∙◌, ap, sym, subst, ℕ, List, take, Result, Ok, Err, OnOk}
+use Rattle.std.proofs.Common.{◌≡◌, sym, subst, ℕ, take, Result, Ok, OnOk}
 use Rattle.mqrun.specs.Runs.{RunsScript}
 use Rattle.mqrun.specs.Script.{Whole, said_script, script_written}
 use Rattle.mqrun.proofs.run.run_script.Goals as goal

@@ -1,6 +1,6 @@
-use Rattle.std.proofs.Common.{rules, arith, ◌≡◌, ◌≤◌, ◌+◌, ◌∙◌, sym, ℕ, ◌∷◌, Ok, Some, Option, length, IfSome}
+use Rattle.std.proofs.Common.{rules, arith, ◌≡◌, ◌∙◌}
 use Rattle.mqrun.specs.Phases.{whole_behind}
-use Rattle.mqrun.specs.Script.{Written, line_read, lines_of, or_fault, processes_behind, result_map, said_line, script_read, script_written, with_line}
+use Rattle.mqrun.specs.Script.{Written, lines_of, processes_behind, said_line, with_line}
 use Rattle.mqrun.proofs.ScriptLines.{whole_behind-line}
 use Rattle.mqrun.proofs.script.read_script.Goals as goal
 
