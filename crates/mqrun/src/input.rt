@@ -1,5 +1,5 @@
 // All bytes of the input.
-ghost use Rattle.std.specs.Prelude.{◌≡◌, ◌≤◌, ◌<◌, ◌+◌, ◌⊎◌, ℕ, IfOk, IfErr, IfSome, length, take, vec_len};
+ghost use Rattle.std.specs.Prelude.{◌≡◌, ◌≤◌, ◌+◌, ◌⊎◌, IfOk, IfErr, IfSome, take, vec_len};
 ghost use Rattle.mqrun.specs.declared.fault.RunFault.TheVariants.{Input, NoMemory};
 
 use crate::fault::RunFault;

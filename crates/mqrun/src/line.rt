@@ -1,5 +1,5 @@
 // The lines of a script, and what they write.
-ghost use Rattle.std.specs.Prelude.{◌≡◌, ◌≤◌, ◌<◌, ◌+◌, ◌^◌, ◌∷◌, IfSome, ◌==◌, length, map, position};
+ghost use Rattle.std.specs.Prelude.{◌≡◌, ◌≤◌, ◌<◌, ◌∷◌, IfSome, ◌==◌, length, map, position};
 ghost use Rattle.std.specs.Option.{option_map};
 ghost use Rattle.mqrun.specs.Script.{is_skipped, is_phase_end, processes_written, call_line_written, line_written, lines_of, processes_behind, said_call, said_line};
 

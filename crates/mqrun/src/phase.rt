@@ -1,5 +1,5 @@
 // A phase in one thread: each process in turn makes its calls.
-ghost use Rattle.std.specs.Prelude.{◌≡◌, ◌≤◌, ℕ, [], IfErr, IfOk, OnOk};
+ghost use Rattle.std.specs.Prelude.{◌≡◌, ◌≤◌, [], IfErr, IfOk, OnOk};
 ghost use Rattle.mqrun.specs.RunFault.{IsLate};
 ghost use Rattle.mqrun.specs.Runs.{NobodyWaits, RunsCall, RunsCalls, in_turn};
 ghost use Rattle.mqrun.specs.Script.{said_call, said_calls};

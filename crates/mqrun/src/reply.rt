@@ -1,6 +1,5 @@
 // The lines of replies.
-ghost use Rattle.std.specs.Prelude.{◌≡◌, ◌++◌, ◌∷◌, [], IfOk, OnOk, length, string_bytes, codes};
-ghost use Rattle.std.specs.Fmt.{decimal};
+ghost use Rattle.std.specs.Prelude.{◌≡◌, ◌++◌, IfOk, OnOk, length, string_bytes};
 ghost use Rattle.mqrun.specs.Replies.{HasMessage, message_received, outcome_text, reply_line};
 
 use mq_core::entries::{Received, Status};
