@@ -7,3 +7,5 @@ pub mod journals;
 pub mod names;
 pub mod owners;
 pub mod registrations;
+#[cfg(test)]
+mod tests;
