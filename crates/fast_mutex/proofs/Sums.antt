@@ -7,24 +7,24 @@ use native.Mathlib.Decide.{ℕ_discrete}
 use lib.ListN.{get_elem?}
 use Rattle.std.proofs.lemmas.List.Elements.{filter-append, All-from_recursion, recursion_from_All}
 use Rattle.fast_mutex.specs.Items.{items_of, Grows, GrowsBy}
-use Rattle.fast_mutex.specs.Word.{Claim, over, times, fresh}
+use Rattle.fast_mutex.specs.Word.{Claim, sum_over, times, new_claims}
 
 module _ {V : Type 0} (f : V → ℕ) where
-  pub over_set : (l : List V) (i : ℕ) (a b : V) → get_elem? l i ≡ some a → over f (set l i b) + f a ≡ over f l + f b
+  pub over_set : (l : List V) (i : ℕ) (a b : V) → get_elem? l i ≡ some a → sum_over f (set l i b) + f a ≡ sum_over f l + f b
   over_set [] i a b e = absurd (some-ne-none a (sym e))
   over_set (x ∷ xs) zero a b e = let h : f x ≡ f a = ap f (some-injective x a e) in omega arith
   over_set (x ∷ xs) (suc i) a b e = let h = over_set xs i a b e in omega arith
 
-  pub over_append : (l m : List V) → over f (l ++ m) ≡ over f l + over f m
+  pub over_append : (l m : List V) → sum_over f (l ++ m) ≡ sum_over f l + sum_over f m
   over_append [] m = omega arith
   over_append (x ∷ xs) m = let h = over_append xs m in omega arith
 
-  pub over_one : (l : List V) (i : ℕ) (a : V) → get_elem? l i ≡ some a → f a ≤ over f l
+  pub over_one : (l : List V) (i : ℕ) (a : V) → get_elem? l i ≡ some a → f a ≤ sum_over f l
   over_one [] i a e = absurd (some-ne-none a (sym e))
   over_one (x ∷ xs) zero a e = let h : f x ≡ f a = ap f (some-injective x a e) in omega arith
   over_one (x ∷ xs) (suc i) a e = let h = over_one xs i a e in omega arith
 
-  pub over_two : (l : List V) (i j : ℕ) (a b : V) → i ≢ j → get_elem? l i ≡ some a → get_elem? l j ≡ some b → f a + f b ≤ over f l
+  pub over_two : (l : List V) (i j : ℕ) (a b : V) → i ≢ j → get_elem? l i ≡ some a → get_elem? l j ≡ some b → f a + f b ≤ sum_over f l
   over_two [] i j a b n d e = absurd (some-ne-none a (sym d))
   over_two (x ∷ xs) zero zero a b n d e = absurd (n refl)
   over_two (x ∷ xs) zero (suc j) a b n d e = let h : f x ≡ f a = ap f (some-injective x a d) in let k = over_one xs j b e in omega arith
@@ -52,17 +52,17 @@ module _ {I : Type 0} where
   times_append k (c ∷ cs) ds = let h = times_append k cs ds in omega arith
 
 module _ (I : Type 0) where
-  pub times_below : (j k n : ℕ) → j < k → times j (fresh {I = I} k n) ≡ 0
+  pub times_below : (j k n : ℕ) → j < k → times j (new_claims {I = I} k n) ≡ 0
   times_below j k zero h = refl
-  times_below j k (suc n) h = times_other j k [] (fresh (suc k) n) (λ e. omega arith) ∙ times_below j (suc k) n (omega arith)
+  times_below j k (suc n) h = times_other j k [] (new_claims (suc k) n) (λ e. omega arith) ∙ times_below j (suc k) n (omega arith)
 
-  pub fresh_once : (j k n : ℕ) → times j (fresh {I = I} k n) ≤ 1
+  pub fresh_once : (j k n : ℕ) → times j (new_claims {I = I} k n) ≤ 1
   fresh_once j k zero = omega arith
   fresh_once j k (suc n) = dite (ℕ_discrete k j)
-      (λ e. let a = times_here k [] (fresh {I = I} (suc k) n) in let b = times_below k (suc k) n (omega arith) in let P : ℕ → Type 0 = λ z. times z (fresh {I = I} k (suc n)) ≤ 1 in subst P e (omega arith))
-      (λ ne. let a = times_other j k [] (fresh {I = I} (suc k) n) ne in let b = fresh_once j (suc k) n in omega arith)
+      (λ e. let a = times_here k [] (new_claims {I = I} (suc k) n) in let b = times_below k (suc k) n (omega arith) in let P : ℕ → Type 0 = λ z. times z (new_claims {I = I} k (suc n)) ≤ 1 in subst P e (omega arith))
+      (λ ne. let a = times_other j k [] (new_claims {I = I} (suc k) n) ne in let b = fresh_once j (suc k) n in omega arith)
 
-  pub fresh_length : (k n : ℕ) → length (fresh {I = I} k n) ≡ n
+  pub fresh_length : (k n : ℕ) → length (new_claims {I = I} k n) ≡ n
   fresh_length k zero = refl
   fresh_length k (suc n) = ap suc (fresh_length (suc k) n)
 
