@@ -54,17 +54,17 @@ module _ {I : Type 0} where
 module _ (I : Type 0) where
   pub times_below : (j k n : ℕ) → j < k → times j (new_claims {I = I} k n) ≡ 0
   times_below j k zero h = refl
-  times_below j k (suc n) h = times_other j k [] (new_claims (suc k) n) (λ e. omega arith) ∙ times_below j (suc k) n (omega arith)
+  times_below j k (suc n) h = times_other j k [] (new_claims {I = I} (suc k) n) (λ e. omega arith) ∙ times_below j (suc k) n (omega arith)
 
-  pub fresh_once : (j k n : ℕ) → times j (new_claims {I = I} k n) ≤ 1
-  fresh_once j k zero = omega arith
-  fresh_once j k (suc n) = dite (ℕ_discrete k j)
+  pub new_claims_once : (j k n : ℕ) → times j (new_claims {I = I} k n) ≤ 1
+  new_claims_once j k zero = omega arith
+  new_claims_once j k (suc n) = dite (ℕ_discrete k j)
       (λ e. let a = times_here k [] (new_claims {I = I} (suc k) n) in let b = times_below k (suc k) n (omega arith) in let P : ℕ → Type 0 = λ z. times z (new_claims {I = I} k (suc n)) ≤ 1 in subst P e (omega arith))
-      (λ ne. let a = times_other j k [] (new_claims {I = I} (suc k) n) ne in let b = fresh_once j (suc k) n in omega arith)
+      (λ ne. let a = times_other j k [] (new_claims {I = I} (suc k) n) ne in let b = new_claims_once j (suc k) n in omega arith)
 
-  pub fresh_length : (k n : ℕ) → length (new_claims {I = I} k n) ≡ n
-  fresh_length k zero = refl
-  fresh_length k (suc n) = ap suc (fresh_length (suc k) n)
+  pub length-new_claims : (k n : ℕ) → length (new_claims {I = I} k n) ≡ n
+  length-new_claims k zero = refl
+  length-new_claims k (suc n) = ap suc (length-new_claims (suc k) n)
 
 module _ {I : Type 0} (owner : I → ℕ) where
   pub own_lacks : (k j : ℕ) → j ≢ k → (xs : List I) → Each (λ x. owner x ≡ k) xs → items_of owner j xs ≡ []
@@ -81,6 +81,3 @@ module _ {I : Type 0} (owner : I → ℕ) where
 
   pub grows_none : (j : ℕ) (now : List I) → Grows owner j now now []
   grows_none j now = record { behind = []; is = refl; mine = refl }
-
-  pub grows_by_none : (j : ℕ) (now : List I) → now ≡ [] → GrowsBy owner j [] now
-  grows_by_none j now e = record { behind = []; is = e; mine = All-from_recursion (λ x. owner x ≡ j) [] tt }

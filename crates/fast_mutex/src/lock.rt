@@ -66,5 +66,5 @@ pub trait Lock<S: Logged>: Sized + Drop {
         ensures all { ((id self).count ≤ length seats.items) ↔ IsOk result }
         ensures fixed { IfOk result (λ s. S.fixed s ≡ (id self).fixed) }
         ensures grows { IfOk result (λ s. All (λ t. Grows S.owner (ticket t).number (ticket t).left (S.items s) []) seats.items) }
-        ensures back { IfErr result (λ m. (m.whole ≡ self) × (m.parts.items ≡ seats.items)) };
+        ensures back { IfErr result (λ m. (m.whole ≡ self) × (m.parts ≡ seats)) };
 }
