@@ -1,4 +1,4 @@
-//! Locks that hand over a state, which shows a list of items with owners.
+//! Locks that hand a state from process to process, and say what each finds when it enters.
 #![tactic(auto)]
 
 mod lock;
