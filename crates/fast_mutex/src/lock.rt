@@ -8,10 +8,11 @@ use std::alloc::{AllocError, Global};
 use std::sync::Wait;
 
 /// How a process got in, in the words of Lamport, "A Fast Mutual Exclusion Algorithm" (1987).
+#[derive(Clone, Copy, Debug, PartialEq, Eq)]
 pub enum Path {
-    /// It met no other process on its way.
+    /// By finding its own number in x, with no look at the flags of others.
     Fast,
-    /// It met others, and was the last to write its number.
+    /// By finding its own number in y, behind a wait for the flag of each other process.
     Slow,
 }
 

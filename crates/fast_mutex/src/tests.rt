@@ -1,29 +1,28 @@
-//! A state of its own list, and each lock over it.
-ghost use Rattle.std.specs.Prelude.{◌≡◌, ℕ, List, [], ◌∷◌, false, refl, MatchResult};
+//! Each lock over a state of its own list, by functions that are generic over the lock.
+ghost use Rattle.std.specs.Prelude.{◌≡◌, ℕ, List, [], ◌∷◌, false, refl, IfOk, MatchResult};
 ghost use Rattle.fast_mutex.specs.Items.{Grows};
 ghost use Rattle.fast_mutex.specs.Word.{ticket_of, lock_id, made_with};
 
-use crate::lock::{Lock, Missing};
-use crate::logged::Logged;
-use crate::word::{WordLock, WordSeat};
+use crate::{Lock, Logged, Missing, Path, WordLock, WordSeat};
 use std::alloc::{AllocError, Global};
 use std::sync::Wait;
 use std::thread::{Threads, join};
 
-// The latest stands last in the vector.
+/// Notes under a title. Each is the number of its process with a value, and the latest stands last in the vector.
 #[derive(Drop)]
-pub struct Pairs {
-    pub items: Vec<(u32, u32)>,
+pub struct Notes {
+    title: u32,
+    items: Vec<(u32, u32)>,
 }
 
-impl Logged for Pairs {
+impl Logged for Notes {
     type Item = (u32, u32);
 
     ghost use Rattle.std.specs.Prelude.{reverse};
 
     ghost items = { λ s. reverse s.items.items };
 
-    ghost fixed = { λ _. [] };
+    ghost fixed = { λ s. s.title ∷ [] };
 
     ghost owner = { λ x. x.0 };
 
@@ -38,78 +37,120 @@ impl Logged for Pairs {
     ghost stays = { λ p more before others h. h };
 }
 
-/// One stay, which adds one item.
-fn add<L: Lock<Pairs>, R: Wait>(
+fn no_notes(alloc: Global, title: u32, room: usize) -> Result<Notes, AllocError>
+    ensures { IfOk result (λ s. s.items.items ≡ []) }
+{
+    let items = Vec::with_capacity(alloc, room)?;
+    Ok(Notes { title, items })
+}
+
+/// What a process saw in one stay.
+#[derive(Clone, Copy, Debug, PartialEq, Eq)]
+struct Stay {
+    latest: Option<(u32, u32)>,
+    path: Path,
+    steps: u64,
+}
+
+/// One stay, which adds a note.
+fn add<L: Lock<Notes>, R: Wait>(
     rt: &R,
     lock: &L,
     seat: L::Seat,
     value: u32,
-) -> (L::Seat, Result<u64, AllocError>)
+) -> (L::Seat, Result<Stay, AllocError>)
     requires { (L.ticket seat).lock ≡ L.id lock.now }
     ensures seat { ((L.ticket result.0).lock ≡ L.id lock.now) × ((L.ticket result.0).number ≡ (L.ticket seat).number) }
     ensures added { MatchResult result.1 (λ n. Grows (λ x. x.0) (L.ticket seat).number (L.ticket seat).left (L.ticket result.0).left (((L.ticket seat).number, value) ∷ [])) (λ _. Grows (λ x. x.0) (L.ticket seat).number (L.ticket seat).left (L.ticket result.0).left []) }
 {
     let number = L::number(&seat);
-    let (inside, mut state) = lock.enter(rt, seat);
-    let steps = L::steps(&inside);
-    match state.items.push((number, value)) {
-        Ok(()) => (lock.leave(inside, state), Ok(steps)),
-        Err(_) => (lock.leave(inside, state), Err(AllocError)),
+    let (inside, mut notes) = lock.enter(rt, seat);
+    let stay = Stay {
+        latest: notes.items.last().copied(),
+        path: L::path(&inside),
+        steps: L::steps(&inside),
+    };
+    match notes.items.push((number, value)) {
+        Ok(()) => (lock.leave(inside, notes), Ok(stay)),
+        Err(_) => (lock.leave(inside, notes), Err(AllocError)),
     }
 }
 
-/// Both seats in turn, and then `finish` with one seat and with both.
-fn in_turn<L: Lock<Pairs>, R: Wait>(rt: &R, alloc: Global) -> Option<(Pairs, u64, u64)> {
-    let Ok((lock, mut seats)) = L::new(
-        alloc,
-        2,
-        Pairs {
-            items: Vec::new(alloc),
-        },
-    ) else {
-        return None;
-    };
-    let (Some(two), Some(one)) = (seats.pop(), seats.pop()) else {
-        return None;
-    };
+/// One stay, which adds nothing, and gives the latest note found.
+fn look<L: Lock<Notes>, R: Wait>(rt: &R, lock: &L, seat: L::Seat) -> (L::Seat, Option<(u32, u32)>)
+    requires { (L.ticket seat).lock ≡ L.id lock.now }
+    ensures seat { (L.ticket result.0).lock ≡ L.id lock.now }
+    ensures nothing { Grows (λ x. x.0) (L.ticket seat).number (L.ticket seat).left (L.ticket result.0).left [] }
+{
+    let (inside, notes) = lock.enter(rt, seat);
+    let latest = notes.items.last().copied();
+    (lock.leave(inside, notes), latest)
+}
+
+/// What two processes saw in turn, and the notes at the end.
+#[derive(Drop)]
+struct Turns {
+    first: Stay,
+    second: Stay,
+    third: Option<(u32, u32)>,
+    notes: Notes,
+}
+
+/// Process 1 adds 10, process 2 adds 20, `finish` lacks a seat, process 1 looks once more, and `finish` has both seats.
+fn in_turn<L: Lock<Notes>, R: Wait>(rt: &R, alloc: Global) -> Option<Turns> {
+    let notes = no_notes(alloc, 7, 2).ok()?;
+    let (lock, mut seats) = L::new(alloc, 2, notes).ok()?;
+    let (two, one) = (seats.pop()?, seats.pop()?);
     let (one, first) = add(rt, &lock, one, 10);
     let (two, second) = add(rt, &lock, two, 20);
-    let (Ok(first), Ok(second)) = (first, second) else {
+    seats.push(one).ok()?;
+    let Err(Missing { whole, mut parts }) = lock.finish(seats) else {
         return None;
     };
-    let Ok(()) = seats.push(one) else {
-        return None;
-    };
-    let Err(Missing { whole, parts }) = lock.finish(seats) else {
-        return None;
-    };
-    let mut parts = parts;
-    if parts.len() != 1 {
-        return None;
-    }
-    let Ok(()) = parts.push(two) else {
-        return None;
-    };
-    let Ok(state) = whole.finish(parts) else {
-        return None;
-    };
-    Some((state, first, second))
+    let one = parts.pop()?;
+    let (one, third) = look(rt, &whole, one);
+    parts.push(one).ok()?;
+    parts.push(two).ok()?;
+    let notes = whole.finish(parts).ok()?;
+    Some(Turns {
+        first: first.ok()?,
+        second: second.ok()?,
+        third,
+        notes,
+    })
 }
 
 #[test]
-fn takes_turns(rt: HostRuntime) {
-    let Some((state, first, second)) = in_turn::<WordLock<Pairs>, _>(&rt, rt.alloc()) else {
-        panic!(&rt; "no state")
+fn a_word_lock_hands_its_state_over_in_turn(rt: HostRuntime) {
+    // one growth may be refused from outside
+    let turns = match in_turn::<WordLock<Notes>, _>(&rt, rt.alloc()) {
+        Some(turns) => turns,
+        None => in_turn::<WordLock<Notes>, _>(&rt, rt.alloc()).expect(&rt, "memory"),
     };
-    assert_eq!(rt; first, 1);
-    assert_eq!(rt; second, 1);
-    assert_eq!(rt; state.items.len(), 2);
-    assert_eq!(rt; state.items[0], (1, 10));
-    assert_eq!(rt; state.items[1], (2, 20));
+    let (path, steps) = (Path::Fast, 1);
+    assert_eq!(rt;
+        turns.first,
+        Stay {
+            latest: None,
+            path,
+            steps
+        }
+    );
+    assert_eq!(rt;
+        turns.second,
+        Stay {
+            latest: Some((1, 10)),
+            path,
+            steps
+        }
+    );
+    assert_eq!(rt; turns.third, Some((2, 20)));
+    assert_eq!(rt; turns.notes.title, 7);
+    assert_eq!(rt; turns.notes.items.as_slice(), [(1, 10), (2, 20)].as_slice());
 }
 
-/// As many stays of one seat.
-fn many<L: Lock<Pairs>, R: Wait>(rt: &R, lock: &L, seat: L::Seat, stays: u32) -> L::Seat
+/// As many stays of one process, which adds the values from 0 on.
+fn add_many<L: Lock<Notes>, R: Wait>(rt: &R, lock: &L, seat: L::Seat, stays: u32) -> L::Seat
     requires { (L.ticket seat).lock ≡ L.id lock.now }
     ensures { (L.ticket result).lock ≡ L.id lock.now }
 {
@@ -121,59 +162,41 @@ fn many<L: Lock<Pairs>, R: Wait>(rt: &R, lock: &L, seat: L::Seat, stays: u32) ->
     seat
 }
 
-/// Two threads, each with as many stays.
-fn by_two<R: Wait + Threads + Sync>(rt: &R, alloc: Global, stays: u32) -> Option<Pairs> {
-    let Ok((lock, mut seats)) = WordLock::new(
-        alloc,
-        2,
-        Pairs {
-            items: Vec::new(alloc),
-        },
-    ) else {
-        return None;
-    };
-    let (Some(two), Some(one)) = (seats.pop(), seats.pop()) else {
-        return None;
-    };
+/// The notes of two threads, each with as many stays of a process.
+fn in_two_threads<R: Wait + Threads + Sync>(rt: &R, alloc: Global, stays: u32) -> Option<Notes> {
+    let notes = no_notes(alloc, 7, 2 * stays as usize).ok()?;
+    let (lock, mut seats) = WordLock::new(alloc, 2, notes).ok()?;
+    let (two, one) = (seats.pop()?, seats.pop()?);
     let (one, two) = join(
         rt,
-        || -> WordSeat<Pairs>
-            requires { (ticket_of one.number one.seat).lock ≡ lock_id lock.table.shared.table_id (made_with (λ _. []) lock.table.shared.key) }
-            ensures { (ticket_of result.number result.seat).lock ≡ lock_id lock.table.shared.table_id (made_with (λ _. []) lock.table.shared.key) }
-        { many(rt, &lock, one, stays) },
-        || -> WordSeat<Pairs>
-            requires { (ticket_of two.number two.seat).lock ≡ lock_id lock.table.shared.table_id (made_with (λ _. []) lock.table.shared.key) }
-            ensures { (ticket_of result.number result.seat).lock ≡ lock_id lock.table.shared.table_id (made_with (λ _. []) lock.table.shared.key) }
-        { many(rt, &lock, two, stays) },
+        || -> WordSeat<Notes>
+            requires { (ticket_of one.number one.seat).lock ≡ lock_id lock.table.shared.table_id (made_with (λ s. s.title ∷ []) lock.table.shared.key) }
+            ensures { (ticket_of result.number result.seat).lock ≡ lock_id lock.table.shared.table_id (made_with (λ s. s.title ∷ []) lock.table.shared.key) }
+        { add_many(rt, &lock, one, stays) },
+        || -> WordSeat<Notes>
+            requires { (ticket_of two.number two.seat).lock ≡ lock_id lock.table.shared.table_id (made_with (λ s. s.title ∷ []) lock.table.shared.key) }
+            ensures { (ticket_of result.number result.seat).lock ≡ lock_id lock.table.shared.table_id (made_with (λ s. s.title ∷ []) lock.table.shared.key) }
+        { add_many(rt, &lock, two, stays) },
     );
-    let (Ok(()), Ok(())) = (seats.push(one), seats.push(two)) else {
-        return None;
-    };
-    let Ok(state) = lock.finish(seats) else {
-        return None;
-    };
-    Some(state)
-}
-
-fn is_in_order(items: &[(u32, u32)], owner: u32, count: u32) -> bool {
-    let mut next = 0;
-    for item in items {
-        if item.0 == owner {
-            if item.1 != next {
-                return false;
-            }
-            next = item.1.wrapping_add(1);
-        }
-    }
-    next == count
+    seats.push(one).ok()?;
+    seats.push(two).ok()?;
+    lock.finish(seats).ok()
 }
 
 #[test]
-fn takes_turns_in_threads(rt: HostRuntime) {
-    let Some(state) = by_two(&rt, rt.alloc(), 1000) else {
-        panic!(&rt; "no state")
+fn two_threads_lose_no_note_of_a_word_lock(rt: HostRuntime) {
+    // one growth may be refused from outside
+    let notes = match in_two_threads(&rt, rt.alloc(), 1000) {
+        Some(notes) => notes,
+        None => in_two_threads(&rt, rt.alloc(), 1000).expect(&rt, "memory"),
     };
-    assert_eq!(rt; state.items.len(), 2000);
-    assert!(rt; is_in_order(state.items.as_slice(), 1, 1000));
-    assert!(rt; is_in_order(state.items.as_slice(), 2, 1000));
+    assert_eq!(rt; notes.items.len(), 2000);
+    for process in 1..=2 {
+        let values = notes
+            .items
+            .iter()
+            .filter(|note| note.0 == process)
+            .map(|note| note.1);
+        assert!(rt; values.eq(0..1000), "of process {process}");
+    }
 }
