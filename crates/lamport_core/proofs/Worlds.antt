@@ -92,7 +92,7 @@ run_safe w [] s p = s
 run_safe w (i ∷ is) s p = run_safe (next w i) is (next_safe w i s p.0) (subst (λ n. IsSchedule n is) (sym (count-next w i)) p.1)
 
 -- where each process is at rest, with its flag down
-rest_safe : (n x y : ℕ) (b : ℕ → Bool) (at : ℕ → At) → ((i : ℕ) → at i ≡ Rest) → ((i : ℕ) → b i ≡ false) → Safe n x y b at
+pub rest_safe : (n x y : ℕ) (b : ℕ → Bool) (at : ℕ → At) → ((i : ℕ) → at i ≡ Rest) → ((i : ℕ) → b i ≡ false) → Safe n x y b at
 rest_safe n x y b at rest down = record {
   process = λ i h. absurd (h (rest i));
   point = λ i. subst (IsPoint n) (sym (rest i)) tt;
