@@ -19,8 +19,8 @@ use Rattle.fast_mutex.specs.Word.{Claim, Fixed, IsGood, lock_id, made_with, new_
 use Rattle.fast_mutex.specs.declared.word.view.About.{About}
 use Rattle.fast_mutex.specs.declared.fast.view.View.{View}
 use Rattle.fast_mutex.specs.Fast.{is_inside, IsSafeWorld, seat_view, view_at, view_inside, view_of_first, view_of_others, joint_view, spent_view, number_in, first_view, Stands, Fits, KeepsRule, after_store, after_load, point_admitted, point_refused, IsStore, IsLoad, IsTest, view_left, IsLeave, ticket_of, slots_at}
-use Rattle.fast_mutex.proofs.Sums.{over_set, over_one, over_two, times_here, times_other, over_append, times_append, each_append, each_weaker, new_claims_once, length-new_claims, grows_none}
-use Rattle.fast_mutex.proofs.WordKeeps.{good_fresh, good_more, good_grows}
+use Rattle.fast_mutex.proofs.Sums.{sum_over-set, one_in_sum, two_in_sum, times_here, times_other, sum_over-append, times-append, each-append, each_weaker, new_claims_once, length-new_claims, grows_none}
+use Rattle.fast_mutex.proofs.WordKeeps.{good_new_claims, good_more, good_grows}
 use Rattle.fast_mutex.proofs.FastWorld.{moved_here, moved_else, inside_point, not_true, raises_rest, raises_start, lowers_back, lowers_slow, lowers_leaving, sets_x, sets_y, leaves_world, loads_test_y, loads_await_y, loads_slow_await, loads_flag, admits_fast, refuses_fast, admits_slow, refuses_slow, others_outside, found_nobody, starting_world}
 
 module _ {S I : Type 0} (shows : S → List I) (fixes : S → List ℕ) (owner : I → ℕ) (about : About S) where
@@ -61,10 +61,10 @@ module _ {S I : Type 0} (shows : S → List I) (fixes : S → List ℕ) (owner :
 
   -- a seat's new view with the same numbers
   once_same : (vs : List (View I)) (id : ℕ) (v w : View I) (k : ℕ) → get_elem? vs id ≡ some v → times k w.claims ≡ times k v.claims → sum_over (claimed k) vs ≤ 1 → sum_over (claimed k) (set vs id w) ≤ 1
-  once_same vs id v w k at e h = let s = over_set (claimed k) vs id v w at in omega arith
+  once_same vs id v w k at e h = let s = sum_over-set (claimed k) vs id v w at in omega arith
 
   total_same : (vs : List (View I)) (id : ℕ) (v w : View I) (n : ℕ) → get_elem? vs id ≡ some v → length w.claims ≡ length v.claims → sum_over many vs ≡ n → sum_over many (set vs id w) ≡ n
-  total_same vs id v w n at e h = let s = over_set many vs id v w at in omega arith
+  total_same vs id v w n at e h = let s = sum_over-set many vs id v w at in omega arith
 
   -- the processes of other claims stay where they are
   rests_else : (at : ℕ → At) (k : ℕ) (p : At) (cs : List (Claim I)) → times k cs ≡ 0 → Each (λ (c : Claim I). at c.0 ≡ Rest) cs → Each (λ (c : Claim I). moved_to at k p c.0 ≡ Rest) cs
@@ -85,8 +85,8 @@ module _ {S I : Type 0} (shows : S → List I) (fixes : S → List ℕ) (owner :
   others_lack s r id k v l more at e =
       let t : times k v.claims ≡ 1 + times k more = ap (times k) e ∙ times_here k l more in
       let o : sum_over (claimed k) s.views ≤ 1 = r.once k in
-      let one : times k v.claims ≤ sum_over (claimed k) s.views = over_one (claimed k) s.views id v at in
-      (omega arith, λ j d ne g. let two : times k v.claims + times k d.claims ≤ sum_over (claimed k) s.views = over_two (claimed k) s.views id j v d (λ q. ne (sym q)) at g in omega arith)
+      let one : times k v.claims ≤ sum_over (claimed k) s.views = one_in_sum (claimed k) s.views id v at in
+      (omega arith, λ j d ne g. let two : times k v.claims + times k d.claims ≤ sum_over (claimed k) s.views = two_in_sum (claimed k) s.views id j v d (λ q. ne (sym q)) at g in omega arith)
 
   number_good : (k : ℕ) (fixed : Fixed) (now left : List I) → Good fixed now (k, left) → IsProcess about.count k
   number_good k fixed now left g = (omega (arith, g.1), g.2)
@@ -245,16 +245,16 @@ module _ {S I : Type 0} (shows : S → List I) (fixes : S → List ℕ) (owner :
   only_first zero v e = sym (some-injective _ _ e)
   only_first (suc id) v e = absurd (some-ne-none v (sym e))
 
-  fresh_total : sum_over many (first_view {I = I} fixes about ∷ []) ≡ about.count
-  fresh_total = let h = length-new_claims I 1 about.count in omega arith
+  total_new : sum_over many (first_view {I = I} fixes about ∷ []) ≡ about.count
+  total_new = let h = length-new_claims I 1 about.count in omega arith
 
-  fresh_rest : (k n : ℕ) → Each (λ (c : Claim I). Rest ≡ Rest) (new_claims k n)
-  fresh_rest k zero = tt
-  fresh_rest k (suc n) = (refl, fresh_rest (suc k) n)
+  new_claims_rest : (k n : ℕ) → Each (λ (c : Claim I). Rest ≡ Rest) (new_claims k n)
+  new_claims_rest k zero = tt
+  new_claims_rest k (suc n) = (refl, new_claims_rest (suc k) n)
 
-  fresh_stands : (n : ℕ) → On (λ _. Rest) Rest (new_claims 1 n)
-  fresh_stands zero = refl
-  fresh_stands (suc n) = (refl, fresh_rest 2 n)
+  new_claims_stand : (n : ℕ) → On (λ _. Rest) Rest (new_claims 1 n)
+  new_claims_stand zero = refl
+  new_claims_stand (suc n) = (refl, new_claims_rest 2 n)
 
   -- the table that `new` makes
   pub starts : (n : ℕ) (st : S) (slots : List (Opt S)) → n ≡ about.count → n ≤ 32 → slots ≡ Some st ∷ [] → about.state.value ≡ st → shows st ≡ [] → Rule (opening (take (n + 2) (replicate 34 0)) slots (first_view fixes about))
@@ -265,9 +265,9 @@ module _ {S I : Type 0} (shows : S → List I) (fixes : S → List ℕ) (owner :
     home = λ e. (st, refl, none_yet, ap fixes (sym same));
     away = λ i z. absurd (cc);
     seats = λ j d e. let P : View I → Type 0 = λ w. Fit (λ _. Rest) [] w in
-        subst P (sym (only_first j d e)) record { stands = fresh_stands about.count; found = λ q. absurd (cc); good = good_fresh shows fixes owner about 1 about.count (omega arith) (omega arith) };
+        subst P (sym (only_first j d e)) record { stands = new_claims_stand about.count; found = λ q. absurd (cc); good = good_new_claims shows fixes owner about 1 about.count (omega arith) (omega arith) };
     once = λ j. let h = new_claims_once I j 1 about.count in omega arith;
-    total = fresh_total;
+    total = total_new;
   }
 
   -- the points of the claims of a seat at Rest
@@ -300,8 +300,8 @@ module _ {S I : Type 0} (shows : S → List I) (fixes : S → List ℕ) (owner :
         home = r.home;
         away = λ i z. let a = r.away i z in (a.0, a.1, a.2, at_longer (set s.views id l) (h ∷ []) a.1 a.2 (still_inside s.views id a.1 v l a.2 refl a.4 at a.3), a.4);
         seats = λ j d e. ⊎_elim (seats_stay (Fit r.at r.now) s.views id l fit_l (λ i x n g. r.seats i x g) j d) (λ (t : h ≡ d). let P : View I → Type 0 = Fit r.at r.now in subst P t fit_h) (at_snoc (set s.views id l) h d j e);
-        once = λ k. let a = over_append (claimed k) (set s.views id l) (h ∷ []) in let b = over_set (claimed k) s.views id v l at in let o = r.once k in omega arith;
-        total = let a = over_append many (set s.views id l) (h ∷ []) in let b = over_set many s.views id v l at in let o = r.total in omega arith;
+        once = λ k. let a = sum_over-append (claimed k) (set s.views id l) (h ∷ []) in let b = sum_over-set (claimed k) s.views id v l at in let o = r.once k in omega arith;
+        total = let a = sum_over-append many (set s.views id l) (h ∷ []) in let b = sum_over-set many s.views id v l at in let o = r.total in omega arith;
       }
 
   -- one seat takes in the claims of another
@@ -317,9 +317,9 @@ module _ {S I : Type 0} (shows : S → List I) (fixes : S → List ℕ) (owner :
       let theirs : Fit r.at r.now d = r.seats other d at' in
       let Rests : Claim I → Type 0 = λ c. r.at c.0 ≡ Rest in
       let fit : Fit r.at r.now b = record {
-        stands = all_rest r.at (ds ++ cs) (each_append Rests ds cs (rest_all r.at ds theirs.stands) (rest_all r.at cs mine.stands));
+        stands = all_rest r.at (ds ++ cs) (each-append Rests ds cs (rest_all r.at ds theirs.stands) (rest_all r.at cs mine.stands));
         found = λ e. absurd (cc);
-        good = each_append (Good fixed r.now) ds cs theirs.good mine.good;
+        good = each-append (Good fixed r.now) ds cs theirs.good mine.good;
       } in
       let fit_spent : Fit r.at r.now spent_view = record { stands = refl; found = λ e. absurd (cc); good = tt } in
       record {
@@ -330,8 +330,8 @@ module _ {S I : Type 0} (shows : S → List I) (fixes : S → List ℕ) (owner :
         away = λ i z. let a = r.away i z in let first : get_elem? vs a.1 ≡ some a.2 = still_inside s.views id a.1 v b a.2 refl a.4 at a.3 in
             (a.0, a.1, a.2, still_inside vs other a.1 d spent_view a.2 refl a.4 that first, a.4);
         seats = seats_stay (Fit r.at r.now) vs other spent_view fit_spent (λ j x n g. seats_stay (Fit r.at r.now) s.views id b fit (λ i y m h. r.seats i y h) j x g);
-        once = λ k. let a = over_set (claimed k) s.views id v b at in let e = over_set (claimed k) vs other d spent_view that in let t = times_append k ds cs in let o = r.once k in omega arith;
-        total = let a = over_set many s.views id v b at in let e = over_set many vs other d spent_view that in let t = length-append ds cs in let o = r.total in omega arith;
+        once = λ k. let a = sum_over-set (claimed k) s.views id v b at in let e = sum_over-set (claimed k) vs other d spent_view that in let t = times-append k ds cs in let o = r.once k in omega arith;
+        total = let a = sum_over-set many s.views id v b at in let e = sum_over-set many vs other d spent_view that in let t = length-append ds cs in let o = r.total in omega arith;
       }
 
   some_claim : (at : ℕ → At) (p : At) (cs : List (Claim I)) → On at p cs → is_inside p ≡ true → 1 ≤ length cs
@@ -351,7 +351,7 @@ module _ {S I : Type 0} (shows : S → List I) (fixes : S → List ℕ) (owner :
       let a = r.away i z in
       let f : Fit r.at r.now a.2 = r.seats a.1 a.2 a.3 in
       let one : 1 ≤ length a.2.claims = some_claim r.at a.2.at a.2.claims f.stands a.4 in
-      let two : length cs + length a.2.claims ≤ sum_over many s.views = over_two many s.views id a.1 v a.2 (λ e. let P : ℕ → Type 0 = λ n. get_elem? s.views n ≡ some a.2 in
+      let two : length cs + length a.2.claims ≤ sum_over many s.views = two_in_sum many s.views id a.1 v a.2 (λ e. let P : ℕ → Type 0 = λ n. get_elem? s.views n ≡ some a.2 in
       let same : a.2 ≡ v = some-injective a.2 v (sym (subst P (sym e) a.3) ∙ at) in let x : true ≡ false = sym a.4 ∙ ap (λ (z : View I). is_inside z.at) same in cc) at a.3 in
       let o : sum_over many s.views ≡ about.count = r.total in omega arith) in
       let home = r.home nobody in

@@ -10,31 +10,31 @@ use Rattle.fast_mutex.specs.Items.{items_of, Grows, GrowsBy}
 use Rattle.fast_mutex.specs.Word.{Claim, sum_over, times, new_claims}
 
 module _ {V : Type 0} (f : V → ℕ) where
-  pub over_set : (l : List V) (i : ℕ) (a b : V) → get_elem? l i ≡ some a → sum_over f (set l i b) + f a ≡ sum_over f l + f b
-  over_set [] i a b e = absurd (some-ne-none a (sym e))
-  over_set (x ∷ xs) zero a b e = let h : f x ≡ f a = ap f (some-injective x a e) in omega arith
-  over_set (x ∷ xs) (suc i) a b e = let h = over_set xs i a b e in omega arith
+  pub sum_over-set : (l : List V) (i : ℕ) (a b : V) → get_elem? l i ≡ some a → sum_over f (set l i b) + f a ≡ sum_over f l + f b
+  sum_over-set [] i a b e = absurd (some-ne-none a (sym e))
+  sum_over-set (x ∷ xs) zero a b e = let h : f x ≡ f a = ap f (some-injective x a e) in omega arith
+  sum_over-set (x ∷ xs) (suc i) a b e = let h = sum_over-set xs i a b e in omega arith
 
-  pub over_append : (l m : List V) → sum_over f (l ++ m) ≡ sum_over f l + sum_over f m
-  over_append [] m = omega arith
-  over_append (x ∷ xs) m = let h = over_append xs m in omega arith
+  pub sum_over-append : (l m : List V) → sum_over f (l ++ m) ≡ sum_over f l + sum_over f m
+  sum_over-append [] m = omega arith
+  sum_over-append (x ∷ xs) m = let h = sum_over-append xs m in omega arith
 
-  pub over_one : (l : List V) (i : ℕ) (a : V) → get_elem? l i ≡ some a → f a ≤ sum_over f l
-  over_one [] i a e = absurd (some-ne-none a (sym e))
-  over_one (x ∷ xs) zero a e = let h : f x ≡ f a = ap f (some-injective x a e) in omega arith
-  over_one (x ∷ xs) (suc i) a e = let h = over_one xs i a e in omega arith
+  pub one_in_sum : (l : List V) (i : ℕ) (a : V) → get_elem? l i ≡ some a → f a ≤ sum_over f l
+  one_in_sum [] i a e = absurd (some-ne-none a (sym e))
+  one_in_sum (x ∷ xs) zero a e = let h : f x ≡ f a = ap f (some-injective x a e) in omega arith
+  one_in_sum (x ∷ xs) (suc i) a e = let h = one_in_sum xs i a e in omega arith
 
-  pub over_two : (l : List V) (i j : ℕ) (a b : V) → i ≢ j → get_elem? l i ≡ some a → get_elem? l j ≡ some b → f a + f b ≤ sum_over f l
-  over_two [] i j a b n d e = absurd (some-ne-none a (sym d))
-  over_two (x ∷ xs) zero zero a b n d e = absurd (n refl)
-  over_two (x ∷ xs) zero (suc j) a b n d e = let h : f x ≡ f a = ap f (some-injective x a d) in let k = over_one xs j b e in omega arith
-  over_two (x ∷ xs) (suc i) zero a b n d e = let h : f x ≡ f b = ap f (some-injective x b e) in let k = over_one xs i a d in omega arith
-  over_two (x ∷ xs) (suc i) (suc j) a b n d e = let k = over_two xs i j a b (λ p. n (ap suc p)) d e in omega arith
+  pub two_in_sum : (l : List V) (i j : ℕ) (a b : V) → i ≢ j → get_elem? l i ≡ some a → get_elem? l j ≡ some b → f a + f b ≤ sum_over f l
+  two_in_sum [] i j a b n d e = absurd (some-ne-none a (sym d))
+  two_in_sum (x ∷ xs) zero zero a b n d e = absurd (n refl)
+  two_in_sum (x ∷ xs) zero (suc j) a b n d e = let h : f x ≡ f a = ap f (some-injective x a d) in let k = one_in_sum xs j b e in omega arith
+  two_in_sum (x ∷ xs) (suc i) zero a b n d e = let h : f x ≡ f b = ap f (some-injective x b e) in let k = one_in_sum xs i a d in omega arith
+  two_in_sum (x ∷ xs) (suc i) (suc j) a b n d e = let k = two_in_sum xs i j a b (λ p. n (ap suc p)) d e in omega arith
 
 module _ {A : Type 0} where
-  pub each_append : (P : A → Type 0) (xs ys : List A) → Each P xs → Each P ys → Each P (xs ++ ys)
-  each_append P [] ys p q = q
-  each_append P (x ∷ xs) ys p q = (p.0, each_append P xs ys p.1 q)
+  pub each-append : (P : A → Type 0) (xs ys : List A) → Each P xs → Each P ys → Each P (xs ++ ys)
+  each-append P [] ys p q = q
+  each-append P (x ∷ xs) ys p q = (p.0, each-append P xs ys p.1 q)
 
   pub each_weaker : (P Q : A → Type 0) → ((x : A) → P x → Q x) → (xs : List A) → Each P xs → Each Q xs
   each_weaker P Q h [] p = tt
@@ -47,19 +47,19 @@ module _ {I : Type 0} where
   pub times_other : (k j : ℕ) (l : List I) (cs : List (Claim I)) → j ≢ k → times k ((j, l) ∷ cs) ≡ times k cs
   times_other k j l cs n = ap (λ b. cond b 1 0 + times k cs) (ne_eqb j k n) ∙ omega arith
 
-  pub times_append : (k : ℕ) (cs ds : List (Claim I)) → times k (cs ++ ds) ≡ times k cs + times k ds
-  times_append k [] ds = omega arith
-  times_append k (c ∷ cs) ds = let h = times_append k cs ds in omega arith
+  pub times-append : (k : ℕ) (cs ds : List (Claim I)) → times k (cs ++ ds) ≡ times k cs + times k ds
+  times-append k [] ds = omega arith
+  times-append k (c ∷ cs) ds = let h = times-append k cs ds in omega arith
 
 module _ (I : Type 0) where
-  pub times_below : (j k n : ℕ) → j < k → times j (new_claims {I = I} k n) ≡ 0
-  times_below j k zero h = refl
-  times_below j k (suc n) h = times_other j k [] (new_claims {I = I} (suc k) n) (λ e. omega arith) ∙ times_below j (suc k) n (omega arith)
+  pub times-below : (j k n : ℕ) → j < k → times j (new_claims {I = I} k n) ≡ 0
+  times-below j k zero h = refl
+  times-below j k (suc n) h = times_other j k [] (new_claims {I = I} (suc k) n) (λ e. omega arith) ∙ times-below j (suc k) n (omega arith)
 
   pub new_claims_once : (j k n : ℕ) → times j (new_claims {I = I} k n) ≤ 1
   new_claims_once j k zero = omega arith
   new_claims_once j k (suc n) = dite (ℕ_discrete k j)
-      (λ e. let a = times_here k [] (new_claims {I = I} (suc k) n) in let b = times_below k (suc k) n (omega arith) in let P : ℕ → Type 0 = λ z. times z (new_claims {I = I} k (suc n)) ≤ 1 in subst P e (omega arith))
+      (λ e. let a = times_here k [] (new_claims {I = I} (suc k) n) in let b = times-below k (suc k) n (omega arith) in let P : ℕ → Type 0 = λ z. times z (new_claims {I = I} k (suc n)) ≤ 1 in subst P e (omega arith))
       (λ ne. let a = times_other j k [] (new_claims {I = I} (suc k) n) ne in let b = new_claims_once j (suc k) n in omega arith)
 
   pub length-new_claims : (k n : ℕ) → length (new_claims {I = I} k n) ≡ n

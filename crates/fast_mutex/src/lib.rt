@@ -2,6 +2,7 @@
 #![tactic(auto)]
 
 mod fast;
+mod fast_lock;
 mod lock;
 mod logged;
 #[cfg(test)]
