@@ -8,6 +8,9 @@ use std::alloc::{AllocError, Global};
 use std::sync::Wait;
 use std::thread::{Threads, join};
 
+mod fast;
+mod walks;
+
 /// Notes under a title. Each is the number of its process with a value, and the latest stands last in the vector.
 #[derive(Drop)]
 pub struct Notes {
