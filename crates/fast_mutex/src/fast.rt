@@ -26,6 +26,7 @@ use rule::{DealsFirst, FastRule, Leaves, Loads, Stores, TakesIn, Tests};
 use view::View;
 
 const X: usize = 0;
+
 const Y: usize = 1;
 
 type TableSeat<S> = Seat<Option<S>, View<<S as Logged>::Item>>;
@@ -123,9 +124,7 @@ impl<S: Logged> FastMutex<S> {
         ensures ticket { ticket_of result.number result.seat ≡ ticket_of walk.number walk.seat }
     {
         let flag = walk.number as usize + 1;
-        self.table
-            .shared
-            .store::<Stores>(&mut walk.seat, flag, 1);
+        self.table.shared.store::<Stores>(&mut walk.seat, flag, 1);
         walk.at = At::SetX;
         walk.steps = 1;
         walk
@@ -140,9 +139,7 @@ impl<S: Logged> FastMutex<S> {
         ensures ticket { ticket_of result.number result.seat ≡ ticket_of walk.number walk.seat }
     {
         let number = walk.number as u64;
-        self.table
-            .shared
-            .store::<Stores>(&mut walk.seat, X, number);
+        self.table.shared.store::<Stores>(&mut walk.seat, X, number);
         walk.at = At::TestY;
         walk.steps = one_more(walk.steps);
         walk
@@ -171,9 +168,7 @@ impl<S: Logged> FastMutex<S> {
         ensures ticket { ticket_of result.number result.seat ≡ ticket_of walk.number walk.seat }
     {
         let flag = walk.number as usize + 1;
-        self.table
-            .shared
-            .store::<Stores>(&mut walk.seat, flag, 0);
+        self.table.shared.store::<Stores>(&mut walk.seat, flag, 0);
         walk.at = At::AwaitY;
         walk.steps = one_more(walk.steps);
         walk
@@ -202,9 +197,7 @@ impl<S: Logged> FastMutex<S> {
         ensures ticket { ticket_of result.number result.seat ≡ ticket_of walk.number walk.seat }
     {
         let number = walk.number as u64;
-        self.table
-            .shared
-            .store::<Stores>(&mut walk.seat, Y, number);
+        self.table.shared.store::<Stores>(&mut walk.seat, Y, number);
         walk.at = At::TestX;
         walk.steps = one_more(walk.steps);
         walk
@@ -241,9 +234,7 @@ impl<S: Logged> FastMutex<S> {
         ensures ticket { ticket_of result.number result.seat ≡ ticket_of walk.number walk.seat }
     {
         let flag = walk.number as usize + 1;
-        self.table
-            .shared
-            .store::<Stores>(&mut walk.seat, flag, 0);
+        self.table.shared.store::<Stores>(&mut walk.seat, flag, 0);
         walk.at = At::Scan(1);
         walk.steps = one_more(walk.steps);
         walk
@@ -301,11 +292,7 @@ impl<S: Logged> FastMutex<S> {
         ensures ticket { ticket_of result.number result.seat ≡ ticket_of walk.number walk.seat }
     {
         let found = self.table.shared.load::<Loads>(&mut walk.seat, Y);
-        walk.at = if found == 0 {
-            At::Start
-        } else {
-            At::SlowAwait
-        };
+        walk.at = if found == 0 { At::Start } else { At::SlowAwait };
         walk.steps = one_more(walk.steps);
         walk
     }
@@ -334,7 +321,8 @@ impl<S: Logged> FastMutex<S> {
     pub fn at(walk: &Walk<S>) -> At
         ensures { result ≡ walk.now.at }
     {
-        walk.at
+        let Walk { at, .. } = walk;
+        *at
     }
 
     /// The next atomic step: one line of the algorithm, one load or store of one word.

@@ -8,7 +8,7 @@ use std::alloc::{AllocError, Global};
 use std::sync::Wait;
 use std::thread::{Threads, join};
 
-mod fast;
+mod threads;
 mod walks;
 
 /// Notes under a title. Each is the number of its process with a value, and the latest stands last in the vector.

@@ -1,8 +1,8 @@
-//! Entries of Lamport's lock step by step: two processes in one thread, whose steps come in a fixed order.
+//! Lamport's lock in one thread: two processes in turn, and their entries step by step in a fixed order.
 ghost use Rattle.std.specs.Prelude.{◌≡◌, ◌∷◌, []};
 ghost use Rattle.fast_mutex.specs.Fast.{ticket_of, IsSeatOf};
 
-use super::{Notes, no_notes};
+use super::{Notes, Stay, in_turn, no_notes};
 use crate::{FastMutex, FastSeat, Lock, Path, Walk};
 use lamport_core::At;
 use std::process::Abort;
@@ -46,12 +46,7 @@ fn by_schedule<A: Abort>(
 }
 
 // So many steps of one process.
-fn alone<A: Abort>(
-    rt: &A,
-    lock: &FastMutex<Notes>,
-    walk: Walk<Notes>,
-    steps: u32,
-) -> Walk<Notes>
+fn alone<A: Abort>(rt: &A, lock: &FastMutex<Notes>, walk: Walk<Notes>, steps: u32) -> Walk<Notes>
     requires { IsSeatOf (λ s. s.title ∷ []) lock.now.table.shared.table_id lock.now.table.shared.key walk.seat }
     ensures { ticket_of result.number result.seat ≡ ticket_of walk.number walk.seat }
 {
@@ -142,4 +137,33 @@ fn both_pass_the_gate_and_the_second_goes_first(rt: HostRuntime) -> Result<(), F
     };
     assert_eq!(rt; notes.title, 7);
     Ok(())
+}
+
+#[test]
+fn lamports_lock_hands_its_state_over_in_turn(rt: HostRuntime) {
+    // one growth may be refused from outside
+    let turns = match in_turn::<FastMutex<Notes>, _>(&rt, rt.alloc()) {
+        Some(turns) => turns,
+        None => in_turn::<FastMutex<Notes>, _>(&rt, rt.alloc()).expect(&rt, "memory"),
+    };
+    let (path, steps) = (Path::Fast, 5);
+    assert_eq!(rt;
+        turns.first,
+        Stay {
+            latest: None,
+            path,
+            steps
+        }
+    );
+    assert_eq!(rt;
+        turns.second,
+        Stay {
+            latest: Some((1, 10)),
+            path,
+            steps
+        }
+    );
+    assert_eq!(rt; turns.third, Some((2, 20)));
+    assert_eq!(rt; turns.notes.title, 7);
+    assert_eq!(rt; turns.notes.items.as_slice(), [(1, 10), (2, 20)].as_slice());
 }
