@@ -1,6 +1,6 @@
 //! Each lock over a state of its own list, by functions that are generic over the lock.
-ghost use Rattle.std.specs.Prelude.{◌≡◌, ℕ, List, [], ◌∷◌, false, refl, IfOk, MatchResult};
-ghost use Rattle.fast_mutex.specs.Items.{Grows};
+ghost use Rattle.std.specs.Prelude.{◌≡◌, ℕ, List, [], ◌∷◌, false, refl, map, IfOk, IfSome, MatchResult};
+ghost use Rattle.fast_mutex.specs.Items.{Grows, tickets_from};
 ghost use Rattle.fast_mutex.specs.Word.{ticket_of, lock_id, made_with};
 
 use crate::{Lock, Logged, Missing, Path, WordLock, WordSeat};
@@ -90,6 +90,17 @@ fn look<L: Lock<Notes>, R: Wait>(rt: &R, lock: &L, seat: L::Seat) -> (L::Seat, O
     (lock.leave(inside, notes), latest)
 }
 
+/// A lock for two processes. Where a growth is refused, the state that comes back is tried once more.
+fn lock_for_two<L: Lock<Notes>>(alloc: Global, notes: Notes) -> Option<(L, Vec<L::Seat>)>
+    requires { notes.items.items ≡ [] }
+    ensures { IfSome result (λ r. map L.ticket r.1.items ≡ tickets_from (L.id r.0) 1 2) }
+{
+    match L::new(alloc, 2, notes) {
+        Ok(made) => Some(made),
+        Err((notes, _)) => L::new(alloc, 2, notes).ok(),
+    }
+}
+
 /// What two processes saw in turn, and the notes at the end.
 #[derive(Drop)]
 struct Turns {
@@ -102,7 +113,7 @@ struct Turns {
 /// Process 1 adds 10, process 2 adds 20, `finish` lacks a seat, process 1 looks once more, and `finish` has both seats.
 fn in_turn<L: Lock<Notes>, R: Wait>(rt: &R, alloc: Global) -> Option<Turns> {
     let notes = no_notes(alloc, 7, 2).ok()?;
-    let (lock, mut seats) = L::new(alloc, 2, notes).ok()?;
+    let (lock, mut seats) = lock_for_two::<L>(alloc, notes)?;
     let (two, one) = (seats.pop()?, seats.pop()?);
     let (one, first) = add(rt, &lock, one, 10);
     let (two, second) = add(rt, &lock, two, 20);
@@ -168,7 +179,7 @@ fn add_many<L: Lock<Notes>, R: Wait>(rt: &R, lock: &L, seat: L::Seat, stays: u32
 /// The notes of two threads, each with as many stays of a process.
 fn in_two_threads<R: Wait + Threads + Sync>(rt: &R, alloc: Global, stays: u32) -> Option<Notes> {
     let notes = no_notes(alloc, 7, 2 * stays as usize).ok()?;
-    let (lock, mut seats) = WordLock::new(alloc, 2, notes).ok()?;
+    let (lock, mut seats) = lock_for_two::<WordLock<Notes>>(alloc, notes)?;
     let (two, one) = (seats.pop()?, seats.pop()?);
     let (one, two) = join(
         rt,
