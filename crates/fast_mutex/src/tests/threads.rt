@@ -17,7 +17,9 @@ fn over_word_lock<R: Wait + Threads + Sync>(rt: &R, alloc: Global, threads: u32)
     requires { (1 ≤ threads) × (threads ≤ 32) }
 {
     let notes = no_notes(alloc, 7, threads as usize * STAYS as usize).ok()?;
-    let (lock, seats) = WordLock::new(alloc, threads, notes).ok()?;
+    let Ok((lock, seats)) = WordLock::new(alloc, threads, notes) else {
+        return None;
+    };
     let seats = map_vec(
         rt,
         seats,
@@ -35,7 +37,9 @@ fn over_fast_mutex<R: Wait + Threads + Sync>(rt: &R, alloc: Global, threads: u32
     requires { (1 ≤ threads) × (threads ≤ 32) }
 {
     let notes = no_notes(alloc, 7, threads as usize * STAYS as usize).ok()?;
-    let (lock, seats) = FastMutex::new(alloc, threads, notes).ok()?;
+    let Ok((lock, seats)) = FastMutex::new(alloc, threads, notes) else {
+        return None;
+    };
     let seats = map_vec(
         rt,
         seats,

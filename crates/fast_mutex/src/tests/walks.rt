@@ -2,7 +2,7 @@
 ghost use Rattle.std.specs.Prelude.{◌≡◌, ◌∷◌, []};
 ghost use Rattle.fast_mutex.specs.Fast.{ticket_of, IsSeatOf};
 
-use super::{Notes, Stay, in_turn, no_notes};
+use super::{Notes, Stay, in_turn, lock_for_two, no_notes};
 use crate::{FastMutex, FastSeat, Lock, Path, Walk};
 use lamport_core::At;
 use std::process::Abort;
@@ -85,7 +85,7 @@ fn stay<A: Abort>(
 #[test]
 fn slow_entry_goes_first_and_the_other_begins_again(rt: HostRuntime) -> Result<(), Fail> {
     let notes = no_notes(rt.alloc(), 7, 0)?;
-    let Ok((lock, mut seats)) = FastMutex::new(rt.alloc(), 2, notes) else {
+    let Some((lock, mut seats)) = lock_for_two::<FastMutex<Notes>>(rt.alloc(), notes) else {
         panic!(&rt; "no memory")
     };
     let (Some(two), Some(one)) = (seats.pop(), seats.pop()) else {
@@ -114,7 +114,7 @@ fn slow_entry_goes_first_and_the_other_begins_again(rt: HostRuntime) -> Result<(
 #[test]
 fn both_pass_the_gate_and_the_second_goes_first(rt: HostRuntime) -> Result<(), Fail> {
     let notes = no_notes(rt.alloc(), 7, 0)?;
-    let Ok((lock, mut seats)) = FastMutex::new(rt.alloc(), 2, notes) else {
+    let Some((lock, mut seats)) = lock_for_two::<FastMutex<Notes>>(rt.alloc(), notes) else {
         panic!(&rt; "no memory")
     };
     let (Some(two), Some(one)) = (seats.pop(), seats.pop()) else {
