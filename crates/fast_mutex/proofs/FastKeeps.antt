@@ -1,11 +1,11 @@
 -- Each step of Lamport's lock keeps its rule.
-use Rattle.std.proofs.Common.{◌≡◌, ℕ, zero, suc, ◌+◌, ◌-◌, ◌<◌, ◌≤◌, ◌≢◌, ◌⊎◌, eqb, cond, Bool, true, false, List, [], ◌∷◌, ◌++◌, set, take, replicate, get_or, length, length-append, sym, refl, ap, ◌∙◌, subst, inl, inr, ⊎_elim, arith, Option as Opt, Some, None}
+use Rattle.std.proofs.Common.{◌≡◌, ℕ, zero, suc, ◌+◌, ◌<◌, ◌≤◌, ◌≢◌, ◌⊎◌, eqb, cond, Bool, true, false, List, [], ◌∷◌, ◌++◌, set, take, replicate, get_or, length, length-append, sym, refl, ap, ◌∙◌, subst, ⊎_elim, arith, Option as Opt, Some}
 use Rattle.std.specs.List.{AllByRecursion as Each}
 use mathlib.Core.Logic.{dite}
-use mathlib.Core.Option.{Option, none, some, some-injective, some-ne-none}
+use mathlib.Core.Option.{none, some, some-injective, some-ne-none}
 use native.Mathlib.Decide.{ℕ_discrete}
 use lib.ListN.{get_elem?}
-use Rattle.atomic_table.specs.Table.{State, Me, Act, Valid, homes_after, carried_after, step, keeps, takes, gives, opening, Allows, Splits, Joins, Final, Seen}
+use Rattle.atomic_table.specs.Table.{State, Me, step, keeps, takes, gives, opening, Allows, Splits, Joins, Final, Seen}
 use Rattle.atomic_table.specs.Seated.{TableId}
 use Rattle.atomic_table.specs.declared.shared.Seat.{Seat}
 use Rattle.atomic_table.proofs.Lists.{at_set, set_here, set_else, at_longer, at_snoc}
@@ -13,13 +13,13 @@ use Rattle.lamport_core.specs.State.{IsProcess}
 use Rattle.lamport_core.specs.Safe.{moved_to}
 use Rattle.lamport_core.specs.Line.{IsCounted}
 use Rattle.lamport_core.specs.declared.At.{At}
-use Rattle.lamport_core.specs.declared.At.TheVariants.{Rest, Start, SetX, TestY, BackB, AwaitY, SetY, TestX, SlowB, Scan, SlowY, SlowAwait, Fast, Slow, Leaving}
+use Rattle.lamport_core.specs.declared.At.TheVariants.{Rest, Start, SetX, TestY, BackB, AwaitY, SetY, TestX, SlowB, Scan, SlowY, SlowAwait, Leaving}
 use Rattle.fast_mutex.specs.Items.{new_ticket, Grows, GrowsBy}
-use Rattle.fast_mutex.specs.Word.{Claim, Fixed, IsGood, lock_id, made_with, new_claims, last_left, sum_over, times}
+use Rattle.fast_mutex.specs.Word.{Claim, Fixed, IsGood, lock_id, new_claims, last_left, sum_over, times}
 use Rattle.fast_mutex.specs.declared.word.view.About.{About}
 use Rattle.fast_mutex.specs.declared.fast.view.View.{View}
-use Rattle.fast_mutex.specs.Fast.{is_inside, IsSafeWorld, seat_view, view_at, view_inside, view_of_first, view_of_others, joint_view, spent_view, number_in, first_view, Stands, Fits, KeepsRule, after_store, after_load, point_admitted, point_refused, IsStore, IsLoad, IsTest, view_left, IsLeave, ticket_of, slots_at}
-use Rattle.fast_mutex.proofs.Sums.{sum_over-set, one_in_sum, two_in_sum, times_here, times_other, sum_over-append, times-append, each-append, each_weaker, new_claims_once, length-new_claims, grows_none}
+use Rattle.fast_mutex.specs.Fast.{is_inside, IsSafeWorld, seat_view, view_of_first, view_of_others, joint_view, spent_view, first_view, Stands, Fits, KeepsRule, after_store, after_load, point_admitted, point_refused, IsStore, IsLoad, IsTest, view_left, IsLeave, ticket_of, slots_at}
+use Rattle.fast_mutex.proofs.Sums.{sum_over-set, one_in_sum, two_in_sum, times_here, times_other, sum_over-append, times-append, each-append, new_claims_once, length-new_claims, grows_none}
 use Rattle.fast_mutex.proofs.WordKeeps.{good_new_claims, good_more, good_grows}
 use Rattle.fast_mutex.proofs.FastWorld.{moved_here, moved_else, inside_point, not_true, raises_rest, raises_start, lowers_back, lowers_slow, lowers_leaving, sets_x, sets_y, leaves_world, loads_test_y, loads_await_y, loads_slow_await, loads_flag, admits_fast, refuses_fast, admits_slow, refuses_slow, others_outside, found_nobody, starting_world}
 

@@ -6,11 +6,11 @@ use Rattle.std.proofs.lemmas.List.{length-take-le}
 use Rattle.lamport_core.specs.State.{IsProcess, IsInsidePoint, after_TestX, after_SlowY}
 use Rattle.lamport_core.specs.Safe.{Safe, Moves, Sets, IsPoint, moved_to}
 use Rattle.lamport_core.proofs.Steps
-use Rattle.lamport_core.proofs.Along.{moves_to, one_inside_at, admitted_alone, left_empty}
+use Rattle.lamport_core.proofs.Along.{moves_to, one_inside_at, admitted_alone}
 use Rattle.lamport_core.proofs.Worlds.{rest_safe}
 use Rattle.lamport_core.specs.declared.At.{At}
 use Rattle.lamport_core.specs.declared.At.TheVariants.{Rest, Start, SetX, TestY, BackB, AwaitY, SetY, TestX, SlowB, Scan, SlowY, SlowAwait, Fast, Slow, Leaving}
-use Rattle.fast_mutex.specs.Fast.{is_inside, flag_in, IsSafeWorld, after_store, after_load, point_admitted, point_refused}
+use Rattle.fast_mutex.specs.Fast.{is_inside, flag_in, IsSafeWorld, after_store, after_load}
 
 pub moved_here : (at : ℕ → At) (k : ℕ) (q : At) → moved_to at k q k ≡ q
 moved_here at k q = (moves_to at k (at k) q refl).to

@@ -1,4 +1,4 @@
-use Rattle.std.proofs.Common.{[], ◌≡◌, ◌≤◌, map, length, refl, arith, ap}
+use Rattle.std.proofs.Common.{[], ◌≤◌, map, length, refl, arith, ap}
 use Rattle.std.proofs.lemmas.List.{length-map}
 use Rattle.fast_mutex.specs.declared.fast.FastSeat.{FastSeat}
 use Rattle.fast_mutex.specs.Items.{Grows}

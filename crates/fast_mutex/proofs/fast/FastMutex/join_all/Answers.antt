@@ -1,9 +1,9 @@
-use Rattle.std.proofs.Common.{List, ◌∙◌, ◌++◌, [], Some, ◌≡◌, ◌≤◌, map, length, arith, sym, ap, append-nil}
+use Rattle.std.proofs.Common.{List, ◌∙◌, ◌++◌, [], Some, ◌≡◌, map, length, arith, sym, ap, append-nil}
 use Rattle.lamport_core.specs.declared.At.TheVariants.{Rest}
-use Rattle.std.proofs.lemmas.List.{length-map, nil_from_length}
+use Rattle.std.proofs.lemmas.List.{nil_from_length}
 use Rattle.std.proofs.lemmas.List.Elements.{All-pop}
 use Rattle.fast_mutex.specs.declared.fast.FastSeat.{FastSeat}
-use Rattle.fast_mutex.specs.Items.{LockId, Grows}
+use Rattle.fast_mutex.specs.Items.{LockId}
 use Rattle.fast_mutex.specs.Word.{last_left, Claim, made_with}
 use Rattle.fast_mutex.specs.Fast.{seat_view, IsSeatOf}
 use Rattle.fast_mutex.proofs.WordKeeps.{pop_claims}
