@@ -1,11 +1,11 @@
-use Rattle.std.proofs.Common.{List, ◌∙◌, ◌++◌, [], Some, ◌≡◌, ◌≤◌, map, length, arith, sym, ap, append-nil}
+use Rattle.std.proofs.Common.{List, ◌∙◌, ◌++◌, [], Some, ◌≡◌, map, length, arith, sym, ap, append-nil}
 use Rattle.fast_mutex.specs.declared.word.view.Place.TheVariants.{Outside}
-use Rattle.std.proofs.lemmas.List.{length-map, nil_from_length}
+use Rattle.std.proofs.lemmas.List.{nil_from_length}
 use Rattle.std.proofs.lemmas.List.Elements.{All-pop}
 use Rattle.fast_mutex.specs.declared.word.WordSeat.{WordSeat}
-use Rattle.fast_mutex.specs.Items.{LockId, Grows}
+use Rattle.fast_mutex.specs.Items.{LockId}
 use Rattle.fast_mutex.specs.Word.{seat_view, last_left, Claim, made_with, lock_id, ticket_of}
-use Rattle.fast_mutex.proofs.WordKeeps.{joins_at, ends_at, finishes, alone_is, joined_is, pop_claims, all_claims}
+use Rattle.fast_mutex.proofs.WordKeeps.{joins_at, alone_is, joined_is, pop_claims}
 use Rattle.fast_mutex.proofs.word.WordLock.join_all.Goals as goal
 
 pub loop-seat-init : goal.loop-seat-init
