@@ -1,7 +1,7 @@
 -- The rule of Lamport's lock, and what each step on its words tells.
 -- The words are x, y and the flags b[1] to b[n]. Words and points are a world that keeps the condition of
 -- `lamport_core`, and the state is at home exactly where no process is inside.
-use Rattle.std.specs.Prelude.{◌≡◌, ◌≢◌, ◌==◌, ℕ, zero, suc, ◌-◌, ◌≤◌, Bool, true, false, cond, List, [], ◌∷◌, ◌++◌, length, take, slice_index, Option as Opt, Some, None}
+use Rattle.std.specs.Prelude.{◌≡◌, ◌≢◌, ◌==◌, ℕ, zero, suc, ◌+◌, ◌-◌, ◌≤◌, Bool, true, false, cond, List, [], ◌∷◌, ◌++◌, length, take, slice_index, Option as Opt, Some, None}
 use Rattle.std.specs.List.{AllByRecursion as Each}
 use Rattle.std.specs.Coded.{×_prop, le_prop, Coded-set, coded_ℕ}
 use mathlib.Core.Option.{none, some}
@@ -101,7 +101,19 @@ module _ {S I : Type 0} (shows : S → List I) (fixes : S → List ℕ) (owner :
     pub once : (k : ℕ) → sum_over (λ (v : View I). times k v.claims) s.views ≤ 1
     pub total : sum_over (λ (v : View I). length v.claims) s.views ≡ about.count
 
--- The point after a line that stores, but for the store of 0 to y.
+-- The lines that store, but for the store of 0 to y: the word and the value that process k stores, and the point after.
+abbrev pub word_stored : ℕ → At → ℕ
+word_stored k SetX = 0
+word_stored k SetY = 1
+word_stored k p = k + 1
+
+abbrev pub value_stored : ℕ → At → ℕ
+value_stored k Rest = 1
+value_stored k Start = 1
+value_stored k SetX = k
+value_stored k SetY = k
+value_stored k p = 0
+
 abbrev pub after_store : At → At
 after_store Rest = SetX
 after_store Start = SetX
@@ -112,7 +124,12 @@ after_store SlowB = Scan 1
 after_store Leaving = Rest
 after_store p = p
 
--- The point after a line that loads and admits nobody, by the word that it found.
+-- The lines that load: the word, and the point after a line that admits nobody, by what it found.
+abbrev pub word_loaded : At → ℕ
+word_loaded TestX = 0
+word_loaded (Scan j) = j + 1
+word_loaded p = 1
+
 abbrev pub after_load : ℕ → At → ℕ → At
 after_load n TestY found = after_TestY found
 after_load n AwaitY found = after_AwaitY found
@@ -131,19 +148,29 @@ point_refused TestX = SlowB
 point_refused SlowY = SlowAwait
 point_refused p = p
 
-module _ {S I : Type 0} where
-  abbrev pub IsStore : Step (Opt S) → Me (Opt S) (View I) → ℕ → Me (Opt S) (View I) → Type 0
-  IsStore t me found me' = me' ≡ (view_at (after_store me.0.at) me.0, me.1)
+-- The step is on this word with this value, and with no value to compare; a load has 0 for its value.
+module _ {S : Type 0} where
+  abbrev pub IsOn : Step (Opt S) → ℕ → ℕ → Type 0
+  IsOn t word value = (t.word ≡ word) × (t.first ≡ value) × (t.second ≡ 0)
 
-  abbrev pub IsLoad : Step (Opt S) → Me (Opt S) (View I) → ℕ → Me (Opt S) (View I) → Type 0
-  IsLoad t me found me' = me' ≡ (view_at (after_load me.0.fixed.0 me.0.at found) me.0, me.1)
+module _ {S I : Type 0} where
+  -- a line that stores, and is not the store of 0 to y
+  pub record IsStore (t : Step (Opt S)) (me : Me (Opt S) (View I)) (found : ℕ) (me' : Me (Opt S) (View I)) : Type 0 where
+    pub on : IsOn t (word_stored (number_in me.0.claims) me.0.at) (value_stored (number_in me.0.claims) me.0.at)
+    pub goes : me' ≡ (view_at (after_store me.0.at) me.0, me.1)
+
+  -- a line that loads, and admits nobody
+  pub record IsLoad (t : Step (Opt S)) (me : Me (Opt S) (View I)) (found : ℕ) (me' : Me (Opt S) (View I)) : Type 0 where
+    pub on : IsOn t (word_loaded me.0.at) 0
+    pub goes : me' ≡ (view_at (after_load me.0.fixed.0 me.0.at found) me.0, me.1)
 
 module _ {S I : Type 0} (shows : S → List I) (fixes : S → List ℕ) (owner : I → ℕ) where
-  -- a load that admits a seat exactly where it finds its number: the seat then has the state, whose list has grown from the one that it left by others' items
-  abbrev pub IsTest : Step (Opt S) → Me (Opt S) (View I) → ℕ → Me (Opt S) (View I) → Type 0
-  IsTest t me found me' = (found ≢ number_in me.0.claims → me' ≡ (view_at (point_refused me.0.at) me.0, me.1))
-      × (found ≡ number_in me.0.claims → (st : S) × (me' ≡ (view_inside (point_admitted me.0.at) (shows st) me.0, (0, Some st) ∷ [])) × (fixes st ≡ me.0.fixed.1)
-      × Grows owner (number_in me.0.claims) (last_left me.0.claims) (shows st) [])
+  -- a line that loads, and admits a seat exactly where it finds its number: the seat then has the state, whose list has grown from the one that it left by others' items
+  pub record IsTest (t : Step (Opt S)) (me : Me (Opt S) (View I)) (found : ℕ) (me' : Me (Opt S) (View I)) : Type 0 where
+    pub on : IsOn t (word_loaded me.0.at) 0
+    pub refused : found ≢ number_in me.0.claims → me' ≡ (view_at (point_refused me.0.at) me.0, me.1)
+    pub admitted : found ≡ number_in me.0.claims → (st : S) × (me' ≡ (view_inside (point_admitted me.0.at) (shows st) me.0, (0, Some st) ∷ [])) × (fixes st ≡ me.0.fixed.1)
+        × Grows owner (number_in me.0.claims) (last_left me.0.claims) (shows st) []
 
 module _ {S I : Type 0} (shows : S → List I) where
   -- the view of who has put back the state in its slot
@@ -153,8 +180,9 @@ module _ {S I : Type 0} (shows : S → List I) where
   view_left me ((i, Some st) ∷ slots) = seat_view Leaving (shows st) me.0.fixed (claims_after (shows st) me.0.claims)
 
   -- the store of 0 to y
-  abbrev pub IsLeave : Step (Opt S) → Me (Opt S) (View I) → ℕ → Me (Opt S) (View I) → Type 0
-  IsLeave t me found me' = me' ≡ (view_left me me.1, [])
+  pub record IsLeave (t : Step (Opt S)) (me : Me (Opt S) (View I)) (found : ℕ) (me' : Me (Opt S) (View I)) : Type 0 where
+    pub on : IsOn t 1 0
+    pub goes : me' ≡ (view_left me me.1, [])
 
 module _ {S I : Type 0} where
   -- what the seat of process k knows, outside and inside

@@ -153,8 +153,8 @@ impl<S: Logged> FastMutex<S> {
         ensures steps { result.steps ≡ one_more walk.steps }
         ensures ticket { ticket_of result.number result.seat ≡ ticket_of walk.number walk.seat }
     {
-        let found = self.table.shared.load::<Loads>(&mut walk.seat, Y);
-        walk.at = if found == 0 { At::SetY } else { At::BackB };
+        let ahead = self.table.shared.load::<Loads>(&mut walk.seat, Y);
+        walk.at = if ahead == 0 { At::SetY } else { At::BackB };
         walk.steps = one_more(walk.steps);
         walk
     }

@@ -2,7 +2,7 @@
 //! functions do nothing: the clauses of each are its laws, over functions of the process number.
 ghost use Rattle.std.specs.Prelude.{◌≡◌, ℕ, Bool, true, false};
 ghost use Rattle.lamport_core.specs.State.{after_TestY, after_AwaitY, after_TestX, after_SlowY, after_SlowAwait};
-ghost use Rattle.lamport_core.specs.Safe.{Moves, Sets, moved_to, flag_set_to};
+ghost use Rattle.lamport_core.specs.Safe.{Safe, Moves, Sets, moved_to, flag_set_to};
 ghost use Rattle.lamport_core.specs.Laws.{StoreOfFlagKeeps, StoreOfXKeeps, StoreOfYKeeps, ClearOfYKeeps, LoadOfXKeeps, LoadOfYKeeps, LoadOfFlagKeeps, SameValuesKeep, OneInside, AdmittedAlone, LeftEmpty};
 ghost use Rattle.lamport_core.specs.declared.At.{At};
 ghost use Rattle.lamport_core.specs.declared.At.TheVariants.{Rest, Start, SetX, TestY, BackB, AwaitY, SetY, TestX, SlowB, Scan, SlowY, SlowAwait, Fast, Slow, Leaving};
@@ -34,8 +34,10 @@ pub fn inside_laws()
     ensures left_empty { LeftEmpty }
 {}
 
-/// What a changed point or flag leaves: those of the other processes. The condition speaks of the values alone.
+/// Processes at rest with their flags down keep the condition, whatever x and y are. A changed point or flag leaves
+/// those of the other processes. And the condition speaks of the values alone.
 pub fn change_laws()
+    ensures at_rest { (n x y : ℕ) (b : ℕ → Bool) (at : ℕ → At) → ((i : ℕ) → at i ≡ Rest) → ((i : ℕ) → b i ≡ false) → Safe n x y b at }
     ensures moves { (at : ℕ → At) (i : ℕ) (P Q : At) → at i ≡ P → Moves i P Q at (moved_to at i Q) }
     ensures sets { (b : ℕ → Bool) (i : ℕ) (v : Bool) → Sets i v b (flag_set_to b i v) }
     ensures same { SameValuesKeep }
