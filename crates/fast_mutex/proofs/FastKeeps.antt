@@ -148,7 +148,7 @@ module _ {S I : Type 0} (shows : S → List I) (fixes : S → List ℕ) (owner :
   stores slots id k word v old found fixed l more on_word with_value out out' line s r len at small =
       let mine : Fit r.at r.now (seat old k found fixed l more) = r.seats id _ at in
       let world = line s.words r.at r.world mine.stands.0 (number_good k fixed r.now l mine.good.0) in
-      (seat (after_store old) k found fixed l more, keeps, tt, quiet s r id k old (after_store old) found fixed l more at out out' (set s.words word v) world, record { on = (on_word, with_value, refl); goes = refl })
+      (seat (after_store old) k found fixed l more, keeps, tt, quiet s r id k old (after_store old) found fixed l more at out out' (set s.words word v) world, record { on = (on_word, with_value, refl); stores = with_value; goes = refl })
 
   set_back : (ws : List ℕ) (i : ℕ) → set ws i (get_or ws i 0) ≡ ws
   set_back [] i = refl
@@ -242,7 +242,7 @@ module _ {S I : Type 0} (shows : S → List I) (fixes : S → List ℕ) (owner :
   -- the store of 0 to y
   leaves : (slots id k : ℕ) (p : At) (found : List I) (fixed : Fixed) (l : List I) (more : List (Claim I)) (st : S) → is_inside p ≡ true → GrowsBy owner k found (shows st) → fixes st ≡ fixed.1
       → Allows Rule slots id (seat p k found fixed l more, (0, Some st) ∷ []) 1 (λ _. 0) (λ _. IsLeave shows (step slots 1 0 0 none) (seat p k found fixed l more, (0, Some st) ∷ []) 0)
-  leaves slots id k p found fixed l more st is adds same s r len at small = (seat Leaving k (shows st) fixed (shows st) more, gives, tt, left_home s r id k p found fixed l more st is adds same at, record { on = (refl, refl, refl); goes = refl })
+  leaves slots id k p found fixed l more st is adds same s r len at small = (seat Leaving k (shows st) fixed (shows st) more, gives, tt, left_home s r id k p found fixed l more st is adds same at, record { on = (refl, refl, refl); stores = refl; goes = refl })
 
   -- the one seat of a new table
   only_first : (id : ℕ) (v : View I) → get_elem? (first_view {I = I} fixes about ∷ []) id ≡ some v → v ≡ first_view fixes about

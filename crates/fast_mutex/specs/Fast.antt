@@ -154,9 +154,11 @@ module _ {S : Type 0} where
   IsOn t word value = (t.word ≡ word) × (t.first ≡ value) × (t.second ≡ 0)
 
 module _ {S I : Type 0} where
-  -- a line that stores, and is not the store of 0 to y
+  -- A line that stores, and is not the store of 0 to y. What a store tells as found is the value stored; any other
+  -- access tells the word that it found, which no seat knows before.
   pub record IsStore (t : Step (Opt S)) (me : Me (Opt S) (View I)) (found : ℕ) (me' : Me (Opt S) (View I)) : Type 0 where
     pub on : IsOn t (word_stored (number_in me.0.claims) me.0.at) (value_stored (number_in me.0.claims) me.0.at)
+    pub stores : found ≡ value_stored (number_in me.0.claims) me.0.at
     pub goes : me' ≡ (view_at (after_store me.0.at) me.0, me.1)
 
   -- a line that loads, and admits nobody
@@ -182,6 +184,7 @@ module _ {S I : Type 0} (shows : S → List I) where
   -- the store of 0 to y
   pub record IsLeave (t : Step (Opt S)) (me : Me (Opt S) (View I)) (found : ℕ) (me' : Me (Opt S) (View I)) : Type 0 where
     pub on : IsOn t 1 0
+    pub stores : found ≡ 0
     pub goes : me' ≡ (view_left me me.1, [])
 
 module _ {S I : Type 0} where
