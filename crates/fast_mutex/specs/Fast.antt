@@ -154,8 +154,8 @@ module _ {S : Type 0} where
   IsOn t word value = (t.word ≡ word) × (t.first ≡ value) × (t.second ≡ 0)
 
 module _ {S I : Type 0} where
-  -- A line that stores, and is not the store of 0 to y. What a store tells as found is the value stored; any other
-  -- access tells the word that it found, which no seat knows before.
+  -- A line that stores, and is not the store of 0 to y. What a store tells as found is the value stored. Any other
+  -- access tells the word that it found, and no seat could show that this is the value.
   pub record IsStore (t : Step (Opt S)) (me : Me (Opt S) (View I)) (found : ℕ) (me' : Me (Opt S) (View I)) : Type 0 where
     pub on : IsOn t (word_stored (number_in me.0.claims) me.0.at) (value_stored (number_in me.0.claims) me.0.at)
     pub stores : found ≡ value_stored (number_in me.0.claims) me.0.at
