@@ -1,5 +1,5 @@
 -- Each step of Lamport's lock keeps its rule.
-use Rattle.std.proofs.Common.{◌≡◌, ℕ, zero, suc, ◌+◌, ◌<◌, ◌≤◌, ◌≢◌, ◌⊎◌, eqb, cond, Bool, true, false, List, [], ◌∷◌, ◌++◌, set, take, replicate, get_or, length, length-append, sym, refl, ap, ◌∙◌, subst, ⊎_elim, arith, Option as Opt, Some}
+use Rattle.std.proofs.Common.{◌≡◌, ℕ, zero, suc, ◌+◌, ◌≤◌, ◌≢◌, ◌⊎◌, eqb, cond, Bool, true, false, List, [], ◌∷◌, ◌++◌, set, take, replicate, get_or, length, length-append, sym, refl, ap, ◌∙◌, subst, ⊎_elim, arith, Option as Opt, Some}
 use Rattle.std.specs.List.{AllByRecursion as Each}
 use mathlib.Core.Logic.{dite}
 use mathlib.Core.Option.{none, some, some-injective, some-ne-none}
@@ -8,7 +8,7 @@ use lib.ListN.{get_elem?}
 use Rattle.atomic_table.specs.Table.{State, Me, step, keeps, takes, gives, opening, Allows, Splits, Joins, Final, Seen}
 use Rattle.atomic_table.specs.Seated.{TableId}
 use Rattle.atomic_table.specs.declared.shared.Seat.{Seat}
-use Rattle.atomic_table.proofs.Lists.{at_set, set_here, set_else, at_longer, at_snoc}
+use Rattle.atomic_table.proofs.Lists.{set_here, set_else, at_longer, at_snoc}
 use Rattle.lamport_core.specs.State.{IsProcess}
 use Rattle.lamport_core.specs.Safe.{moved_to}
 use Rattle.lamport_core.specs.Line.{IsCounted}
@@ -19,7 +19,7 @@ use Rattle.fast_mutex.specs.Word.{Claim, Fixed, IsGood, lock_id, new_claims, las
 use Rattle.fast_mutex.specs.declared.word.view.About.{About}
 use Rattle.fast_mutex.specs.declared.fast.view.View.{View}
 use Rattle.fast_mutex.specs.Fast.{is_inside, IsSafeWorld, seat_view, view_of_first, view_of_others, joint_view, spent_view, first_view, Stands, Fits, KeepsRule, after_store, after_load, point_admitted, point_refused, word_stored, value_stored, word_loaded, IsStore, IsLoad, IsTest, view_left, IsLeave, ticket_of, slots_at}
-use Rattle.fast_mutex.proofs.Sums.{sum_over-set, one_in_sum, two_in_sum, times_here, times_other, sum_over-append, times-append, each-append, new_claims_once, length-new_claims, grows_none}
+use Rattle.fast_mutex.proofs.Sums.{views_stay, in_length, once_same, total_same, sum_over-set, one_in_sum, two_in_sum, times_here, times_other, sum_over-append, times-append, each-append, new_claims_once, length-new_claims, grows_none}
 use Rattle.fast_mutex.proofs.WordKeeps.{good_new_claims, good_more, good_grows}
 use Rattle.fast_mutex.proofs.FastWorld.{moved_here, moved_else, inside_point, not_true, raises_rest, raises_start, lowers_back, lowers_slow, lowers_leaving, sets_x, sets_y, leaves_world, loads_test_y, loads_await_y, loads_slow_await, loads_flag, admits_fast, refuses_fast, admits_slow, refuses_slow, others_outside, found_nobody, starting_world}
 
@@ -48,23 +48,6 @@ module _ {S I : Type 0} (shows : S → List I) (fixes : S → List ℕ) (owner :
   -- the view of seat k, with those joined to it, at a point
   abbrev seat : At → ℕ → List I → Fixed → List I → List (Claim I) → View I
   seat p k found fixed left more = seat_view p found fixed ((k, left) ∷ more)
-
-  -- a seat other than the one that moved
-  seats_stay : (P : View I → Type 0) (vs : List (View I)) (me : ℕ) (w : View I) → P w → ((j : ℕ) (d : View I) → j ≢ me → get_elem? vs j ≡ some d → P d)
-      → (j : ℕ) (d : View I) → get_elem? (set vs me w) j ≡ some d → P d
-  seats_stay P vs me w mine others j d e = ⊎_elim (λ (t : (j ≡ me) × (w ≡ d)). subst P t.1 mine) (λ (t : (j ≢ me) × (get_elem? vs j ≡ some d)). others j d t.0 t.1) (at_set vs me j w d e)
-
-  in_length : {A : Type 0} (l : List A) (i : ℕ) (a : A) → get_elem? l i ≡ some a → i < length l
-  in_length [] i a e = absurd (some-ne-none a (sym e))
-  in_length (x ∷ xs) zero a e = omega arith
-  in_length (x ∷ xs) (suc i) a e = let h = in_length xs i a e in omega arith
-
-  -- a seat's new view with the same numbers
-  once_same : (vs : List (View I)) (id : ℕ) (v w : View I) (k : ℕ) → get_elem? vs id ≡ some v → times k w.claims ≡ times k v.claims → sum_over (claimed k) vs ≤ 1 → sum_over (claimed k) (set vs id w) ≤ 1
-  once_same vs id v w k at e h = let s = sum_over-set (claimed k) vs id v w at in omega arith
-
-  total_same : (vs : List (View I)) (id : ℕ) (v w : View I) (n : ℕ) → get_elem? vs id ≡ some v → length w.claims ≡ length v.claims → sum_over many vs ≡ n → sum_over many (set vs id w) ≡ n
-  total_same vs id v w n at e h = let s = sum_over-set many vs id v w at in omega arith
 
   -- the processes of other claims stay where they are
   rests_else : (at : ℕ → At) (k : ℕ) (p : At) (cs : List (Claim I)) → times k cs ≡ 0 → Each (λ (c : Claim I). at c.0 ≡ Rest) cs → Each (λ (c : Claim I). moved_to at k p c.0 ≡ Rest) cs
@@ -113,11 +96,11 @@ module _ {S I : Type 0} (shows : S → List I) (fixes : S → List ℕ) (owner :
                   let q : is_inside old ≡ true = ap (λ (z : View I). is_inside z.at) (sym same) ∙ a.4 in cc) ∙ a.3,
               a.4,
             );
-        seats = seats_stay (Fit (moved_to r.at k p) r.now) s.views id w
+        seats = views_stay (Fit (moved_to r.at k p) r.now) s.views id w
             record { stands = (moved_here r.at k p, rests_else r.at k p more lack.0 mine.stands.1); found = λ e. absurd (cc); good = mine.good }
             (λ j d ne g. let f = r.seats j d g in record { stands = stands_else r.at k p d.at d.claims (lack.1 j d ne g) f.stands; found = f.found; good = f.good });
-        once = λ j. once_same s.views id v w j at refl (r.once j);
-        total = total_same s.views id v w about.count at refl r.total;
+        once = λ j. once_same (claimed j) s.views id v w at refl (r.once j);
+        total = total_same many s.views id v w at refl about.count r.total;
       }
 
   -- a step that admits seat k
@@ -134,11 +117,11 @@ module _ {S I : Type 0} (shows : S → List I) (fixes : S → List ℕ) (owner :
         now = r.now;
         home = λ none_in. absurd (let q : is_inside p ≡ false = ap is_inside (sym (moved_here r.at k p)) ∙ none_in k in cc);
         away = λ i _. (ap (λ h. set h 0 none) homes, id, w, set_here s.views id w (in_length s.views id v at), is);
-        seats = seats_stay (Fit (moved_to r.at k p) r.now) s.views id w
+        seats = views_stay (Fit (moved_to r.at k p) r.now) s.views id w
             record { stands = (moved_here r.at k p, rests_else r.at k p more lack.0 mine.stands.1); found = λ _. shown; good = mine.good }
             (λ j d ne g. let f = r.seats j d g in record { stands = stands_else r.at k p d.at d.claims (lack.1 j d ne g) f.stands; found = f.found; good = f.good });
-        once = λ j. once_same s.views id v w j at refl (r.once j);
-        total = total_same s.views id v w about.count at refl r.total;
+        once = λ j. once_same (claimed j) s.views id v w at refl (r.once j);
+        total = total_same many s.views id v w at refl about.count r.total;
       }
 
   -- a line that stores, and neither enters nor leaves
@@ -224,7 +207,7 @@ module _ {S I : Type 0} (shows : S → List I) (fixes : S → List ℕ) (owner :
         now = shows st;
         home = λ _. (st, ap (λ hs. set hs 0 (some (Some st))) (r.away k mine_in).0, refl, same ∙ ap (λ z. z.1) mine.good.0.0);
         away = λ i q. absurd (let e : is_inside (moved_to r.at k Leaving i) ≡ false = empty i in let z : true ≡ false = sym q ∙ e in cc);
-        seats = seats_stay (Fit (moved_to r.at k Leaving) (shows st)) s.views id w
+        seats = views_stay (Fit (moved_to r.at k Leaving) (shows st)) s.views id w
             record {
               stands = (moved_here r.at k Leaving, rests_else r.at k Leaving more lack.0 mine.stands.1);
               found = λ _. refl;
@@ -235,8 +218,8 @@ module _ {S I : Type 0} (shows : S → List I) (fixes : S → List ℕ) (owner :
               found = λ q. absurd (let e : is_inside d.at ≡ false = not_inside s.words r.at r.world k mine_in d.at d.claims z f.stands in let z : true ≡ false = sym q ∙ e in cc);
               good = good_more shows fixes owner about k d.fixed r.now (shows st) adds' d.claims z f.good;
             });
-        once = λ j. once_same s.views id v w j at refl (r.once j);
-        total = total_same s.views id v w about.count at refl r.total;
+        once = λ j. once_same (claimed j) s.views id v w at refl (r.once j);
+        total = total_same many s.views id v w at refl about.count r.total;
       }
 
   -- the store of 0 to y
@@ -303,7 +286,7 @@ module _ {S I : Type 0} (shows : S → List I) (fixes : S → List ℕ) (owner :
         now = r.now;
         home = r.home;
         away = λ i z. let a = r.away i z in (a.0, a.1, a.2, at_longer (set s.views id l) (h ∷ []) a.1 a.2 (still_inside s.views id a.1 v l a.2 refl a.4 at a.3), a.4);
-        seats = λ j d e. ⊎_elim (seats_stay (Fit r.at r.now) s.views id l fit_l (λ i x n g. r.seats i x g) j d) (λ (t : h ≡ d). let P : View I → Type 0 = Fit r.at r.now in subst P t fit_h) (at_snoc (set s.views id l) h d j e);
+        seats = λ j d e. ⊎_elim (views_stay (Fit r.at r.now) s.views id l fit_l (λ i x n g. r.seats i x g) j d) (λ (t : h ≡ d). let P : View I → Type 0 = Fit r.at r.now in subst P t fit_h) (at_snoc (set s.views id l) h d j e);
         once = λ k. let a = sum_over-append (claimed k) (set s.views id l) (h ∷ []) in let b = sum_over-set (claimed k) s.views id v l at in let o = r.once k in omega arith;
         total = let a = sum_over-append many (set s.views id l) (h ∷ []) in let b = sum_over-set many s.views id v l at in let o = r.total in omega arith;
       }
@@ -333,7 +316,7 @@ module _ {S I : Type 0} (shows : S → List I) (fixes : S → List ℕ) (owner :
         home = r.home;
         away = λ i z. let a = r.away i z in let first : get_elem? vs a.1 ≡ some a.2 = still_inside s.views id a.1 v b a.2 refl a.4 at a.3 in
             (a.0, a.1, a.2, still_inside vs other a.1 d spent_view a.2 refl a.4 that first, a.4);
-        seats = seats_stay (Fit r.at r.now) vs other spent_view fit_spent (λ j x n g. seats_stay (Fit r.at r.now) s.views id b fit (λ i y m h. r.seats i y h) j x g);
+        seats = views_stay (Fit r.at r.now) vs other spent_view fit_spent (λ j x n g. views_stay (Fit r.at r.now) s.views id b fit (λ i y m h. r.seats i y h) j x g);
         once = λ k. let a = sum_over-set (claimed k) s.views id v b at in let e = sum_over-set (claimed k) vs other d spent_view that in let t = times-append k ds cs in let o = r.once k in omega arith;
         total = let a = sum_over-set many s.views id v b at in let e = sum_over-set many vs other d spent_view that in let t = length-append ds cs in let o = r.total in omega arith;
       }

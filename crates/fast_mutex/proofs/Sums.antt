@@ -1,10 +1,11 @@
--- Sums over the views of a table, and facts about each element of a list.
-use Rattle.std.proofs.Common.{◌≡◌, ℕ, zero, suc, ◌+◌, ◌<◌, ◌≤◌, ◌≢◌, eqb, cond, List, [], ◌∷◌, ◌++◌, set, length, sym, refl, ap, ◌∙◌, subst, arith, append_assoc, ne_eqb, eq-eqb}
+-- Sums over the views of a table, and facts about each view and each element of a list.
+use Rattle.std.proofs.Common.{◌≡◌, ℕ, zero, suc, ◌+◌, ◌<◌, ◌≤◌, ◌≢◌, eqb, cond, List, [], ◌∷◌, ◌++◌, set, length, sym, refl, ap, ◌∙◌, subst, arith, append_assoc, ne_eqb, eq-eqb, ⊎_elim}
 use Rattle.std.specs.List.{AllByRecursion as Each}
 use mathlib.Core.Option.{some, some-injective, some-ne-none}
 use mathlib.Core.Logic.{dite}
 use native.Mathlib.Decide.{ℕ_discrete}
 use lib.ListN.{get_elem?}
+use Rattle.atomic_table.proofs.Lists.{at_set}
 use Rattle.std.proofs.lemmas.List.Elements.{filter-append, recursion_from_All}
 use Rattle.fast_mutex.specs.Items.{items_of, Grows, GrowsBy}
 use Rattle.fast_mutex.specs.Word.{Claim, sum_over, times, new_claims}
@@ -30,6 +31,24 @@ module _ {V : Type 0} (f : V → ℕ) where
   two_in_sum (x ∷ xs) zero (suc j) a b n d e = let h : f x ≡ f a = ap f (some-injective x a d) in let k = one_in_sum xs j b e in omega arith
   two_in_sum (x ∷ xs) (suc i) zero a b n d e = let h : f x ≡ f b = ap f (some-injective x b e) in let k = one_in_sum xs i a d in omega arith
   two_in_sum (x ∷ xs) (suc i) (suc j) a b n d e = let k = two_in_sum xs i j a b (λ p. n (ap suc p)) d e in omega arith
+
+-- what holds of the view of the seat that moved, and of each other, holds of each
+pub views_stay : {V : Type 0} (P : V → Type 0) (vs : List V) (me : ℕ) (w : V) → P w → ((j : ℕ) (d : V) → j ≢ me → get_elem? vs j ≡ some d → P d)
+    → (j : ℕ) (d : V) → get_elem? (set vs me w) j ≡ some d → P d
+views_stay P vs me w mine others j d e = ⊎_elim (λ (t : (j ≡ me) × (w ≡ d)). subst P t.1 mine) (λ (t : (j ≢ me) × (get_elem? vs j ≡ some d)). others j d t.0 t.1) (at_set vs me j w d e)
+
+pub in_length : {A : Type 0} (l : List A) (i : ℕ) (a : A) → get_elem? l i ≡ some a → i < length l
+in_length [] i a e = absurd (some-ne-none a (sym e))
+in_length (x ∷ xs) zero a e = omega arith
+in_length (x ∷ xs) (suc i) a e = let h = in_length xs i a e in omega arith
+
+-- a seat's new view with the same numbers
+module _ {V : Type 0} (f : V → ℕ) (vs : List V) (id : ℕ) (v w : V) (at : get_elem? vs id ≡ some v) (same : f w ≡ f v) where
+  pub once_same : sum_over f vs ≤ 1 → sum_over f (set vs id w) ≤ 1
+  once_same h = let s = sum_over-set f vs id v w at in omega arith
+
+  pub total_same : (n : ℕ) → sum_over f vs ≡ n → sum_over f (set vs id w) ≡ n
+  total_same n h = let s = sum_over-set f vs id v w at in omega arith
 
 module _ {A : Type 0} where
   pub each-append : (P : A → Type 0) (xs ys : List A) → Each P xs → Each P ys → Each P (xs ++ ys)

@@ -1,5 +1,5 @@
 //! Lamport's lock: Algorithm 2 of "A Fast Mutual Exclusion Algorithm" (1987) over atomic words. In this module alone
-//! its words are touched, and each function that touches one does so by a single load or a single store.
+//! its words are touched, and each line of the algorithm touches one word, by one load or one store.
 //!
 //! Word 0 is x, word 1 is y, and word i + 1 is the flag b[i] of process i, 1 where it is true. The state lies in the
 //! one slot of the table.
@@ -31,10 +31,10 @@ const Y: usize = 1;
 
 type TableSeat<S> = Seat<Option<S>, View<<S as Logged>::Item>>;
 
-/// Lamport's lock, for up to 32 processes.
+/// Lamport's lock, by loads and stores alone. Without contention an entry takes five steps and an exit two.
 ///
-/// It says nothing of progress: not that a process gets in, nor who is next. A process that is dropped on its way in,
-/// or inside, leaves its words as they are.
+/// It keeps any state that may be dropped. Nothing is said of who comes next, nor that a process that waits gets in.
+/// A walk that is not taken further can keep all others out.
 #[derive(Drop)]
 pub struct FastMutex<S: Logged> {
     table: Table<Option<S>, View<S::Item>, About<S>, FastRule<S>, Global>,
