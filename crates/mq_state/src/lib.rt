@@ -9,3 +9,5 @@ pub mod notices;
 pub mod order;
 pub mod queues;
 pub mod tables;
+#[cfg(test)]
+mod tests;
