@@ -24,3 +24,4 @@ pub mod Untouched
 pub mod Alive
 pub mod Presence
 pub mod NoticeSteps
+pub mod PresentFew
