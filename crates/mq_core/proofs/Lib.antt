@@ -25,3 +25,5 @@ pub mod Alive
 pub mod Presence
 pub mod NoticeSteps
 pub mod PresentFew
+pub mod Checked
+pub mod Flagged

@@ -1,9 +1,16 @@
 //! The types, the journal and the definitions of the message queues.
 #![tactic(auto)]
 
+pub mod checker;
 pub mod entries;
+mod expected;
 pub mod faults;
 pub mod journals;
 pub mod names;
 pub mod owners;
 pub mod registrations;
+mod replies;
+mod scan_messages;
+mod scan_names;
+mod scan_notices;
+mod scan_waits;

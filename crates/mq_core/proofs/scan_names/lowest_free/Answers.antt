@@ -1,0 +1,18 @@
+use Rattle.std.proofs.Common.{◌≡◌, Bool, true, false, Option, Some, None, is_some, is_none, refl, sym, arith, ◌<◌}
+use Rattle.mq_core.specs.Record.{first}
+use Rattle.mq_core.specs.Descriptors.{held}
+use Rattle.mq_core.proofs.LowestFree.{first-Some, first-None}
+use Rattle.mq_core.proofs.scan_names.lowest_free.Goals as goal
+
+none_of : {X : Type 0} (o : Option X) → is_some o ≡ false → is_none o ≡ true
+none_of None h = refl
+none_of (Some x) h = absurd (cc)
+
+pub returns-then-is_none : goal.returns-then-is_none
+returns-then-is_none c =
+    let past = first c.args.k c.args.journal.now.records in
+    let free = none_of c.held.result c.if-is_none.ensures in
+    sym (first-Some (λ d. is_none (held past c.args.p d)) c.loop-d.d c.loop-d-test.true (rw (← c.held.ensures) free) c.loop-d.invariant)
+
+pub returns : goal.returns
+returns c = sym (first-None (λ d. is_none (held (first c.args.k c.args.journal.now.records) c.args.p d)) (λ e lt. c.loop-d.invariant e (omega (arith, lt))))

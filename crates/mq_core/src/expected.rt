@@ -1,0 +1,286 @@
+//! What each call is answered by the entries before a place.
+#![tactic(auto, using(crate::proofs::Prefixes::prefixes))]
+
+ghost use Rattle.std.specs.Prelude.{◌≡◌, ◌≤◌, length, pos, int_lt, IsTrue, IfSome};
+ghost use Rattle.mq_core.specs.Record.{first};
+ghost use Rattle.mq_core.specs.Descriptors.{held, created};
+ghost use Rattle.mq_core.specs.Messages.{is_in, present};
+ghost use Rattle.mq_core.specs.Notices.{registered_place};
+ghost use Rattle.mq_core.specs.Answer.{answer_open, answer_accepted, answer_send, answer_found, answer_receive, answer_attributes, answer_notify, answer, Legal};
+
+use crate::entries::{Access, Attr, Call, Description, OpenFlags, Reply, Status};
+use crate::faults::Fault;
+use crate::journals::Journal;
+use crate::scan_messages::{
+    best, first_waiting_receive, first_waiting_send, is_full, present_count,
+};
+use crate::scan_names::{
+    alive_count, are_within_limits, attributes, bound_queue, held, lowest_free,
+};
+use crate::scan_notices::{next_notice, registered};
+use crate::scan_waits::wait_of;
+
+pub(crate) fn answer_open(
+    journal: &Journal,
+    k: u64,
+    p: u32,
+    flags: OpenFlags,
+    attr: Option<Attr>,
+    name: &[u8],
+) -> Reply
+    requires { k ≤ length journal.now.records }
+    ensures { result ≡ answer_open (first k journal.now.records) p flags attr name.now }
+{
+    let bound = bound_queue(journal, k, name).is_some();
+    let free = lowest_free(journal, k, p);
+    if flags.create && flags.excl && bound {
+        return Reply::Refused(Fault::Exists);
+    }
+    if !flags.create && !bound {
+        return Reply::Refused(Fault::NoEntry);
+    }
+    if !bound && !are_within_limits(attr) {
+        return Reply::Refused(Fault::Invalid);
+    }
+    let Some(d) = free else {
+        return Reply::Refused(Fault::TooManyOpen);
+    };
+    if !bound && alive_count(journal, k) >= 64 {
+        return Reply::Refused(Fault::NoSpace);
+    }
+    Reply::Opened { d, created: !bound }
+}
+
+pub(crate) fn registered_place(journal: &Journal, k: u64, q: u64) -> Option<u64>
+    requires { k ≤ length journal.now.records }
+    ensures { result ≡ registered_place (first k journal.now.records) q }
+{
+    match registered(journal, k, q) {
+        Some(n) => Some(n.place),
+        None => None,
+    }
+}
+
+pub(crate) fn answer_accepted(journal: &Journal, k: u64, q: u64, waiting: Option<u64>) -> Reply
+    requires { k ≤ length journal.now.records }
+    ensures { result ≡ answer_accepted (first k journal.now.records) q waiting }
+{
+    match waiting {
+        Some(wait) => Reply::Handed { wait },
+        None => {
+            if is_full(journal, k, q) {
+                Reply::Waits
+            } else if present_count(journal, k, q) == 0 {
+                Reply::Queued {
+                    notified: registered_place(journal, k, q),
+                }
+            } else {
+                Reply::Queued { notified: None }
+            }
+        }
+    }
+}
+
+pub(crate) fn answer_send(
+    journal: &Journal,
+    k: u64,
+    held: Option<Description>,
+    prio: u32,
+    len: u64,
+) -> Reply
+    requires { k ≤ length journal.now.records }
+    ensures { result ≡ answer_send (first k journal.now.records) held prio len }
+{
+    let Some(h) = held else {
+        return Reply::Refused(Fault::BadDescriptor);
+    };
+    if h.access == Access::Read {
+        return Reply::Refused(Fault::BadDescriptor);
+    }
+    if prio >= 32768 {
+        return Reply::Refused(Fault::Invalid);
+    }
+    if is_below(attributes(journal, k, h.queue).msgsize, len) {
+        return Reply::Refused(Fault::MessageSize);
+    }
+    if is_full(journal, k, h.queue) && h.nonblock {
+        return Reply::Refused(Fault::Again);
+    }
+    let waiting = first_waiting_receive(journal, k, h.queue);
+    answer_accepted(journal, k, h.queue, waiting)
+}
+
+pub(crate) fn is_below(x: i64, n: u64) -> bool
+    ensures { result ≡ int_lt x (pos n) }
+{
+    i128::from(x) < i128::from(n)
+}
+
+pub(crate) fn is_above(x: i64, n: u64) -> bool
+    ensures { result ≡ int_lt (pos n) x }
+{
+    i128::from(n) < i128::from(x)
+}
+
+pub(crate) fn answer_found(
+    journal: &Journal,
+    k: u64,
+    h: Description,
+    found: Option<u64>,
+    waiting: Option<u64>,
+) -> Reply
+    requires { k ≤ length journal.now.records }
+    ensures { result ≡ answer_found (first k journal.now.records) h found waiting }
+{
+    let Some(place) = found else {
+        if h.nonblock {
+            return Reply::Refused(Fault::Again);
+        }
+        return Reply::Waits;
+    };
+    let notified = if waiting.is_some() && present_count(journal, k, h.queue) == 1 {
+        registered_place(journal, k, h.queue)
+    } else {
+        None
+    };
+    Reply::Got {
+        place,
+        admitted: waiting,
+        notified,
+    }
+}
+
+pub(crate) fn answer_receive(
+    journal: &Journal,
+    k: u64,
+    held: Option<Description>,
+    room: u64,
+) -> Reply
+    requires { k ≤ length journal.now.records }
+    ensures { result ≡ answer_receive (first k journal.now.records) held room }
+{
+    let Some(h) = held else {
+        return Reply::Refused(Fault::BadDescriptor);
+    };
+    if h.access == Access::Write {
+        return Reply::Refused(Fault::BadDescriptor);
+    }
+    if is_above(attributes(journal, k, h.queue).msgsize, room) {
+        return Reply::Refused(Fault::MessageSize);
+    }
+    let found = best(journal, k, h.queue);
+    let waiting = first_waiting_send(journal, k, h.queue);
+    answer_found(journal, k, h, found, waiting)
+}
+
+// How many messages are in queue `q`.
+fn few_present(journal: &Journal, k: u64, q: u64) -> u64
+    requires bound { k ≤ length journal.now.records }
+    requires legal { Legal (first k journal.now.records) }
+    requires created { IsTrue (is_in (created (first k journal.now.records)) q) }
+    ensures count { result ≡ length (present (first k journal.now.records) q) }
+    ensures few { result ≤ 4096 }
+{
+    present_count(journal, k, q)
+}
+
+fn answer_attributes(journal: &Journal, k: u64, held: Option<Description>) -> Reply
+    requires bound { k ≤ length journal.now.records }
+    requires legal { Legal (first k journal.now.records) }
+    requires created { IfSome held (λ h. IsTrue (is_in (created (first k journal.now.records)) h.queue)) }
+    ensures { result ≡ answer_attributes (first k journal.now.records) held }
+{
+    let Some(h) = held else {
+        return Reply::Refused(Fault::BadDescriptor);
+    };
+    let attributes = attributes(journal, k, h.queue);
+    let count = few_present(journal, k, h.queue);
+    Reply::Attrs(Status {
+        nonblock: h.nonblock,
+        maxmsg: attributes.maxmsg,
+        msgsize: attributes.msgsize,
+        curmsgs: count as i64,
+    })
+}
+
+pub(crate) fn answer_notify(
+    journal: &Journal,
+    k: u64,
+    p: u32,
+    held: Option<Description>,
+    value: Option<u64>,
+) -> Reply
+    requires { k ≤ length journal.now.records }
+    ensures { result ≡ answer_notify (first k journal.now.records) p held value }
+{
+    let Some(h) = held else {
+        return Reply::Refused(Fault::BadDescriptor);
+    };
+    let registered = registered(journal, k, h.queue);
+    match value {
+        Some(_) => {
+            if registered.is_some() {
+                return Reply::Refused(Fault::Busy);
+            }
+            Reply::Done
+        }
+        None => match registered {
+            Some(n) => {
+                if n.process == p {
+                    Reply::Done
+                } else {
+                    Reply::Refused(Fault::Invalid)
+                }
+            }
+            None => Reply::Refused(Fault::Invalid),
+        },
+    }
+}
+
+// What process `p` holds under `d`: a queue that was created.
+fn held_created(journal: &Journal, k: u64, p: u32, d: u32) -> Option<Description>
+    requires bound { k ≤ length journal.now.records }
+    requires legal { Legal (first k journal.now.records) }
+    ensures held { result ≡ held (first k journal.now.records) p d }
+    ensures created { IfSome result (λ h. IsTrue (is_in (created (first k journal.now.records)) h.queue)) }
+{
+    held(journal, k, p, d)
+}
+
+// What a call at place `k` is answered.
+pub(crate) fn answer(journal: &Journal, k: u64, p: u32, call: Call, name: &[u8]) -> Reply
+    requires bound { k ≤ length journal.now.records }
+    requires legal { Legal (first k journal.now.records) }
+    ensures { result ≡ answer (first k journal.now.records) p call name.now }
+{
+    match call {
+        Call::MqOpen { flags, attr } => answer_open(journal, k, p, flags, attr, name),
+        Call::MqClose { d } => {
+            if held(journal, k, p, d).is_some() {
+                Reply::Done
+            } else {
+                Reply::Refused(Fault::BadDescriptor)
+            }
+        }
+        Call::MqUnlink => {
+            if bound_queue(journal, k, name).is_some() {
+                Reply::Done
+            } else {
+                Reply::Refused(Fault::NoEntry)
+            }
+        }
+        Call::MqSend { d, prio, len } => answer_send(journal, k, held(journal, k, p, d), prio, len),
+        Call::MqReceive { d, room } => answer_receive(journal, k, held(journal, k, p, d), room),
+        Call::MqGetattr { d } => answer_attributes(journal, k, held_created(journal, k, p, d)),
+        Call::MqSetattr { d, nonblock: _ } => answer_attributes(
+            journal,
+            k,
+            held_created(journal, k, p, d),
+        ),
+        Call::MqNotify { d, value } => answer_notify(journal, k, p, held(journal, k, p, d), value),
+        Call::NextNotice => Reply::Notice(next_notice(journal, k, p)),
+        Call::Collect => Reply::Collected {
+            by: wait_of(journal, k, p).1.unwrap_or(0),
+        },
+    }
+}

@@ -1,0 +1,306 @@
+//! Messages and waiting calls, read off the entries before a place.
+#![tactic(auto, using(crate::proofs::Prefixes::prefixes))]
+
+ghost use Rattle.std.specs.Prelude.{◌≡◌, ◌≤◌, length, pos, int_le};
+ghost use Rattle.mq_core.specs.Record.{first};
+ghost use Rattle.mq_core.specs.Messages.{is_send, is_receive, is_in, queues, blocks_send, blocks_receive, admits, hands, admitted_waits, handed_waits, blocked_sends, waiting_sends, waiting_receives, entered, taken_by, taken, present, is_full, priority_given, priority, goes_first, best, least};
+ghost use Rattle.mq_core.specs.OnePass.{better};
+
+use crate::entries::{Call, Entry, Reply};
+use crate::journals::Journal;
+use crate::scan_names::{attributes, is_on};
+
+pub(crate) fn is_send(call: Call) -> bool
+    ensures { result ≡ is_send call }
+{
+    match call {
+        Call::MqSend { .. } => true,
+        _ => false,
+    }
+}
+
+pub(crate) fn is_receive(call: Call) -> bool
+    ensures { result ≡ is_receive call }
+{
+    match call {
+        Call::MqReceive { .. } => true,
+        _ => false,
+    }
+}
+
+pub(crate) fn queues(call: Call, reply: Reply) -> bool
+    ensures { result ≡ queues call reply }
+{
+    match reply {
+        Reply::Queued { notified: _ } => is_send(call),
+        _ => false,
+    }
+}
+
+pub(crate) fn blocks_send(call: Call, reply: Reply) -> bool
+    ensures { result ≡ blocks_send call reply }
+{
+    match reply {
+        Reply::Waits => is_send(call),
+        _ => false,
+    }
+}
+
+pub(crate) fn blocks_receive(call: Call, reply: Reply) -> bool
+    ensures { result ≡ blocks_receive call reply }
+{
+    match reply {
+        Reply::Waits => is_receive(call),
+        _ => false,
+    }
+}
+
+pub(crate) fn admits(reply: Reply) -> Option<u64>
+    ensures { result ≡ admits reply }
+{
+    match reply {
+        Reply::Got {
+            place: _,
+            admitted,
+            notified: _,
+        } => admitted,
+        _ => None,
+    }
+}
+
+pub(crate) fn hands(reply: Reply) -> Option<u64>
+    ensures { result ≡ hands reply }
+{
+    match reply {
+        Reply::Handed { wait } => Some(wait),
+        _ => None,
+    }
+}
+
+pub(crate) fn taken_by(here: u64, reply: Reply) -> Option<u64>
+    ensures { result ≡ taken_by here reply }
+{
+    match reply {
+        Reply::Got {
+            place,
+            admitted: _,
+            notified: _,
+        } => Some(place),
+        Reply::Handed { wait: _ } => Some(here),
+        _ => None,
+    }
+}
+
+// Whether a message was taken before place `k`.
+pub(crate) fn is_taken(journal: &Journal, k: u64, m: u64) -> bool
+    requires { k ≤ length journal.now.records }
+    ensures { result ≡ is_in (taken (first k journal.now.records)) m }
+{
+    let mut found = false;
+    for i in 0..k {
+        let (entry, _) = journal.record(i);
+        if let Some(place) = taken_by(i, entry.reply) {
+            found = place == m || found;
+        }
+    }
+    found
+}
+
+// Whether a waiting send was admitted before place `k`.
+pub(crate) fn is_admitted(journal: &Journal, k: u64, w: u64) -> bool
+    requires { k ≤ length journal.now.records }
+    ensures { result ≡ is_in (admitted_waits (first k journal.now.records)) w }
+{
+    let mut found = false;
+    for i in 0..k {
+        let (entry, _) = journal.record(i);
+        if let Some(place) = admits(entry.reply) {
+            found = place == w || found;
+        }
+    }
+    found
+}
+
+// Whether a waiting receive was handed a message before place `k`.
+pub(crate) fn is_handed(journal: &Journal, k: u64, w: u64) -> bool
+    requires { k ≤ length journal.now.records }
+    ensures { result ≡ is_in (handed_waits (first k journal.now.records)) w }
+{
+    let mut found = false;
+    for i in 0..k {
+        let (entry, _) = journal.record(i);
+        if let Some(place) = hands(entry.reply) {
+            found = place == w || found;
+        }
+    }
+    found
+}
+
+// Whether a send to queue `q` blocked at place `w`, before place `k`.
+pub(crate) fn is_blocked_send(journal: &Journal, k: u64, q: u64, w: u64) -> bool
+    requires { k ≤ length journal.now.records }
+    ensures { result ≡ is_in (blocked_sends (first k journal.now.records) q) w }
+{
+    let mut found = false;
+    for i in 0..k {
+        let (entry, _) = journal.record(i);
+        if i == w
+            && blocks_send(entry.call, entry.reply)
+            && is_on(journal, i, entry.process, entry.call, q)
+        {
+            found = true;
+        }
+    }
+    found
+}
+
+// The message that the entry at place `k` lets into queue `q`.
+pub(crate) fn entered(journal: &Journal, k: u64, entry: Entry, q: u64) -> Option<u64>
+    requires { k ≤ length journal.now.records }
+    ensures { result ≡ entered (first k journal.now.records) entry q }
+{
+    if queues(entry.call, entry.reply) && is_on(journal, k, entry.process, entry.call, q) {
+        return Some(k);
+    }
+    match admits(entry.reply) {
+        Some(w) => {
+            if is_blocked_send(journal, k, q, w) {
+                Some(w)
+            } else {
+                None
+            }
+        }
+        None => None,
+    }
+}
+
+// How many messages are in queue `q` before place `k`.
+pub(crate) fn present_count(journal: &Journal, k: u64, q: u64) -> u64
+    requires { k ≤ length journal.now.records }
+    ensures count { result ≡ length (present (first k journal.now.records) q) }
+    ensures bound { result ≤ k }
+{
+    let mut count = 0;
+    for i in 0..k {
+        let (entry, _) = journal.record(i);
+        if let Some(m) = entered(journal, i, entry, q) {
+            if !is_taken(journal, k, m) {
+                count += 1;
+            }
+        }
+    }
+    count
+}
+
+pub(crate) fn priority_given(call: Call) -> u32
+    ensures { result ≡ priority_given call }
+{
+    match call {
+        Call::MqSend { d: _, prio, len: _ } => prio,
+        _ => 0,
+    }
+}
+
+// The priority of message `m`.
+pub(crate) fn priority(journal: &Journal, k: u64, m: u64) -> u32
+    requires { k ≤ length journal.now.records }
+    ensures { result ≡ priority (first k journal.now.records) m }
+{
+    let mut prio = 0;
+    for i in 0..k {
+        let (entry, _) = journal.record(i);
+        if m == i {
+            prio = priority_given(entry.call);
+        }
+    }
+    prio
+}
+
+pub(crate) fn goes_first(journal: &Journal, k: u64, m: u64, n: u64) -> bool
+    requires { k ≤ length journal.now.records }
+    ensures { result ≡ goes_first (first k journal.now.records) m n }
+{
+    let one = priority(journal, k, m);
+    let other = priority(journal, k, n);
+    other < one || (one == other && m <= n)
+}
+
+// The oldest message of the highest priority in queue `q` before place `k`.
+pub(crate) fn best(journal: &Journal, k: u64, q: u64) -> Option<u64>
+    requires { k ≤ length journal.now.records }
+    ensures { result ≡ best (first k journal.now.records) q }
+{
+    let mut found = None;
+    for i in 0..k {
+        let (entry, _) = journal.record(i);
+        if let Some(m) = entered(journal, i, entry, q) {
+            if !is_taken(journal, k, m) {
+                found = Some(better(journal, k, m, found));
+            }
+        }
+    }
+    found
+}
+
+pub(crate) fn better(journal: &Journal, k: u64, m: u64, found: Option<u64>) -> u64
+    requires { k ≤ length journal.now.records }
+    ensures { result ≡ better (goes_first (first k journal.now.records)) m found }
+{
+    match found {
+        Some(n) => { if goes_first(journal, k, m, n) { m } else { n } }
+        None => m,
+    }
+}
+
+// The send that waits the longest for room in queue `q`.
+pub(crate) fn first_waiting_send(journal: &Journal, k: u64, q: u64) -> Option<u64>
+    requires { k ≤ length journal.now.records }
+    ensures { result ≡ least (waiting_sends (first k journal.now.records) q) }
+{
+    let mut found = None;
+    for i in 0..k {
+        let (entry, _) = journal.record(i);
+        if blocks_send(entry.call, entry.reply) && is_on(journal, i, entry.process, entry.call, q) {
+            if !is_admitted(journal, k, i) {
+                found = Some(i.min(found.unwrap_or(i)));
+            }
+        }
+    }
+    found
+}
+
+// The receive that waits the longest for a message of queue `q`.
+pub(crate) fn first_waiting_receive(journal: &Journal, k: u64, q: u64) -> Option<u64>
+    requires { k ≤ length journal.now.records }
+    ensures { result ≡ least (waiting_receives (first k journal.now.records) q) }
+{
+    let mut found = None;
+    for i in 0..k {
+        let (entry, _) = journal.record(i);
+        if blocks_receive(entry.call, entry.reply)
+            && is_on(journal, i, entry.process, entry.call, q)
+        {
+            if !is_handed(journal, k, i) {
+                found = Some(i.min(found.unwrap_or(i)));
+            }
+        }
+    }
+    found
+}
+
+// Whether queue `q` is full at place `k`.
+pub(crate) fn is_full(journal: &Journal, k: u64, q: u64) -> bool
+    requires { k ≤ length journal.now.records }
+    ensures { result ≡ is_full (first k journal.now.records) q }
+{
+    is_at_most(
+        attributes(journal, k, q).maxmsg,
+        present_count(journal, k, q),
+    )
+}
+
+pub(crate) fn is_at_most(x: i64, n: u64) -> bool
+    ensures { result ≡ int_le x (pos n) }
+{
+    i128::from(x) <= i128::from(n)
+}

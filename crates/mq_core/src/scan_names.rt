@@ -1,0 +1,277 @@
+//! Names, descriptors and queues, read off the entries before a place.
+#![tactic(auto, using(crate::proofs::Prefixes::prefixes))]
+
+ghost use Rattle.std.specs.Prelude.{◌≡◌, ◌<◌, ◌≤◌, length, int_le};
+ghost use Rattle.mq_core.specs.Record.{first};
+ghost use Rattle.mq_core.specs.Names.{is_open, is_unlink, creates, unlinks, bound_queue, attributes_given, attributes, are_within_limits};
+ghost use Rattle.mq_core.specs.Descriptors.{opened_queue, held, descriptor_of, called_queue, is_place, lowest_free, number_opened, opened_number, is_held, is_named, alive};
+
+use crate::entries::{Attr, Call, Description, Reply};
+use crate::journals::Journal;
+
+pub(crate) fn is_open(call: Call) -> bool
+    ensures { result ≡ is_open call }
+{
+    match call {
+        Call::MqOpen { .. } => true,
+        _ => false,
+    }
+}
+
+pub(crate) fn is_unlink(call: Call) -> bool
+    ensures { result ≡ is_unlink call }
+{
+    match call {
+        Call::MqUnlink => true,
+        _ => false,
+    }
+}
+
+pub(crate) fn creates(call: Call, reply: Reply) -> bool
+    ensures { result ≡ creates call reply }
+{
+    match reply {
+        Reply::Opened { d: _, created } => created && is_open(call),
+        _ => false,
+    }
+}
+
+pub(crate) fn unlinks(call: Call, reply: Reply) -> bool
+    ensures { result ≡ unlinks call reply }
+{
+    match reply {
+        Reply::Done => is_unlink(call),
+        _ => false,
+    }
+}
+
+// The queue that a name is bound to before place `k`.
+pub(crate) fn bound_queue(journal: &Journal, k: u64, name: &[u8]) -> Option<u64>
+    requires { k ≤ length journal.now.records }
+    ensures { result ≡ bound_queue (first k journal.now.records) name.now }
+{
+    for i in (0..k).rev() {
+        let (entry, payload) = journal.record(i);
+        if payload == name && creates(entry.call, entry.reply) {
+            return Some(i);
+        }
+        if payload == name && unlinks(entry.call, entry.reply) {
+            return None;
+        }
+    }
+    None
+}
+
+pub(crate) fn opened_queue(journal: &Journal, k: u64, name: &[u8], created: bool) -> u64
+    requires { k ≤ length journal.now.records }
+    ensures { result ≡ opened_queue (first k journal.now.records) name.now created }
+{
+    if created {
+        k
+    } else {
+        bound_queue(journal, k, name).unwrap_or(0)
+    }
+}
+
+// What process `p` holds under `d` before place `k`.
+#[tactic(auto, using(crate::proofs::Prefixes::prefixes, crate::proofs::Flagged::flagged_twice))]
+pub(crate) fn held(journal: &Journal, k: u64, p: u32, d: u32) -> Option<Description>
+    requires { k ≤ length journal.now.records }
+    ensures { result ≡ held (first k journal.now.records) p d }
+{
+    let mut flag = None;
+    for i in (0..k).rev() {
+        let (entry, payload) = journal.record(i);
+        if entry.process == p {
+            match entry.call {
+                Call::MqOpen { flags, attr: _ } => {
+                    if let Reply::Opened { d: e, created } = entry.reply {
+                        if e == d {
+                            let queue = opened_queue(journal, i, payload, created);
+                            let nonblock = flag.unwrap_or(flags.nonblock);
+                            return Some(Description {
+                                queue,
+                                access: flags.access,
+                                nonblock,
+                            });
+                        }
+                    }
+                }
+                Call::MqClose { d: e } => {
+                    if let Reply::Done = entry.reply {
+                        if e == d {
+                            return None;
+                        }
+                    }
+                }
+                Call::MqSetattr { d: e, nonblock } => {
+                    if let Reply::Attrs(_) = entry.reply {
+                        if e == d {
+                            flag = Some(flag.unwrap_or(nonblock));
+                        }
+                    }
+                }
+                _ => {}
+            }
+        }
+    }
+    None
+}
+
+pub(crate) fn descriptor_of(call: Call) -> Option<u32>
+    ensures { result ≡ descriptor_of call }
+{
+    match call {
+        Call::MqClose { d } => Some(d),
+        Call::MqSend { d, prio: _, len: _ } => Some(d),
+        Call::MqReceive { d, room: _ } => Some(d),
+        Call::MqGetattr { d } => Some(d),
+        Call::MqSetattr { d, nonblock: _ } => Some(d),
+        Call::MqNotify { d, value: _ } => Some(d),
+        Call::MqOpen { flags: _, attr: _ } => None,
+        Call::MqUnlink => None,
+        Call::NextNotice => None,
+        Call::Collect => None,
+    }
+}
+
+// Whether a call of process `p` at place `k` is made on queue `q`.
+pub(crate) fn is_on(journal: &Journal, k: u64, p: u32, call: Call, q: u64) -> bool
+    requires { k ≤ length journal.now.records }
+    ensures { result ≡ is_place q (called_queue (first k journal.now.records) p call) }
+{
+    match descriptor_of(call) {
+        Some(d) => match held(journal, k, p, d) {
+            Some(h) => h.queue == q,
+            None => false,
+        },
+        None => false,
+    }
+}
+
+pub(crate) fn attributes_given(call: Call) -> Attr
+    ensures { result ≡ attributes_given call }
+{
+    match call {
+        Call::MqOpen { flags: _, attr } => match attr {
+            Some(attr) => attr,
+            None => Attr {
+                maxmsg: 10,
+                msgsize: 8192,
+            },
+        },
+        _ => Attr {
+            maxmsg: 10,
+            msgsize: 8192,
+        },
+    }
+}
+
+// The attributes of queue `q`.
+pub(crate) fn attributes(journal: &Journal, k: u64, q: u64) -> Attr
+    requires { k ≤ length journal.now.records }
+    ensures { result ≡ attributes (first k journal.now.records) q }
+{
+    let mut attr = Attr {
+        maxmsg: 10,
+        msgsize: 8192,
+    };
+    for i in 0..k {
+        let (entry, _) = journal.record(i);
+        if q == i {
+            attr = attributes_given(entry.call);
+        }
+    }
+    attr
+}
+
+pub(crate) fn number_opened(call: Call, d: u32) -> Option<u32>
+    ensures { result ≡ number_opened call d }
+{
+    match call {
+        Call::MqOpen { .. } => Some(d),
+        _ => None,
+    }
+}
+
+pub(crate) fn opened_number(call: Call, reply: Reply) -> Option<u32>
+    ensures { result ≡ opened_number call reply }
+{
+    match reply {
+        Reply::Opened { d, created: _ } => number_opened(call, d),
+        _ => None,
+    }
+}
+
+// Whether some process holds a descriptor of queue `q` at place `k`.
+pub(crate) fn is_held(journal: &Journal, k: u64, q: u64) -> bool
+    requires { k ≤ length journal.now.records }
+    ensures { result ≡ is_held (first k journal.now.records) q }
+{
+    for i in (0..k).rev() {
+        let (entry, _) = journal.record(i);
+        if let Some(d) = opened_number(entry.call, entry.reply) {
+            if let Some(h) = held(journal, k, entry.process, d) {
+                if h.queue == q {
+                    return true;
+                }
+            }
+        }
+    }
+    false
+}
+
+// Whether queue `q` is bound to its name at place `k`.
+pub(crate) fn is_named(journal: &Journal, k: u64, q: u64) -> bool
+    requires place { q < k }
+    requires bound { k ≤ length journal.now.records }
+    ensures { result ≡ is_named (first k journal.now.records) q }
+{
+    let (_, name) = journal.record(q);
+    match bound_queue(journal, k, name) {
+        Some(bound) => bound == q,
+        None => false,
+    }
+}
+
+// How many queues exist at place `k`.
+pub(crate) fn alive_count(journal: &Journal, k: u64) -> u64
+    requires { k ≤ length journal.now.records }
+    ensures { result ≡ length (alive (first k journal.now.records)) }
+{
+    let mut count = 0;
+    for i in 0..k {
+        let (entry, _) = journal.record(i);
+        if creates(entry.call, entry.reply) {
+            if is_named(journal, k, i) || is_held(journal, k, i) {
+                count += 1;
+            }
+        }
+    }
+    count
+}
+
+// The lowest descriptor that process `p` does not hold at place `k`.
+pub(crate) fn lowest_free(journal: &Journal, k: u64, p: u32) -> Option<u32>
+    requires { k ≤ length journal.now.records }
+    ensures { result ≡ lowest_free (first k journal.now.records) p }
+{
+    for d in 0..16 {
+        if held(journal, k, p, d).is_none() {
+            return Some(d);
+        }
+    }
+    None
+}
+
+pub(crate) fn are_within_limits(attr: Option<Attr>) -> bool
+    ensures { result ≡ are_within_limits attr }
+{
+    match attr {
+        Some(attr) => 1 <= attr.maxmsg
+            && attr.maxmsg <= 4096
+            && 1 <= attr.msgsize
+            && attr.msgsize <= 65536,
+        None => true,
+    }
+}
