@@ -25,5 +25,8 @@ pub mod Alive
 pub mod Presence
 pub mod NoticeSteps
 pub mod PresentFew
+pub mod GivenOnce
+pub mod WaitCauses
+pub mod LegalPlaces
 pub mod Checked
 pub mod Flagged

@@ -44,7 +44,7 @@ made-by p here (MqSetattr d nonblock) n e = absurd (cc)
 made-by p here NextNotice n e = absurd (cc)
 made-by p here Collect n e = absurd (cc)
 
-made-of : (p here : ℕ) (call : Call) (reply : Reply) (n : Registration) → registration_of here p call reply ≡ Some n → (n.place ≡ here) × (n.process ≡ p) × (value_of_notify call ≡ Some n.value)
+pub made-of : (p here : ℕ) (call : Call) (reply : Reply) (n : Registration) → registration_of here p call reply ≡ Some n → (n.place ≡ here) × (n.process ≡ p) × (value_of_notify call ≡ Some n.value)
 made-of p here call Done n e = made-by p here call n e
 made-of p here call (Opened d created) n e = absurd (cc)
 made-of p here call (Queued m) n e = absurd (cc)
@@ -56,7 +56,7 @@ made-of p here call (Attrs s) n e = absurd (cc)
 made-of p here call (Notice v) n e = absurd (cc)
 made-of p here call (Refused f) n e = absurd (cc)
 
-only-some : (b : Bool) (o : Option Registration) (n : Registration) → only_if b o ≡ Some n → o ≡ Some n
+pub only-some : (b : Bool) (o : Option Registration) (n : Registration) → only_if b o ≡ Some n → o ≡ Some n
 only-some b None n e = absurd (cc)
 only-some true (Some m) n e = e
 only-some false (Some m) n e = absurd (cc)

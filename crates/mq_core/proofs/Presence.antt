@@ -27,7 +27,7 @@ sent_to (r ∷ past) m = if m == length past then called_queue past r.entry.proc
 abbrev pub reply_at : Past → ℕ → Option Reply
 reply_at past m = option_map (λ r. r.entry.reply) (record_at past m)
 
-place-is : (o : Option ℕ) (q : ℕ) → is_place q o ≡ true → o ≡ Some q
+pub place-is : (o : Option ℕ) (q : ℕ) → is_place q o ≡ true → o ≡ Some q
 place-is None q e = absurd (cc)
 place-is (Some k) q e = ap Some (eqb-true _ _ e)
 

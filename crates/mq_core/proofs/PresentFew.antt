@@ -205,7 +205,7 @@ few-got past legal p NextNotice m a n payload says q = absurd (cc)
 few-got past legal p Collect m a n payload says q = absurd (cc)
 
 -- the descriptor of a call is of the queue that the call is made on
-called-on : (past : Past) (p d q : ℕ) (h : Description) → held past p d ≡ Some h → is_place q (option_map (λ h. h.queue) (held past p d)) ≡ true → h.queue ≡ q
+pub called-on : (past : Past) (p d q : ℕ) (h : Description) → held past p d ≡ Some h → is_place q (option_map (λ h. h.queue) (held past p d)) ≡ true → h.queue ≡ q
 called-on past p d q h e on = let test : (h.queue == q) ≡ true = rw e at on in eqb-true _ _ test
 
 few-queued : (past : Past) → Legal past → (p : ℕ) (call : Call) (n : Option ℕ) (payload : List ℕ) → Says past p call (Queued n) → (q : ℕ) → q < length past → Few past q → Few (rec p call (Queued n) payload ∷ past) q

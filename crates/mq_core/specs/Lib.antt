@@ -11,3 +11,4 @@ pub mod Answer
 pub mod OnePass
 pub mod Owners
 pub mod OwnersNoted
+pub mod Laws
