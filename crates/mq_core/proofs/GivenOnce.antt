@@ -37,7 +37,7 @@ with-more (Some k) xs m h = split (k == m) (λ t. rw t refl) (λ f. rw (f, h) re
 
 -- messages ---------------------------------------------------------------------------------------------------------------
 
-given-reply : (reply : Reply) (m : ℕ) → message_given reply ≡ Some m → (a : Option ℕ) × (n : Option ℕ) × (reply ≡ Got m a n)
+pub given-reply : (reply : Reply) (m : ℕ) → message_given reply ≡ Some m → (a : Option ℕ) × (n : Option ℕ) × (reply ≡ Got m a n)
 given-reply (Got k a n) m e = let same : k ≡ m = cc in (a, n, ap (λ j. Got j a n) same)
 given-reply (Opened d created) m e = absurd (cc)
 given-reply (Queued n) m e = absurd (cc)

@@ -1,6 +1,6 @@
 -- A legal journal at each of its places.
 use Rattle.std.proofs.Common.{◌≡◌, ℕ, suc, ◌+◌, ◌-◌, ◌<◌, ◌≤◌, ◌==◌, Bool, true, false, List, [], ◌∷◌, ◌++◌, length, Option, Some, None, refl, sym, ◌∙◌, ap, subst, arith, eqb-true, eq-eqb, ne_eqb, leb-true, leb-false}
-use Rattle.std.specs.Prelude.{nat_le}
+use Rattle.std.specs.Prelude.{nat_le, drop}
 use Rattle.std.specs.Option.{option_map, option_and_then}
 use Rattle.std.proofs.lemmas.Bool.{eqb-false}
 use Rattle.mq_core.specs.Record.{Record, Past, record_at, first}
@@ -14,6 +14,14 @@ use Rattle.mq_core.proofs.Prefixes.{record_at-below, length-first, record_at-fir
 -- the first places of a longer journal
 pub first-older : (past : Past) (r : Record) (k : ℕ) → k ≤ length past → first k (r ∷ past) ≡ first k past
 first-older past r k le = let less : suc (length past) - k ≡ suc (length past - k) = omega arith in rw less refl
+
+-- the first records of the first records
+pub first-first : (past : Past) (j k : ℕ) → j ≤ k → first j (first k past) ≡ first j past
+first-first [] j k le = let none : 0 - k ≡ 0 = omega arith in ap (λ (n : ℕ). first j (drop n [])) none
+first-first (r ∷ past) j k le = split (nat_le (suc (length past)) k)
+    (λ all. let none : suc (length past) - k ≡ 0 = omega (arith, leb-true _ _ all) in ap (λ n. first j (drop n (r ∷ past))) none)
+    (λ some. let few : k ≤ length past = omega (arith, leb-false _ _ some) in
+      ap (first j) (first-older past r k few) ∙ first-first past j k le ∙ sym (first-older past r j (omega (arith, few))))
 
 pub record LegalAt (past : Past) (k : ℕ) (r : Record) : Type 0 where
   pub before : Legal (first k past)

@@ -25,6 +25,9 @@ pub mod Alive
 pub mod Presence
 pub mod NoticeSteps
 pub mod PresentFew
+pub mod SentMessages
+pub mod GoneQueues
+pub mod HeldLaws
 pub mod GivenOnce
 pub mod WaitCauses
 pub mod LegalPlaces

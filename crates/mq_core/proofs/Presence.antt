@@ -91,7 +91,7 @@ pub record IsAdmittedTo (past : Past) (q m : ℕ) : Type 0 where
   pub to : sent_to past m ≡ Some q
   pub how : ((n : Option ℕ) × (reply_at past m ≡ Some (Queued n))) ⊎ (is_in (admitted_waits past) m ≡ true)
 
-with-more : (o : Option ℕ) (xs : List ℕ) (m : ℕ) → is_in xs m ≡ true → is_in (with_place o xs) m ≡ true
+pub with-more : (o : Option ℕ) (xs : List ℕ) (m : ℕ) → is_in xs m ≡ true → is_in (with_place o xs) m ≡ true
 with-more None xs m h = h
 with-more (Some k) xs m h = split (k == m) (λ t. rw t refl) (λ f. rw (f, h) refl)
 
