@@ -143,7 +143,7 @@ named-fresh past r legal next j w e old =
     clash (is_in (named_waits past listed.0) w) listed.1 (unnamed past legal x.0 w x.1 x.2 listed.0)
 
 -- what was admitted had blocked
-admitted-blocked : (past : Past) → Legal past → (w : ℕ) → is_in (admitted_waits past) w ≡ true → reply_at past w ≡ Some Waits
+pub admitted-blocked : (past : Past) → Legal past → (w : ℕ) → is_in (admitted_waits past) w ≡ true → reply_at past w ≡ Some Waits
 admitted-blocked [] legal w h = absurd (cc)
 admitted-blocked (r ∷ past) legal w h = by (λ old. admitted-blocked past legal.0 w old) (admits r.entry.reply) refl h
   where
@@ -186,9 +186,9 @@ given-not_handed : (past : Past) → Legal past → (k m w : ℕ) → Has messag
 given-not_handed [] legal k m w e h = absurd (cc)
 given-not_handed (r ∷ past) legal k m w e h = has-cases message_given past r k m e
     (λ here is. let there = given-present past r legal.1 m is in
-      admitted-not_handed past legal.0 there.0 m w (present-admitted past there.0 m there.1) (sym (older (present-below past there.0 m there.1)) ∙ h))
+    admitted-not_handed past legal.0 there.0 m w (present-admitted past there.0 m there.1) (sym (older (present-below past there.0 m there.1)) ∙ h))
     (λ old lt. let before = given-earlier past legal.0 k m old in
-      given-not_handed past legal.0 k m w old (sym (older (omega (arith, before, lt))) ∙ h))
+    given-not_handed past legal.0 k m w old (sym (older (omega (arith, before, lt))) ∙ h))
   where
     older : m < length past → reply_at (r ∷ past) m ≡ reply_at past m
     older lt = ap (option_map (λ (x : Record). x.entry.reply)) (record_at-older past r m lt)
@@ -308,12 +308,12 @@ answered-named [] p by e = absurd (cc)
 answered-named (r ∷ past) p by e = split (r.entry.process == p)
     (λ own. let bad : None ≡ Some by = rw own at e in absurd (cc))
     (λ other.
-      let rest : (if names_wait r.entry.reply (open_wait past p) then Some (length past) else answered_by past p) ≡ Some by = rw other at e in
-      split (names_wait r.entry.reply (open_wait past p))
-      (λ t. let here : Some (length past) ≡ Some by = rw t at rest in let place : length past ≡ by = cc in named other place (open_wait past p) refl t)
-      (λ f. let old : answered_by past p ≡ Some by = rw f at rest in
-        let x = answered-named past p by old in
-        record { w = x.w; opened = rw other x.opened; named = has-older named_wait past r by x.w x.named }))
+    let rest : (if names_wait r.entry.reply (open_wait past p) then Some (length past) else answered_by past p) ≡ Some by = rw other at e in
+    split (names_wait r.entry.reply (open_wait past p))
+    (λ t. let here : Some (length past) ≡ Some by = rw t at rest in let place : length past ≡ by = cc in named other place (open_wait past p) refl t)
+    (λ f. let old : answered_by past p ≡ Some by = rw f at rest in
+    let x = answered-named past p by old in
+    record { w = x.w; opened = rw other x.opened; named = has-older named_wait past r by x.w x.named }))
   where
     is-named : (o : Option ℕ) (w : ℕ) → is_place w o ≡ true → o ≡ Some w
     is-named None w t = absurd (cc)
@@ -366,8 +366,8 @@ cause-below : (past : Past) → Legal past → (j by : ℕ) → Has cause past j
 cause-below [] legal j by e = absurd (cc)
 cause-below (r ∷ past) legal j by e = has-cases cause past r j by e
     (λ here is. let x = answered-named past r.entry.process by (collected past r legal.1 by is).answered in
-      let y = has-record named_wait past by x.w x.named in
-      let lt = record_at-below past by y.r y.at in omega (arith, lt))
+    let y = has-record named_wait past by x.w x.named in
+    let lt = record_at-below past by y.r y.at in omega (arith, lt))
     (λ old lt. let le = cause-below past legal.0 j by old in omega (arith, le))
 
 has-same : (part : Reply → Option ℕ) (past : Past) (k m n : ℕ) → Has part past k m → Has part past k n → m ≡ n
@@ -378,21 +378,21 @@ closed : (past : Past) → Legal past → (j by w p : ℕ) → Has cause past j 
 closed [] legal j by w p e h o = absurd (cc)
 closed (r ∷ past) legal j by w p e h o = has-cases cause past r j by e
     (λ here is.
-      let c = collected past r legal.1 by is in
-      let x = answered-named past r.entry.process by c.answered in
-      let y = has-record named_wait past by x.w x.named in
-      let before = older h (record_at-below past by y.r y.at) in
-      let same : x.w ≡ w = has-same named_wait past by x.w w x.named before in
-      split (r.entry.process == p)
-      (λ own. let bad : None ≡ Some w = rw (own, c.reply) at o in absurd (cc))
-      (λ other. let still : open_wait past p ≡ Some w = rw other at o in
-        let one : r.entry.process ≡ p = same-waiter past r.entry.process p w (x.opened ∙ ap Some same) still in
-        absurd (eqb-false _ _ other one)))
+    let c = collected past r legal.1 by is in
+    let x = answered-named past r.entry.process by c.answered in
+    let y = has-record named_wait past by x.w x.named in
+    let before = older h (record_at-below past by y.r y.at) in
+    let same : x.w ≡ w = has-same named_wait past by x.w w x.named before in
+    split (r.entry.process == p)
+    (λ own. let bad : None ≡ Some w = rw (own, c.reply) at o in absurd (cc))
+    (λ other. let still : open_wait past p ≡ Some w = rw other at o in
+    let one : r.entry.process ≡ p = same-waiter past r.entry.process p w (x.opened ∙ ap Some same) still in
+    absurd (eqb-false _ _ other one)))
     (λ old lt.
-      let before = older h (cause-below past legal.0 j by old) in
-      split (r.entry.process == p)
-      (λ own. let last : (if is_wait r.entry.reply then Some (length past) else None) ≡ Some w = rw own at o in newest (is_wait r.entry.reply) last before)
-      (λ other. let still : open_wait past p ≡ Some w = rw other at o in closed past legal.0 j by w p old before still))
+    let before = older h (cause-below past legal.0 j by old) in
+    split (r.entry.process == p)
+    (λ own. let last : (if is_wait r.entry.reply then Some (length past) else None) ≡ Some w = rw own at o in newest (is_wait r.entry.reply) last before)
+    (λ other. let still : open_wait past p ≡ Some w = rw other at o in closed past legal.0 j by w p old before still))
   where
     older : Has named_wait (r ∷ past) by w → by < length past → Has named_wait past by w
     older h lt = ap (λ (o : Option Record). option_and_then named_wait (option_map (λ (x : Record). x.entry.reply) o)) (sym (record_at-older past r by lt)) ∙ h
@@ -415,5 +415,5 @@ gives-once past legal = record {
   earlier = λ k m e. given-earlier past legal k m e;
   waits = once named_wait named-fresh past legal;
   registrations = once notified notified-fresh past legal;
-  causes = once cause cause-fresh past legal
+  causes = once cause cause-fresh past legal;
 }

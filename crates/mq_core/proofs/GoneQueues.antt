@@ -40,13 +40,13 @@ needed-before : (past : Past) (r : Record) → Legal (r ∷ past) → (q : ℕ) 
 needed-before past r legal q lt e = split (is_named (r ∷ past) q)
     (λ t. by-name (bound_queue-before (name_of (r ∷ past) q) (named-bound (r ∷ past) q t)))
     (λ f. let holds : is_held (r ∷ past) q ≡ true = rw f at e in
-      let x = is_held-holder (r ∷ past) q holds in
-      split (r.entry.process == x.process)
-      (λ own. let after : held_after past r.entry.call r.payload r.entry.reply x.d (held past x.process x.d) ≡ Some x.description = rw own at x.held in
-        after-cases _ past r.entry.call r.payload r.entry.reply x.d (held past x.process x.d) x.description after
-        (λ k was same. by-hold (held-is_held past x.process x.d q k was (same ∙ x.on)))
-        (λ flags attr new call reply opened. opens new (opened ∙ x.on) x.d flags attr call reply))
-      (λ other. let was : held past x.process x.d ≡ Some x.description = rw other at x.held in by-hold (held-is_held past x.process x.d q x.description was x.on)))
+    let x = is_held-holder (r ∷ past) q holds in
+    split (r.entry.process == x.process)
+    (λ own. let after : held_after past r.entry.call r.payload r.entry.reply x.d (held past x.process x.d) ≡ Some x.description = rw own at x.held in
+    after-cases _ past r.entry.call r.payload r.entry.reply x.d (held past x.process x.d) x.description after
+    (λ k was same. by-hold (held-is_held past x.process x.d q k was (same ∙ x.on)))
+    (λ flags attr new call reply opened. opens new (opened ∙ x.on) x.d flags attr call reply))
+    (λ other. let was : held past x.process x.d ≡ Some x.description = rw other at x.held in by-hold (held-is_held past x.process x.d q x.description was x.on)))
   where
     by-name : bound_queue past (name_of (r ∷ past) q) ≡ Some q → (is_named past q || is_held past q) ≡ true
     by-name b = rw (bound-named past (name_of (r ∷ past) q) q b) refl
@@ -62,8 +62,8 @@ needed-before past r legal q lt e = split (is_named (r ∷ past) q)
     bound_queue-before name b = split (creates r.entry.call r.entry.reply && bytes_eq r.payload name)
         (λ t. let here : Some (length past) ≡ Some q = rw t at b in let same : length past ≡ q = cc in absurd (omega (arith, lt)))
         (λ f. split (unlinks r.entry.call r.entry.reply && bytes_eq r.payload name)
-          (λ t. let bad : None ≡ Some q = rw (f, t) at b in absurd (cc))
-          (λ g. rw (f, g) at b))
+        (λ t. let bad : None ≡ Some q = rw (f, t) at b in absurd (cc))
+        (λ g. rw (f, g) at b))
 
     some-is : (o : Option ℕ) → not (is_some o) ≡ false → unwrap_or o 0 ≡ q → o ≡ Some q
     some-is None e u = absurd (let bad : true ≡ false = e in cc)
@@ -87,30 +87,30 @@ created-first [] j q h = let none : 0 - j ≡ 0 = omega arith in rw none at h
 created-first (r ∷ past) j q h = split (nat_le (suc (length past)) j)
     (λ all. let none : suc (length past) - j ≡ 0 = omega (arith, leb-true _ _ all) in rw none at h)
     (λ some. let few : j ≤ length past = omega (arith, leb-false _ _ some) in
-      let old : is_in (created (first j past)) q ≡ true = subst (λ b. is_in (created b) q ≡ true) (first-older past r j few) h in
-      created-more past r q (created-first past j q old))
+    let old : is_in (created (first j past)) q ≡ true = subst (λ b. is_in (created b) q ≡ true) (first-older past r j few) h in
+    created-more past r q (created-first past j q old))
 
 pub never-again : (past : Past) → Legal past → (j k q : ℕ) → IsGoneAt past j q → j ≤ k → k ≤ length past → is_in (alive (first k past)) q ≡ false
 never-again [] legal j k q gone le within =
     let none : 0 - k ≡ 0 = omega arith in rw none refl
 never-again (r ∷ past) legal j k q gone le within = split (nat_le k (length past))
     (λ older. let few : k ≤ length past = leb-true _ _ older in
-      ap (λ b. is_in (alive b) q) (first-older past r k few) ∙ never-again past legal.0 j k q (before (omega (arith, few, le))) le few)
+    ap (λ b. is_in (alive b) q) (first-older past r k few) ∙ never-again past legal.0 j k q (before (omega (arith, few, le))) le few)
     (λ newest. let all : k ≡ suc (length past) = omega (arith, leb-false _ _ newest, within) in
-      let whole : first k (r ∷ past) ≡ r ∷ past = first-all (r ∷ past) k all in
-      ap (λ b. is_in (alive b) q) whole ∙ split (nat_le j (length past))
-      (λ older. let few : j ≤ length past = leb-true _ _ older in
-        let gone_then = never-again past legal.0 j (length past) q (before few) few (omega arith) in
-        let now : is_in (alive past) q ≡ false = ap (λ b. is_in (alive b) q) (sym (first-all past (length past) refl)) ∙ gone_then in
-        gone-next past r legal q (created-first past j q (before few).created) now)
-      (λ same. let here : j ≡ suc (length past) = omega (arith, leb-false _ _ same, gone.place) in
-        ap (λ b. is_in (alive b) q) (sym (first-all (r ∷ past) j here)) ∙ gone.gone))
+    let whole : first k (r ∷ past) ≡ r ∷ past = first-all (r ∷ past) k all in
+    ap (λ b. is_in (alive b) q) whole ∙ split (nat_le j (length past))
+    (λ older. let few : j ≤ length past = leb-true _ _ older in
+    let gone_then = never-again past legal.0 j (length past) q (before few) few (omega arith) in
+    let now : is_in (alive past) q ≡ false = ap (λ b. is_in (alive b) q) (sym (first-all past (length past) refl)) ∙ gone_then in
+    gone-next past r legal q (created-first past j q (before few).created) now)
+    (λ same. let here : j ≡ suc (length past) = omega (arith, leb-false _ _ same, gone.place) in
+    ap (λ b. is_in (alive b) q) (sym (first-all (r ∷ past) j here)) ∙ gone.gone))
   where
     before : j ≤ length past → IsGoneAt past j q
     before few = record {
       place = few;
       created = subst (λ b. is_in (created b) q ≡ true) (first-older past r j few) gone.created;
-      gone = subst (λ b. is_in (alive b) q ≡ false) (first-older past r j few) gone.gone
+      gone = subst (λ b. is_in (alive b) q ≡ false) (first-older past r j few) gone.gone;
     }
 
 -- messages ---------------------------------------------------------------------------------------------------------------
@@ -120,7 +120,7 @@ in-filter_is t xs m h = split (t m)
     (λ y. in-filter t xs m h y ∙ sym y)
     (λ n. false_from_ne_true _ (λ there. clash (t m) (is_in-filter t xs m there).1 n) ∙ sym n)
 
-or-cases : {C : Type 0} (a b : Bool) → (a || b) ≡ true → (a ≡ true → C) → (b ≡ true → C) → C
+pub or-cases : {C : Type 0} (a b : Bool) → (a || b) ≡ true → (a ≡ true → C) → (b ≡ true → C) → C
 or-cases true b e left right = left refl
 or-cases false b e left right = right e
 
@@ -128,9 +128,9 @@ pub present-or-taken : (past : Past) (q m : ℕ) → is_accepted past q m ≡ tr
 present-or-taken past q m h = or-cases (is_in (admitted past q) m) (is_in (handed past q) m) h
     (λ entered. in-filter_is (λ m. not (is_in (taken past) m)) (admitted past q) m entered)
     (λ over. let gone = handed-taken past q m over in
-      false_from_ne_true _ (λ there. let free = not-true _ (is_in-filter (λ m. not (is_in (taken past) m)) (admitted past q) m there).1 in clash (is_in (taken past) m) gone free) ∙ sym (ap not gone))
+    false_from_ne_true _ (λ there. let free = not-true _ (is_in-filter (λ m. not (is_in (taken past) m)) (admitted past q) m there).1 in clash (is_in (taken past) m) gone free) ∙ sym (ap not gone))
 
-same-queue : (past : Past) (q k m : ℕ) → IsSentTo past q m → IsSentTo past k m → q ≡ k
+pub same-queue : (past : Past) (q k m : ℕ) → IsSentTo past q m → IsSentTo past k m → q ≡ k
 same-queue past q k m a b =
     let one : Some a.r ≡ Some b.r = sym a.at ∙ b.at in
     let same : a.r ≡ b.r = cc in
@@ -140,17 +140,17 @@ same-queue past q k m a b =
 pub in-one-queue : (past : Past) (q k m : ℕ) → is_accepted past q m ≡ true → is_in (present past k) m ≡ true → k ≡ q
 in-one-queue past q k m h there = same-queue past k q m (admitted-sent past k m (present-admitted past k m there)) (accepted-sent past q m h)
 
-sent-first : (past : Past) (k q m : ℕ) → IsSentTo (first k past) q m → m < k → k ≤ length past → IsSentTo past q m
+pub sent-first : (past : Past) (k q m : ℕ) → IsSentTo (first k past) q m → m < k → k ≤ length past → IsSentTo past q m
 sent-first past k q m x lt le = record {
   r = x.r;
   at = sym (record_at-first past k m lt le) ∙ x.at;
   on = ap (λ b. called_queue b x.r.entry.process x.r.entry.call) (sym (first-first past m k (omega (arith, lt)))) ∙ x.on;
   send = x.send;
-  reply = x.reply
+  reply = x.reply;
 }
 
 -- the reply that takes a message: a receive's, or that of its own send
-taken-reply : (k m : ℕ) (reply : Reply) → taken_by k reply ≡ Some m → (message_given reply ≡ Some m) ⊎ (k ≡ m)
+pub taken-reply : (k m : ℕ) (reply : Reply) → taken_by k reply ≡ Some m → (message_given reply ≡ Some m) ⊎ (k ≡ m)
 taken-reply k m (Got j a n) e = inl e
 taken-reply k m (Handed w) e = let same : k ≡ m = cc in inr same
 taken-reply k m (Opened d created) e = absurd (cc)
@@ -194,5 +194,5 @@ ends-for-good past legal = record {
   never_again = λ j k q gone le within. never-again past legal j k q gone le within;
   none_taken = λ j k q m gone le h e. none-taken past legal j k q m gone le h e;
   present_or_taken = λ q m h. present-or-taken past q m h;
-  in_one_queue = λ q k m h there. in-one-queue past q k m h there
+  in_one_queue = λ q k m h there. in-one-queue past q k m h there;
 }

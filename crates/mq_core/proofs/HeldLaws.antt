@@ -98,21 +98,21 @@ pub wait-holds : (past : Past) (p w : ℕ) → open_wait past p ≡ Some w → (
 wait-holds [] p w e d = absurd (cc)
 wait-holds (r ∷ past) p w e d = split (r.entry.process == p)
     (λ own. let last : (if is_wait r.entry.reply then Some (length past) else None) ≡ Some w = rw own at e in
-      split (is_wait r.entry.reply)
-      (λ waits.
-        let here : Some (length past) ≡ Some w = rw waits at last in
-        let place : length past ≡ w = cc in
-        let is : r.entry.reply ≡ Waits = is_wait-Waits r.entry.reply waits in
-        let before : first w (r ∷ past) ≡ past = first-older past r w (omega arith) ∙ first-all past w (sym place) in
-        let now : held (r ∷ past) p d ≡ held past p d = rw (own, is) refl in
-        now ∙ ap (λ b. held b p d) (sym before))
-      (λ no. let bad : None ≡ Some w = rw no at last in absurd (cc)))
+    split (is_wait r.entry.reply)
+    (λ waits.
+    let here : Some (length past) ≡ Some w = rw waits at last in
+    let place : length past ≡ w = cc in
+    let is : r.entry.reply ≡ Waits = is_wait-Waits r.entry.reply waits in
+    let before : first w (r ∷ past) ≡ past = first-older past r w (omega arith) ∙ first-all past w (sym place) in
+    let now : held (r ∷ past) p d ≡ held past p d = rw (own, is) refl in
+    now ∙ ap (λ b. held b p d) (sym before))
+    (λ no. let bad : None ≡ Some w = rw no at last in absurd (cc)))
     (λ other.
-      let old : open_wait past p ≡ Some w = rw other at e in
-      let lt = open_wait-below past p w old in
-      let before : first w (r ∷ past) ≡ first w past = first-older past r w (omega (arith, lt)) in
-      let now : held (r ∷ past) p d ≡ held past p d = rw other refl in
-      now ∙ wait-holds past p w old d ∙ ap (λ b. held b p d) (sym before))
+    let old : open_wait past p ≡ Some w = rw other at e in
+    let lt = open_wait-below past p w old in
+    let before : first w (r ∷ past) ≡ first w past = first-older past r w (omega (arith, lt)) in
+    let now : held (r ∷ past) p d ≡ held past p d = rw other refl in
+    now ∙ wait-holds past p w old d ∙ ap (λ b. held b p d) (sym before))
 
 -- an answered process waits
 pub answered-waits : (past : Past) (p : ℕ) → is_some (answered_by past p) ≡ true → (w : ℕ) × (open_wait past p ≡ Some w)
@@ -125,23 +125,23 @@ answered-waits past p t = by (open_wait past p) refl
 pub holds-descriptors : (past : Past) → Legal past → HoldsDescriptors past
 holds-descriptors past legal = record {
   sends = λ k d prio len r e c not.
-    let at = legal-at past legal k r e in
-    let says : Says (first k past) r.entry.process (MqSend d prio len) r.entry.reply = rw c at (legal_says (first k past) r at.next) in
-    let x = send-holds (first k past) r.entry.process d prio len r.entry.reply says not in
-    record { h = x.h; held = x.held; access = x.access };
+      let at = legal-at past legal k r e in
+      let says : Says (first k past) r.entry.process (MqSend d prio len) r.entry.reply = rw c at (legal_says (first k past) r at.next) in
+      let x = send-holds (first k past) r.entry.process d prio len r.entry.reply says not in
+      record { h = x.h; held = x.held; access = x.access };
   receives = λ k d room r e c not.
-    let at = legal-at past legal k r e in
-    let says : Says (first k past) r.entry.process (MqReceive d room) r.entry.reply = rw c at (legal_says (first k past) r at.next) in
-    let x = receive-holds (first k past) r.entry.process d room r.entry.reply says not in
-    record { h = x.h; held = x.held; access = x.access };
+      let at = legal-at past legal k r e in
+      let says : Says (first k past) r.entry.process (MqReceive d room) r.entry.reply = rw c at (legal_says (first k past) r at.next) in
+      let x = receive-holds (first k past) r.entry.process d room r.entry.reply says not in
+      record { h = x.h; held = x.held; access = x.access };
   collects = λ k r e c.
-    let at = legal-at past legal k r e in
-    let turn : is_some (answered_by (first k past) r.entry.process) ≡ true = rw c at at.next.turn in
-    let x = answered-waits (first k past) r.entry.process turn in
-    let lt = open_wait-below (first k past) r.entry.process x.0 x.1 in
-    let below = record_at-below past k r e in
-    let same : first x.0 (first k past) ≡ first x.0 past = first-first past x.0 k (let long = length-first k past (omega (arith, below)) in omega (arith, lt, long)) in
-    (x.0, x.1, λ d. wait-holds (first k past) r.entry.process x.0 x.1 d ∙ ap (λ before. held before r.entry.process d) same)
+      let at = legal-at past legal k r e in
+      let turn : is_some (answered_by (first k past) r.entry.process) ≡ true = rw c at at.next.turn in
+      let x = answered-waits (first k past) r.entry.process turn in
+      let lt = open_wait-below (first k past) r.entry.process x.0 x.1 in
+      let below = record_at-below past k r e in
+      let same : first x.0 (first k past) ≡ first x.0 past = first-first past x.0 k (let long = length-first k past (omega (arith, below)) in omega (arith, lt, long)) in
+      (x.0, x.1, λ d. wait-holds (first k past) r.entry.process x.0 x.1 d ∙ ap (λ before. held before r.entry.process d) same);
 }
 
 -- others -----------------------------------------------------------------------------------------------------------------
@@ -159,4 +159,4 @@ others-leave past p = record { wait = wait; answered = answered }
     answered : (more : List Record) → are_of_others p more ≡ true → is_answered past p ≡ true → is_answered (more ++ past) p ≡ true
     answered [] e h = h
     answered (r ∷ more) e h = let x = other r more e in
-      split (names_wait r.entry.reply (open_wait (more ++ past) p)) (λ t. rw (x.0, t) refl) (λ f. rw (x.0, f) (answered more x.1 h))
+        split (names_wait r.entry.reply (open_wait (more ++ past) p)) (λ t. rw (x.0, t) refl) (λ f. rw (x.0, f) (answered more x.1 h))

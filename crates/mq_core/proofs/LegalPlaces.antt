@@ -21,7 +21,7 @@ first-first [] j k le = let none : 0 - k ≡ 0 = omega arith in ap (λ (n : ℕ)
 first-first (r ∷ past) j k le = split (nat_le (suc (length past)) k)
     (λ all. let none : suc (length past) - k ≡ 0 = omega (arith, leb-true _ _ all) in ap (λ n. first j (drop n (r ∷ past))) none)
     (λ some. let few : k ≤ length past = omega (arith, leb-false _ _ some) in
-      ap (first j) (first-older past r k few) ∙ first-first past j k le ∙ sym (first-older past r j (omega (arith, few))))
+    ap (first j) (first-older past r k few) ∙ first-first past j k le ∙ sym (first-older past r j (omega (arith, few))))
 
 pub record LegalAt (past : Past) (k : ℕ) (r : Record) : Type 0 where
   pub before : Legal (first k past)
@@ -32,15 +32,15 @@ pub legal-at : (past : Past) → Legal past → (k : ℕ) (r : Record) → recor
 legal-at [] legal k r e = absurd (cc)
 legal-at (s ∷ past) legal k r e = split (k == length past)
     (λ t. let here : k ≡ length past = eqb-true _ _ t in
-      let same : Some s ≡ Some r = rw t at e in
-      let is : s ≡ r = cc in
-      let all : first k (s ∷ past) ≡ past = first-older past s k (omega arith) ∙ first-all past k here in
-      record { before = rw all legal.0; next = rw (all, ← is) legal.1 })
+    let same : Some s ≡ Some r = rw t at e in
+    let is : s ≡ r = cc in
+    let all : first k (s ∷ past) ≡ past = first-older past s k (omega arith) ∙ first-all past k here in
+    record { before = rw all legal.0; next = rw (all, ← is) legal.1 })
     (λ f. let old : record_at past k ≡ Some r = rw f at e in
-      let lt = record_at-below past k r old in
-      let x = legal-at past legal.0 k r old in
-      let same : first k (s ∷ past) ≡ first k past = first-older past s k (omega (arith, lt)) in
-      record { before = rw same x.before; next = rw same x.next })
+    let lt = record_at-below past k r old in
+    let x = legal-at past legal.0 k r old in
+    let same : first k (s ∷ past) ≡ first k past = first-older past s k (omega (arith, lt)) in
+    record { before = rw same x.before; next = rw same x.next })
 
 -- what comes first in a legal journal is legal
 pub legal-first : (past : Past) (k : ℕ) → Legal past → Legal (first k past)
@@ -77,8 +77,8 @@ pub has-cases : {C : Type 0} (part : Reply → Option ℕ) (past : Past) (r : Re
 has-cases part past r k m e newest older = split (k == length past)
     (λ t. newest (eqb-true _ _ t) (rw t at e))
     (λ f. let old : Has part past k m = rw f at e in
-      let x = has-record part past k m old in
-      older old (record_at-below past k x.r x.at))
+    let x = has-record part past k m old in
+    older old (record_at-below past k x.r x.at))
 
 -- what no earlier reply has, where a legal record has it
 pub once : (part : Reply → Option ℕ) → ((past : Past) (r : Record) → Legal past → IsLegalNext past r → (j m : ℕ) → part r.entry.reply ≡ Some m → Has part past j m → ⊥) → (past : Past) → Legal past → IsOnce part past

@@ -260,6 +260,9 @@ first-two false b c d e = absurd (let bad : false ≡ true = e in cc)
 within-both : (a : Attr) → are_within_limits (Some a) ≡ true → (int_le (pos 1) a.maxmsg ≡ true) × (int_le a.maxmsg (pos 4096) ≡ true)
 within-both a e = first-two (int_le (pos 1) a.maxmsg) (int_le a.maxmsg (pos 4096)) (int_le (pos 1) a.msgsize) (int_le a.msgsize (pos 65536)) e
 
+pub within-positive_maxmsg : (a : Attr) → are_within_limits (Some a) ≡ true → int_le (pos 1) a.maxmsg ≡ true
+within-positive_maxmsg a e = (within-both a e).0
+
 within-positive : (a : Attr) → are_within_limits (Some a) ≡ true → int_le (pos 0) a.maxmsg ≡ true
 within-positive a e = le-one a.maxmsg (within-both a e).0
 

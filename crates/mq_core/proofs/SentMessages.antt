@@ -53,7 +53,7 @@ sent-older past r q m x =
       at = record_at-older past r m lt ∙ x.at;
       on = ap (λ b. called_queue b x.r.entry.process x.r.entry.call) (first-older past r m (omega (arith, lt))) ∙ x.on;
       send = x.send;
-      reply = x.reply
+      reply = x.reply;
     }
 
 sent-newest : (past : Past) (r : Record) (q : ℕ) → is_on past r.entry q ≡ true → is_send r.entry.call ≡ true → is_sent r.entry.reply ≡ true → IsSentTo (r ∷ past) q (length past)
@@ -62,7 +62,7 @@ sent-newest past r q on send reply = record {
   at = rw (eq-eqb (length past) (length past) refl) refl;
   on = ap (λ b. called_queue b r.entry.process r.entry.call) (first-older past r (length past) (omega arith) ∙ first-all past (length past) refl) ∙ place-is (called_queue past r.entry.process r.entry.call) q on;
   send = send;
-  reply = reply
+  reply = reply;
 }
 
 -- the replies by which a send's message enters, is handed over or waits
@@ -106,11 +106,11 @@ pub blocked-sent : (past : Past) (q m : ℕ) → is_in (blocked_sends past q) m 
 blocked-sent [] q m h = absurd (cc)
 blocked-sent (r ∷ past) q m h = split (blocks_send r.entry.call r.entry.reply && is_on past r.entry q)
     (λ t. let new : (length past == m || is_in (blocked_sends past q) m) ≡ true = rw t at h in
-      let parts = and_parts (blocks_send r.entry.call r.entry.reply) (is_on past r.entry q) t in
-      let sent = blocks-sent r.entry.call r.entry.reply parts.0 in
-      split (length past == m)
-      (λ e. subst (IsSentTo (r ∷ past) q) (eqb-true _ _ e) (sent-newest past r q parts.1 sent.0 sent.1))
-      (λ n. sent-older past r q m (blocked-sent past q m (rw n at new))))
+    let parts = and_parts (blocks_send r.entry.call r.entry.reply) (is_on past r.entry q) t in
+    let sent = blocks-sent r.entry.call r.entry.reply parts.0 in
+    split (length past == m)
+    (λ e. subst (IsSentTo (r ∷ past) q) (eqb-true _ _ e) (sent-newest past r q parts.1 sent.0 sent.1))
+    (λ n. sent-older past r q m (blocked-sent past q m (rw n at new))))
     (λ f. sent-older past r q m (blocked-sent past q m (rw f at h)))
 
 pub admitted-sent : (past : Past) (q m : ℕ) → is_in (admitted past q) m ≡ true → IsSentTo past q m
@@ -120,11 +120,11 @@ admitted-sent (r ∷ past) q m h = by (λ old. admitted-sent past q m old) (ente
     here : entered past r.entry q ≡ Some m → IsSentTo (r ∷ past) q m
     here e = split (queues r.entry.call r.entry.reply && is_on past r.entry q)
         (λ t. let is : Some (length past) ≡ Some m = rw t at e in let same : length past ≡ m = cc in
-          let parts = and_parts (queues r.entry.call r.entry.reply) (is_on past r.entry q) t in
-          let sent = queues-sent r.entry.call r.entry.reply parts.0 in
-          subst (IsSentTo (r ∷ past) q) same (sent-newest past r q parts.1 sent.0 sent.1))
+        let parts = and_parts (queues r.entry.call r.entry.reply) (is_on past r.entry q) t in
+        let sent = queues-sent r.entry.call r.entry.reply parts.0 in
+        subst (IsSentTo (r ∷ past) q) same (sent-newest past r q parts.1 sent.0 sent.1))
         (λ f. let is : if_in (blocked_sends past q) (admits r.entry.reply) ≡ Some m = rw f at e in
-          sent-older past r q m (blocked-sent past q m (if_in-inside (blocked_sends past q) (admits r.entry.reply) m is).0))
+        sent-older past r q m (blocked-sent past q m (if_in-inside (blocked_sends past q) (admits r.entry.reply) m is).0))
 
     by : (is_in (admitted past q) m ≡ true → IsSentTo past q m) → (o : Option ℕ) → entered past r.entry q ≡ o → is_in (with_place o (admitted past q)) m ≡ true → IsSentTo (r ∷ past) q m
     by rest None e h = sent-older past r q m (rest h)
@@ -136,11 +136,11 @@ pub handed-sent : (past : Past) (q m : ℕ) → is_in (handed past q) m ≡ true
 handed-sent [] q m h = absurd (cc)
 handed-sent (r ∷ past) q m h = split (hands_over r.entry.call r.entry.reply && is_on past r.entry q)
     (λ t. let new : (length past == m || is_in (handed past q) m) ≡ true = rw t at h in
-      let parts = and_parts (hands_over r.entry.call r.entry.reply) (is_on past r.entry q) t in
-      let sent = hands-sent (length past) r.entry.call r.entry.reply parts.0 in
-      split (length past == m)
-      (λ e. subst (IsSentTo (r ∷ past) q) (eqb-true _ _ e) (sent-newest past r q parts.1 sent.0 sent.1))
-      (λ n. sent-older past r q m (handed-sent past q m (rw n at new))))
+    let parts = and_parts (hands_over r.entry.call r.entry.reply) (is_on past r.entry q) t in
+    let sent = hands-sent (length past) r.entry.call r.entry.reply parts.0 in
+    split (length past == m)
+    (λ e. subst (IsSentTo (r ∷ past) q) (eqb-true _ _ e) (sent-newest past r q parts.1 sent.0 sent.1))
+    (λ n. sent-older past r q m (handed-sent past q m (rw n at new))))
     (λ f. sent-older past r q m (handed-sent past q m (rw f at h)))
 
 -- an accepted message was sent to its queue
@@ -152,10 +152,10 @@ pub handed-taken : (past : Past) (q m : ℕ) → is_in (handed past q) m ≡ tru
 handed-taken [] q m h = absurd (cc)
 handed-taken (r ∷ past) q m h = split (hands_over r.entry.call r.entry.reply && is_on past r.entry q)
     (λ t. let new : (length past == m || is_in (handed past q) m) ≡ true = rw t at h in
-      let takes = (hands-sent (length past) r.entry.call r.entry.reply (and_parts (hands_over r.entry.call r.entry.reply) (is_on past r.entry q) t).0).2 in
-      split (length past == m)
-      (λ e. rw takes (rw e refl))
-      (λ n. with-more (taken_by (length past) r.entry.reply) (taken past) m (handed-taken past q m (rw n at new))))
+    let takes = (hands-sent (length past) r.entry.call r.entry.reply (and_parts (hands_over r.entry.call r.entry.reply) (is_on past r.entry q) t).0).2 in
+    split (length past == m)
+    (λ e. rw takes (rw e refl))
+    (λ n. with-more (taken_by (length past) r.entry.reply) (taken past) m (handed-taken past q m (rw n at new))))
     (λ f. with-more (taken_by (length past) r.entry.reply) (taken past) m (handed-taken past q m (rw f at h)))
 
 -- what became of a send that was not refused
@@ -168,24 +168,24 @@ pub sent-status : (past : Past) (q m : ℕ) (x : IsSentTo past q m) → SentStat
 sent-status [] q m x = absurd (let bad : None ≡ Some x.r = x.at in cc)
 sent-status (s ∷ past) q m x = split (m == length past)
     (λ t.
-      let here : m ≡ length past = eqb-true _ _ t in
-      let same : Some s ≡ Some x.r = rw t at x.at in
-      let is : s ≡ x.r = cc in
-      let before : first m (s ∷ past) ≡ past = first-older past s m (omega (arith, here)) ∙ first-all past m here in
-      let on : called_queue past s.entry.process s.entry.call ≡ Some q = ap (λ b. called_queue b s.entry.process s.entry.call) (sym before) ∙ ap (λ (r : Record). called_queue (first m (s ∷ past)) r.entry.process r.entry.call) is ∙ x.on in
-      let send : is_send s.entry.call ≡ true = ap (λ (r : Record). is_send r.entry.call) is ∙ x.send in
-      let P : ℕ → Record → Type 0 = λ k r. SentStatus (s ∷ past) q k r.entry.reply in
-      subst (λ k. P k x.r) (sym here) (subst (P (length past)) is (newest on send)))
+    let here : m ≡ length past = eqb-true _ _ t in
+    let same : Some s ≡ Some x.r = rw t at x.at in
+    let is : s ≡ x.r = cc in
+    let before : first m (s ∷ past) ≡ past = first-older past s m (omega (arith, here)) ∙ first-all past m here in
+    let on : called_queue past s.entry.process s.entry.call ≡ Some q = ap (λ b. called_queue b s.entry.process s.entry.call) (sym before) ∙ ap (λ (r : Record). called_queue (first m (s ∷ past)) r.entry.process r.entry.call) is ∙ x.on in
+    let send : is_send s.entry.call ≡ true = ap (λ (r : Record). is_send r.entry.call) is ∙ x.send in
+    let P : ℕ → Record → Type 0 = λ k r. SentStatus (s ∷ past) q k r.entry.reply in
+    subst (λ k. P k x.r) (sym here) (subst (P (length past)) is (newest on send)))
     (λ f.
-      let old : record_at past m ≡ Some x.r = rw f at x.at in
-      let lt = record_at-below past m x.r old in
-      let y : IsSentTo past q m = record { r = x.r; at = old; on = ap (λ b. called_queue b x.r.entry.process x.r.entry.call) (sym (first-older past s m (omega (arith, lt)))) ∙ x.on; send = x.send; reply = x.reply } in
-      let z = sent-status past q m y in
-      record {
-        queued = λ n e. with-more (entered past s.entry q) (admitted past q) m (z.queued n e);
-        handed = λ w e. with-more (taken_by (length past) s.entry.reply) (taken past) m (z.handed w e);
-        waits = λ e. blocked-more (z.waits e)
-      })
+    let old : record_at past m ≡ Some x.r = rw f at x.at in
+    let lt = record_at-below past m x.r old in
+    let y : IsSentTo past q m = record { r = x.r; at = old; on = ap (λ b. called_queue b x.r.entry.process x.r.entry.call) (sym (first-older past s m (omega (arith, lt)))) ∙ x.on; send = x.send; reply = x.reply } in
+    let z = sent-status past q m y in
+    record {
+      queued = λ n e. with-more (entered past s.entry q) (admitted past q) m (z.queued n e);
+      handed = λ w e. with-more (taken_by (length past) s.entry.reply) (taken past) m (z.handed w e);
+      waits = λ e. blocked-more (z.waits e);
+    })
   where
     blocked-more : is_in (blocked_sends past q) m ≡ true → is_in (blocked_sends (s ∷ past) q) m ≡ true
     blocked-more h = split (blocks_send s.entry.call s.entry.reply && is_on past s.entry q)
@@ -195,5 +195,5 @@ sent-status (s ∷ past) q m x = split (m == length past)
     newest on send = record {
       queued = λ n e. rw (e, send, on, eq-eqb q q refl) (rw (eq-eqb (length past) (length past) refl) refl);
       handed = λ w e. rw e (rw (eq-eqb (length past) (length past) refl) refl);
-      waits = λ e. rw (e, send, on, eq-eqb q q refl) (rw (eq-eqb (length past) (length past) refl) refl)
+      waits = λ e. rw (e, send, on, eq-eqb q q refl) (rw (eq-eqb (length past) (length past) refl) refl);
     }

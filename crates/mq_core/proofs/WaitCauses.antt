@@ -53,8 +53,8 @@ entered-fresh past legal r next q k e =
     split (queues r.entry.call r.entry.reply && is_on past r.entry q)
     (λ t. let here : Some (length past) ≡ Some k = rw t at e in let same : length past ≡ k = cc in rw (← same) (not-below (length past) (admitted past q) (admitted-below past q)))
     (λ f. let there : if_in (blocked_sends past q) (admits r.entry.reply) ≡ Some k = rw f at e in
-      let inside = if_in-inside (blocked_sends past q) (admits r.entry.reply) k there in
-      by r.entry.reply (legal_says past r next) inside.1)
+    let inside = if_in-inside (blocked_sends past q) (admits r.entry.reply) k there in
+    by r.entry.reply (legal_says past r next) inside.1)
   where
     by : (reply : Reply) → Says past r.entry.process r.entry.call reply → admits reply ≡ Some k → is_in (admitted past q) k ≡ false
     by (Got m a n) says e =
@@ -84,10 +84,10 @@ length-without m (x ∷ xs) d h =
     let parts = and_parts (not (is_in xs x)) (is_distinct xs) d in
     split (x == m)
     (λ t. let same : x ≡ m = eqb-true _ _ t in
-      let out : is_in xs m ≡ false = split (is_in xs m) (λ y. let there : is_in xs x ≡ true = rw same y in let bad : false ≡ true = rw there at parts.0 in absurd (cc)) (λ n. n) in
-      rw (eq-eqb m x (sym same)) (ap suc (ap length (without-absent m xs out))))
+    let out : is_in xs m ≡ false = split (is_in xs m) (λ y. let there : is_in xs x ≡ true = rw same y in let bad : false ≡ true = rw there at parts.0 in absurd (cc)) (λ n. n) in
+    rw (eq-eqb m x (sym same)) (ap suc (ap length (without-absent m xs out))))
     (λ f. let rest : is_in xs m ≡ true = rw f at h in
-      rw (ne_eqb m x (λ e. eqb-false _ _ f (sym e))) (ap suc (length-without m xs parts.1 rest)))
+    rw (ne_eqb m x (λ e. eqb-false _ _ f (sym e))) (ap suc (length-without m xs parts.1 rest)))
 
 -- where a send waits -----------------------------------------------------------------------------------------------------
 
@@ -98,7 +98,7 @@ none-waits : (past : Past) (q : ℕ) → FullWhereWaiting past q → is_full pas
 none-waits past q full room w h = clash (is_full past q) (full w h) room
 
 -- a waiting send stands in a queue that was created
-waiting-created : (past : Past) → Legal past → (q w : ℕ) → is_in (waiting_sends past q) w ≡ true → is_in (created past) q ≡ true
+pub waiting-created : (past : Past) → Legal past → (q w : ℕ) → is_in (waiting_sends past q) w ≡ true → is_in (created past) q ≡ true
 waiting-created past legal q w h =
     let blocked = (is_in-filter (λ w. not (is_in (admitted_waits past) w)) (blocked_sends past q) w h).0 in
     sent-created past legal w q (blocked-on past q w blocked).to
@@ -117,8 +117,8 @@ full-waits past legal p (MqSend d prio len) payload q says before w h =
     let r : Record = rec p (MqSend d prio len) Waits payload in
     split (is_place q (called_queue past p (MqSend d prio len)))
     (λ on. let same : says.0.queue ≡ q = called-on past p d q says.0 says.1 on in
-      let full : is_full past q ≡ true = rw same at says.3.1 in
-      same-full past r q (created-below past q (called-created past legal p q (MqSend d prio len) (place-is (called_queue past p (MqSend d prio len)) q on))) refl full)
+    let full : is_full past q ≡ true = rw same at says.3.1 in
+    same-full past r q (created-below past q (called-created past legal p q (MqSend d prio len) (place-is (called_queue past p (MqSend d prio len)) q on))) refl full)
     (λ off. full-same past legal r q before (rw off refl) refl w h)
 full-waits past legal p (MqReceive d room) payload q says before w h = full-same past legal (rec p (MqReceive d room) Waits payload) q before refl refl w h
 full-waits past legal p (MqOpen flags attr) payload q says before w h = absurd says
@@ -134,8 +134,8 @@ full-queued : (past : Past) → Legal past → (p : ℕ) (call : Call) (n : Opti
 full-queued past legal p (MqSend d prio len) n payload q says before w h =
     split (is_place q (called_queue past p (MqSend d prio len)))
     (λ on. let same : says.0.queue ≡ q = called-on past p d q says.0 says.1 on in
-      let room : is_full past q ≡ false = rw same at says.3.1 in
-      absurd (none-waits past q before room w h))
+    let room : is_full past q ≡ false = rw same at says.3.1 in
+    absurd (none-waits past q before room w h))
     (λ off. full-same past legal (rec p (MqSend d prio len) (Queued n) payload) q before refl (ap length (present-queued_elsewhere past p d prio len q n payload off)) w h)
 full-queued past legal p (MqOpen flags attr) n payload q says before w h = absurd says
 full-queued past legal p (MqClose d) n payload q says before w h = absurd says.0
@@ -148,7 +148,7 @@ full-queued past legal p NextNotice n payload q says before w h = absurd (cc)
 full-queued past legal p Collect n payload q says before w h = absurd (cc)
 
 -- what waits behind a receive waited before it, and was not admitted
-waits-got : (past : Past) (p : ℕ) (call : Call) (m : ℕ) (a n : Option ℕ) (payload : List ℕ) (q w : ℕ) → is_in (waiting_sends (rec p call (Got m a n) payload ∷ past) q) w ≡ true → is_in (waiting_sends past q) w ≡ true
+pub waits-got : (past : Past) (p : ℕ) (call : Call) (m : ℕ) (a n : Option ℕ) (payload : List ℕ) (q w : ℕ) → is_in (waiting_sends (rec p call (Got m a n) payload ∷ past) q) w ≡ true → is_in (waiting_sends past q) w ≡ true
 waits-got past p call m None n payload q w h = h
 waits-got past p call m (Some v) n payload q w h =
     let still : is_in (without v (waiting_sends past q)) w ≡ true = rw (← filter-both (λ k. v == k) (is_in (admitted_waits past)) (blocked_sends past q)) h in
@@ -161,9 +161,9 @@ full-got past legal p (MqReceive d room) m a n payload q says before w h =
     let lt = created-below past q (waiting-created past legal q w old) in
     split (q == says.0.queue)
     (λ t. let same : q ≡ says.0.queue = eqb-true _ _ t in
-      let P : ℕ → Type 0 = λ k. length (present (r ∷ past) k) ≡ length (present past k) in
-      let first : a ≡ least (waiting_sends past q) = rw same says.3.1 in
-      same-full past r q lt (subst P (sym same) (here a says.3.1 (no-none (least (waiting_sends past q)) a first refl old))) (before w old))
+    let P : ℕ → Type 0 = λ k. length (present (r ∷ past) k) ≡ length (present past k) in
+    let first : a ≡ least (waiting_sends past q) = rw same says.3.1 in
+    same-full past r q lt (subst P (sym same) (here a says.3.1 (no-none (least (waiting_sends past q)) a first refl old))) (before w old))
     (λ f. same-full past r q lt (ap length (present-got_elsewhere past p (MqReceive d room) m a n payload says.0.queue q facts (eqb-false _ _ f))) (before w old))
   where
     facts : GotFacts past says.0.queue m a
@@ -218,5 +218,5 @@ both-ways (negsuc k) n h g = absurd (let bad : false ≡ true = h in cc)
 pub waits-for-cause : (past : Past) → Legal past → WaitsForCause past
 waits-for-cause past legal = record {
   receives = λ q w h. waiting-empty past legal q w h;
-  sends = λ q w h. both-ways (attributes past q).maxmsg (length (present past q)) (present-few past legal q (waiting-created past legal q w h)) (waiting-full past legal q w h)
+  sends = λ q w h. both-ways (attributes past q).maxmsg (length (present past q)) (present-few past legal q (waiting-created past legal q w h)) (waiting-full past legal q w h);
 }

@@ -6,6 +6,7 @@ pub mod entries;
 mod expected;
 pub mod faults;
 pub mod journals;
+pub mod laws;
 pub mod names;
 pub mod owners;
 pub mod registrations;
