@@ -22,11 +22,3 @@ legal_by past r process turn fits same before p t f s = (
       (before, record { process = sym p ∙ three.0; turn = sym t ∙ three.1; payload = sym f ∙ two.1; reply = s.0 one.1 }),
   λ legal. and_from (process && turn && fits) same (and_from (process && turn) fits (and_from process turn (p ∙ legal.1.process) (t ∙ legal.1.turn)) (f ∙ legal.1.payload)) (s.1 legal.1.reply),
 )
-
--- what comes first in a legal journal is legal
-pub legal-first : (past : Past) (k : ℕ) → Legal past → Legal (first k past)
-legal-first [] k legal = let none : 0 - k ≡ 0 = omega arith in rw none legal
-legal-first (r ∷ past) k legal =
-    split (nat_le (suc (length past)) k)
-    (λ all. let none : suc (length past) - k ≡ 0 = omega (arith, leb-true _ _ all) in rw none legal)
-    (λ some. let less : suc (length past) - k ≡ suc (length past - k) = omega (arith, leb-false _ _ some) in rw less (legal-first past k legal.0))

@@ -12,3 +12,4 @@ pub mod OnePass
 pub mod Owners
 pub mod OwnersNoted
 pub mod Laws
+pub mod TakenTable

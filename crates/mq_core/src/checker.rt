@@ -4,6 +4,7 @@
 ghost use Rattle.std.specs.Prelude.{◌≡◌, ◌+◌, ◌<◌, ◌≤◌, ◌&&◌, ◌↔◌, IsTrue, IsOk, IfErr, length, nat_le};
 ghost use Rattle.mq_core.specs.Record.{first};
 ghost use Rattle.mq_core.specs.Answer.{is_refused, is_payload, may_call, Legal, IsFirstIllegal};
+ghost use Rattle.mq_core.specs.TakenTable.{TakenMirror};
 
 use crate::entries::{Call, Reply};
 use crate::expected::answer;
@@ -11,6 +12,7 @@ use crate::journals::Journal;
 use crate::names::is_name;
 use crate::replies::is_same;
 use crate::scan_waits::wait_of;
+use crate::taken;
 
 fn is_refused(reply: Reply) -> bool
     ensures { result ≡ is_refused reply }
@@ -57,16 +59,17 @@ fn all(process: bool, turn: bool, fits: bool, same: bool) -> bool
 }
 
 // Whether the record at place `k` may stand behind those before it.
-fn is_legal_at(journal: &Journal, k: u64) -> bool
+fn is_legal_at(journal: &Journal, k: u64, marks: &[bool]) -> bool
     requires place { k < length journal.now.records }
     requires legal { Legal (first k journal.now.records) }
+    requires mirror { TakenMirror (first k journal.now.records) marks.now }
     ensures { IsTrue result ↔ Legal (first (k + 1) journal.now.records) }
 {
     let (entry, payload) = journal.record(k);
     let process = is_process(entry.process);
     let turn = may_call(journal, k, entry.process, entry.call);
     let fits = is_payload(entry.call, entry.reply, payload);
-    let expected = answer(journal, k, entry.process, entry.call, payload);
+    let expected = answer(journal, k, marks, entry.process, entry.call, payload);
     let same = is_same(entry.reply, expected);
     all(process, turn, fits, same)
 }
@@ -77,10 +80,13 @@ pub fn check_history(journal: &Journal) -> Result<(), u64>
     ensures legal { IsOk result ↔ Legal journal.now.records }
     ensures first_illegal { IfErr result (IsFirstIllegal journal.now.records) }
 {
+    let mut marks = taken::unmarked();
     for k in 0..journal.len() {
-        if !is_legal_at(journal, k) {
+        if !is_legal_at(journal, k, &marks) {
             return Err(k);
         }
+        let (entry, _) = journal.record(k);
+        taken::note(&mut marks, k, entry.reply);
     }
     Ok(())
 }

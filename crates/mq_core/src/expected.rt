@@ -4,7 +4,9 @@
 ghost use Rattle.std.specs.Prelude.{◌≡◌, ◌≤◌, length, pos, int_lt, IsTrue, IfSome};
 ghost use Rattle.mq_core.specs.Record.{first};
 ghost use Rattle.mq_core.specs.Descriptors.{held, created};
-ghost use Rattle.mq_core.specs.Messages.{is_in, present};
+ghost use Rattle.mq_core.specs.Messages.{is_in, present, is_full};
+ghost use Rattle.mq_core.specs.Names.{attributes};
+ghost use Rattle.mq_core.specs.TakenTable.{TakenMirror};
 ghost use Rattle.mq_core.specs.Notices.{registered_place};
 ghost use Rattle.mq_core.specs.Answer.{answer_open, answer_accepted, answer_send, answer_found, answer_receive, answer_attributes, answer_notify, answer, Legal};
 
@@ -12,7 +14,7 @@ use crate::entries::{Access, Attr, Call, Description, OpenFlags, Reply, Status};
 use crate::faults::Fault;
 use crate::journals::Journal;
 use crate::scan_messages::{
-    best, first_waiting_receive, first_waiting_send, is_full, present_count,
+    best, first_waiting_receive, first_waiting_send, is_at_most, present_count,
 };
 use crate::scan_names::{
     alive_count, are_within_limits, attributes, bound_queue, held, lowest_free,
@@ -61,16 +63,26 @@ pub(crate) fn registered_place(journal: &Journal, k: u64, q: u64) -> Option<u64>
     }
 }
 
-pub(crate) fn answer_accepted(journal: &Journal, k: u64, q: u64, waiting: Option<u64>) -> Reply
-    requires { k ≤ length journal.now.records }
+// A send that nothing refuses, where the queue is full or not and holds so many messages.
+fn answer_accepted(
+    journal: &Journal,
+    k: u64,
+    q: u64,
+    waiting: Option<u64>,
+    full: bool,
+    count: u64,
+) -> Reply
+    requires bound { k ≤ length journal.now.records }
+    requires full { full ≡ is_full (first k journal.now.records) q }
+    requires count { count ≡ length (present (first k journal.now.records) q) }
     ensures { result ≡ answer_accepted (first k journal.now.records) q waiting }
 {
     match waiting {
         Some(wait) => Reply::Handed { wait },
         None => {
-            if is_full(journal, k, q) {
+            if full {
                 Reply::Waits
-            } else if present_count(journal, k, q) == 0 {
+            } else if count == 0 {
                 Reply::Queued {
                     notified: registered_place(journal, k, q),
                 }
@@ -81,14 +93,28 @@ pub(crate) fn answer_accepted(journal: &Journal, k: u64, q: u64, waiting: Option
     }
 }
 
-pub(crate) fn answer_send(
+// How many messages are in queue `q`, and whether it holds as many as it may.
+fn fullness(journal: &Journal, k: u64, marks: &[bool], q: u64, maxmsg: i64) -> (u64, bool)
+    requires bound { k ≤ length journal.now.records }
+    requires mirror { TakenMirror (first k journal.now.records) marks.now }
+    requires maxmsg { maxmsg ≡ (attributes (first k journal.now.records) q).maxmsg }
+    ensures count { result.0 ≡ length (present (first k journal.now.records) q) }
+    ensures full { result.1 ≡ is_full (first k journal.now.records) q }
+{
+    let count = present_count(journal, k, marks, q);
+    (count, is_at_most(maxmsg, count))
+}
+
+fn answer_send(
     journal: &Journal,
     k: u64,
+    marks: &[bool],
     held: Option<Description>,
     prio: u32,
     len: u64,
 ) -> Reply
-    requires { k ≤ length journal.now.records }
+    requires bound { k ≤ length journal.now.records }
+    requires mirror { TakenMirror (first k journal.now.records) marks.now }
     ensures { result ≡ answer_send (first k journal.now.records) held prio len }
 {
     let Some(h) = held else {
@@ -100,14 +126,16 @@ pub(crate) fn answer_send(
     if prio >= 32768 {
         return Reply::Refused(Fault::Invalid);
     }
-    if is_below(attributes(journal, k, h.queue).msgsize, len) {
+    let attributes = attributes(journal, k, h.queue);
+    if is_below(attributes.msgsize, len) {
         return Reply::Refused(Fault::MessageSize);
     }
-    if is_full(journal, k, h.queue) && h.nonblock {
+    let (count, full) = fullness(journal, k, marks, h.queue, attributes.maxmsg);
+    if full && h.nonblock {
         return Reply::Refused(Fault::Again);
     }
     let waiting = first_waiting_receive(journal, k, h.queue);
-    answer_accepted(journal, k, h.queue, waiting)
+    answer_accepted(journal, k, h.queue, waiting, full, count)
 }
 
 pub(crate) fn is_below(x: i64, n: u64) -> bool
@@ -125,11 +153,13 @@ pub(crate) fn is_above(x: i64, n: u64) -> bool
 pub(crate) fn answer_found(
     journal: &Journal,
     k: u64,
+    marks: &[bool],
     h: Description,
     found: Option<u64>,
     waiting: Option<u64>,
 ) -> Reply
-    requires { k ≤ length journal.now.records }
+    requires bound { k ≤ length journal.now.records }
+    requires mirror { TakenMirror (first k journal.now.records) marks.now }
     ensures { result ≡ answer_found (first k journal.now.records) h found waiting }
 {
     let Some(place) = found else {
@@ -138,7 +168,7 @@ pub(crate) fn answer_found(
         }
         return Reply::Waits;
     };
-    let notified = if waiting.is_some() && present_count(journal, k, h.queue) == 1 {
+    let notified = if waiting.is_some() && present_count(journal, k, marks, h.queue) == 1 {
         registered_place(journal, k, h.queue)
     } else {
         None
@@ -153,10 +183,12 @@ pub(crate) fn answer_found(
 pub(crate) fn answer_receive(
     journal: &Journal,
     k: u64,
+    marks: &[bool],
     held: Option<Description>,
     room: u64,
 ) -> Reply
-    requires { k ≤ length journal.now.records }
+    requires bound { k ≤ length journal.now.records }
+    requires mirror { TakenMirror (first k journal.now.records) marks.now }
     ensures { result ≡ answer_receive (first k journal.now.records) held room }
 {
     let Some(h) = held else {
@@ -168,33 +200,35 @@ pub(crate) fn answer_receive(
     if is_above(attributes(journal, k, h.queue).msgsize, room) {
         return Reply::Refused(Fault::MessageSize);
     }
-    let found = best(journal, k, h.queue);
+    let found = best(journal, k, marks, h.queue);
     let waiting = first_waiting_send(journal, k, h.queue);
-    answer_found(journal, k, h, found, waiting)
+    answer_found(journal, k, marks, h, found, waiting)
 }
 
 // How many messages are in queue `q`.
-fn few_present(journal: &Journal, k: u64, q: u64) -> u64
+fn few_present(journal: &Journal, k: u64, marks: &[bool], q: u64) -> u64
     requires bound { k ≤ length journal.now.records }
     requires legal { Legal (first k journal.now.records) }
     requires created { IsTrue (is_in (created (first k journal.now.records)) q) }
+    requires mirror { TakenMirror (first k journal.now.records) marks.now }
     ensures count { result ≡ length (present (first k journal.now.records) q) }
     ensures few { result ≤ 4096 }
 {
-    present_count(journal, k, q)
+    present_count(journal, k, marks, q)
 }
 
-fn answer_attributes(journal: &Journal, k: u64, held: Option<Description>) -> Reply
+fn answer_attributes(journal: &Journal, k: u64, marks: &[bool], held: Option<Description>) -> Reply
     requires bound { k ≤ length journal.now.records }
     requires legal { Legal (first k journal.now.records) }
     requires created { IfSome held (λ h. IsTrue (is_in (created (first k journal.now.records)) h.queue)) }
+    requires mirror { TakenMirror (first k journal.now.records) marks.now }
     ensures { result ≡ answer_attributes (first k journal.now.records) held }
 {
     let Some(h) = held else {
         return Reply::Refused(Fault::BadDescriptor);
     };
     let attributes = attributes(journal, k, h.queue);
-    let count = few_present(journal, k, h.queue);
+    let count = few_present(journal, k, marks, h.queue);
     Reply::Attrs(Status {
         nonblock: h.nonblock,
         maxmsg: attributes.maxmsg,
@@ -248,9 +282,17 @@ fn held_created(journal: &Journal, k: u64, p: u32, d: u32) -> Option<Description
 }
 
 // What a call at place `k` is answered.
-pub(crate) fn answer(journal: &Journal, k: u64, p: u32, call: Call, name: &[u8]) -> Reply
+pub(crate) fn answer(
+    journal: &Journal,
+    k: u64,
+    marks: &[bool],
+    p: u32,
+    call: Call,
+    name: &[u8],
+) -> Reply
     requires bound { k ≤ length journal.now.records }
     requires legal { Legal (first k journal.now.records) }
+    requires mirror { TakenMirror (first k journal.now.records) marks.now }
     ensures { result ≡ answer (first k journal.now.records) p call name.now }
 {
     match call {
@@ -269,12 +311,31 @@ pub(crate) fn answer(journal: &Journal, k: u64, p: u32, call: Call, name: &[u8])
                 Reply::Refused(Fault::NoEntry)
             }
         }
-        Call::MqSend { d, prio, len } => answer_send(journal, k, held(journal, k, p, d), prio, len),
-        Call::MqReceive { d, room } => answer_receive(journal, k, held(journal, k, p, d), room),
-        Call::MqGetattr { d } => answer_attributes(journal, k, held_created(journal, k, p, d)),
+        Call::MqSend { d, prio, len } => answer_send(
+            journal,
+            k,
+            marks,
+            held(journal, k, p, d),
+            prio,
+            len,
+        ),
+        Call::MqReceive { d, room } => answer_receive(
+            journal,
+            k,
+            marks,
+            held(journal, k, p, d),
+            room,
+        ),
+        Call::MqGetattr { d } => answer_attributes(
+            journal,
+            k,
+            marks,
+            held_created(journal, k, p, d),
+        ),
         Call::MqSetattr { d, nonblock: _ } => answer_attributes(
             journal,
             k,
+            marks,
             held_created(journal, k, p, d),
         ),
         Call::MqNotify { d, value } => answer_notify(journal, k, p, held(journal, k, p, d), value),

@@ -15,3 +15,4 @@ mod scan_messages;
 mod scan_names;
 mod scan_notices;
 mod scan_waits;
+mod taken;

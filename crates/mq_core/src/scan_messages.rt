@@ -1,14 +1,16 @@
 //! Messages and waiting calls, read off the entries before a place.
 #![tactic(auto, using(crate::proofs::Prefixes::prefixes))]
 
-ghost use Rattle.std.specs.Prelude.{◌≡◌, ◌≤◌, length, pos, int_le};
+ghost use Rattle.std.specs.Prelude.{◌≡◌, ◌<◌, ◌≤◌, IsFalse, List, ℕ, length, pos, int_le};
 ghost use Rattle.mq_core.specs.Record.{first};
-ghost use Rattle.mq_core.specs.Messages.{is_send, is_receive, is_in, queues, blocks_send, blocks_receive, admits, hands, admitted_waits, handed_waits, blocked_sends, waiting_sends, waiting_receives, entered, taken_by, taken, present, is_full, priority_given, priority, goes_first, best, least};
+ghost use Rattle.mq_core.specs.Messages.{is_send, is_receive, is_in, queues, blocks_send, blocks_receive, admits, hands, admitted_waits, handed_waits, blocked_sends, waiting_sends, waiting_receives, entered, taken, present, priority_given, priority, goes_first, best, least};
 ghost use Rattle.mq_core.specs.OnePass.{better};
+ghost use Rattle.mq_core.specs.TakenTable.{TakenMirror, enters, unless_in, with_best};
 
 use crate::entries::{Call, Entry, Reply};
 use crate::journals::Journal;
-use crate::scan_names::{attributes, is_on};
+use crate::scan_names::{entry_before, is_on};
+use crate::taken::is_taken;
 
 pub(crate) fn is_send(call: Call) -> bool
     ensures { result ≡ is_send call }
@@ -75,35 +77,6 @@ pub(crate) fn hands(reply: Reply) -> Option<u64>
         Reply::Handed { wait } => Some(wait),
         _ => None,
     }
-}
-
-pub(crate) fn taken_by(here: u64, reply: Reply) -> Option<u64>
-    ensures { result ≡ taken_by here reply }
-{
-    match reply {
-        Reply::Got {
-            place,
-            admitted: _,
-            notified: _,
-        } => Some(place),
-        Reply::Handed { wait: _ } => Some(here),
-        _ => None,
-    }
-}
-
-// Whether a message was taken before place `k`.
-pub(crate) fn is_taken(journal: &Journal, k: u64, m: u64) -> bool
-    requires { k ≤ length journal.now.records }
-    ensures { result ≡ is_in (taken (first k journal.now.records)) m }
-{
-    let mut found = false;
-    for i in 0..k {
-        let (entry, _) = journal.record(i);
-        if let Some(place) = taken_by(i, entry.reply) {
-            found = place == m || found;
-        }
-    }
-    found
 }
 
 // Whether a waiting send was admitted before place `k`.
@@ -174,19 +147,52 @@ pub(crate) fn entered(journal: &Journal, k: u64, entry: Entry, q: u64) -> Option
     }
 }
 
+// The message that an entry at place `i` lets into some queue.
+fn enters(i: u64, entry: Entry) -> Option<u64>
+    ensures { result ≡ enters i entry }
+{
+    if queues(entry.call, entry.reply) {
+        Some(i)
+    } else {
+        admits(entry.reply)
+    }
+}
+
+// The message that the entry at place `i` lets into queue `q`, if it was not taken before place `k`.
+fn still_present(
+    journal: &Journal,
+    k: u64,
+    marks: &[bool],
+    i: u64,
+    entry: Entry,
+    q: u64,
+) -> Option<u64>
+    requires bound { k ≤ length journal.now.records }
+    requires place { i < k }
+    requires mirror { TakenMirror (first k journal.now.records) marks.now }
+    ensures { result ≡ unless_in (taken (first k journal.now.records)) (entered (first i journal.now.records) entry q) }
+{
+    let Some(m) = enters(i, entry) else {
+        return None;
+    };
+    if is_taken(journal, k, marks, m) {
+        return None;
+    }
+    entered(journal, i, entry, q)
+}
+
 // How many messages are in queue `q` before place `k`.
-pub(crate) fn present_count(journal: &Journal, k: u64, q: u64) -> u64
-    requires { k ≤ length journal.now.records }
+pub(crate) fn present_count(journal: &Journal, k: u64, marks: &[bool], q: u64) -> u64
+    requires bound { k ≤ length journal.now.records }
+    requires mirror { TakenMirror (first k journal.now.records) marks.now }
     ensures count { result ≡ length (present (first k journal.now.records) q) }
     ensures bound { result ≤ k }
 {
     let mut count = 0;
     for i in 0..k {
         let (entry, _) = journal.record(i);
-        if let Some(m) = entered(journal, i, entry, q) {
-            if !is_taken(journal, k, m) {
-                count += 1;
-            }
+        if let Some(_) = still_present(journal, k, marks, i, entry, q) {
+            count += 1;
         }
     }
     count
@@ -206,14 +212,10 @@ pub(crate) fn priority(journal: &Journal, k: u64, m: u64) -> u32
     requires { k ≤ length journal.now.records }
     ensures { result ≡ priority (first k journal.now.records) m }
 {
-    let mut prio = 0;
-    for i in 0..k {
-        let (entry, _) = journal.record(i);
-        if m == i {
-            prio = priority_given(entry.call);
-        }
+    match entry_before(journal, k, m) {
+        Some(entry) => priority_given(entry.call),
+        None => 0,
     }
-    prio
 }
 
 pub(crate) fn goes_first(journal: &Journal, k: u64, m: u64, n: u64) -> bool
@@ -225,21 +227,57 @@ pub(crate) fn goes_first(journal: &Journal, k: u64, m: u64, n: u64) -> bool
     other < one || (one == other && m <= n)
 }
 
+// Whether what an entry lets in may be better than the best message found so far.
+fn may_be_better(journal: &Journal, k: u64, i: u64, entry: Entry, found: Option<u64>) -> bool
+    requires bound { k ≤ length journal.now.records }
+    requires place { i < k }
+    ensures { IsFalse result → (q : ℕ) (places : List ℕ) → with_best (goes_first (first k journal.now.records)) (unless_in places (entered (first i journal.now.records) entry q)) found ≡ found }
+{
+    let Some(m) = enters(i, entry) else {
+        return false;
+    };
+    match found {
+        Some(n) => goes_first(journal, k, m, n),
+        None => true,
+    }
+}
+
 // The oldest message of the highest priority in queue `q` before place `k`.
-pub(crate) fn best(journal: &Journal, k: u64, q: u64) -> Option<u64>
-    requires { k ≤ length journal.now.records }
+pub(crate) fn best(journal: &Journal, k: u64, marks: &[bool], q: u64) -> Option<u64>
+    requires bound { k ≤ length journal.now.records }
+    requires mirror { TakenMirror (first k journal.now.records) marks.now }
     ensures { result ≡ best (first k journal.now.records) q }
 {
     let mut found = None;
     for i in 0..k {
         let (entry, _) = journal.record(i);
-        if let Some(m) = entered(journal, i, entry, q) {
-            if !is_taken(journal, k, m) {
-                found = Some(better(journal, k, m, found));
-            }
-        }
+        found = best_with(journal, k, marks, i, entry, q, found);
     }
     found
+}
+
+// The best message of queue `q`, where `found` was the best of those that entered before.
+fn best_with(
+    journal: &Journal,
+    k: u64,
+    marks: &[bool],
+    i: u64,
+    entry: Entry,
+    q: u64,
+    found: Option<u64>,
+) -> Option<u64>
+    requires bound { k ≤ length journal.now.records }
+    requires place { i < k }
+    requires mirror { TakenMirror (first k journal.now.records) marks.now }
+    ensures { result ≡ with_best (goes_first (first k journal.now.records)) (unless_in (taken (first k journal.now.records)) (entered (first i journal.now.records) entry q)) found }
+{
+    if !may_be_better(journal, k, i, entry, found) {
+        return found;
+    }
+    match still_present(journal, k, marks, i, entry, q) {
+        Some(m) => Some(better(journal, k, m, found)),
+        None => found,
+    }
 }
 
 pub(crate) fn better(journal: &Journal, k: u64, m: u64, found: Option<u64>) -> u64
@@ -286,17 +324,6 @@ pub(crate) fn first_waiting_receive(journal: &Journal, k: u64, q: u64) -> Option
         }
     }
     found
-}
-
-// Whether queue `q` is full at place `k`.
-pub(crate) fn is_full(journal: &Journal, k: u64, q: u64) -> bool
-    requires { k ≤ length journal.now.records }
-    ensures { result ≡ is_full (first k journal.now.records) q }
-{
-    is_at_most(
-        attributes(journal, k, q).maxmsg,
-        present_count(journal, k, q),
-    )
 }
 
 pub(crate) fn is_at_most(x: i64, n: u64) -> bool

@@ -2,11 +2,12 @@
 #![tactic(auto, using(crate::proofs::Prefixes::prefixes))]
 
 ghost use Rattle.std.specs.Prelude.{◌≡◌, ◌<◌, ◌≤◌, length, int_le};
-ghost use Rattle.mq_core.specs.Record.{first};
+ghost use Rattle.mq_core.specs.Record.{first, record_at};
+ghost use Rattle.std.specs.Option.{option_map};
 ghost use Rattle.mq_core.specs.Names.{is_open, is_unlink, creates, unlinks, bound_queue, attributes_given, attributes, are_within_limits};
 ghost use Rattle.mq_core.specs.Descriptors.{opened_queue, held, descriptor_of, called_queue, is_place, lowest_free, number_opened, opened_number, is_held, is_named, alive};
 
-use crate::entries::{Attr, Call, Description, Reply};
+use crate::entries::{Attr, Call, Description, Entry, Reply};
 use crate::journals::Journal;
 
 pub(crate) fn is_open(call: Call) -> bool
@@ -167,22 +168,26 @@ pub(crate) fn attributes_given(call: Call) -> Attr
     }
 }
 
+// The entry at place `m`, where that lies before place `k`.
+pub(crate) fn entry_before(journal: &Journal, k: u64, m: u64) -> Option<Entry>
+    requires { k ≤ length journal.now.records }
+    ensures { result ≡ option_map (λ r. r.entry) (record_at (first k journal.now.records) m) }
+{
+    if m < k { journal.entry(m) } else { None }
+}
+
 // The attributes of queue `q`.
 pub(crate) fn attributes(journal: &Journal, k: u64, q: u64) -> Attr
     requires { k ≤ length journal.now.records }
     ensures { result ≡ attributes (first k journal.now.records) q }
 {
-    let mut attr = Attr {
-        maxmsg: 10,
-        msgsize: 8192,
-    };
-    for i in 0..k {
-        let (entry, _) = journal.record(i);
-        if q == i {
-            attr = attributes_given(entry.call);
-        }
+    match entry_before(journal, k, q) {
+        Some(entry) => attributes_given(entry.call),
+        None => Attr {
+            maxmsg: 10,
+            msgsize: 8192,
+        },
     }
-    attr
 }
 
 pub(crate) fn number_opened(call: Call, d: u32) -> Option<u32>

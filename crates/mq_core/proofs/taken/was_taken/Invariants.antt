@@ -1,8 +1,8 @@
 use Rattle.std.proofs.Common.{◌≡◌, ◌≤◌, length, not}
 use Rattle.std.specs.List.{filter}
 use Rattle.mq_core.specs.Record.{first}
-use Rattle.mq_core.specs.Messages.{priority}
-use Rattle.mq_core.proofs.scan_messages.priority.Given as goal
+use Rattle.mq_core.specs.Messages.{is_in, taken}
+use Rattle.mq_core.proofs.taken.was_taken.Given as goal
 
 abbrev pub invariant-loop-i : goal.invariant-loop-i
-invariant-loop-i l = l.prio ≡ priority (first l.i l.journal.records) l.m
+invariant-loop-i l = l.found ≡ is_in (taken (first l.i l.journal.records)) l.m
