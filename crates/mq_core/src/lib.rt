@@ -16,3 +16,5 @@ mod scan_names;
 mod scan_notices;
 mod scan_waits;
 mod taken;
+#[cfg(test)]
+mod tests;
