@@ -17,4 +17,4 @@ mod scan_notices;
 mod scan_waits;
 mod taken;
 #[cfg(test)]
-mod tests;
+mod histories;
