@@ -25,6 +25,7 @@ pub mod Alive
 pub mod Presence
 pub mod NoticeSteps
 pub mod PresentFew
+pub mod TablesKeep
 pub mod TakenBits
 pub mod SendingOrder
 pub mod SentMessages

@@ -13,3 +13,4 @@ pub mod Owners
 pub mod OwnersNoted
 pub mod Laws
 pub mod TakenTable
+pub mod CheckerTables

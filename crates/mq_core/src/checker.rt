@@ -4,15 +4,15 @@
 ghost use Rattle.std.specs.Prelude.{◌≡◌, ◌+◌, ◌<◌, ◌≤◌, ◌&&◌, ◌↔◌, IsTrue, IsOk, IfErr, length, nat_le};
 ghost use Rattle.mq_core.specs.Record.{first};
 ghost use Rattle.mq_core.specs.Answer.{is_refused, is_payload, may_call, Legal, IsFirstIllegal};
-ghost use Rattle.mq_core.specs.TakenTable.{TakenMirror};
+ghost use Rattle.mq_core.specs.CheckerTables.{TablesMirror};
 
 use crate::entries::{Call, Reply};
 use crate::expected::answer;
 use crate::journals::Journal;
 use crate::names::is_name;
 use crate::replies::is_same;
-use crate::scan_waits::wait_of;
-use crate::taken;
+use crate::tables;
+use crate::tables::Tables;
 
 fn is_refused(reply: Reply) -> bool
     ensures { result ≡ is_refused reply }
@@ -35,14 +35,13 @@ fn is_payload(call: Call, reply: Reply, payload: &[u8]) -> bool
     }
 }
 
-fn may_call(journal: &Journal, k: u64, p: u32, call: Call) -> bool
-    requires { k ≤ length journal.now.records }
+fn may_call(journal: &Journal, k: u64, tables: &Tables, p: u32, call: Call) -> bool
+    requires { TablesMirror (first k journal.now.records) tables.now }
     ensures { result ≡ may_call (first k journal.now.records) p call }
 {
-    let (wait, answer) = wait_of(journal, k, p);
     match call {
-        Call::Collect => answer.is_some(),
-        _ => wait.is_none(),
+        Call::Collect => tables::answer(journal, k, tables, p).is_some(),
+        _ => tables::wait(journal, k, tables, p).is_none(),
     }
 }
 
@@ -59,17 +58,17 @@ fn all(process: bool, turn: bool, fits: bool, same: bool) -> bool
 }
 
 // Whether the record at place `k` may stand behind those before it.
-fn is_legal_at(journal: &Journal, k: u64, marks: &[bool]) -> bool
+fn is_legal_at(journal: &Journal, k: u64, tables: &Tables) -> bool
     requires place { k < length journal.now.records }
     requires legal { Legal (first k journal.now.records) }
-    requires mirror { TakenMirror (first k journal.now.records) marks.now }
+    requires mirror { TablesMirror (first k journal.now.records) tables.now }
     ensures { IsTrue result ↔ Legal (first (k + 1) journal.now.records) }
 {
     let (entry, payload) = journal.record(k);
     let process = is_process(entry.process);
-    let turn = may_call(journal, k, entry.process, entry.call);
+    let turn = may_call(journal, k, tables, entry.process, entry.call);
     let fits = is_payload(entry.call, entry.reply, payload);
-    let expected = answer(journal, k, marks, entry.process, entry.call, payload);
+    let expected = answer(journal, k, tables, entry.process, entry.call, payload);
     let same = is_same(entry.reply, expected);
     all(process, turn, fits, same)
 }
@@ -80,13 +79,12 @@ pub fn check_history(journal: &Journal) -> Result<(), u64>
     ensures legal { IsOk result ↔ Legal journal.now.records }
     ensures first_illegal { IfErr result (IsFirstIllegal journal.now.records) }
 {
-    let mut marks = taken::unmarked();
+    let mut tables = tables::start();
     for k in 0..journal.len() {
-        if !is_legal_at(journal, k, &marks) {
+        if !is_legal_at(journal, k, &tables) {
             return Err(k);
         }
-        let (entry, _) = journal.record(k);
-        taken::note(&mut marks, k, entry.reply);
+        tables::note(journal, k, &mut tables);
     }
     Ok(())
 }

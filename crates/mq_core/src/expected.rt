@@ -6,35 +6,34 @@ ghost use Rattle.mq_core.specs.Record.{first};
 ghost use Rattle.mq_core.specs.Descriptors.{held, created};
 ghost use Rattle.mq_core.specs.Messages.{is_in, present, is_full};
 ghost use Rattle.mq_core.specs.Names.{attributes};
-ghost use Rattle.mq_core.specs.TakenTable.{TakenMirror};
+ghost use Rattle.mq_core.specs.CheckerTables.{TablesMirror};
 ghost use Rattle.mq_core.specs.Notices.{registered_place};
 ghost use Rattle.mq_core.specs.Answer.{answer_open, answer_accepted, answer_send, answer_found, answer_receive, answer_attributes, answer_notify, answer, Legal};
 
 use crate::entries::{Access, Attr, Call, Description, OpenFlags, Reply, Status};
 use crate::faults::Fault;
 use crate::journals::Journal;
-use crate::scan_messages::{
-    best, first_waiting_receive, first_waiting_send, is_at_most, present_count,
-};
-use crate::scan_names::{
-    alive_count, are_within_limits, attributes, bound_queue, held, lowest_free,
-};
+use crate::scan_messages::{best, is_at_most, present_count};
+use crate::scan_names::{alive_count, are_within_limits, attributes, bound_queue};
 use crate::scan_notices::{next_notice, registered};
-use crate::scan_waits::wait_of;
+use crate::tables;
+use crate::tables::Tables;
 
 pub(crate) fn answer_open(
     journal: &Journal,
     k: u64,
+    tables: &Tables,
     p: u32,
     flags: OpenFlags,
     attr: Option<Attr>,
     name: &[u8],
 ) -> Reply
-    requires { k ≤ length journal.now.records }
+    requires bound { k ≤ length journal.now.records }
+    requires mirror { TablesMirror (first k journal.now.records) tables.now }
     ensures { result ≡ answer_open (first k journal.now.records) p flags attr name.now }
 {
     let bound = bound_queue(journal, k, name).is_some();
-    let free = lowest_free(journal, k, p);
+    let free = tables::lowest_free(journal, k, tables, p);
     if flags.create && flags.excl && bound {
         return Reply::Refused(Fault::Exists);
     }
@@ -47,7 +46,7 @@ pub(crate) fn answer_open(
     let Some(d) = free else {
         return Reply::Refused(Fault::TooManyOpen);
     };
-    if !bound && alive_count(journal, k) >= 64 {
+    if !bound && alive_count(journal, k, tables) >= 64 {
         return Reply::Refused(Fault::NoSpace);
     }
     Reply::Opened { d, created: !bound }
@@ -94,27 +93,28 @@ fn answer_accepted(
 }
 
 // How many messages are in queue `q`, and whether it holds as many as it may.
-fn fullness(journal: &Journal, k: u64, marks: &[bool], q: u64, maxmsg: i64) -> (u64, bool)
+fn fullness(journal: &Journal, k: u64, tables: &Tables, q: u64, maxmsg: i64) -> (u64, bool)
     requires bound { k ≤ length journal.now.records }
-    requires mirror { TakenMirror (first k journal.now.records) marks.now }
+    requires mirror { TablesMirror (first k journal.now.records) tables.now }
     requires maxmsg { maxmsg ≡ (attributes (first k journal.now.records) q).maxmsg }
     ensures count { result.0 ≡ length (present (first k journal.now.records) q) }
     ensures full { result.1 ≡ is_full (first k journal.now.records) q }
 {
-    let count = present_count(journal, k, marks, q);
+    let count = present_count(journal, k, &tables.marks, q);
     (count, is_at_most(maxmsg, count))
 }
 
 fn answer_send(
     journal: &Journal,
     k: u64,
-    marks: &[bool],
+    tables: &Tables,
     held: Option<Description>,
     prio: u32,
     len: u64,
 ) -> Reply
     requires bound { k ≤ length journal.now.records }
-    requires mirror { TakenMirror (first k journal.now.records) marks.now }
+    requires mirror { TablesMirror (first k journal.now.records) tables.now }
+    requires legal { Legal (first k journal.now.records) }
     ensures { result ≡ answer_send (first k journal.now.records) held prio len }
 {
     let Some(h) = held else {
@@ -130,11 +130,11 @@ fn answer_send(
     if is_below(attributes.msgsize, len) {
         return Reply::Refused(Fault::MessageSize);
     }
-    let (count, full) = fullness(journal, k, marks, h.queue, attributes.maxmsg);
+    let (count, full) = fullness(journal, k, tables, h.queue, attributes.maxmsg);
     if full && h.nonblock {
         return Reply::Refused(Fault::Again);
     }
-    let waiting = first_waiting_receive(journal, k, h.queue);
+    let waiting = tables::first_wait(journal, k, tables, h.queue, false);
     answer_accepted(journal, k, h.queue, waiting, full, count)
 }
 
@@ -153,13 +153,13 @@ pub(crate) fn is_above(x: i64, n: u64) -> bool
 pub(crate) fn answer_found(
     journal: &Journal,
     k: u64,
-    marks: &[bool],
+    tables: &Tables,
     h: Description,
     found: Option<u64>,
     waiting: Option<u64>,
 ) -> Reply
     requires bound { k ≤ length journal.now.records }
-    requires mirror { TakenMirror (first k journal.now.records) marks.now }
+    requires mirror { TablesMirror (first k journal.now.records) tables.now }
     ensures { result ≡ answer_found (first k journal.now.records) h found waiting }
 {
     let Some(place) = found else {
@@ -168,7 +168,7 @@ pub(crate) fn answer_found(
         }
         return Reply::Waits;
     };
-    let notified = if waiting.is_some() && present_count(journal, k, marks, h.queue) == 1 {
+    let notified = if waiting.is_some() && present_count(journal, k, &tables.marks, h.queue) == 1 {
         registered_place(journal, k, h.queue)
     } else {
         None
@@ -183,12 +183,13 @@ pub(crate) fn answer_found(
 pub(crate) fn answer_receive(
     journal: &Journal,
     k: u64,
-    marks: &[bool],
+    tables: &Tables,
     held: Option<Description>,
     room: u64,
 ) -> Reply
     requires bound { k ≤ length journal.now.records }
-    requires mirror { TakenMirror (first k journal.now.records) marks.now }
+    requires mirror { TablesMirror (first k journal.now.records) tables.now }
+    requires legal { Legal (first k journal.now.records) }
     ensures { result ≡ answer_receive (first k journal.now.records) held room }
 {
     let Some(h) = held else {
@@ -200,35 +201,35 @@ pub(crate) fn answer_receive(
     if is_above(attributes(journal, k, h.queue).msgsize, room) {
         return Reply::Refused(Fault::MessageSize);
     }
-    let found = best(journal, k, marks, h.queue);
-    let waiting = first_waiting_send(journal, k, h.queue);
-    answer_found(journal, k, marks, h, found, waiting)
+    let found = best(journal, k, &tables.marks, h.queue);
+    let waiting = tables::first_wait(journal, k, tables, h.queue, true);
+    answer_found(journal, k, tables, h, found, waiting)
 }
 
 // How many messages are in queue `q`.
-fn few_present(journal: &Journal, k: u64, marks: &[bool], q: u64) -> u64
+fn few_present(journal: &Journal, k: u64, tables: &Tables, q: u64) -> u64
     requires bound { k ≤ length journal.now.records }
     requires legal { Legal (first k journal.now.records) }
     requires created { IsTrue (is_in (created (first k journal.now.records)) q) }
-    requires mirror { TakenMirror (first k journal.now.records) marks.now }
+    requires mirror { TablesMirror (first k journal.now.records) tables.now }
     ensures count { result ≡ length (present (first k journal.now.records) q) }
     ensures few { result ≤ 4096 }
 {
-    present_count(journal, k, marks, q)
+    present_count(journal, k, &tables.marks, q)
 }
 
-fn answer_attributes(journal: &Journal, k: u64, marks: &[bool], held: Option<Description>) -> Reply
+fn answer_attributes(journal: &Journal, k: u64, tables: &Tables, held: Option<Description>) -> Reply
     requires bound { k ≤ length journal.now.records }
     requires legal { Legal (first k journal.now.records) }
     requires created { IfSome held (λ h. IsTrue (is_in (created (first k journal.now.records)) h.queue)) }
-    requires mirror { TakenMirror (first k journal.now.records) marks.now }
+    requires mirror { TablesMirror (first k journal.now.records) tables.now }
     ensures { result ≡ answer_attributes (first k journal.now.records) held }
 {
     let Some(h) = held else {
         return Reply::Refused(Fault::BadDescriptor);
     };
     let attributes = attributes(journal, k, h.queue);
-    let count = few_present(journal, k, marks, h.queue);
+    let count = few_present(journal, k, tables, h.queue);
     Reply::Attrs(Status {
         nonblock: h.nonblock,
         maxmsg: attributes.maxmsg,
@@ -272,33 +273,34 @@ pub(crate) fn answer_notify(
 }
 
 // What process `p` holds under `d`: a queue that was created.
-fn held_created(journal: &Journal, k: u64, p: u32, d: u32) -> Option<Description>
+fn held_created(journal: &Journal, k: u64, tables: &Tables, p: u32, d: u32) -> Option<Description>
+    requires mirror { TablesMirror (first k journal.now.records) tables.now }
     requires bound { k ≤ length journal.now.records }
     requires legal { Legal (first k journal.now.records) }
     ensures held { result ≡ held (first k journal.now.records) p d }
     ensures created { IfSome result (λ h. IsTrue (is_in (created (first k journal.now.records)) h.queue)) }
 {
-    held(journal, k, p, d)
+    tables::held(journal, k, tables, p, d)
 }
 
 // What a call at place `k` is answered.
 pub(crate) fn answer(
     journal: &Journal,
     k: u64,
-    marks: &[bool],
+    tables: &Tables,
     p: u32,
     call: Call,
     name: &[u8],
 ) -> Reply
     requires bound { k ≤ length journal.now.records }
     requires legal { Legal (first k journal.now.records) }
-    requires mirror { TakenMirror (first k journal.now.records) marks.now }
+    requires mirror { TablesMirror (first k journal.now.records) tables.now }
     ensures { result ≡ answer (first k journal.now.records) p call name.now }
 {
     match call {
-        Call::MqOpen { flags, attr } => answer_open(journal, k, p, flags, attr, name),
+        Call::MqOpen { flags, attr } => answer_open(journal, k, tables, p, flags, attr, name),
         Call::MqClose { d } => {
-            if held(journal, k, p, d).is_some() {
+            if tables::held(journal, k, tables, p, d).is_some() {
                 Reply::Done
             } else {
                 Reply::Refused(Fault::BadDescriptor)
@@ -314,34 +316,40 @@ pub(crate) fn answer(
         Call::MqSend { d, prio, len } => answer_send(
             journal,
             k,
-            marks,
-            held(journal, k, p, d),
+            tables,
+            tables::held(journal, k, tables, p, d),
             prio,
             len,
         ),
         Call::MqReceive { d, room } => answer_receive(
             journal,
             k,
-            marks,
-            held(journal, k, p, d),
+            tables,
+            tables::held(journal, k, tables, p, d),
             room,
         ),
         Call::MqGetattr { d } => answer_attributes(
             journal,
             k,
-            marks,
-            held_created(journal, k, p, d),
+            tables,
+            held_created(journal, k, tables, p, d),
         ),
         Call::MqSetattr { d, nonblock: _ } => answer_attributes(
             journal,
             k,
-            marks,
-            held_created(journal, k, p, d),
+            tables,
+            held_created(journal, k, tables, p, d),
         ),
-        Call::MqNotify { d, value } => answer_notify(journal, k, p, held(journal, k, p, d), value),
+        Call::MqNotify { d, value } => answer_notify(
+            journal,
+            k,
+            p,
+            tables::held(journal, k, tables, p, d),
+            value,
+        ),
         Call::NextNotice => Reply::Notice(next_notice(journal, k, p)),
         Call::Collect => Reply::Collected {
-            by: wait_of(journal, k, p).1.unwrap_or(0),
+            by: tables::answer(journal, k, tables, p).unwrap_or(0),
         },
     }
 }

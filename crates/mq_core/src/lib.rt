@@ -14,7 +14,10 @@ mod replies;
 mod scan_messages;
 mod scan_names;
 mod scan_notices;
-mod scan_waits;
+mod tables;
 mod taken;
+
 #[cfg(test)]
 mod histories;
+#[cfg(test)]
+mod tests;

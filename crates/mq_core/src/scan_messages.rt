@@ -3,7 +3,7 @@
 
 ghost use Rattle.std.specs.Prelude.{◌≡◌, ◌<◌, ◌≤◌, IsFalse, List, ℕ, length, pos, int_le};
 ghost use Rattle.mq_core.specs.Record.{first};
-ghost use Rattle.mq_core.specs.Messages.{is_send, is_receive, is_in, queues, blocks_send, blocks_receive, admits, hands, admitted_waits, handed_waits, blocked_sends, waiting_sends, waiting_receives, entered, taken, present, priority_given, priority, goes_first, best, least};
+ghost use Rattle.mq_core.specs.Messages.{is_send, is_in, queues, blocks_send, admits, blocked_sends, entered, taken, present, priority_given, priority, goes_first, best};
 ghost use Rattle.mq_core.specs.OnePass.{better};
 ghost use Rattle.mq_core.specs.TakenTable.{TakenMirror, enters, unless_in, with_best};
 
@@ -17,15 +17,6 @@ pub(crate) fn is_send(call: Call) -> bool
 {
     match call {
         Call::MqSend { .. } => true,
-        _ => false,
-    }
-}
-
-pub(crate) fn is_receive(call: Call) -> bool
-    ensures { result ≡ is_receive call }
-{
-    match call {
-        Call::MqReceive { .. } => true,
         _ => false,
     }
 }
@@ -48,15 +39,6 @@ pub(crate) fn blocks_send(call: Call, reply: Reply) -> bool
     }
 }
 
-pub(crate) fn blocks_receive(call: Call, reply: Reply) -> bool
-    ensures { result ≡ blocks_receive call reply }
-{
-    match reply {
-        Reply::Waits => is_receive(call),
-        _ => false,
-    }
-}
-
 pub(crate) fn admits(reply: Reply) -> Option<u64>
     ensures { result ≡ admits reply }
 {
@@ -68,45 +50,6 @@ pub(crate) fn admits(reply: Reply) -> Option<u64>
         } => admitted,
         _ => None,
     }
-}
-
-pub(crate) fn hands(reply: Reply) -> Option<u64>
-    ensures { result ≡ hands reply }
-{
-    match reply {
-        Reply::Handed { wait } => Some(wait),
-        _ => None,
-    }
-}
-
-// Whether a waiting send was admitted before place `k`.
-pub(crate) fn is_admitted(journal: &Journal, k: u64, w: u64) -> bool
-    requires { k ≤ length journal.now.records }
-    ensures { result ≡ is_in (admitted_waits (first k journal.now.records)) w }
-{
-    let mut found = false;
-    for i in 0..k {
-        let (entry, _) = journal.record(i);
-        if let Some(place) = admits(entry.reply) {
-            found = place == w || found;
-        }
-    }
-    found
-}
-
-// Whether a waiting receive was handed a message before place `k`.
-pub(crate) fn is_handed(journal: &Journal, k: u64, w: u64) -> bool
-    requires { k ≤ length journal.now.records }
-    ensures { result ≡ is_in (handed_waits (first k journal.now.records)) w }
-{
-    let mut found = false;
-    for i in 0..k {
-        let (entry, _) = journal.record(i);
-        if let Some(place) = hands(entry.reply) {
-            found = place == w || found;
-        }
-    }
-    found
 }
 
 // Whether a send to queue `q` blocked at place `w`, before place `k`.
@@ -288,42 +231,6 @@ pub(crate) fn better(journal: &Journal, k: u64, m: u64, found: Option<u64>) -> u
         Some(n) => { if goes_first(journal, k, m, n) { m } else { n } }
         None => m,
     }
-}
-
-// The send that waits the longest for room in queue `q`.
-pub(crate) fn first_waiting_send(journal: &Journal, k: u64, q: u64) -> Option<u64>
-    requires { k ≤ length journal.now.records }
-    ensures { result ≡ least (waiting_sends (first k journal.now.records) q) }
-{
-    let mut found = None;
-    for i in 0..k {
-        let (entry, _) = journal.record(i);
-        if blocks_send(entry.call, entry.reply) && is_on(journal, i, entry.process, entry.call, q) {
-            if !is_admitted(journal, k, i) {
-                found = Some(i.min(found.unwrap_or(i)));
-            }
-        }
-    }
-    found
-}
-
-// The receive that waits the longest for a message of queue `q`.
-pub(crate) fn first_waiting_receive(journal: &Journal, k: u64, q: u64) -> Option<u64>
-    requires { k ≤ length journal.now.records }
-    ensures { result ≡ least (waiting_receives (first k journal.now.records) q) }
-{
-    let mut found = None;
-    for i in 0..k {
-        let (entry, _) = journal.record(i);
-        if blocks_receive(entry.call, entry.reply)
-            && is_on(journal, i, entry.process, entry.call, q)
-        {
-            if !is_handed(journal, k, i) {
-                found = Some(i.min(found.unwrap_or(i)));
-            }
-        }
-    }
-    found
 }
 
 pub(crate) fn is_at_most(x: i64, n: u64) -> bool

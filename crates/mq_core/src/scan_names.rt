@@ -5,10 +5,12 @@ ghost use Rattle.std.specs.Prelude.{◌≡◌, ◌<◌, ◌≤◌, length, int_l
 ghost use Rattle.mq_core.specs.Record.{first, record_at};
 ghost use Rattle.std.specs.Option.{option_map};
 ghost use Rattle.mq_core.specs.Names.{is_open, is_unlink, creates, unlinks, bound_queue, attributes_given, attributes, are_within_limits};
-ghost use Rattle.mq_core.specs.Descriptors.{opened_queue, held, descriptor_of, called_queue, is_place, lowest_free, number_opened, opened_number, is_held, is_named, alive};
+ghost use Rattle.mq_core.specs.Descriptors.{opened_queue, held, descriptor_of, called_queue, is_place, is_named, alive};
+ghost use Rattle.mq_core.specs.CheckerTables.{TablesMirror};
 
 use crate::entries::{Attr, Call, Description, Entry, Reply};
 use crate::journals::Journal;
+use crate::tables::{Tables, is_held};
 
 pub(crate) fn is_open(call: Call) -> bool
     ensures { result ≡ is_open call }
@@ -190,42 +192,6 @@ pub(crate) fn attributes(journal: &Journal, k: u64, q: u64) -> Attr
     }
 }
 
-pub(crate) fn number_opened(call: Call, d: u32) -> Option<u32>
-    ensures { result ≡ number_opened call d }
-{
-    match call {
-        Call::MqOpen { .. } => Some(d),
-        _ => None,
-    }
-}
-
-pub(crate) fn opened_number(call: Call, reply: Reply) -> Option<u32>
-    ensures { result ≡ opened_number call reply }
-{
-    match reply {
-        Reply::Opened { d, created: _ } => number_opened(call, d),
-        _ => None,
-    }
-}
-
-// Whether some process holds a descriptor of queue `q` at place `k`.
-pub(crate) fn is_held(journal: &Journal, k: u64, q: u64) -> bool
-    requires { k ≤ length journal.now.records }
-    ensures { result ≡ is_held (first k journal.now.records) q }
-{
-    for i in (0..k).rev() {
-        let (entry, _) = journal.record(i);
-        if let Some(d) = opened_number(entry.call, entry.reply) {
-            if let Some(h) = held(journal, k, entry.process, d) {
-                if h.queue == q {
-                    return true;
-                }
-            }
-        }
-    }
-    false
-}
-
 // Whether queue `q` is bound to its name at place `k`.
 pub(crate) fn is_named(journal: &Journal, k: u64, q: u64) -> bool
     requires place { q < k }
@@ -240,33 +206,21 @@ pub(crate) fn is_named(journal: &Journal, k: u64, q: u64) -> bool
 }
 
 // How many queues exist at place `k`.
-pub(crate) fn alive_count(journal: &Journal, k: u64) -> u64
-    requires { k ≤ length journal.now.records }
+pub(crate) fn alive_count(journal: &Journal, k: u64, tables: &Tables) -> u64
+    requires bound { k ≤ length journal.now.records }
+    requires mirror { TablesMirror (first k journal.now.records) tables.now }
     ensures { result ≡ length (alive (first k journal.now.records)) }
 {
     let mut count = 0;
     for i in 0..k {
         let (entry, _) = journal.record(i);
         if creates(entry.call, entry.reply) {
-            if is_named(journal, k, i) || is_held(journal, k, i) {
+            if is_named(journal, k, i) || is_held(journal, k, tables, i) {
                 count += 1;
             }
         }
     }
     count
-}
-
-// The lowest descriptor that process `p` does not hold at place `k`.
-pub(crate) fn lowest_free(journal: &Journal, k: u64, p: u32) -> Option<u32>
-    requires { k ≤ length journal.now.records }
-    ensures { result ≡ lowest_free (first k journal.now.records) p }
-{
-    for d in 0..16 {
-        if held(journal, k, p, d).is_none() {
-            return Some(d);
-        }
-    }
-    None
 }
 
 pub(crate) fn are_within_limits(attr: Option<Attr>) -> bool

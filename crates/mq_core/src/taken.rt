@@ -10,7 +10,7 @@ use crate::entries::Reply;
 use crate::journals::Journal;
 
 // How many places the table has.
-const PLACES: usize = 16384;
+pub(crate) const PLACES: usize = 16384;
 
 pub(crate) fn taken_by(here: u64, reply: Reply) -> Option<u64>
     ensures { result ≡ taken_by here reply }

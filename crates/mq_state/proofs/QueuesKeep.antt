@@ -43,11 +43,11 @@ rec p call reply payload = record { entry = record { process = p; call = call; r
 pub alive-below : (past : Past) (q : ℕ) → is_in (alive past) q ≡ true → q < length past
 alive-below past q h = created-below past q (is_in-filter (λ q. is_named past q || is_held past q) (created past) q h).0
 
-in-append : (xs ys : List ℕ) (m : ℕ) → is_in (xs ++ ys) m ≡ (is_in xs m || is_in ys m)
+pub in-append : (xs ys : List ℕ) (m : ℕ) → is_in (xs ++ ys) m ≡ (is_in xs m || is_in ys m)
 in-append [] ys m = refl
 in-append (x ∷ xs) ys m = split (x == m) (λ t. rw t refl) (λ n. rw (n, in-append xs ys m) refl)
 
-reverse-cons : {X : Type 0} (x : X) (xs : List X) → reverse (x ∷ xs) ≡ reverse xs ++ x ∷ []
+pub reverse-cons : {X : Type 0} (x : X) (xs : List X) → reverse (x ∷ xs) ≡ reverse xs ++ x ∷ []
 reverse-cons x xs = grind (arith, common_steps)
 
 or-swap : (a b : Bool) → (a || (b || false)) ≡ (b || a)

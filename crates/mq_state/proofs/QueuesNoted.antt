@@ -276,7 +276,7 @@ filter-reverse t (x ∷ xs) = ap (filter t) (reverse-cons x xs) ∙ filter-appen
     (λ y. rw (y, filter-reverse t xs) (sym (reverse-cons x (filter t xs))))
     (λ n. rw (n, filter-reverse t xs) (append-nil (reverse (filter t xs))))
 
-bound-alive : (past : Past) (name : List ℕ) (q : ℕ) → bound_queue past name ≡ Some q → is_in (alive past) q ≡ true
+pub bound-alive : (past : Past) (name : List ℕ) (q : ℕ) → bound_queue past name ≡ Some q → is_in (alive past) q ≡ true
 bound-alive past name q e = in-filter (λ q. is_named past q || is_held past q) (created past) q (bound-created past name q e) (rw (bound-named past name q e) refl)
 
 -- the entry's queue exists, where the entry may free it
@@ -349,7 +349,7 @@ nil-of : (xs : List ℕ) → ((m : ℕ) → is_in xs m ≡ true → ⊥) → xs 
 nil-of [] none = refl
 nil-of (x ∷ xs) none = absurd (none x (rw (eq-eqb x x refl) refl))
 
-sent_to-below : (past : Past) → Legal past → (m q : ℕ) → sent_to past m ≡ Some q → q < length past
+pub sent_to-below : (past : Past) → Legal past → (m q : ℕ) → sent_to past m ≡ Some q → q < length past
 sent_to-below [] legal m q e = absurd (cc)
 sent_to-below (r ∷ past) legal m q e = split (m == length past)
     (λ t. let here : called_queue past r.entry.process r.entry.call ≡ Some q = rw t at e in let lt = alive-below past q (called-alive past legal.0 r.entry.process r.entry.call q here) in omega (arith, lt))

@@ -9,3 +9,6 @@ pub mod InboxModel
 pub mod Decided
 pub mod Tables
 pub mod Inboxes
+pub mod Kept
+pub mod Buffers
+pub mod BooksModel

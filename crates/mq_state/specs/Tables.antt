@@ -1,13 +1,23 @@
 -- The tables beside the journal say what the definitions say of it.
-use Rattle.std.specs.Prelude.{ℕ, ◌≡◌, ◌+◌, ◌≤◌, List, All, length}
+use Rattle.std.specs.Prelude.{ℕ, ◌≡◌, ◌+◌, ◌≤◌, ◌<◌, true, false, List, [], ◌∷◌, ◌++◌, ◌&&◌, ◌==◌, if◌then◌else◌, drop, All, length, Option, Some, None, is_some, int_le, pos}
+use Rattle.std.specs.Option.{unwrap_or}
+use Rattle.mq_core.specs.Names.{bound_queue, creates, attributes_given}
+use Rattle.mq_core.specs.Descriptors.{called_queue}
+use Rattle.mq_core.specs.Messages.{priority}
+use Rattle.mq_core.specs.declared.entries.Registration.{Registration}
+use Rattle.mq_core.specs.declared.entries.Call.{Call}
+use Rattle.mq_core.specs.declared.entries.Call.TheVariants.{MqOpen, MqUnlink}
+use Rattle.mq_core.specs.declared.entries.Reply.{Reply}
+use Rattle.mq_core.specs.declared.entries.Reply.TheVariants.{Got}
 use Rattle.mq_core.specs.Record.{Record, Past}
-use Rattle.mq_core.specs.Notices.{notices}
+use Rattle.mq_core.specs.Notices.{notices, notified, gives_notice}
 use Rattle.mq_core.specs.Owners.{OwnersMirror}
 use Rattle.mq_core.specs.declared.owners.Owner.{Owner}
 use Rattle.mq_state.specs.QueueShown.{QueueShown}
 use Rattle.mq_state.specs.InboxShown.{InboxShown}
-use Rattle.mq_state.specs.Queues.{QueuesMirror}
-use Rattle.mq_state.specs.Inboxes.{notices_in}
+use Rattle.mq_state.specs.Queues.{QueuesMirror, registration_in, fresh}
+use Rattle.mq_state.specs.Slots.{Slots}
+use Rattle.mq_state.specs.Inboxes.{notices_in, HasNoticeRoom}
 
 -- the processes of all entries are at most n
 abbrev pub AreAtMost : ℕ → Past → Type 0
@@ -17,6 +27,46 @@ AreAtMost n past = All (λ r. r.entry.process ≤ n) past
 pub record TablesMirror (past : Past) (n : ℕ) (owners : List Owner) (queues : List QueueShown) (inboxes : List InboxShown) : Type 0 where
   pub owner_count : length owners ≡ n + 1
   pub inbox_count : length inboxes ≡ n + 1
-  pub owners : OwnersMirror past owners
-  pub queues : QueuesMirror past queues
+  pub lines : OwnersMirror past owners
+  pub existing : QueuesMirror past queues
   pub notices : (p : ℕ) → notices_in inboxes p ≡ notices past p
+
+-- the queue that an entry is made on: the one that an open or an unlink names, or that of the descriptor. Where there is
+-- none it is the place of the entry, and so no queue's
+abbrev pub entry_queue : Past → ℕ → Call → List ℕ → ℕ
+entry_queue past p (MqOpen flags attr) name = unwrap_or (bound_queue past name) (length past)
+entry_queue past p MqUnlink name = unwrap_or (bound_queue past name) (length past)
+entry_queue past p call name = unwrap_or (called_queue past p call) (length past)
+
+-- the priority of the send that a reply admits
+abbrev pub admitted_priority : Past → Reply → ℕ
+admitted_priority past (Got place (Some w) notified) = priority past w
+admitted_priority past _ = 0
+
+-- a new queue's messages have their room, and the table of queues has room for the queue
+pub record IsFresh (call : Call) (queues : ℕ) (capacity : ℕ) (o : Slots) : Type 0 where
+  pub empty : o.slots ≡ []
+  pub roomy : int_le (attributes_given call).maxmsg (pos o.room) ≡ true
+  pub place : queues < capacity
+
+-- just an entry that creates its queue brings the queue's order
+abbrev pub BringsOrder : Call → Reply → ℕ → ℕ → Option Slots → Type 0
+BringsOrder call reply queues capacity None = creates call reply ≡ false
+BringsOrder call reply queues capacity (Some o) = (creates call reply ≡ true) × IsFresh call queues capacity o
+
+-- the registration of the entry's queue has room for its notice, where the entry notifies it
+abbrev pub HasRoomToNotify : List QueueShown → List InboxShown → ℕ → Reply → Type 0
+HasRoomToNotify queues inboxes q reply = (n : Registration) → registration_in queues q ≡ Some n → is_some (notified reply) ≡ true → HasNoticeRoom inboxes n.process
+
+-- the notices of process p behind an entry: the registration of the entry's queue brings one, where the entry notifies it
+abbrev pub notified_values : Option Registration → Reply → ℕ → List ℕ → List ℕ
+notified_values None reply p values = values
+notified_values (Some n) reply p values = if is_some (notified reply) && n.process == p then values ++ n.value ∷ [] else values
+
+abbrev pub noted_values : ℕ → Option Registration → Reply → ℕ → List ℕ → List ℕ
+noted_values process registered reply p values =
+    if gives_notice reply && process == p then drop 1 (notified_values registered reply p values) else notified_values registered reply p values
+
+abbrev pub with_fresh : Option Slots → ℕ → List QueueShown → List QueueShown
+with_fresh None here queues = queues
+with_fresh (Some o) here queues = queues ++ fresh here o.room ∷ []

@@ -1,10 +1,10 @@
 //! The reply to a call, from what the tables say: the cases of the standard in their order.
-ghost use Rattle.std.specs.Prelude.{◌≡◌, pos, int_lt, int_le, Some, None};
+ghost use Rattle.std.specs.Prelude.{◌≡◌, ◌<◌, ◌^◌, pos, int_lt, int_le, Some, None, true};
 ghost use Rattle.mq_core.specs.Names.{are_within_limits, attributes_given, attributes};
 ghost use Rattle.mq_core.specs.Answer.{is_read_only, is_write_only};
 ghost use Rattle.mq_state.specs.Decided.{decided_open, decided_accepted, decided_send, decided_found, decided_receive, is_registered_by, decided_notify};
 
-use mq_core::entries::{Access, Attr, Call, OpenFlags, Registration, Reply};
+use mq_core::entries::{Access, Attr, Call, OpenFlags, Registration, Reply, Status};
 use mq_core::faults::Fault;
 use mq_core::journals::Journal;
 
@@ -35,24 +35,24 @@ pub fn attributes(journal: &Journal, q: u64) -> Attr
 }
 
 /// A message of this length is longer than `msgsize`.
-pub fn is_too_long(msgsize: i64, len: u64) -> bool
-    ensures { result ≡ int_lt msgsize (pos len) }
+pub fn is_too_long(attributes: Attr, len: u64) -> bool
+    ensures { result ≡ int_lt attributes.msgsize (pos len) }
 {
-    i128::from(msgsize) < i128::from(len)
+    i128::from(attributes.msgsize) < i128::from(len)
 }
 
 /// A buffer of this length is shorter than `msgsize`.
-pub fn is_too_short(room: u64, msgsize: i64) -> bool
-    ensures { result ≡ int_lt (pos room) msgsize }
+pub fn is_too_short(room: u64, attributes: Attr) -> bool
+    ensures { result ≡ int_lt (pos room) attributes.msgsize }
 {
-    i128::from(room) < i128::from(msgsize)
+    i128::from(room) < i128::from(attributes.msgsize)
 }
 
 /// A queue with so many messages is full.
-pub fn is_full(maxmsg: i64, count: u64) -> bool
-    ensures { result ≡ int_le maxmsg (pos count) }
+pub fn is_full(attributes: Attr, count: usize) -> bool
+    ensures { result ≡ int_le attributes.maxmsg (pos count) }
 {
-    i128::from(maxmsg) <= i128::from(count)
+    i128::from(attributes.maxmsg) <= i128::from(count as u64)
 }
 
 /// Attributes that a queue may be created with: 1 to 4,096 messages of 1 to 65,536 bytes.
@@ -223,4 +223,30 @@ pub fn notify(p: u32, registered: Option<Registration>, value: Option<u64>) -> R
             }
         }
     }
+}
+
+/// The attributes of a descriptor with this flag, and of its queue, where so many messages are present.
+pub fn status(attributes: Attr, nonblock: bool, count: usize) -> Status
+    requires { count < 2 ^ 63 }
+    ensures nonblock { result.nonblock ≡ nonblock }
+    ensures maxmsg { result.maxmsg ≡ attributes.maxmsg }
+    ensures msgsize { result.msgsize ≡ attributes.msgsize }
+    ensures curmsgs { result.curmsgs ≡ pos count }
+{
+    Status {
+        nonblock,
+        maxmsg: attributes.maxmsg,
+        msgsize: attributes.msgsize,
+        curmsgs: count as i64,
+    }
+}
+
+/// How many messages a queue with these attributes is to have room for.
+pub fn slots_for(attributes: Attr) -> usize
+    ensures { int_le attributes.maxmsg (pos result) ≡ true }
+{
+    if attributes.maxmsg <= 0 {
+        return 0;
+    }
+    attributes.maxmsg as usize
 }

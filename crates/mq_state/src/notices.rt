@@ -1,7 +1,7 @@
 //! The notices that each process has not yet taken.
-ghost use Rattle.std.specs.Prelude.{◌≡◌, ◌<◌, ◌≤◌, ◌++◌, ◌∷◌, [], length, IfOk, OnOk, OnErr, drop, slice_get, Some, None, ◌+◌, ◌-◌, replicate};
+ghost use Rattle.std.specs.Prelude.{◌≡◌, ◌<◌, ◌≤◌, ◌++◌, ◌∷◌, [], length, IfOk, OnOk, OnErr, drop, slice_get, Some, None, ◌+◌, ◌-◌, ℕ, ◌==◌, if◌then◌else◌};
 
-ghost use Rattle.mq_state.specs.Inboxes.{notices_in};
+ghost use Rattle.mq_state.specs.Inboxes.{notices_in, HasNoticeRoom};
 
 use std::alloc::{AllocError, Global};
 use std::collections::VecDeque;
@@ -80,4 +80,43 @@ pub fn first(inboxes: &[Inbox], p: u32) -> Option<u64>
         None => None,
         Some(inbox) => inbox.first(),
     }
+}
+
+// Process p's inbox has a notice more, in room that is there.
+pub fn push(inboxes: &mut [Inbox], p: u32, value: u64)
+    requires process { p < length inboxes.old }
+    requires room { HasNoticeRoom inboxes.old p }
+    ensures { (k : ℕ) → notices_in inboxes.new k ≡ (if p == k then notices_in inboxes.old k ++ value ∷ [] else notices_in inboxes.old k) }
+{
+    inboxes[p as usize].push(value);
+}
+
+/// The oldest notice of process p is taken.
+pub fn take(inboxes: &mut [Inbox], p: u32)
+    requires { p < length inboxes.old }
+    ensures { (k : ℕ) → notices_in inboxes.new k ≡ (if p == k then drop 1 (notices_in inboxes.old k) else notices_in inboxes.old k) }
+{
+    inboxes[p as usize].pop();
+}
+
+/// Makes room for that many more notices of process p, at least one.
+pub fn make_room(inboxes: &mut [Inbox], p: u32, more: usize) -> Result<(), AllocError>
+    requires process { p < length inboxes.old }
+    requires more { 0 < more }
+    ensures same { (k : ℕ) → notices_in inboxes.new k ≡ notices_in inboxes.old k }
+    ensures room { OnOk result (HasNoticeRoom inboxes.new p) }
+{
+    inboxes[p as usize].reserve(more)
+}
+
+/// Inboxes of so many processes, with no notice.
+pub fn empty(alloc: Global, count: usize) -> Result<Vec<Inbox>, AllocError>
+    ensures count { IfOk result (λ v. length v.items ≡ count) }
+    ensures empty { IfOk result (λ v. (k : ℕ) → notices_in v.items k ≡ []) }
+{
+    let mut inboxes = Vec::with_capacity(alloc, count)?;
+    for _ in 0..count {
+        inboxes.push(Inbox::new(alloc))?;
+    }
+    Ok(inboxes)
 }

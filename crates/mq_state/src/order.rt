@@ -1,5 +1,5 @@
 //! The order of one queue: which of its messages is received next.
-ghost use Rattle.std.specs.Prelude.{◌≡◌, ◌<◌, ◌≤◌, ◌+◌, ◌-◌, [], ◌∷◌, length, IfOk, IfSome, IsSome, IsTrue, ◌↔◌, filter, not, ◌==◌, Some, None, vec_capacity};
+ghost use Rattle.std.specs.Prelude.{◌≡◌, ◌<◌, ◌≤◌, ◌+◌, ◌-◌, ◌^◌, [], ◌∷◌, length, IfOk, IfSome, IsSome, IsTrue, ◌↔◌, filter, not, ◌==◌, Some, None, vec_capacity};
 ghost use Rattle.std.specs.Option.{option_map};
 
 use std::alloc::{AllocError, Global};
@@ -92,7 +92,8 @@ impl Order {
 
     /// How many messages are present.
     pub fn len(&self) -> usize
-        ensures { result ≡ length self.now.slots }
+        ensures count { result ≡ length self.now.slots }
+        ensures bound { result < 2 ^ 63 }
     {
         self.slots.len()
     }

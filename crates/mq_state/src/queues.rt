@@ -1,5 +1,5 @@
 //! The queues that exist: which are still named, who is registered on them, and their messages.
-ghost use Rattle.std.specs.Prelude.{◌≡◌, ◌<◌, ◌==◌, ◌++◌, ◌∷◌, [], IfOk, position, length, not, Some, None, map, ℕ};
+ghost use Rattle.std.specs.Prelude.{◌≡◌, ◌<◌, ◌^◌, ◌==◌, ◌++◌, ◌∷◌, [], IfOk, position, length, not, Some, None, map, ℕ, vec_len, vec_capacity, ◌≤◌};
 ghost use Rattle.std.specs.Option.{option_map};
 ghost use Rattle.std.specs.Str.{bytes_eq};
 ghost use Rattle.mq_core.specs.Names.{name_of};
@@ -74,7 +74,8 @@ impl Queue {
 
     /// How many messages are present.
     pub fn len(&self) -> usize
-        ensures { result ≡ length self.now.slots }
+        ensures count { result ≡ length self.now.slots }
+        ensures bound { result < 2 ^ 63 }
     {
         self.order.len()
     }
@@ -179,7 +180,8 @@ pub fn find(queues: &[Queue], q: u64) -> Option<&Queue>
 /// How many messages are present in queue q.
 #[tactic(auto, unfolding(crate::specs::Queues::slots_in))]
 pub fn message_count(queues: &[Queue], q: u64) -> usize
-    ensures { result ≡ length (slots_in queues.now q) }
+    ensures count { result ≡ length (slots_in queues.now q) }
+    ensures bound { result < 2 ^ 63 }
 {
     match find(queues, q) {
         None => 0,
@@ -247,7 +249,8 @@ pub fn bound(journal: &Journal, queues: &[Queue], name: &[u8]) -> Option<u64>
 // Queue q exists no longer.
 #[tactic(auto, unfolding(crate::specs::Queues::without_queue))]
 fn remove(queues: &mut Vec<Queue>, q: u64)
-    ensures { queues.new.items ≡ without_queue queues.old.items q }
+    ensures items { queues.new.items ≡ without_queue queues.old.items q }
+    ensures room { (vec_len queues.new ≤ vec_len queues.old) × (vec_capacity queues.new ≡ vec_capacity queues.old) }
 {
     queues.retain(|x| x.place() != q);
 }
@@ -294,7 +297,8 @@ fn may_free(entry: Entry) -> bool
 
 // Gives back the place of queue q, where an entry may have freed it and nobody needs it.
 fn release(owners: &[Owner], freed: bool, queues: &mut Vec<Queue>, q: u64)
-    ensures { queues.new.items ≡ released owners.now freed queues.old.items q }
+    ensures items { queues.new.items ≡ released owners.now freed queues.old.items q }
+    ensures room { (vec_len queues.new ≤ vec_len queues.old) × (vec_capacity queues.new ≡ vec_capacity queues.old) }
 {
     if freed && !(is_named(queues, q) || owners::is_held(owners, q)) {
         remove(queues, q);
@@ -305,9 +309,36 @@ fn release(owners: &[Owner], freed: bool, queues: &mut Vec<Queue>, q: u64)
 /// priority `prio`. A queue that it creates is added apart.
 pub fn note(queues: &mut Vec<Queue>, owners: &[Owner], here: u64, entry: Entry, q: u64, prio: u32)
     requires { (x : QueueShown) → queue_in (map (reregistered q here entry) queues.old.items) q ≡ Some x → HasRoom entry.reply x }
-    ensures { queues.new.items ≡ noted_queues owners.now here entry q prio queues.old.items }
+    ensures items { queues.new.items ≡ noted_queues owners.now here entry q prio queues.old.items }
+    ensures room { vec_len queues.old < vec_capacity queues.old → vec_len queues.new < vec_capacity queues.new }
 {
     note_registrations(queues, q, here, entry);
     renew(queues, q, here, entry, prio);
     release(owners, may_free(entry), queues, q);
+}
+
+/// Adds the queue that the entry at place `here` creates, in room that is there.
+pub fn add(queues: &mut Vec<Queue>, here: u64, order: Order)
+    requires empty { order.slots ≡ [] }
+    requires room { vec_len queues.old < vec_capacity queues.old }
+    ensures { queues.new.items ≡ queues.old.items ++ fresh here order.room ∷ [] }
+{
+    queues.push_reserved(Queue::new(here, order));
+}
+
+/// How many queues process p is registered on.
+pub fn registrations_of(queues: &[Queue], p: u32) -> usize
+    ensures { result ≤ length queues.now }
+{
+    queues
+        .iter()
+        .filter(|x| is_registered_by(x.registration(), p))
+        .count()
+}
+
+fn is_registered_by(registration: Option<Registration>, p: u32) -> bool {
+    match registration {
+        None => false,
+        Some(n) => n.process == p,
+    }
 }

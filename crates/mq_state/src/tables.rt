@@ -1,16 +1,24 @@
 //! The tables beside the journal, the replies that they give, and how they note an entry.
-ghost use Rattle.std.specs.Prelude.{◌≡◌, ◌<◌, ◌≤◌, ◌+◌, IfOk, OnOk, OnErr, IsSome, Some, None, IsTrue, ℕ, length, [], pos, int_le};
+ghost use Rattle.std.specs.Prelude.{◌≡◌, ◌<◌, ◌≤◌, ◌+◌, IfOk, OnOk, OnErr, IsSome, Some, None, IsTrue, ℕ, length, [], pos, int_le, map, replicate};
+ghost use Rattle.mq_core.specs.declared.entries.Registration.{Registration};
 ghost use Rattle.mq_core.specs.Descriptors.{held, lowest_held, alive};
 ghost use Rattle.mq_core.specs.Messages.{is_in, best, least};
-ghost use Rattle.mq_core.specs.Notices.{registered, registered_place};
+ghost use Rattle.mq_core.specs.Notices.{registered, registered_place, gives_notice};
 ghost use Rattle.mq_core.specs.Answer.{Legal, answer, answer_attributes, answer_send, answer_receive};
-ghost use Rattle.mq_core.specs.Owners.{waiting};
+ghost use Rattle.mq_core.specs.Owners.{waiting, waits_count, free_owner};
+ghost use Rattle.std.specs.Option.{option_map, unwrap_or};
+ghost use Rattle.mq_core.specs.Names.{bound_queue};
+ghost use Rattle.mq_state.specs.Tables.{entry_queue, admitted_priority};
 ghost use Rattle.mq_state.specs.Decided.{decided_notify, status_of};
 ghost use Rattle.mq_core.specs.Waits.{open_wait, answered_by};
 
+mod calls;
+
+use crate::buffers;
 use crate::decided;
 use crate::notices;
 use crate::notices::Inbox;
+use crate::order::Order;
 use crate::queues;
 use crate::queues::Queue;
 use mq_core::entries::{Attr, Call, Description, Entry, OpenFlags, Reply, Status};
@@ -18,6 +26,7 @@ use mq_core::faults::Fault;
 use mq_core::journals::Journal;
 use mq_core::owners;
 use mq_core::owners::Owner;
+use mq_core::registrations;
 use std::alloc::{AllocError, Global};
 
 /// How many queues exist at most.
@@ -26,6 +35,7 @@ const MOST_QUEUES: usize = 64;
 /// What each process has, process p's line and inbox at index p, and the queues that exist.
 #[derive(Debug, Drop)]
 pub struct Tables {
+    alloc: Global,
     n: u32,
     owners: Vec<Owner>,
     queues: Vec<Queue>,
@@ -34,6 +44,30 @@ pub struct Tables {
 
 impl Tables {
     ghost use Rattle.mq_state.specs.Tables.{TablesMirror};
+
+    /// The tables of n processes that have nothing, with no queue.
+    pub fn new(alloc: Global, n: u32) -> Result<Tables, AllocError>
+        requires { n ≤ 32 }
+        ensures { IfOk result (λ t. (t.n ≡ n) × TablesMirror [] t.n t.owners.items t.queues.items t.inboxes.items × (waits_count t.owners.items ≡ 0)) }
+    {
+        let count = n as usize + 1;
+        let owners = free_owners(alloc, count)?;
+        let inboxes = notices::empty(alloc, count)?;
+        Ok(Tables {
+            alloc,
+            n,
+            owners,
+            queues: Vec::new(alloc),
+            inboxes,
+        })
+    }
+
+    /// How many processes there are.
+    pub fn processes(&self) -> u32
+        ensures { result ≡ self.now.n }
+    {
+        self.n
+    }
 
     // The reply to an open.
     fn answer_open(&self, journal: &Journal, p: u32, name: &[u8], flags: OpenFlags, attr: Option<Attr>) -> Reply
@@ -78,12 +112,8 @@ impl Tables {
         ensures { result ≡ status_of journal.now.records h }
     {
         let attributes = decided::attributes(journal, h.queue);
-        Status {
-            nonblock: h.nonblock,
-            maxmsg: attributes.maxmsg,
-            msgsize: attributes.msgsize,
-            curmsgs: queues::message_count(&self.queues, h.queue) as i64,
-        }
+        let count = queues::message_count(&self.queues, h.queue);
+        decided::status(attributes, h.nonblock, count)
     }
 
     // The reply to a getattr, and to a setattr.
@@ -165,8 +195,8 @@ impl Tables {
     {
         let attributes = decided::attributes(journal, h.queue);
         let count = queues::message_count(&self.queues, h.queue);
-        let long = decided::is_too_long(attributes.msgsize, len);
-        let full = decided::is_full(attributes.maxmsg, count as u64);
+        let long = decided::is_too_long(attributes, len);
+        let full = decided::is_full(attributes, count);
         let wait = self.first_wait(journal, h.queue, false);
         let registered = self.registered_place(journal, h.queue);
         decided::send(h.access, h.nonblock, prio, long, full, wait, count == 0, registered)
@@ -206,7 +236,7 @@ impl Tables {
         requires few { self.now.n ≤ 32 }
         ensures { result ≡ answer_receive journal.now.records (Some h) room }
     {
-        let short = decided::is_too_short(room, decided::attributes(journal, h.queue).msgsize);
+        let short = decided::is_too_short(room, decided::attributes(journal, h.queue));
         let best = self.best(journal, h.queue);
         let wait = self.first_wait(journal, h.queue, true);
         let only = queues::message_count(&self.queues, h.queue) == 1;
@@ -225,5 +255,129 @@ impl Tables {
             Some(h) => self.answer_receive_on(journal, h, room),
             None => Reply::Refused(Fault::BadDescriptor),
         }
+    }
+
+    // The queue of the descriptor that a call names, or the place of its entry.
+    fn descriptor_queue(&self, journal: &Journal, p: u32, d: u32) -> u64
+        requires mirror { TablesMirror journal.now.records self.now.n self.now.owners.items self.now.queues.items self.now.inboxes.items }
+        ensures { result ≡ unwrap_or (option_map (λ h. h.queue) (held journal.now.records p d)) (length journal.now.records) }
+    {
+        match owners::held(&self.owners, p, d) {
+            Some(h) => h.queue,
+            None => journal.len(),
+        }
+    }
+
+    // The queue that a name is bound to, or the place of the entry.
+    fn named_queue(&self, journal: &Journal, name: &[u8]) -> u64
+        requires mirror { TablesMirror journal.now.records self.now.n self.now.owners.items self.now.queues.items self.now.inboxes.items }
+        ensures { result ≡ unwrap_or (bound_queue journal.now.records name.now) (length journal.now.records) }
+    {
+        match queues::bound(journal, &self.queues, name) {
+            Some(q) => q,
+            None => journal.len(),
+        }
+    }
+
+    // The queue that an entry is made on.
+    fn entry_queue(&self, journal: &Journal, p: u32, call: Call, name: &[u8]) -> u64
+        requires mirror { TablesMirror journal.now.records self.now.n self.now.owners.items self.now.queues.items self.now.inboxes.items }
+        ensures { result ≡ entry_queue journal.now.records p call name.now }
+    {
+        match call {
+            Call::MqOpen { .. } | Call::MqUnlink => self.named_queue(journal, name),
+            Call::MqClose { d }
+            | Call::MqSend { d, .. }
+            | Call::MqReceive { d, .. }
+            | Call::MqGetattr { d }
+            | Call::MqSetattr { d, .. }
+            | Call::MqNotify { d, .. } => self.descriptor_queue(journal, p, d),
+            Call::NextNotice | Call::Collect => journal.len(),
+        }
+    }
+}
+
+impl Tables {
+    ghost use Rattle.std.specs.Prelude.{vec_len, vec_capacity};
+    ghost use Rattle.mq_core.specs.OwnersNoted.{noted, FitsSlots};
+    ghost use Rattle.mq_state.specs.Queues.{queue_in, reregistered, noted_queues, registration_in, HasRoom};
+    ghost use Rattle.mq_state.specs.Inboxes.{notices_in, HasNoticeRoom};
+    ghost use Rattle.mq_state.specs.QueueShown.{QueueShown};
+    ghost use Rattle.mq_state.specs.Tables.{BringsOrder, HasRoomToNotify, noted_values, notified_values, with_fresh};
+
+    // Notes in the inboxes what an entry made on queue q brings and takes.
+    fn note_notices(&mut self, entry: Entry, q: u64)
+        requires process { entry.process < length self.old.inboxes.items }
+        requires registered { (n : Registration) → registration_in self.old.queues.items q ≡ Some n → n.process < length self.old.inboxes.items }
+        requires notice { HasRoomToNotify self.old.queues.items self.old.inboxes.items q entry.reply }
+        ensures owners { self.new.owners.items ≡ self.old.owners.items }
+        ensures queues { self.new.queues ≡ self.old.queues }
+        ensures n { self.new.n ≡ self.old.n }
+        ensures count { length self.new.inboxes.items ≡ length self.old.inboxes.items }
+        ensures inboxes { (k : ℕ) → notices_in self.new.inboxes.items k ≡ noted_values entry.process (registration_in self.old.queues.items q) entry.reply k (notices_in self.old.inboxes.items k) }
+    {
+        if registrations::notified(entry.reply).is_some() {
+            if let Some(n) = queues::registration(&self.queues, q) {
+                notices::push(&mut self.inboxes, n.process, n.value);
+            }
+        }
+        if gives_notice(entry.reply) {
+            notices::take(&mut self.inboxes, entry.process);
+        }
+    }
+
+    // Notes an entry made on queue q, which brings the order of a queue that it creates.
+    fn note(&mut self, journal: &Journal, entry: Entry, q: u64, fresh: Option<Order>)
+        requires process { (entry.process < length self.old.owners.items) × (entry.process < length self.old.inboxes.items) }
+        requires numbers { FitsSlots entry.call entry.reply }
+        requires room { (x : QueueShown) → queue_in (map (reregistered q (length journal.now.records) entry) self.old.queues.items) q ≡ Some x → HasRoom entry.reply x }
+        requires registered { (n : Registration) → registration_in self.old.queues.items q ≡ Some n → n.process < length self.old.inboxes.items }
+        requires notice { HasRoomToNotify self.old.queues.items self.old.inboxes.items q entry.reply }
+        requires brings { BringsOrder entry.call entry.reply (vec_len self.old.queues) (vec_capacity self.old.queues) fresh }
+        ensures n { self.new.n ≡ self.old.n }
+        ensures owners { self.new.owners.items ≡ noted self.old.owners.items (length journal.now.records) entry.process entry.call entry.reply q }
+        ensures queues { self.new.queues.items ≡ with_fresh fresh (length journal.now.records) (noted_queues self.new.owners.items (length journal.now.records) entry q (admitted_priority journal.now.records entry.reply) self.old.queues.items) }
+        ensures count { length self.new.inboxes.items ≡ length self.old.inboxes.items }
+        ensures inboxes { (k : ℕ) → notices_in self.new.inboxes.items k ≡ noted_values entry.process (registration_in self.old.queues.items q) entry.reply k (notices_in self.old.inboxes.items k) }
+    {
+        let here = journal.len();
+        let prio = admitted_priority(journal, entry.reply);
+        self.note_notices(entry, q);
+        owners::note(&mut self.owners, here, entry, q);
+        queues::note(&mut self.queues, &self.owners, here, entry, q, prio);
+        if let Some(order) = fresh {
+            queues::add(&mut self.queues, here, order);
+        }
+    }
+}
+
+// A table of so many processes that have nothing.
+fn free_owners(alloc: Global, count: usize) -> Result<Vec<Owner>, AllocError>
+    ensures { IfOk result (λ v. v.items ≡ replicate count free_owner) }
+{
+    let owners = vec![in alloc; Owner::free(); count]?;
+    Ok(owners)
+}
+
+fn gives_notice(reply: Reply) -> bool
+    ensures { result ≡ gives_notice reply }
+{
+    match reply {
+        Reply::Notice(Some(_)) => true,
+        _ => false,
+    }
+}
+
+// The priority of the send that a reply admits.
+fn admitted_priority(journal: &Journal, reply: Reply) -> u32
+    ensures { result ≡ admitted_priority journal.now.records reply }
+{
+    match reply {
+        Reply::Got {
+            place: _,
+            admitted: Some(wait),
+            notified: _,
+        } => buffers::priority_at(journal, wait),
+        _ => 0,
     }
 }

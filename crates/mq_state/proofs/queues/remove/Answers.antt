@@ -3,6 +3,6 @@ use Rattle.std.proofs.lemmas.Fn.{filter_same}
 use Rattle.mq_state.specs.Queues.{without_queue}
 use Rattle.mq_state.proofs.queues.remove.Goals as goal
 
-pub returns : goal.returns
+pub returns-clause-items : goal.returns-clause-items
 unfolding without_queue
-returns c = filter_same _ _ _ (λ x b f' k. search rules) _ _ c.retain.ensures.filtered
+returns-clause-items c = filter_same _ _ _ (λ x b f' k. search rules) _ _ c.retain.ensures.filtered

@@ -1,0 +1,5 @@
+pub mod Sums
+pub mod Stays
+pub mod WordKeeps
+pub mod FastWorld
+pub mod FastKeeps

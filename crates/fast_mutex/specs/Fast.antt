@@ -1,0 +1,241 @@
+-- The rule of Lamport's lock, and what each step on its words tells.
+-- The words are x, y and the flags b[1] to b[n]. Words and points are a world that keeps the condition of
+-- `lamport_core`, and the state is at home exactly where no process is inside.
+use Rattle.std.specs.Prelude.{◌≡◌, ◌≢◌, ◌==◌, ℕ, zero, suc, ◌+◌, ◌-◌, ◌≤◌, Bool, true, false, cond, List, [], ◌∷◌, ◌++◌, length, take, slice_index, Option as Opt, Some, None}
+use Rattle.std.specs.List.{AllByRecursion as Each}
+use Rattle.std.specs.Coded.{×_prop, le_prop, Coded-set, coded_ℕ}
+use mathlib.Core.Option.{none, some}
+use lib.ListN.{get_elem?}
+use Rattle.atomic_table.specs.Table.{State, Me, Step}
+use Rattle.atomic_table.specs.Seated.{TableId}
+use Rattle.atomic_table.specs.declared.shared.Seat.{Seat}
+use Rattle.lamport_core.specs.State.{after_TestY, after_AwaitY, after_Scan, after_SlowAwait}
+use Rattle.lamport_core.specs.Safe.{Safe}
+use Rattle.lamport_core.specs.Line.{IsCounted}
+use Rattle.lamport_core.specs.declared.At.{At}
+use Rattle.lamport_core.specs.declared.At.TheVariants.{Rest, Start, SetX, TestY, BackB, AwaitY, SetY, TestX, SlowB, Scan, SlowY, SlowAwait, Fast, Slow, Leaving}
+use Rattle.fast_mutex.specs.Items.{Ticket, Grows, items_of}
+use Rattle.fast_mutex.specs.Word.{Claim, Fixed, IsGood, lock_id, made_with, new_claims, first_claim, other_claims, claims_after, last_left, sum_over, times}
+use Rattle.fast_mutex.specs.declared.word.view.About.{About}
+use Rattle.fast_mutex.specs.declared.fast.view.View.{View}
+
+-- a process at this point is inside
+abbrev pub is_inside : At → Bool
+is_inside Fast = true
+is_inside Slow = true
+is_inside _ = false
+
+-- The flag of process k, which is up where its word is 1. Process 1 has the first of these words.
+abbrev pub flag_in : List ℕ → ℕ → Bool
+flag_in flags zero = false
+flag_in flags (suc k) = slice_index flags k == 1
+
+-- these words, and n processes at these points, are a world that keeps the condition
+pub record IsSafeWorld (n : ℕ) (words : List ℕ) (at : ℕ → At) : Type 0 where
+  pub x : ℕ
+  pub y : ℕ
+  pub flags : List ℕ
+  pub is : words ≡ x ∷ y ∷ flags
+  pub wide : length flags ≡ n
+  pub safe : Safe n x y (flag_in flags) at
+
+-- views
+module _ {I : Type 0} where
+  abbrev pub seat_view : At → List I → Fixed → List (Claim I) → View I
+  seat_view at found fixed claims = record { at = at; found = found; fixed = fixed; claims = claims }
+
+  -- the seat goes on to a point
+  abbrev pub view_at : At → View I → View I
+  view_at p v = seat_view p v.found v.fixed v.claims
+
+  -- the seat goes inside, and finds this list
+  abbrev pub view_inside : At → List I → View I → View I
+  view_inside p found v = seat_view p found v.fixed v.claims
+
+  -- a seat splits: one goes on with the first claim, one with the others
+  abbrev pub view_of_first : View I → View I
+  view_of_first v = seat_view Rest v.found v.fixed (first_claim v.claims)
+
+  abbrev pub view_of_others : View I → View I
+  view_of_others v = seat_view Rest v.found v.fixed (other_claims v.claims)
+
+  -- one seat takes in another, which is then spent
+  abbrev pub joint_view : View I → View I → View I
+  joint_view v w = seat_view Rest v.found v.fixed (w.claims ++ v.claims)
+
+  abbrev pub spent_view : View I
+  spent_view = seat_view Rest [] (0, []) []
+
+  -- the number of the seat
+  abbrev pub number_in : List (Claim I) → ℕ
+  number_in [] = 0
+  number_in (c ∷ cs) = c.0
+
+module _ {S I : Type 0} (fixes : S → List ℕ) where
+  -- the first seat has the claims of all
+  abbrev pub first_view : About S → View I
+  first_view about = seat_view Rest [] (made_with fixes about) (new_claims 1 about.count)
+
+-- the rule
+module _ {S I : Type 0} (shows : S → List I) (fixes : S → List ℕ) (owner : I → ℕ) (about : About S) where
+  -- the process of the seat stands at its point, and those joined to it at Rest
+  abbrev pub Stands : (ℕ → At) → At → List (Claim I) → Type 0
+  Stands at p [] = p ≡ Rest
+  Stands at p (c ∷ cs) = (at c.0 ≡ p) × Each (λ (d : Claim I). at d.0 ≡ Rest) cs
+
+  -- Who is inside found the current list. Each claim's number is that of a process, and the current list is the
+  -- claim's with items of others in front.
+  pub record Fits (at : ℕ → At) (now : List I) (v : View I) : Type 0 where
+    pub stands : Stands at v.at v.claims
+    pub found : is_inside v.at ≡ true → v.found ≡ now
+    pub good : Each (IsGood shows fixes owner about v.fixed now) v.claims
+
+  -- `at` has the points of the processes, and `now` is the current list
+  pub record KeepsRule (s : State (Opt S) (View I)) : Type 0 where
+    pub at : ℕ → At
+    pub world : IsSafeWorld about.count s.words at
+    pub now : List I
+    pub home : ((i : ℕ) → is_inside (at i) ≡ false) → (st : S) × (s.homes ≡ some (Some st) ∷ []) × (shows st ≡ now) × (fixes st ≡ fixes about.state.value)
+    pub away : (i : ℕ) → is_inside (at i) ≡ true → (s.homes ≡ none ∷ []) × (id : ℕ) × (v : View I) × (get_elem? s.views id ≡ some v) × (is_inside v.at ≡ true)
+    pub seats : (id : ℕ) (v : View I) → get_elem? s.views id ≡ some v → Fits at now v
+    pub once : (k : ℕ) → sum_over (λ (v : View I). times k v.claims) s.views ≤ 1
+    pub total : sum_over (λ (v : View I). length v.claims) s.views ≡ about.count
+
+-- The lines that store, but for the store of 0 to y: the word and the value that process k stores, and the point after.
+abbrev pub word_stored : ℕ → At → ℕ
+word_stored k SetX = 0
+word_stored k SetY = 1
+word_stored k p = k + 1
+
+abbrev pub value_stored : ℕ → At → ℕ
+value_stored k Rest = 1
+value_stored k Start = 1
+value_stored k SetX = k
+value_stored k SetY = k
+value_stored k p = 0
+
+abbrev pub after_store : At → At
+after_store Rest = SetX
+after_store Start = SetX
+after_store SetX = TestY
+after_store BackB = AwaitY
+after_store SetY = TestX
+after_store SlowB = Scan 1
+after_store Leaving = Rest
+after_store p = p
+
+-- The lines that load: the word, and the point after a line that admits nobody, by what it found.
+abbrev pub word_loaded : At → ℕ
+word_loaded TestX = 0
+word_loaded (Scan j) = j + 1
+word_loaded p = 1
+
+abbrev pub after_load : ℕ → At → ℕ → At
+after_load n TestY found = after_TestY found
+after_load n AwaitY found = after_AwaitY found
+after_load n (Scan j) found = after_Scan n j (found == 1)
+after_load n SlowAwait found = after_SlowAwait found
+after_load n p found = p
+
+-- The points after a line that may admit: where it finds the own number, and where not.
+abbrev pub point_admitted : At → At
+point_admitted TestX = Fast
+point_admitted SlowY = Slow
+point_admitted p = p
+
+abbrev pub point_refused : At → At
+point_refused TestX = SlowB
+point_refused SlowY = SlowAwait
+point_refused p = p
+
+-- The step is on this word with this value, and with no value to compare; a load has 0 for its value.
+module _ {S : Type 0} where
+  abbrev pub IsOn : Step (Opt S) → ℕ → ℕ → Type 0
+  IsOn t word value = (t.word ≡ word) × (t.first ≡ value) × (t.second ≡ 0)
+
+module _ {S I : Type 0} where
+  -- A line that stores, and is not the store of 0 to y. What a store tells as found is the value stored. Any other
+  -- access tells the word that it found, and no seat could show that this is the value.
+  pub record IsStore (t : Step (Opt S)) (me : Me (Opt S) (View I)) (found : ℕ) (me' : Me (Opt S) (View I)) : Type 0 where
+    pub on : IsOn t (word_stored (number_in me.0.claims) me.0.at) (value_stored (number_in me.0.claims) me.0.at)
+    pub stores : found ≡ value_stored (number_in me.0.claims) me.0.at
+    pub goes : me' ≡ (view_at (after_store me.0.at) me.0, me.1)
+
+  -- a line that loads, and admits nobody
+  pub record IsLoad (t : Step (Opt S)) (me : Me (Opt S) (View I)) (found : ℕ) (me' : Me (Opt S) (View I)) : Type 0 where
+    pub on : IsOn t (word_loaded me.0.at) 0
+    pub goes : me' ≡ (view_at (after_load me.0.fixed.0 me.0.at found) me.0, me.1)
+
+module _ {S I : Type 0} (shows : S → List I) (fixes : S → List ℕ) (owner : I → ℕ) where
+  -- a line that loads, and admits a seat exactly where it finds its number: the seat then has the state, whose list has grown from the one that it left by others' items
+  pub record IsTest (t : Step (Opt S)) (me : Me (Opt S) (View I)) (found : ℕ) (me' : Me (Opt S) (View I)) : Type 0 where
+    pub on : IsOn t (word_loaded me.0.at) 0
+    pub refused : found ≢ number_in me.0.claims → me' ≡ (view_at (point_refused me.0.at) me.0, me.1)
+    pub admitted : found ≡ number_in me.0.claims → (st : S) × (me' ≡ (view_inside (point_admitted me.0.at) (shows st) me.0, (0, Some st) ∷ [])) × (fixes st ≡ me.0.fixed.1)
+        × Grows owner (number_in me.0.claims) (last_left me.0.claims) (shows st) []
+
+module _ {S I : Type 0} (shows : S → List I) where
+  -- the view of who has put back the state in its slot
+  abbrev pub view_left : Me (Opt S) (View I) → List (ℕ × Opt S) → View I
+  view_left me [] = me.0
+  view_left me ((i, None) ∷ slots) = me.0
+  view_left me ((i, Some st) ∷ slots) = seat_view Leaving (shows st) me.0.fixed (claims_after (shows st) me.0.claims)
+
+  -- the store of 0 to y
+  pub record IsLeave (t : Step (Opt S)) (me : Me (Opt S) (View I)) (found : ℕ) (me' : Me (Opt S) (View I)) : Type 0 where
+    pub on : IsOn t 1 0
+    pub stores : found ≡ 0
+    pub goes : me' ≡ (view_left me me.1, [])
+
+module _ {S I : Type 0} where
+  -- what the seat of process k knows, outside and inside
+  abbrev pub ticket_of : ℕ → Seat (Opt S) (View I) → Ticket I
+  ticket_of k s = record { lock = lock_id s.table_id s.me.0.fixed; number = k; left = last_left s.me.0.claims; told = false }
+
+  abbrev pub stay_of : ℕ → Seat (Opt S) (View I) → Ticket I
+  stay_of k s = record { lock = lock_id s.table_id s.me.0.fixed; number = k; left = s.me.0.found; told = false }
+
+-- the seat is one of the lock that has this table
+module _ {S I : Type 0} (fixes : S → List ℕ) where
+  abbrev pub IsSeatOf : TableId → About S → Seat (Opt S) (View I) → Type 0
+  IsSeatOf table about s = lock_id s.table_id s.me.0.fixed ≡ lock_id table (made_with fixes about)
+
+-- what a walk holds: inside the slot, whose state it carries
+module _ {S : Type 0} where
+  abbrev pub slots_at : At → List (ℕ × Opt S)
+  slots_at p = cond (is_inside p) ((0, None) ∷ []) []
+
+module _ {S I : Type 0} (shows : S → List I) (fixes : S → List ℕ) where
+  abbrev pub state_shown : Opt S → Opt (List I × List ℕ)
+  state_shown None = None
+  state_shown (Some st) = Some (shows st, fixes st)
+
+module _ {I : Type 0} where
+  abbrev pub state_at : At → List I → Fixed → Opt (List I × List ℕ)
+  state_at p found fixed = cond (is_inside p) (Some (found, fixed.1)) None
+
+  -- what stands in front of `before` in `after`
+  abbrev pub front : List I → List I → List I
+  front after before = take (length after - length before) after
+
+  -- the list found has grown by nothing of k's own; as `Grows`, in a form that has one proof
+  abbrev pub HasGrown : (I → ℕ) → ℕ → List I → List I → Type 0
+  HasGrown owner k left found = (front found left ++ left ≡ found) × (items_of owner k (front found left) ≡ [])
+
+-- the count of the steps of a pass is one fact at each point, which a ghost field has to know
+pub counted_prop : (n : ℕ) (p : At) (k : ℕ) → IsProp (IsCounted n p k)
+counted_prop n Rest k = Coded-set coded_ℕ k 0
+counted_prop n Start k = le_prop
+counted_prop n SetX k = Coded-set coded_ℕ k 1
+counted_prop n TestY k = Coded-set coded_ℕ k 2
+counted_prop n BackB k = Coded-set coded_ℕ k 3
+counted_prop n AwaitY k = le_prop
+counted_prop n SetY k = Coded-set coded_ℕ k 3
+counted_prop n TestX k = Coded-set coded_ℕ k 4
+counted_prop n SlowB k = Coded-set coded_ℕ k 5
+counted_prop n (Scan j) k = ×_prop (×_prop le_prop le_prop) le_prop
+counted_prop n SlowY k = le_prop
+counted_prop n SlowAwait k = le_prop
+counted_prop n Fast k = Coded-set coded_ℕ k 5
+counted_prop n Slow k = le_prop
+counted_prop n Leaving k = le_prop

@@ -1,0 +1,569 @@
+//! Lamport's lock: Algorithm 2 of "A Fast Mutual Exclusion Algorithm" (1987) over atomic words. In this module alone
+//! its words are touched, and each line of the algorithm touches one word, by one load or one store.
+//!
+//! Word 0 is x, word 1 is y, and word i + 1 is the flag b[i] of process i, 1 where it is true. The state lies in the
+//! one slot of the table.
+ghost use Rattle.std.specs.Prelude.{◌≡◌, ◌<◌, ◌≤◌, ◌+◌, ◌-◌, ◌⊎◌, ◌^◌, ◌↔◌, ℕ, List, [], ◌∷◌, true, false, Some, None, map, length, suc, vec_len, vec_capacity, IfOk, IfErr, IsOk};
+ghost use Rattle.std.specs.List.{All};
+ghost use Rattle.lamport_core.specs.Line.{IsLine, IsCounted, one_more, pass_steps};
+ghost use Rattle.lamport_core.specs.declared.At.TheVariants.{Rest, Start, SetX, TestY, BackB, AwaitY, SetY, TestX, SlowB, Scan, SlowY, SlowAwait, Fast, Slow, Leaving};
+ghost use Rattle.fast_mutex.specs.Items.{new_ticket, tickets_from, Grows, GrowsBy};
+ghost use Rattle.fast_mutex.specs.Word.{last_left, lock_id, made_with, new_claims};
+ghost use Rattle.fast_mutex.specs.Fast.{seat_view, first_view, is_inside, slots_at, state_shown, state_at, HasGrown, counted_prop, ticket_of, stay_of, IsSeatOf};
+
+use crate::lock::Missing;
+use crate::logged::Logged;
+use crate::word::{About, take_state};
+use atomic_table::{Refused, Seat, Table};
+use lamport_core::At;
+use std::alloc::{AllocError, Global};
+use std::snapshot::Snapshot;
+
+mod rule;
+mod view;
+
+use rule::{DealsFirst, FastRule, Leaves, Loads, Stores, TakesIn, Tests};
+use view::View;
+
+const X: usize = 0;
+
+const Y: usize = 1;
+
+type TableSeat<S> = Seat<Option<S>, View<<S as Logged>::Item>>;
+
+/// Lamport's lock, by loads and stores alone. Without contention an entry takes five steps and an exit two.
+///
+/// It keeps any state that may be dropped. Nothing is said of who comes next, nor that a process that waits gets in.
+/// A walk that is not taken further can keep all others out.
+#[derive(Drop)]
+pub struct FastMutex<S: Logged> {
+    table: Table<Option<S>, View<S::Item>, About<S>, FastRule<S>, Global>,
+    count: u32,
+    ghost shape: { (table.shared.table_id.words ≡ count + 2) × (table.shared.table_id.slots ≡ 1) × (count ≡ table.shared.key.count) × (1 ≤ count) × (count ≤ 32) },
+}
+
+/// The right of one process to enter a `FastMutex`. The process is at rest.
+#[derive(Drop)]
+pub struct FastSeat<S: Logged> {
+    number: u32,
+    seat: Seat<Option<S>, View<S::Item>>,
+    ghost range: { (1 ≤ number) × (number ≤ seat.me.0.fixed.0) },
+    ghost alone: { seat.me ≡ (seat_view Rest seat.me.0.found seat.me.0.fixed ((number, last_left seat.me.0.claims) ∷ []), []) },
+}
+
+/// An entry that is taken step by step. It holds the state once it is inside, and has to be spent by
+/// `FastMutex::admitted`.
+pub struct Walk<S: Logged> {
+    number: u32,
+    at: At,
+    steps: u64,
+    state: Option<S>,
+    seat: Seat<Option<S>, View<S::Item>>,
+    ghost range: { (1 ≤ number) × (number ≤ seat.me.0.fixed.0) },
+    ghost alone: { seat.me ≡ (seat_view at seat.me.0.found seat.me.0.fixed ((number, last_left seat.me.0.claims) ∷ []), slots_at at) },
+    ghost held: { state_shown S.items S.fixed state ≡ state_at at seat.me.0.found seat.me.0.fixed },
+    ghost grown: { is_inside at ≡ true → HasGrown S.owner number (last_left seat.me.0.claims) seat.me.0.found },
+    ghost entering: { at ≡ Leaving → ⊥ },
+    ghost counted: { IsCounted seat.me.0.fixed.0 at steps } by { counted_prop seat.me.0.fixed.0 at steps },
+}
+
+/// One stay of a process inside a `FastMutex`. `leave` spends it.
+pub struct FastInside<S: Logged> {
+    number: u32,
+    at: At,
+    steps: u64,
+    seat: Seat<Option<S>, View<S::Item>>,
+    ghost range: { (1 ≤ number) × (number ≤ seat.me.0.fixed.0) },
+    ghost is_in: { is_inside at ≡ true },
+    ghost alone: { seat.me ≡ (seat_view at seat.me.0.found seat.me.0.fixed ((number, last_left seat.me.0.claims) ∷ []), (0, None) ∷ []) },
+    ghost counted: { IsCounted seat.me.0.fixed.0 at steps } by { counted_prop seat.me.0.fixed.0 at steps },
+}
+
+// One step more, of a count that stops at the greatest number.
+fn one_more(steps: u64) -> u64
+    ensures { result ≡ one_more steps }
+{
+    steps.saturating_add(1)
+}
+
+// The moves of the state out of its slot and back, which touch no word.
+impl<S: Logged> FastMutex<S> {
+    // Takes the state out of the slot that the seat holds.
+    fn take_out(&self, seat: &mut TableSeat<S>) -> S
+        requires own { seat.old.table_id ≡ self.now.table.shared.table_id }
+        requires inside { (st : S) × (seat.old.me.1 ≡ (0, Some st) ∷ []) }
+        ensures own { (seat.new.table_id ≡ seat.old.table_id) × (seat.new.id ≡ seat.old.id) }
+        ensures state { (seat.old.me.1 ≡ (0, Some result) ∷ []) × (seat.new.me ≡ (seat.old.me.0, (0, None) ∷ [])) }
+    {
+        let Some(state) = self.table.shared.exchange(seat, 0, None) else {
+            unreachable!()
+        };
+        state
+    }
+
+    // Puts the state into the slot that the seat holds.
+    fn put_in(&self, seat: &mut TableSeat<S>, state: S)
+        requires own { seat.old.table_id ≡ self.now.table.shared.table_id }
+        requires inside { seat.old.me.1 ≡ (0, None) ∷ [] }
+        ensures own { (seat.new.table_id ≡ seat.old.table_id) × (seat.new.id ≡ seat.old.id) }
+        ensures state { seat.new.me ≡ (seat.old.me.0, (0, Some state) ∷ []) }
+    {
+        let before = self.table.shared.exchange(seat, 0, Some(state));
+        let None = before else { unreachable!() };
+    }
+}
+
+// The lines of an entry, a function for each. Each touches one word once.
+impl<S: Logged> FastMutex<S> {
+    // b[i] := true, the first step of a pass
+    fn raise_b(&self, mut walk: Walk<S>) -> Walk<S>
+        requires lock { IsSeatOf S.fixed self.now.table.shared.table_id self.now.table.shared.key walk.seat }
+        requires at { (walk.at ≡ Rest) ⊎ (walk.at ≡ Start) }
+        ensures at { result.at ≡ SetX }
+        ensures steps { result.steps ≡ 1 }
+        ensures ticket { ticket_of result.number result.seat ≡ ticket_of walk.number walk.seat }
+    {
+        let flag = walk.number as usize + 1;
+        self.table.shared.store::<Stores>(&mut walk.seat, flag, 1);
+        walk.at = At::SetX;
+        walk.steps = 1;
+        walk
+    }
+
+    // x := i
+    fn set_x(&self, mut walk: Walk<S>) -> Walk<S>
+        requires lock { IsSeatOf S.fixed self.now.table.shared.table_id self.now.table.shared.key walk.seat }
+        requires at { walk.at ≡ SetX }
+        ensures at { result.at ≡ TestY }
+        ensures steps { result.steps ≡ one_more walk.steps }
+        ensures ticket { ticket_of result.number result.seat ≡ ticket_of walk.number walk.seat }
+    {
+        let number = walk.number as u64;
+        self.table.shared.store::<Stores>(&mut walk.seat, X, number);
+        walk.at = At::TestY;
+        walk.steps = one_more(walk.steps);
+        walk
+    }
+
+    // load y: on where it is 0, else back
+    fn test_y(&self, mut walk: Walk<S>) -> Walk<S>
+        requires lock { IsSeatOf S.fixed self.now.table.shared.table_id self.now.table.shared.key walk.seat }
+        requires at { walk.at ≡ TestY }
+        ensures at { (result.at ≡ SetY) ⊎ (result.at ≡ BackB) }
+        ensures steps { result.steps ≡ one_more walk.steps }
+        ensures ticket { ticket_of result.number result.seat ≡ ticket_of walk.number walk.seat }
+    {
+        let ahead = self.table.shared.load::<Loads>(&mut walk.seat, Y);
+        walk.at = if ahead == 0 { At::SetY } else { At::BackB };
+        walk.steps = one_more(walk.steps);
+        walk
+    }
+
+    // b[i] := false, on the way back
+    fn back_b(&self, mut walk: Walk<S>) -> Walk<S>
+        requires lock { IsSeatOf S.fixed self.now.table.shared.table_id self.now.table.shared.key walk.seat }
+        requires at { walk.at ≡ BackB }
+        ensures at { result.at ≡ AwaitY }
+        ensures steps { result.steps ≡ one_more walk.steps }
+        ensures ticket { ticket_of result.number result.seat ≡ ticket_of walk.number walk.seat }
+    {
+        let flag = walk.number as usize + 1;
+        self.table.shared.store::<Stores>(&mut walk.seat, flag, 0);
+        walk.at = At::AwaitY;
+        walk.steps = one_more(walk.steps);
+        walk
+    }
+
+    // load y: begin again where it is 0, else wait
+    fn await_y(&self, mut walk: Walk<S>) -> Walk<S>
+        requires lock { IsSeatOf S.fixed self.now.table.shared.table_id self.now.table.shared.key walk.seat }
+        requires at { walk.at ≡ AwaitY }
+        ensures at { (result.at ≡ Start) ⊎ (result.at ≡ AwaitY) }
+        ensures steps { result.steps ≡ one_more walk.steps }
+        ensures ticket { ticket_of result.number result.seat ≡ ticket_of walk.number walk.seat }
+    {
+        let found = self.table.shared.load::<Loads>(&mut walk.seat, Y);
+        walk.at = if found == 0 { At::Start } else { At::AwaitY };
+        walk.steps = one_more(walk.steps);
+        walk
+    }
+
+    // y := i
+    fn set_y(&self, mut walk: Walk<S>) -> Walk<S>
+        requires lock { IsSeatOf S.fixed self.now.table.shared.table_id self.now.table.shared.key walk.seat }
+        requires at { walk.at ≡ SetY }
+        ensures at { result.at ≡ TestX }
+        ensures steps { result.steps ≡ one_more walk.steps }
+        ensures ticket { ticket_of result.number result.seat ≡ ticket_of walk.number walk.seat }
+    {
+        let number = walk.number as u64;
+        self.table.shared.store::<Stores>(&mut walk.seat, Y, number);
+        walk.at = At::TestX;
+        walk.steps = one_more(walk.steps);
+        walk
+    }
+
+    // load x: inside where it is i, else the slow path
+    fn test_x(&self, mut walk: Walk<S>) -> Walk<S>
+        requires lock { IsSeatOf S.fixed self.now.table.shared.table_id self.now.table.shared.key walk.seat }
+        requires at { walk.at ≡ TestX }
+        ensures at { (result.at ≡ Fast) ⊎ (result.at ≡ SlowB) }
+        ensures steps { result.steps ≡ one_more walk.steps }
+        ensures ticket { ticket_of result.number result.seat ≡ ticket_of walk.number walk.seat }
+    {
+        let number = walk.number as u64;
+        let found = self.table.shared.load::<Tests<S>>(&mut walk.seat, X);
+        walk.steps = one_more(walk.steps);
+        if found == number {
+            let state = self.take_out(&mut walk.seat);
+            walk.at = At::Fast;
+            let before = walk.state.replace(state);
+            let None = before else { unreachable!() };
+        } else {
+            walk.at = At::SlowB;
+        }
+        walk
+    }
+
+    // b[i] := false, before the scan
+    fn slow_b(&self, mut walk: Walk<S>) -> Walk<S>
+        requires lock { IsSeatOf S.fixed self.now.table.shared.table_id self.now.table.shared.key walk.seat }
+        requires at { walk.at ≡ SlowB }
+        ensures at { result.at ≡ Scan 1 }
+        ensures steps { result.steps ≡ one_more walk.steps }
+        ensures ticket { ticket_of result.number result.seat ≡ ticket_of walk.number walk.seat }
+    {
+        let flag = walk.number as usize + 1;
+        self.table.shared.store::<Stores>(&mut walk.seat, flag, 0);
+        walk.at = At::Scan(1);
+        walk.steps = one_more(walk.steps);
+        walk
+    }
+
+    // load b[j]: on where it is false, else again
+    fn scan(&self, mut walk: Walk<S>, j: u32) -> Walk<S>
+        requires lock { IsSeatOf S.fixed self.now.table.shared.table_id self.now.table.shared.key walk.seat }
+        requires at { walk.at ≡ Scan j }
+        ensures at { IsLine self.now.count (Scan j) result.at }
+        ensures steps { result.steps ≡ one_more walk.steps }
+        ensures ticket { ticket_of result.number result.seat ≡ ticket_of walk.number walk.seat }
+    {
+        let flag = j as usize + 1;
+        let found = self.table.shared.load::<Loads>(&mut walk.seat, flag);
+        walk.at = if found == 1 {
+            At::Scan(j)
+        } else if j == self.count {
+            At::SlowY
+        } else {
+            At::Scan(j + 1)
+        };
+        walk.steps = one_more(walk.steps);
+        walk
+    }
+
+    // load y after the scan: inside where it is i, else wait
+    fn slow_y(&self, mut walk: Walk<S>) -> Walk<S>
+        requires lock { IsSeatOf S.fixed self.now.table.shared.table_id self.now.table.shared.key walk.seat }
+        requires at { walk.at ≡ SlowY }
+        ensures at { (result.at ≡ Slow) ⊎ (result.at ≡ SlowAwait) }
+        ensures steps { result.steps ≡ one_more walk.steps }
+        ensures ticket { ticket_of result.number result.seat ≡ ticket_of walk.number walk.seat }
+    {
+        let number = walk.number as u64;
+        let found = self.table.shared.load::<Tests<S>>(&mut walk.seat, Y);
+        walk.steps = one_more(walk.steps);
+        if found == number {
+            let state = self.take_out(&mut walk.seat);
+            walk.at = At::Slow;
+            let before = walk.state.replace(state);
+            let None = before else { unreachable!() };
+        } else {
+            walk.at = At::SlowAwait;
+        }
+        walk
+    }
+
+    // load y after the scan: begin again where it is 0, else wait
+    fn slow_await(&self, mut walk: Walk<S>) -> Walk<S>
+        requires lock { IsSeatOf S.fixed self.now.table.shared.table_id self.now.table.shared.key walk.seat }
+        requires at { walk.at ≡ SlowAwait }
+        ensures at { (result.at ≡ Start) ⊎ (result.at ≡ SlowAwait) }
+        ensures steps { result.steps ≡ one_more walk.steps }
+        ensures ticket { ticket_of result.number result.seat ≡ ticket_of walk.number walk.seat }
+    {
+        let found = self.table.shared.load::<Loads>(&mut walk.seat, Y);
+        walk.at = if found == 0 { At::Start } else { At::SlowAwait };
+        walk.steps = one_more(walk.steps);
+        walk
+    }
+}
+
+// An entry step by step.
+impl<S: Logged> FastMutex<S> {
+    /// An entry that has not begun: at `At::Rest`, with no word touched.
+    pub fn begin(&self, seat: FastSeat<S>) -> Walk<S>
+        requires { IsSeatOf S.fixed self.now.table.shared.table_id self.now.table.shared.key seat.seat }
+        ensures at { result.at ≡ Rest }
+        ensures steps { result.steps ≡ 0 }
+        ensures ticket { ticket_of result.number result.seat ≡ ticket_of seat.number seat.seat }
+    {
+        let FastSeat { number, seat } = seat;
+        Walk {
+            number,
+            at: At::Rest,
+            steps: 0,
+            state: None,
+            seat,
+        }
+    }
+
+    /// The point of the walk, which says what its next step does.
+    pub fn at(walk: &Walk<S>) -> At
+        ensures { result ≡ walk.now.at }
+    {
+        let Walk { at, .. } = walk;
+        *at
+    }
+
+    /// The next atomic step: one line of the algorithm, one load or store of one word.
+    pub fn step(&self, walk: Walk<S>) -> Walk<S>
+        requires lock { IsSeatOf S.fixed self.now.table.shared.table_id self.now.table.shared.key walk.seat }
+        requires outside { is_inside walk.at ≡ false }
+        ensures line { IsLine self.now.count walk.at result.at }
+        ensures steps { result.steps ≡ pass_steps walk.at walk.steps }
+        ensures ticket { ticket_of result.number result.seat ≡ ticket_of walk.number walk.seat }
+    {
+        match walk.at {
+            At::Rest | At::Start => self.raise_b(walk),
+            At::SetX => self.set_x(walk),
+            At::TestY => self.test_y(walk),
+            At::BackB => self.back_b(walk),
+            At::AwaitY => self.await_y(walk),
+            At::SetY => self.set_y(walk),
+            At::TestX => self.test_x(walk),
+            At::SlowB => self.slow_b(walk),
+            At::Scan(j) => self.scan(walk, j),
+            At::SlowY => self.slow_y(walk),
+            At::SlowAwait => self.slow_await(walk),
+            At::Fast | At::Slow | At::Leaving => unreachable!(),
+        }
+    }
+
+    /// The walk that has come in, as a stay and the state.
+    pub fn admitted(walk: Walk<S>) -> (FastInside<S>, S)
+        requires inside { is_inside walk.at ≡ true }
+        ensures stay { stay_of result.0.number result.0.seat ≡ record (ticket_of walk.number walk.seat) { left = S.items result.1 } }
+        ensures fixed { S.fixed result.1 ≡ (ticket_of walk.number walk.seat).lock.fixed }
+        ensures grows { Grows S.owner walk.number (ticket_of walk.number walk.seat).left (S.items result.1) [] }
+        ensures number { (1 ≤ walk.number) × (walk.number ≤ (ticket_of walk.number walk.seat).lock.count) }
+        ensures steps { (result.0.at ≡ walk.at) × (result.0.steps ≡ walk.steps) }
+    {
+        let Walk {
+            number,
+            at,
+            steps,
+            state,
+            seat,
+        } = walk;
+        let Some(state) = state else { unreachable!() };
+        (
+            FastInside {
+                number,
+                at,
+                steps,
+                seat,
+            },
+            state,
+        )
+    }
+}
+
+// The bodies of the lock's calls, which `fast_lock` names.
+impl<S: Logged> FastMutex<S> {
+    // y := 0, and then b[i] := false
+    pub(crate) fn depart(&self, inside: FastInside<S>, state: S) -> FastSeat<S>
+        requires lock { IsSeatOf S.fixed self.now.table.shared.table_id self.now.table.shared.key inside.seat }
+        requires fixed { S.fixed state ≡ S.fixed self.now.table.shared.key.state.value }
+        requires grows { GrowsBy S.owner inside.number inside.seat.me.0.found (S.items state) }
+        ensures { ticket_of result.number result.seat ≡ record (stay_of inside.number inside.seat) { left = S.items state } }
+    {
+        let FastInside {
+            number,
+            at: _,
+            steps: _,
+            mut seat,
+        } = inside;
+        self.put_in(&mut seat, state);
+        self.table.shared.store::<Leaves<S>>(&mut seat, Y, 0);
+        let flag = number as usize + 1;
+        self.table.shared.store::<Stores>(&mut seat, flag, 0);
+        FastSeat { number, seat }
+    }
+
+    pub(crate) fn at_of(inside: &FastInside<S>) -> At
+        ensures at { result ≡ inside.now.at }
+        ensures inside { is_inside result ≡ true }
+    {
+        inside.at
+    }
+
+    pub(crate) fn steps_of(inside: &FastInside<S>) -> u64
+        ensures steps { result ≡ inside.now.steps }
+        ensures fast { inside.now.at ≡ Fast → result ≡ 5 }
+        ensures slow { inside.now.at ≡ Slow → (stay_of inside.now.number inside.now.seat).lock.count + 7 ≤ result }
+    {
+        inside.steps
+    }
+
+    pub(crate) fn number_of(seat: &FastSeat<S>) -> u32
+        ensures { result ≡ seat.now.number }
+    {
+        seat.number
+    }
+
+    // A lock with the state at home, and the seat at its table that has the numbers of all.
+    fn furnish(
+        alloc: Global,
+        count: u32,
+        state: S,
+    ) -> Result<(FastMutex<S>, TableSeat<S>), (S, AllocError)>
+        requires count { (1 ≤ count) × (count ≤ 32) }
+        requires empty { S.items state ≡ [] }
+        ensures made { IfOk result (λ r. made_with S.fixed r.0.table.shared.key ≡ (count, S.fixed state)) }
+        ensures first { IfOk result (λ r. (r.1.table_id ≡ r.0.table.shared.table_id) × (r.1.me ≡ (first_view S.fixed r.0.table.shared.key, []))) }
+        ensures back { IfErr result (λ r. r.0 ≡ state) }
+    {
+        let mut slots = match Vec::with_capacity(alloc, 1) {
+            Ok(slots) => slots,
+            Err(failed) => return Err((state, failed)),
+        };
+        let about = About {
+            count,
+            state: Snapshot::of(&state),
+        };
+        slots.push_reserved(Some(state));
+        let words = [0u64; 34];
+        match Table::new(alloc, &words[..count as usize + 2], slots, &about) {
+            Ok((table, first)) => Ok((FastMutex { table, count }, first)),
+            Err(Refused { mut slots }) => {
+                let Some(Some(state)) = slots.pop() else {
+                    unreachable!()
+                };
+                slots.destroy_empty();
+                Err((state, AllocError))
+            }
+        }
+    }
+
+    // Deals a seat of its own to the first of the processes that `first` stands for.
+    fn deal_one(&self, first: &mut TableSeat<S>, number: u32) -> FastSeat<S>
+        requires own { first.old.table_id ≡ self.now.table.shared.table_id }
+        requires number { (1 ≤ number) × (number ≤ self.now.count) }
+        requires claims { first.old.me ≡ (seat_view Rest [] (made_with S.fixed self.now.table.shared.key) (new_claims number (suc (self.now.count - number))), []) }
+        ensures own { first.new.table_id ≡ first.old.table_id }
+        ensures claims { first.new.me ≡ (seat_view Rest [] (made_with S.fixed self.now.table.shared.key) (new_claims (number + 1) (self.now.count - number)), []) }
+        ensures ticket { ticket_of result.number result.seat ≡ new_ticket (lock_id self.now.table.shared.table_id (made_with S.fixed self.now.table.shared.key)) number }
+    {
+        let seat = self.table.shared.split_seat::<DealsFirst>(first);
+        FastSeat { number, seat }
+    }
+
+    // Deals a seat to each process.
+    fn deal(&self, mut first: TableSeat<S>, mut seats: Vec<FastSeat<S>>) -> Vec<FastSeat<S>>
+        requires first { (first.table_id ≡ self.now.table.shared.table_id) × (first.me ≡ (first_view S.fixed self.now.table.shared.key, [])) }
+        requires room { (vec_len seats ≡ 0) × (self.now.count ≤ vec_capacity seats) }
+        ensures tickets { map (λ s. ticket_of s.number s.seat) result.items ≡ tickets_from (lock_id self.now.table.shared.table_id (made_with S.fixed self.now.table.shared.key)) 1 self.now.count }
+    {
+        let count = self.count;
+        for number in 1..count {
+            let seat = self.deal_one(&mut first, number);
+            seats.push_reserved(seat);
+        }
+        seats.push_reserved(FastSeat {
+            number: count,
+            seat: first,
+        });
+        seats
+    }
+
+    pub(crate) fn make(
+        alloc: Global,
+        n: u32,
+        state: S,
+    ) -> Result<(FastMutex<S>, Vec<FastSeat<S>>), (S, AllocError)>
+        requires number { (1 ≤ n) × (n ≤ 32) }
+        requires empty { S.items state ≡ [] }
+        ensures lock { IfOk result (λ r. made_with S.fixed r.0.table.shared.key ≡ (n, S.fixed state)) }
+        ensures seats { IfOk result (λ r. map (λ s. ticket_of s.number s.seat) r.1.items ≡ tickets_from (lock_id r.0.table.shared.table_id (made_with S.fixed r.0.table.shared.key)) 1 n) }
+        ensures back { IfErr result (λ r. r.0 ≡ state) }
+    {
+        let seats = match Vec::with_capacity(alloc, n as usize) {
+            Ok(seats) => seats,
+            Err(failed) => return Err((state, failed)),
+        };
+        match FastMutex::furnish(alloc, n, state) {
+            Ok((lock, first)) => {
+                let seats = lock.deal(first, seats);
+                Ok((lock, seats))
+            }
+            Err(refused) => {
+                seats.destroy_empty();
+                Err(refused)
+            }
+        }
+    }
+
+    // Joins the seats to one that stands for all their processes.
+    fn join_all(&self, mut seats: Vec<FastSeat<S>>) -> TableSeat<S>
+        requires some { 0 < vec_len seats }
+        requires own { All (λ s. IsSeatOf S.fixed self.now.table.shared.table_id self.now.table.shared.key s.seat) seats.items }
+        ensures own { result.table_id ≡ self.now.table.shared.table_id }
+        ensures claims { result.me ≡ (seat_view Rest result.me.0.found (made_with S.fixed self.now.table.shared.key) (map (λ s. (s.number, last_left s.seat.me.0.claims)) seats.items), []) }
+    {
+        let Some(
+            FastSeat {
+                number: _,
+                seat: mut all,
+            },
+        ) = seats.pop()
+        else {
+            unreachable!()
+        };
+        while let Some(FastSeat { number: _, seat }) = seats.pop() {
+            self.table.shared.join_seat::<TakesIn>(&mut all, seat);
+        }
+        seats.destroy_empty();
+        all
+    }
+
+    // With all seats nobody is inside, so the state is at home.
+    fn close(self, seats: Vec<FastSeat<S>>) -> S
+        requires all { self.count ≤ vec_len seats }
+        requires own { All (λ s. IsSeatOf S.fixed self.table.shared.table_id self.table.shared.key s.seat) seats.items }
+        ensures fixed { S.fixed result ≡ S.fixed self.table.shared.key.state.value }
+        ensures grows { All (λ s. Grows S.owner s.number (last_left s.seat.me.0.claims) (S.items result) []) seats.items }
+    {
+        let all = self.join_all(seats);
+        let FastMutex { table, count: _ } = self;
+        take_state(table.close_with(all))
+    }
+
+    pub(crate) fn gather(
+        self,
+        seats: Vec<FastSeat<S>>,
+    ) -> Result<S, Missing<FastMutex<S>, FastSeat<S>>>
+        requires own { All (λ s. IsSeatOf S.fixed self.table.shared.table_id self.table.shared.key s.seat) seats.items }
+        ensures all { (self.table.shared.key.count ≤ length seats.items) ↔ IsOk result }
+        ensures fixed { IfOk result (λ s. S.fixed s ≡ S.fixed self.table.shared.key.state.value) }
+        ensures grows { IfOk result (λ s. All (λ t. Grows S.owner t.number (last_left t.seat.me.0.claims) (S.items s) []) seats.items) }
+        ensures back { IfErr result (λ m. (m.whole ≡ self) × (m.parts ≡ seats)) }
+    {
+        if seats.len() < self.count as usize {
+            return Err(Missing {
+                whole: self,
+                parts: seats,
+            });
+        }
+        Ok(self.close(seats))
+    }
+}

@@ -1,0 +1,80 @@
+//! The rule of the words, what each kind of step tells, and how seats split and join.
+use super::view::View;
+use crate::logged::Logged;
+use crate::word::About;
+use atomic_table::{Join, Play, Split, TableRule};
+use std::marker::PhantomData;
+
+pub struct FastRule<S> {
+    of: PhantomData<S>,
+}
+
+impl<S: Logged> TableRule<Option<S>, View<S::Item>, About<S>> for FastRule<S> {
+    ghost use Rattle.fast_mutex.specs.Fast.{KeepsRule, first_view};
+
+    ghost holds = { KeepsRule S.items S.fixed S.owner };
+
+    ghost first = { first_view S.fixed };
+}
+
+/// A store of x, of y := i or of the own flag.
+pub struct Stores;
+
+impl<S: Logged> Play<Option<S>, View<S::Item>> for Stores {
+    ghost use Rattle.fast_mutex.specs.Fast.{IsStore};
+
+    ghost then = { IsStore };
+}
+
+/// A load of y or of a flag, which admits nobody.
+pub struct Loads;
+
+impl<S: Logged> Play<Option<S>, View<S::Item>> for Loads {
+    ghost use Rattle.fast_mutex.specs.Fast.{IsLoad};
+
+    ghost then = { IsLoad };
+}
+
+/// The load of x at `At::TestX` and the load of y at `At::SlowY`, which admit where they find the seat's number.
+pub struct Tests<S> {
+    of: PhantomData<S>,
+}
+
+impl<S: Logged> Play<Option<S>, View<S::Item>> for Tests<S> {
+    ghost use Rattle.fast_mutex.specs.Fast.{IsTest};
+
+    ghost then = { IsTest S.items S.fixed S.owner };
+}
+
+/// The store of 0 to y, which gives the state back.
+pub struct Leaves<S> {
+    of: PhantomData<S>,
+}
+
+impl<S: Logged> Play<Option<S>, View<S::Item>> for Leaves<S> {
+    ghost use Rattle.fast_mutex.specs.Fast.{IsLeave};
+
+    ghost then = { IsLeave S.items };
+}
+
+/// A new seat gets the first claim.
+pub struct DealsFirst;
+
+impl<I> Split<View<I>> for DealsFirst {
+    ghost use Rattle.fast_mutex.specs.Fast.{view_of_others, view_of_first};
+
+    ghost left = { view_of_others };
+
+    ghost right = { view_of_first };
+}
+
+/// A seat takes in the claims of another.
+pub struct TakesIn;
+
+impl<I> Join<View<I>> for TakesIn {
+    ghost use Rattle.fast_mutex.specs.Fast.{joint_view, spent_view};
+
+    ghost both = { joint_view };
+
+    ghost spent = { spent_view };
+}

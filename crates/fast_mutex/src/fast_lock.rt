@@ -1,0 +1,88 @@
+//! Lamport's lock as a `Lock`. It stands outside the module that has the words: an entry is made of public steps.
+ghost use Rattle.std.specs.Prelude.{◌≡◌, ◌≤◌, ◌+◌, ◌↔◌, [], length, IfOk, IfErr, IsOk};
+ghost use Rattle.std.specs.List.{All};
+ghost use Rattle.lamport_core.specs.declared.At.TheVariants.{Fast as FastAt, Slow as SlowAt};
+ghost use Rattle.fast_mutex.specs.Items.{Grows};
+ghost use Rattle.fast_mutex.specs.Word.{lock_id, made_with};
+ghost use Rattle.fast_mutex.specs.Fast.{ticket_of, stay_of};
+ghost use Rattle.fast_mutex.specs.declared.lock.Path.TheVariants.{Fast};
+
+use crate::fast::{FastInside, FastMutex, FastSeat};
+use crate::lock::{Lock, Missing, Path};
+use crate::logged::Logged;
+use crossbeam_utils::Backoff;
+use lamport_core::At;
+use std::alloc::{AllocError, Global};
+use std::sync::Wait;
+
+impl<S: Logged + Drop> Lock<S> for FastMutex<S> {
+    type Seat = FastSeat<S>;
+
+    type Inside = FastInside<S>;
+
+    ghost id = { λ l. lock_id l.table.shared.table_id (made_with S.fixed l.table.shared.key) };
+
+    ghost ticket = { λ s. ticket_of s.number s.seat };
+
+    ghost stay = { λ s. stay_of s.number s.seat };
+
+    fn new(
+        alloc: Global,
+        n: u32,
+        state: S,
+    ) -> Result<(FastMutex<S>, Vec<FastSeat<S>>), (S, AllocError)> {
+        FastMutex::make(alloc, n, state)
+    }
+
+    fn number(seat: &FastSeat<S>) -> u32 {
+        FastMutex::number_of(seat)
+    }
+
+    /// Step by step. It backs off where the algorithm waits: for y to be 0, and in the scan of the flags.
+    fn enter<R: Wait>(&self, rt: &R, seat: FastSeat<S>) -> (FastInside<S>, S) {
+        let mut walk = self.begin(seat);
+        let backoff = Backoff::new();
+        for _ in rt.forever() {
+            walk = self.step(walk);
+            match FastMutex::at(&walk) {
+                At::Fast | At::Slow => return FastMutex::admitted(walk),
+                At::AwaitY | At::Scan(_) | At::SlowAwait => backoff.snooze(),
+                _ => {}
+            }
+        }
+        unreachable!()
+    }
+
+    /// `Path::Fast` exactly where the walk came in at `At::Fast`.
+    fn path(inside: &FastInside<S>) -> Path
+        ensures { (inside.now.at ≡ FastAt) ↔ (result ≡ Fast) }
+    {
+        match FastMutex::at_of(inside) {
+            At::Fast => Path::Fast,
+            _ => Path::Slow,
+        }
+    }
+
+    /// The steps of the walk: 5 on the fast path, and at least n + 7 on the slow path.
+    fn steps(inside: &FastInside<S>) -> u64
+        ensures steps { result ≡ inside.now.steps }
+        ensures fast { inside.now.at ≡ FastAt → result ≡ 5 }
+        ensures slow { inside.now.at ≡ SlowAt → (stay_of inside.now.number inside.now.seat).lock.count + 7 ≤ result }
+    {
+        FastMutex::steps_of(inside)
+    }
+
+    fn leave(&self, inside: FastInside<S>, state: S) -> FastSeat<S> {
+        self.depart(inside, state)
+    }
+
+    fn finish(self, seats: Vec<FastSeat<S>>) -> Result<S, Missing<FastMutex<S>, FastSeat<S>>>
+        requires { All (λ s. (⟦<Self as Lock<S>>⟧.ticket s).lock ≡ ⟦<Self as Lock<S>>⟧.id self) seats.items }
+        ensures all { ((⟦<Self as Lock<S>>⟧.id self).count ≤ length seats.items) ↔ IsOk result }
+        ensures fixed { IfOk result (λ s. S.fixed s ≡ (⟦<Self as Lock<S>>⟧.id self).fixed) }
+        ensures grows { IfOk result (λ s. All (λ t. Grows S.owner (⟦<Self as Lock<S>>⟧.ticket t).number (⟦<Self as Lock<S>>⟧.ticket t).left (S.items s) []) seats.items) }
+        ensures back { IfErr result (λ m. (m.whole ≡ self) × (m.parts ≡ seats)) }
+    {
+        self.gather(seats)
+    }
+}

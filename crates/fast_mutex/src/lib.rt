@@ -1,0 +1,15 @@
+//! Locks that hand a state from process to process, and say what each finds when it enters.
+#![tactic(auto)]
+
+mod fast;
+mod fast_lock;
+mod lock;
+mod logged;
+#[cfg(test)]
+mod tests;
+mod word;
+
+pub use fast::{FastInside, FastMutex, FastSeat, Walk};
+pub use lock::{Lock, Missing, Path};
+pub use logged::Logged;
+pub use word::{WordInside, WordLock, WordSeat};

@@ -1,0 +1,89 @@
+//! The contract of a lock: what a process finds when it enters, and what it owes when it leaves.
+ghost use Rattle.std.specs.Prelude.{◌≡◌, ◌≤◌, ◌↔◌, ℕ, true, false, List, [], map, length, IfOk, IfErr, IsOk};
+ghost use Rattle.std.specs.List.{All};
+ghost use Rattle.fast_mutex.specs.Items.{LockId, Ticket, tickets_from, Grows, GrowsBy};
+
+use crate::logged::Logged;
+use std::alloc::{AllocError, Global};
+use std::sync::Wait;
+
+/// How a process got in, in the words of Lamport, "A Fast Mutual Exclusion Algorithm" (1987).
+#[derive(Clone, Copy, Debug, PartialEq, Eq)]
+pub enum Path {
+    /// By finding its own number in x, with no look at the flags of others.
+    Fast,
+    /// By finding its own number in y, behind a wait for the flag of each other process.
+    Slow,
+}
+
+/// `finish` was given fewer seats than the lock has: the lock and the seats come back as they were.
+#[derive(Drop)]
+pub struct Missing<L, T> {
+    pub whole: L,
+    pub parts: Vec<T>,
+}
+
+/// A lock round a state, which it hands to the one process that is inside.
+///
+/// While a process is outside, others put items of their own in front of the state's list, and nothing else happens to it.
+/// So who enters finds the list that it last left, with items of others alone in front.
+/// No call says that a process that waits ever gets in, or who is next.
+pub trait Lock<S: Logged>: Sized + Drop {
+    /// The right of one process to enter. A seat that is dropped is lost, and the lock can then not be finished.
+    type Seat: Drop;
+
+    /// One stay of a process inside, which `leave` has to spend.
+    type Inside;
+
+    // what the lock was made with
+    ghost id: { Self → LockId };
+
+    // what a seat knows
+    ghost ticket: { Self.Seat → Ticket S.Item };
+
+    // what who is inside knows: its `left` is the list found
+    ghost stay: { Self.Inside → Ticket S.Item };
+
+    /// A lock for the processes 1 to `n`, and their seats in order, which have left the empty list.
+    /// It takes all the memory that later calls need. At want of memory it hands the state back.
+    fn new(alloc: Global, n: u32, state: S) -> Result<(Self, Vec<Self::Seat>), (S, AllocError)>
+        requires number { (1 ≤ n) × (n ≤ 32) }
+        requires empty { S.items state ≡ [] }
+        ensures lock { IfOk result (λ r. ((id r.0).count ≡ n) × ((id r.0).fixed ≡ S.fixed state)) }
+        ensures seats { IfOk result (λ r. map ticket r.1.items ≡ tickets_from (id r.0) 1 n) }
+        ensures back { IfErr result (λ r. r.0 ≡ state) };
+
+    /// The process of the seat.
+    fn number(seat: &Self::Seat) -> u32
+        ensures { result ≡ (ticket seat.now).number };
+
+    /// Waits until nobody else is inside, and takes the state.
+    fn enter<R: Wait>(&self, rt: &R, seat: Self::Seat) -> (Self::Inside, S)
+        requires { (ticket seat).lock ≡ id self.now }
+        ensures stay { stay result.0 ≡ record (ticket seat) { left = S.items result.1 } }
+        ensures fixed { S.fixed result.1 ≡ (id self.now).fixed }
+        ensures grows { Grows S.owner (ticket seat).number (ticket seat).left (S.items result.1) [] }
+        ensures told { (ticket seat).told ≡ true → S.is_answered (ticket seat).number (S.items result.1) ≡ true }
+        ensures number { (1 ≤ (ticket seat).number) × ((ticket seat).number ≤ (id self.now).count) };
+
+    /// How this stay was entered. Each lock says which paths it has.
+    fn path(inside: &Self::Inside) -> Path;
+
+    /// The atomic steps of the pass that was admitted, in Lamport's algorithm from its last `b[i] := true` on, at most `u64::MAX`.
+    fn steps(inside: &Self::Inside) -> u64;
+
+    /// Gives the state back, whose list is the one found with items of this process alone in front. It never waits.
+    fn leave(&self, inside: Self::Inside, state: S) -> Self::Seat
+        requires lock { (stay inside).lock ≡ id self.now }
+        requires fixed { S.fixed state ≡ (id self.now).fixed }
+        requires grows { GrowsBy S.owner (stay inside).number (stay inside).left (S.items state) }
+        ensures { ticket result ≡ record (stay inside) { left = S.items state; told = false } };
+
+    /// Ends the lock and takes the state: with all seats outside nobody is inside. It never waits, and takes no memory.
+    fn finish(self, seats: Vec<Self::Seat>) -> Result<S, Missing<Self, Self::Seat>>
+        requires { All (λ s. (ticket s).lock ≡ id self) seats.items }
+        ensures all { ((id self).count ≤ length seats.items) ↔ IsOk result }
+        ensures fixed { IfOk result (λ s. S.fixed s ≡ (id self).fixed) }
+        ensures grows { IfOk result (λ s. All (λ t. Grows S.owner (ticket t).number (ticket t).left (S.items s) []) seats.items) }
+        ensures back { IfErr result (λ m. (m.whole ≡ self) × (m.parts ≡ seats)) };
+}

@@ -1,0 +1,5 @@
+pub mod State
+pub mod Safe
+pub mod Line
+pub mod Machine
+pub mod Laws

@@ -1,8 +1,0 @@
-use Rattle.std.proofs.Common.{◌≡◌, ◌≤◌, length, not}
-use Rattle.std.specs.List.{filter}
-use Rattle.mq_core.specs.Record.{first}
-use Rattle.mq_core.specs.Messages.{is_in, admitted_waits}
-use Rattle.mq_core.proofs.scan_messages.is_admitted.Given as goal
-
-abbrev pub invariant-loop-i : goal.invariant-loop-i
-invariant-loop-i l = l.found ≡ is_in (admitted_waits (first l.i l.journal.records)) l.w

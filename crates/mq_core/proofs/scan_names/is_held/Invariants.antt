@@ -1,9 +1,0 @@
-use Rattle.std.proofs.Common.{◌≡◌, ◌≤◌, length, not}
-use Rattle.mq_core.specs.Record.{first}
-use Rattle.std.specs.List.{list_any}
-use Rattle.std.specs.Option.{option_map}
-use Rattle.mq_core.specs.Descriptors.{is_place, held, openers, is_held}
-use Rattle.mq_core.proofs.scan_names.is_held.Given as goal
-
-abbrev pub invariant-loop-i : goal.invariant-loop-i
-invariant-loop-i l = is_held (first l.k l.journal.records) l.q ≡ list_any (λ x. is_place l.q (option_map (λ h. h.queue) (held (first l.k l.journal.records) x.process x.d))) (openers (first l.i l.journal.records))

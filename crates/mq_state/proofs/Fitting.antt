@@ -1,0 +1,377 @@
+-- A message that was accepted fits the buffers of its queue.
+use Rattle.std.proofs.Common.{◌≡◌, ◌≢◌, ℕ, suc, ◌+◌, ◌<◌, ◌≤◌, ◌==◌, Bool, true, false, ◌&&◌, ◌||◌, not, List, [], ◌∷◌, length, Option, Some, None, is_some, if◌then◌else◌, refl, sym, ◌∙◌, ap, subst, arith, eqb-true, eq-eqb, ne_eqb, ◌⊎◌, inl, inr}
+use Rattle.std.specs.Prelude.{ℤ, int_lt, pos, negsuc}
+use Rattle.std.specs.List.{find}
+use Rattle.std.specs.Option.{option_map, option_and_then, unwrap_or}
+use Rattle.std.proofs.lemmas.Bool.{eqb-false, and_parts}
+use Rattle.std.proofs.lemmas.Bool.Decides.{nat_tests}
+use Rattle.mq_core.specs.Record.{Record, Past, record_at}
+use Rattle.mq_core.specs.Names.{attributes}
+use Rattle.mq_core.specs.Descriptors.{held, called_queue, is_place, is_on}
+use Rattle.mq_core.specs.Messages.{is_in, is_send, is_receive, with_place, if_in, queues, admits, blocks_send, blocks_receive, blocked_sends, blocked_receives, waiting_sends, waiting_receives, admitted_waits, handed_waits, entered, admitted, present, best, least}
+use Rattle.mq_core.specs.Waits.{is_wait, open_wait, named_wait, names_wait, answered_by}
+use Rattle.mq_core.specs.Answer.{Legal, IsLegalNext, answer, is_refused, is_payload}
+use Rattle.mq_core.specs.declared.entries.Call.{Call}
+use Rattle.mq_core.specs.declared.entries.Call.TheVariants.{MqOpen, MqClose, MqUnlink, MqSend, MqReceive, MqGetattr, MqSetattr, MqNotify, NextNotice, Collect}
+use Rattle.mq_core.specs.declared.entries.Reply.{Reply}
+use Rattle.mq_core.specs.declared.entries.Reply.TheVariants.{Opened, Queued, Handed, Waits, Got, Collected, Attrs, Notice, Done, Refused}
+use Rattle.mq_core.proofs.Places.{split, clash, find-in, is_in-filter}
+use Rattle.mq_core.proofs.Cases.{Says, answer_says}
+use Rattle.mq_core.proofs.LegalReplies.{legal_says}
+use Rattle.mq_core.proofs.Frames.{record_at-older}
+use Rattle.mq_core.proofs.Steps.{blocked_sends-below, admitted-below, if_in-inside}
+use Rattle.mq_core.proofs.Presence.{sent_to, present-admitted}
+use Rattle.mq_core.proofs.NamedWaits.{least-in}
+use Rattle.mq_core.proofs.Waiters.{open_wait-process}
+use Rattle.mq_core.proofs.Prefixes.{record_at-below}
+use Rattle.mq_state.specs.Buffers.{message_at, Fits}
+use Rattle.mq_core.specs.declared.entries.Attr.{Attr}
+use Rattle.mq_core.specs.declared.entries.Description.{Description}
+use Rattle.mq_state.proofs.QueuesNoted.{sent_to-below}
+use Rattle.mq_state.proofs.QueuesKeep.{called-alive, alive-below, attributes-older}
+
+-- a send to queue q that was not refused
+pub record IsSentTo (past : Past) (q m : ℕ) : Type 0 where
+  pub r : Record
+  pub at : record_at past m ≡ Some r
+  pub sends : is_send r.entry.call ≡ true
+  pub goes : is_refused r.entry.reply ≡ false
+  pub to : sent_to past m ≡ Some q
+
+sent-older : (past : Past) (s : Record) (q m : ℕ) → IsSentTo past q m → IsSentTo (s ∷ past) q m
+sent-older past s q m x =
+    let lt = record_at-below past m x.r x.at in
+    record { r = x.r; at = record_at-older past s m lt ∙ x.at; sends = x.sends; goes = x.goes; to = rw (ne_eqb m (length past) (λ e. omega (arith, lt))) x.to }
+
+sent-here : (past : Past) (s : Record) (q m : ℕ) → length past ≡ m → is_send s.entry.call ≡ true → is_refused s.entry.reply ≡ false → is_place q (called_queue past s.entry.process s.entry.call) ≡ true → IsSentTo (s ∷ past) q m
+sent-here past s q m here sends goes on =
+    let test : (m == length past) ≡ true = eq-eqb m (length past) (sym here) in
+    record { r = s; at = rw test refl; sends = sends; goes = goes; to = rw test (place-is (called_queue past s.entry.process s.entry.call) q on) }
+  where
+    place-is : (o : Option ℕ) (q : ℕ) → is_place q o ≡ true → o ≡ Some q
+    place-is None q e = absurd (cc)
+    place-is (Some k) q e = ap Some (eqb-true _ _ e)
+
+blocks-facts : (call : Call) (reply : Reply) → blocks_send call reply ≡ true → (is_send call ≡ true) × (is_refused reply ≡ false)
+blocks-facts call Waits e = (e, refl)
+blocks-facts call (Opened d c) e = absurd (cc)
+blocks-facts call (Queued n) e = absurd (cc)
+blocks-facts call (Handed w) e = absurd (cc)
+blocks-facts call (Got m a n) e = absurd (cc)
+blocks-facts call (Collected b) e = absurd (cc)
+blocks-facts call (Attrs s) e = absurd (cc)
+blocks-facts call (Notice v) e = absurd (cc)
+blocks-facts call Done e = absurd (cc)
+blocks-facts call (Refused f) e = absurd (cc)
+
+queues-facts : (call : Call) (reply : Reply) → queues call reply ≡ true → (is_send call ≡ true) × (is_refused reply ≡ false)
+queues-facts call (Queued n) e = (e, refl)
+queues-facts call (Opened d c) e = absurd (cc)
+queues-facts call (Handed w) e = absurd (cc)
+queues-facts call Waits e = absurd (cc)
+queues-facts call (Got m a n) e = absurd (cc)
+queues-facts call (Collected b) e = absurd (cc)
+queues-facts call (Attrs s) e = absurd (cc)
+queues-facts call (Notice v) e = absurd (cc)
+queues-facts call Done e = absurd (cc)
+queues-facts call (Refused f) e = absurd (cc)
+
+blocked-sent : (past : Past) (q w : ℕ) → is_in (blocked_sends past q) w ≡ true → IsSentTo past q w
+blocked-sent [] q w h = absurd (cc)
+blocked-sent (s ∷ past) q w h = split (blocks_send s.entry.call s.entry.reply && is_on past s.entry q)
+    (λ t. let new : (length past == w || is_in (blocked_sends past q) w) ≡ true = rw t at h in
+      let parts = and_parts (blocks_send s.entry.call s.entry.reply) (is_on past s.entry q) t in
+      let facts = blocks-facts s.entry.call s.entry.reply parts.0 in
+      split (length past == w)
+      (λ e. sent-here past s q w (eqb-true _ _ e) facts.0 facts.1 parts.1)
+      (λ n. sent-older past s q w (blocked-sent past q w (rw n at new))))
+    (λ f. sent-older past s q w (blocked-sent past q w (rw f at h)))
+
+admitted-sent : (past : Past) (q m : ℕ) → is_in (admitted past q) m ≡ true → IsSentTo past q m
+admitted-sent [] q m h = absurd (cc)
+admitted-sent (s ∷ past) q m h = by (entered past s.entry q) refl h (λ rest. admitted-sent past q m rest)
+  where
+    here : entered past s.entry q ≡ Some m → IsSentTo (s ∷ past) q m
+    here e = split (queues s.entry.call s.entry.reply && is_on past s.entry q)
+        (λ t. let is : Some (length past) ≡ Some m = rw t at e in let same : length past ≡ m = cc in
+          let parts = and_parts (queues s.entry.call s.entry.reply) (is_on past s.entry q) t in
+          let facts = queues-facts s.entry.call s.entry.reply parts.0 in
+          sent-here past s q m same facts.0 facts.1 parts.1)
+        (λ f. let is : if_in (blocked_sends past q) (admits s.entry.reply) ≡ Some m = rw f at e in
+          sent-older past s q m (blocked-sent past q m (if_in-inside (blocked_sends past q) (admits s.entry.reply) m is).0))
+
+    by : (o : Option ℕ) → entered past s.entry q ≡ o → is_in (with_place (entered past s.entry q) (admitted past q)) m ≡ true → (is_in (admitted past q) m ≡ true → IsSentTo past q m) → IsSentTo (s ∷ past) q m
+    by None e h rest = let old : is_in (admitted past q) m ≡ true = rw e at h in sent-older past s q m (rest old)
+    by (Some k) e h rest =
+        let h' : (k == m || is_in (admitted past q) m) ≡ true = rw e at h in
+        split (k == m)
+        (λ t. let same : k ≡ m = eqb-true _ _ t in here (e ∙ ap Some same))
+        (λ f. let old : is_in (admitted past q) m ≡ true = rw f at h' in sent-older past s q m (rest old))
+
+-- what a send that was not refused says of its length
+send-fits : (past : Past) (p : ℕ) (call : Call) (reply : Reply) (payload : List ℕ) (q : ℕ) → Says past p call reply → is_payload call reply payload ≡ true → is_send call ≡ true → is_refused reply ≡ false → called_queue past p call ≡ Some q →
+    int_lt (attributes past q).msgsize (pos (length payload)) ≡ false
+send-fits past p (MqSend d prio len) reply payload q says paid sends goes on = by reply says goes paid
+  where
+    facts : (h : Description) → held past p d ≡ Some h → int_lt (attributes past h.queue).msgsize (pos len) ≡ false → length payload ≡ len → int_lt (attributes past q).msgsize (pos (length payload)) ≡ false
+    facts h is fits long =
+        let at : Some h.queue ≡ Some q = rw is at on in
+        let same : h.queue ≡ q = cc in
+        ap (λ k. int_lt (attributes past k).msgsize (pos (length payload))) (sym same) ∙ ap (λ n. int_lt (attributes past h.queue).msgsize (pos n)) long ∙ fits
+
+    long : (reply : Reply) → is_refused reply ≡ false → (length payload == (if is_refused reply then 0 else len)) ≡ true → length payload ≡ len
+    long reply goes paid = eqb-true _ _ (rw goes at paid)
+
+    by : (reply : Reply) → Says past p (MqSend d prio len) reply → is_refused reply ≡ false → is_payload (MqSend d prio len) reply payload ≡ true → int_lt (attributes past q).msgsize (pos (length payload)) ≡ false
+    by (Queued n) says goes paid = facts says.0 says.1 says.2.fits (long (Queued n) refl paid)
+    by (Handed w) says goes paid = facts says.0 says.1 says.2.fits (long (Handed w) refl paid)
+    by Waits says goes paid = facts says.0 says.1 says.2.fits (long Waits refl paid)
+    by (Refused f) says goes paid = absurd (let bad : true ≡ false = goes in cc)
+    by (Opened e c) says goes paid = absurd says.3
+    by (Got m a n) says goes paid = absurd says.3
+    by (Collected b) says goes paid = absurd says.3
+    by (Attrs s) says goes paid = absurd says.3
+    by (Notice v) says goes paid = absurd says.3
+    by Done says goes paid = absurd says.3
+send-fits past p (MqOpen flags attr) reply payload q says paid sends goes on = absurd (cc)
+send-fits past p (MqClose d) reply payload q says paid sends goes on = absurd (cc)
+send-fits past p MqUnlink reply payload q says paid sends goes on = absurd (cc)
+send-fits past p (MqReceive d room) reply payload q says paid sends goes on = absurd (cc)
+send-fits past p (MqGetattr d) reply payload q says paid sends goes on = absurd (cc)
+send-fits past p (MqSetattr d nonblock) reply payload q says paid sends goes on = absurd (cc)
+send-fits past p (MqNotify d value) reply payload q says paid sends goes on = absurd (cc)
+send-fits past p NextNotice reply payload q says paid sends goes on = absurd (cc)
+send-fits past p Collect reply payload q says paid sends goes on = absurd (cc)
+
+-- a message that was sent to a queue is at most its msgsize long
+pub sent-fits : (past : Past) → Legal past → (q m : ℕ) → IsSentTo past q m → int_lt (attributes past q).msgsize (pos (length (message_at past m))) ≡ false
+sent-fits [] legal q m x = absurd (let bad = x.at in cc)
+sent-fits (s ∷ past) legal q m x = split (m == length past)
+    (λ t. let is : Some s ≡ Some x.r = rw t at x.at in let same : s ≡ x.r = cc in
+      let on : called_queue past s.entry.process s.entry.call ≡ Some q = rw t at x.to in
+      let lt = alive-below past q (called-alive past legal.0 s.entry.process s.entry.call q on) in
+      let message : message_at (s ∷ past) m ≡ s.payload = rw t refl in
+      ap (λ xs. int_lt (attributes (s ∷ past) q).msgsize (pos (length xs))) message
+      ∙ ap (λ a. int_lt a (pos (length s.payload))) (ap (λ (b : Attr). b.msgsize) (attributes-older past s q lt))
+      ∙ send-fits past s.entry.process s.entry.call s.entry.reply s.payload q (legal_says past s legal.1) legal.1.payload (ap (λ (y : Record). is_send y.entry.call) same ∙ x.sends) (ap (λ (y : Record). is_refused y.entry.reply) same ∙ x.goes) on)
+    (λ n. let old : IsSentTo past q m = record { r = x.r; at = rw n at x.at; sends = x.sends; goes = x.goes; to = rw n at x.to } in
+      let lt = record_at-below past m x.r old.at in
+      let below = sent_to-below past legal.0 m q old.to in
+      ap (λ xs. int_lt (attributes (s ∷ past) q).msgsize (pos (length xs))) (ap (λ o. unwrap_or (option_map (λ (y : Record). y.payload) o) []) (record_at-older past s m lt))
+      ∙ ap (λ a. int_lt a (pos (length (message_at past m)))) (ap (λ (b : Attr). b.msgsize) (attributes-older past s q below))
+      ∙ sent-fits past legal.0 q m old)
+
+int-chain : (a : ℤ) (m n : ℕ) → int_lt a (pos m) ≡ false → int_lt (pos n) a ≡ false → m ≤ n
+int-chain (pos k) m n h g = grind (arith, nat_tests)
+int-chain (negsuc k) m n h g = absurd (let bad : true ≡ false = h in cc)
+
+-- the message that a receive gets fits its buffer
+pub received-fits : (past : Past) → Legal past → (p d room m : ℕ) (a n : Option ℕ) → Says past p (MqReceive d room) (Got m a n) → length (message_at past m) ≤ room
+received-fits past legal p d room m a n says =
+    let inside = (find-in _ (present past says.0.queue) m says.3.0).0 in
+    int-chain (attributes past says.0.queue).msgsize (length (message_at past m)) room
+      (sent-fits past legal says.0.queue m (admitted-sent past says.0.queue m (present-admitted past says.0.queue m inside)))
+      says.2.fits
+
+pub reply-fits : (past : Past) → Legal past → (p d room : ℕ) (reply : Reply) → reply ≡ answer past p (MqReceive d room) [] → Fits past reply room
+reply-fits past legal p d room reply is = by reply (subst (Says past p (MqReceive d room)) (sym is) (answer_says past p (MqReceive d room) []))
+  where
+    by : (reply : Reply) → Says past p (MqReceive d room) reply → Fits past reply room
+    by (Got m a n) says = received-fits past legal p d room m a n says
+    by (Opened e c) says = tt
+    by (Queued n) says = tt
+    by (Handed w) says = tt
+    by Waits says = tt
+    by (Collected b) says = tt
+    by (Attrs s) says = tt
+    by (Notice v) says = tt
+    by Done says = tt
+    by (Refused f) says = tt
+
+-- what answers a waiting receive -----------------------------------------------------------------------------------------
+
+not-receive : (call : Call) (reply : Reply) → is_receive call ≡ false → blocks_receive call reply ≡ true → ⊥
+not-receive call Waits off b = clash (is_receive call) b off
+not-receive call (Opened x y) off b = cc
+not-receive call (Queued n) off b = cc
+not-receive call (Handed k) off b = cc
+not-receive call (Got m a n) off b = cc
+not-receive call (Collected k) off b = cc
+not-receive call (Attrs x) off b = cc
+not-receive call (Notice v) off b = cc
+not-receive call Done off b = cc
+not-receive call (Refused f) off b = cc
+
+blocked-on-below : (past : Past) → Legal past → (q w : ℕ) → is_in (blocked_receives past q) w ≡ true → q < length past
+blocked-on-below [] legal q w h = absurd (cc)
+blocked-on-below (s ∷ past) legal q w h = split (blocks_receive s.entry.call s.entry.reply && is_on past s.entry q)
+    (λ t. let parts = and_parts (blocks_receive s.entry.call s.entry.reply) (is_on past s.entry q) t in
+      let lt = on-alive (called_queue past s.entry.process s.entry.call) refl parts.1 in omega (arith, lt))
+    (λ f. let lt = blocked-on-below past legal.0 q w (rw f at h) in omega (arith, lt))
+  where
+    on-alive : (o : Option ℕ) → called_queue past s.entry.process s.entry.call ≡ o → is_place q (called_queue past s.entry.process s.entry.call) ≡ true → q < length past
+    on-alive None is t = absurd (let bad : false ≡ true = rw is at t in cc)
+    on-alive (Some k) is t = let t' : (k == q) ≡ true = rw is at t in alive-below past q (called-alive past legal.0 s.entry.process s.entry.call q (is ∙ ap Some (eqb-true _ _ t')))
+
+-- a receive that blocked on queue q has a buffer as long as its msgsize
+pub record IsReceiveOn (past : Past) (q w : ℕ) : Type 0 where
+  pub r : Record
+  pub d : ℕ
+  pub room : ℕ
+  pub at : record_at past w ≡ Some r
+  pub call : r.entry.call ≡ MqReceive d room
+  pub roomy : int_lt (pos room) (attributes past q).msgsize ≡ false
+
+receive-older : (past : Past) (s : Record) (q w : ℕ) → q < length past → IsReceiveOn past q w → IsReceiveOn (s ∷ past) q w
+receive-older past s q w lt x =
+    let below = record_at-below past w x.r x.at in
+    record { r = x.r; d = x.d; room = x.room; at = record_at-older past s w below ∙ x.at; call = x.call; roomy = ap (λ (b : Attr). int_lt (pos x.room) b.msgsize) (attributes-older past s q lt) ∙ x.roomy }
+
+receive-here : (past : Past) → Legal past → (s : Record) (q : ℕ) → Says past s.entry.process s.entry.call s.entry.reply → blocks_receive s.entry.call s.entry.reply ≡ true → is_place q (called_queue past s.entry.process s.entry.call) ≡ true → IsReceiveOn (s ∷ past) q (length past)
+receive-here past legal s q says blocks on = by s.entry.call refl s.entry.reply refl says blocks on
+  where
+    place-is : (o : Option ℕ) (q : ℕ) → is_place q o ≡ true → o ≡ Some q
+    place-is None q e = absurd (cc)
+    place-is (Some k) q e = ap Some (eqb-true _ _ e)
+
+    waits : (d room : ℕ) → s.entry.call ≡ MqReceive d room → (h : Description) → held past s.entry.process d ≡ Some h → int_lt (pos room) (attributes past h.queue).msgsize ≡ false → is_place q (called_queue past s.entry.process (MqReceive d room)) ≡ true → IsReceiveOn (s ∷ past) q (length past)
+    waits d room is h held_at fits on =
+        let called : called_queue past s.entry.process (MqReceive d room) ≡ Some q = place-is _ q on in
+        let lt = alive-below past q (called-alive past legal s.entry.process (MqReceive d room) q called) in
+        let at : Some h.queue ≡ Some q = rw held_at at called in
+        let same : h.queue ≡ q = cc in
+        record { r = s; d = d; room = room; at = rw (eq-eqb (length past) (length past) refl) refl; call = is; roomy = ap (λ (b : Attr). int_lt (pos room) b.msgsize) (attributes-older past s q lt) ∙ ap (λ k. int_lt (pos room) (attributes past k).msgsize) (sym same) ∙ fits }
+
+    by : (call : Call) → s.entry.call ≡ call → (reply : Reply) → s.entry.reply ≡ reply → Says past s.entry.process call reply → blocks_receive call reply ≡ true → is_place q (called_queue past s.entry.process call) ≡ true → IsReceiveOn (s ∷ past) q (length past)
+    by (MqReceive d room) c Waits e says b on = waits d room c says.0 says.1 says.2.fits on
+    by (MqReceive d room) c (Opened x y) e says b on = absurd (cc)
+    by (MqReceive d room) c (Queued n) e says b on = absurd (cc)
+    by (MqReceive d room) c (Handed k) e says b on = absurd (cc)
+    by (MqReceive d room) c (Got m a n) e says b on = absurd (cc)
+    by (MqReceive d room) c (Collected k) e says b on = absurd (cc)
+    by (MqReceive d room) c (Attrs x) e says b on = absurd (cc)
+    by (MqReceive d room) c (Notice v) e says b on = absurd (cc)
+    by (MqReceive d room) c Done e says b on = absurd (cc)
+    by (MqReceive d room) c (Refused f) e says b on = absurd (cc)
+    by (MqOpen flags attr) c reply e says b on = absurd (not-receive (MqOpen flags attr) reply refl b)
+    by (MqClose d) c reply e says b on = absurd (not-receive (MqClose d) reply refl b)
+    by MqUnlink c reply e says b on = absurd (not-receive MqUnlink reply refl b)
+    by (MqSend d prio len) c reply e says b on = absurd (not-receive (MqSend d prio len) reply refl b)
+    by (MqGetattr d) c reply e says b on = absurd (not-receive (MqGetattr d) reply refl b)
+    by (MqSetattr d nonblock) c reply e says b on = absurd (not-receive (MqSetattr d nonblock) reply refl b)
+    by (MqNotify d value) c reply e says b on = absurd (not-receive (MqNotify d value) reply refl b)
+    by NextNotice c reply e says b on = absurd (not-receive NextNotice reply refl b)
+    by Collect c reply e says b on = absurd (not-receive Collect reply refl b)
+
+blocked-receive : (past : Past) → Legal past → (q w : ℕ) → is_in (blocked_receives past q) w ≡ true → IsReceiveOn past q w
+blocked-receive [] legal q w h = absurd (cc)
+blocked-receive (s ∷ past) legal q w h = split (blocks_receive s.entry.call s.entry.reply && is_on past s.entry q)
+    (λ t. let new : (length past == w || is_in (blocked_receives past q) w) ≡ true = rw t at h in
+      let parts = and_parts (blocks_receive s.entry.call s.entry.reply) (is_on past s.entry q) t in
+      split (length past == w)
+      (λ e. let same : length past ≡ w = eqb-true _ _ e in subst (IsReceiveOn (s ∷ past) q) same (receive-here past legal.0 s q (legal_says past s legal.1) parts.0 parts.1))
+      (λ n. older (rw n at new) (blocked-receive past legal.0 q w (rw n at new))))
+    (λ f. older (rw f at h) (blocked-receive past legal.0 q w (rw f at h)))
+  where
+    older : is_in (blocked_receives past q) w ≡ true → IsReceiveOn past q w → IsReceiveOn (s ∷ past) q w
+    older h x = receive-older past s q w (blocked-on-below past legal.0 q w h) x
+
+open_wait-below : (past : Past) (p w : ℕ) → open_wait past p ≡ Some w → w < length past
+open_wait-below past p w e = by (record_at past w) refl (open_wait-process past p w e)
+  where
+    by : (o : Option Record) → record_at past w ≡ o → option_map (λ r. r.entry.process) (record_at past w) ≡ Some p → w < length past
+    by None is h = absurd (let bad : None ≡ Some p = rw is at h in cc)
+    by (Some r) is h = record_at-below past w r is
+
+answered-below : (past : Past) (p b : ℕ) → answered_by past p ≡ Some b → b < length past
+answered-below [] p b e = absurd (cc)
+answered-below (s ∷ past) p b e = split (s.entry.process == p)
+    (λ own. let bad : None ≡ Some b = rw own at e in absurd (cc))
+    (λ other. let rest : (if names_wait s.entry.reply (open_wait past p) then Some (length past) else answered_by past p) ≡ Some b = rw other at e in
+      split (names_wait s.entry.reply (open_wait past p))
+      (λ t. let here : Some (length past) ≡ Some b = rw t at rest in let same : length past ≡ b = cc in omega arith)
+      (λ f. let old : answered_by past p ≡ Some b = rw f at rest in let lt = answered-below past p b old in omega (arith, lt)))
+
+message-newest : (past : Past) (s : Record) → message_at (s ∷ past) (length past) ≡ s.payload
+message-newest past s = rw (eq-eqb (length past) (length past) refl) refl
+
+message-older : (past : Past) (s : Record) (m : ℕ) → m < length past → message_at (s ∷ past) m ≡ message_at past m
+message-older past s m lt = ap (λ o. unwrap_or (option_map (λ (y : Record). y.payload) o) []) (record_at-older past s m lt)
+
+-- the entry that names a waiting receive hands it a message that fits
+handed-here : (past : Past) → Legal past → (s : Record) → IsLegalNext past s → (w : ℕ) → names_wait s.entry.reply (Some w) ≡ true → (r : Record) (d room : ℕ) → record_at past w ≡ Some r → r.entry.call ≡ MqReceive d room → length s.payload ≤ room
+handed-here past legal s next w named r d room at call = by s.entry.call s.entry.reply (legal_says past s next) next.payload named
+  where
+    same-room : (q : ℕ) → is_in (blocked_receives past q) w ≡ true → int_lt (pos room) (attributes past q).msgsize ≡ false
+    same-room q h =
+        let x = blocked-receive past legal q w h in
+        let one : Some x.r ≡ Some r = sym x.at ∙ at in
+        let same : x.r ≡ r = cc in
+        let calls : MqReceive x.d x.room ≡ MqReceive d room = sym x.call ∙ ap (λ (y : Record). y.entry.call) same ∙ call in
+        let rooms : x.room ≡ room = cc in
+        ap (λ n. int_lt (pos n) (attributes past q).msgsize) (sym rooms) ∙ x.roomy
+
+    not-sent : (q : ℕ) → is_in (blocked_sends past q) w ≡ true → ⊥
+    not-sent q h =
+        let x = blocked-sent past q w h in
+        let one : Some x.r ≡ Some r = sym x.at ∙ at in
+        let same : x.r ≡ r = cc in
+        let sends : is_send (MqReceive d room) ≡ true = ap is_send (sym call ∙ ap (λ (y : Record). y.entry.call) (sym same)) ∙ x.sends in
+        cc
+
+    by : (c : Call) (y : Reply) → Says past s.entry.process c y → is_payload c y s.payload ≡ true → names_wait y (Some w) ≡ true → length s.payload ≤ room
+    by (MqSend e prio len) (Handed k) says paid named =
+        let same : k ≡ w = eqb-true _ _ named in
+        let waits : is_in (blocked_receives past says.0.queue) w ≡ true = rw (← same) (is_in-filter (λ j. not (is_in (handed_waits past) j)) (blocked_receives past says.0.queue) k (least-in (waiting_receives past says.0.queue) k says.3)).0 in
+        let on : called_queue past s.entry.process (MqSend e prio len) ≡ Some says.0.queue = rw says.1 refl in
+        int-chain (attributes past says.0.queue).msgsize (length s.payload) room
+          (send-fits past s.entry.process (MqSend e prio len) (Handed k) s.payload says.0.queue says paid refl refl on)
+          (same-room says.0.queue waits)
+    by (MqReceive e rm) (Got m (Some k) n) says paid named =
+        let same : k ≡ w = eqb-true _ _ named in
+        let waits = (is_in-filter (λ j. not (is_in (admitted_waits past) j)) (blocked_sends past says.0.queue) k (least-in (waiting_sends past says.0.queue) k (sym says.3.1))).0 in
+        absurd (not-sent says.0.queue (rw (← same) waits))
+    by c (Got m None n) says paid named = absurd (cc)
+    by c (Opened x y) says paid named = absurd (cc)
+    by c (Queued n) says paid named = absurd (cc)
+    by c Waits says paid named = absurd (cc)
+    by c (Collected k) says paid named = absurd (cc)
+    by c (Attrs x) says paid named = absurd (cc)
+    by c (Notice v) says paid named = absurd (cc)
+    by c Done says paid named = absurd (cc)
+    by c (Refused f) says paid named = absurd (cc)
+    by (MqOpen flags attr) (Handed k) says paid named = absurd says
+    by (MqClose e) (Handed k) says paid named = absurd says.0
+    by MqUnlink (Handed k) says paid named = absurd says
+    by (MqReceive e rm) (Handed k) says paid named = absurd says.3
+    by (MqGetattr e) (Handed k) says paid named = absurd says
+    by (MqSetattr e nonblock) (Handed k) says paid named = absurd says
+    by (MqNotify e value) (Handed k) says paid named = absurd says
+    by NextNotice (Handed k) says paid named = absurd (cc)
+    by Collect (Handed k) says paid named = absurd (cc)
+    by (MqOpen flags attr) (Got m (Some k) n) says paid named = absurd says
+    by (MqClose e) (Got m (Some k) n) says paid named = absurd says.0
+    by MqUnlink (Got m (Some k) n) says paid named = absurd says
+    by (MqSend e prio len) (Got m (Some k) n) says paid named = absurd says.3
+    by (MqGetattr e) (Got m (Some k) n) says paid named = absurd says
+    by (MqSetattr e nonblock) (Got m (Some k) n) says paid named = absurd says
+    by (MqNotify e value) (Got m (Some k) n) says paid named = absurd says
+    by NextNotice (Got m (Some k) n) says paid named = absurd (cc)
+    by Collect (Got m (Some k) n) says paid named = absurd (cc)
+
+-- the message that a waiting receive was handed fits its buffer
+pub handed-fits : (past : Past) → Legal past → (p w b : ℕ) → open_wait past p ≡ Some w → answered_by past p ≡ Some b → (r : Record) (d room : ℕ) → record_at past w ≡ Some r → r.entry.call ≡ MqReceive d room → length (message_at past b) ≤ room
+handed-fits [] legal p w b open_at answered r d room at call = absurd (cc)
+handed-fits (s ∷ past) legal p w b open_at answered r d room at call = split (s.entry.process == p)
+    (λ own. let bad : None ≡ Some b = rw own at answered in absurd (cc))
+    (λ other.
+      let old_wait : open_wait past p ≡ Some w = rw other at open_at in
+      let rest : (if names_wait s.entry.reply (open_wait past p) then Some (length past) else answered_by past p) ≡ Some b = rw other at answered in
+      let rest' : (if names_wait s.entry.reply (Some w) then Some (length past) else answered_by past p) ≡ Some b = rw old_wait at rest in
+      let lt = open_wait-below past p w old_wait in
+      let old_at : record_at past w ≡ Some r = sym (record_at-older past s w lt) ∙ at in
+      split (names_wait s.entry.reply (Some w))
+      (λ t. let here : Some (length past) ≡ Some b = rw t at rest' in let same : length past ≡ b = cc in
+        subst (λ k. length (message_at (s ∷ past) k) ≤ room) same (subst (λ xs. length xs ≤ room) (sym (message-newest past s)) (handed-here past legal.0 s legal.1 w t r d room old_at call)))
+      (λ f. let old : answered_by past p ≡ Some b = rw f at rest' in
+        subst (λ xs. length xs ≤ room) (sym (message-older past s b (answered-below past p b old))) (handed-fits past legal.0 p w b old_wait old r d room old_at call)))

@@ -1,0 +1,151 @@
+-- How many processes wait behind an entry, and that the tables keep their sizes.
+use Rattle.std.proofs.Common.{◌≡◌, ℕ, suc, ◌+◌, ◌<◌, ◌≤◌, Bool, true, false, List, length, Option, Some, None, refl, sym, ◌∙◌, ap, arith, if◌then◌else◌, All, [], ◌∷◌, subst, ◌==◌}
+use Rattle.std.specs.Prelude.{IsTrue, nat_le, slice_get}
+use Rattle.std.specs.Option.{option_map, option_and_then, unwrap_or}
+use Rattle.mq_core.specs.Record.{Record, Past, record_at}
+use Rattle.mq_core.specs.Messages.{is_send}
+use Rattle.mq_core.specs.Waits.{open_wait, answered_by}
+use Rattle.mq_core.specs.Answer.{Legal, IsLegalNext, answer, may_call, is_payload, payload_of, is_refused}
+use Rattle.mq_core.specs.Notices.{registered}
+use Rattle.mq_core.specs.Owners.{wait_in, with_wait, waiter_in, waits_count, OwnersMirror}
+use Rattle.mq_core.specs.OwnersNoted.{noted, noted_open, noted_done, noted_attributes, with_answer_at}
+use Rattle.mq_core.specs.declared.owners.OpenWait.{OpenWait}
+use Rattle.mq_core.specs.declared.owners.Owner.{Owner}
+use Rattle.mq_core.specs.declared.entries.Entry.{Entry}
+use Rattle.mq_core.specs.declared.entries.Registration.{Registration}
+use Rattle.mq_core.specs.declared.entries.Call.{Call}
+use Rattle.mq_core.specs.declared.entries.Call.TheVariants.{MqOpen, MqClose, MqUnlink, MqSend, MqReceive, MqGetattr, MqSetattr, MqNotify, NextNotice, Collect}
+use Rattle.mq_core.specs.declared.entries.Reply.{Reply}
+use Rattle.mq_core.specs.declared.entries.Reply.TheVariants.{Opened, Queued, Handed, Waits, Got, Collected, Attrs, Notice, Done, Refused}
+use Rattle.std.proofs.lemmas.List.Elements.{All-head, All-tail}
+use Rattle.mq_core.proofs.Places.{split}
+use Rattle.mq_core.proofs.Frames.{answered_by-none}
+use Rattle.mq_core.proofs.Cases.{Says}
+use Rattle.mq_core.proofs.OwnersKeep.{turn-none}
+use Rattle.mq_core.proofs.OwnerLines.{length-with_slot, length-with_wait, length-with_answer, waits_count-with_slot, waits_count-with_wait, waits_count-with_answer, waits_count-no_wait, no-wait}
+use Rattle.mq_core.proofs.NoticeSteps.{IsMadeBy, registered-made}
+use Rattle.mq_state.specs.QueueShown.{QueueShown}
+use Rattle.mq_state.specs.InboxShown.{InboxShown}
+use Rattle.mq_state.specs.Queues.{queue_in, registration_in, QueuesMirror}
+use Rattle.mq_state.specs.Tables.{TablesMirror, AreAtMost, entry_queue}
+use Rattle.mq_state.specs.Kept.{HasEntryRoom}
+
+answer-at-length : (owners : List Owner) (o : Option ℕ) (here : ℕ) → length (with_answer_at owners o here) ≡ length owners
+answer-at-length owners None here = refl
+answer-at-length owners (Some p) here = length-with_answer owners p here
+
+open-length : (owners : List Owner) (p : ℕ) (call : Call) (d q : ℕ) → length (noted_open owners p call d q) ≡ length owners
+open-length owners p (MqOpen flags attr) d q = length-with_slot owners p d _
+open-length owners p call d q = refl
+
+done-length : (owners : List Owner) (p : ℕ) (call : Call) → length (noted_done owners p call) ≡ length owners
+done-length owners p (MqClose d) = length-with_slot owners p d _
+done-length owners p call = refl
+
+attributes-length : (owners : List Owner) (p : ℕ) (call : Call) → length (noted_attributes owners p call) ≡ length owners
+attributes-length owners p (MqSetattr d nonblock) = length-with_slot owners p d _
+attributes-length owners p call = refl
+
+pub length-noted : (owners : List Owner) (here p : ℕ) (call : Call) (reply : Reply) (q : ℕ) → length (noted owners here p call reply q) ≡ length owners
+length-noted owners here p call (Opened d created) q = open-length owners p call d q
+length-noted owners here p call Done q = done-length owners p call
+length-noted owners here p call (Attrs s) q = attributes-length owners p call
+length-noted owners here p call Waits q = length-with_wait owners p _
+length-noted owners here p call (Collected b) q = length-with_wait owners p _
+length-noted owners here p call (Handed w) q = answer-at-length owners (waiter_in owners w) here
+length-noted owners here p call (Got m a n) q = answer-at-length owners (option_and_then (waiter_in owners) a) here
+length-noted owners here p call (Queued n) q = refl
+length-noted owners here p call (Notice v) q = refl
+length-noted owners here p call (Refused f) q = refl
+
+answer-at-waits : (owners : List Owner) (o : Option ℕ) (here : ℕ) → waits_count (with_answer_at owners o here) ≡ waits_count owners
+answer-at-waits owners None here = refl
+answer-at-waits owners (Some p) here = waits_count-with_answer owners p here
+
+open-waits : (owners : List Owner) (p : ℕ) (call : Call) (d q : ℕ) → waits_count (noted_open owners p call d q) ≡ waits_count owners
+open-waits owners p (MqOpen flags attr) d q = waits_count-with_slot owners p d _
+open-waits owners p call d q = refl
+
+done-waits : (owners : List Owner) (p : ℕ) (call : Call) → waits_count (noted_done owners p call) ≡ waits_count owners
+done-waits owners p (MqClose d) = waits_count-with_slot owners p d _
+done-waits owners p call = refl
+
+attributes-waits : (owners : List Owner) (p : ℕ) (call : Call) → waits_count (noted_attributes owners p call) ≡ waits_count owners
+attributes-waits owners p (MqSetattr d nonblock) = waits_count-with_slot owners p d _
+attributes-waits owners p call = refl
+
+-- the open wait of a process that the table has
+waits-here : (past : Past) (owners : List Owner) → OwnersMirror past owners → (p : ℕ) (w : ℕ) → open_wait past p ≡ Some w → (x : OpenWait) × (wait_in owners p ≡ Some x)
+waits-here past owners m p w e = by (wait_in owners p) refl
+  where
+    by : (o : Option OpenWait) → wait_in owners p ≡ o → (x : OpenWait) × (wait_in owners p ≡ Some x)
+    by None is = absurd (let bad : None ≡ Some w = sym (ap (option_map (λ (y : OpenWait). y.place)) is) ∙ m.waits p ∙ e in cc)
+    by (Some x) is = (x, is)
+
+-- an answered process waits
+pub answered-waits : (past : Past) (p : ℕ) (by : ℕ) → answered_by past p ≡ Some by → (w : ℕ) × (open_wait past p ≡ Some w)
+answered-waits past p by e = cases (open_wait past p) refl
+  where
+    cases : (o : Option ℕ) → open_wait past p ≡ o → (w : ℕ) × (open_wait past p ≡ Some w)
+    cases None is = absurd (let bad : None ≡ Some by = sym (answered_by-none past p is) ∙ e in cc)
+    cases (Some w) is = (w, is)
+
+-- there is room for the collect entries behind the entry
+pub waits-noted : (past : Past) (owners : List Owner) → OwnersMirror past owners → (p : ℕ) (call : Call) (reply : Reply) (q room : ℕ) → Says past p call reply → IsTrue (may_call past p call) → p < length owners → HasEntryRoom reply (waits_count owners) room →
+    waits_count (noted owners (length past) p call reply q) + 1 ≤ room
+waits-noted past owners m p call (Opened d created) q room says turn lt has = let e = open-waits owners p call d q in omega (arith, e)
+waits-noted past owners m p call Done q room says turn lt has = let e = done-waits owners p call in omega (arith, e)
+waits-noted past owners m p call (Attrs s) q room says turn lt has = let e = attributes-waits owners p call in omega (arith, e)
+waits-noted past owners m p call Waits q room says turn lt has =
+    let free : open_wait past p ≡ None = turn-none past p call Waits says turn (λ by e. cc) in
+    let none : wait_in owners p ≡ None = no-wait (wait_in owners p) (m.waits p ∙ free) in
+    let e = waits_count-with_wait owners p (record { place = length past; queue = q; sends = is_send call }) lt none in omega (arith, e)
+waits-noted past owners m p call (Collected b) q room says turn lt has = by call says turn
+  where
+    by : (call : Call) → Says past p call (Collected b) → IsTrue (may_call past p call) → waits_count (with_wait owners p None) + 1 ≤ room
+    by Collect says turn = collected (answered_by past p) refl turn
+      where
+        collected : (o : Option ℕ) → answered_by past p ≡ o → IsTrue (may_call past p Collect) → waits_count (with_wait owners p None) + 1 ≤ room
+        collected None is turn = absurd (let bad : false ≡ true = rw is at turn in cc)
+        collected (Some k) is turn =
+            let w = answered-waits past p k is in
+            let x = waits-here past owners m p w.0 w.1 in
+            let e = waits_count-no_wait owners p x.0 x.1 in omega (arith, e)
+    by (MqOpen flags attr) says turn = absurd says
+    by (MqClose d) says turn = absurd says.0
+    by MqUnlink says turn = absurd says
+    by (MqSend d prio len) says turn = absurd says.3
+    by (MqReceive d rm) says turn = absurd says.3
+    by (MqGetattr d) says turn = absurd says
+    by (MqSetattr d nonblock) says turn = absurd says
+    by (MqNotify d value) says turn = absurd says
+    by NextNotice says turn = absurd (cc)
+waits-noted past owners m p call (Handed w) q room says turn lt has = let e = answer-at-waits owners (waiter_in owners w) (length past) in omega (arith, e)
+waits-noted past owners m p call (Got k a n) q room says turn lt has = let e = answer-at-waits owners (option_and_then (waiter_in owners) a) (length past) in omega (arith, e)
+waits-noted past owners m p call (Queued n) q room says turn lt has = has
+waits-noted past owners m p call (Notice v) q room says turn lt has = has
+waits-noted past owners m p call (Refused f) q room says turn lt has = has
+
+-- who is registered has a line and an inbox
+all-at : (n : ℕ) (past : Past) → AreAtMost n past → (k : ℕ) (r : Record) → record_at past k ≡ Some r → r.entry.process ≤ n
+all-at n [] all k r e = absurd (cc)
+all-at n (s ∷ past) all k r e = split (k == length past)
+    (λ t. let here : Some s ≡ Some r = rw t at e in let same : s ≡ r = cc in ap-le same (All-head (λ (r : Record). r.entry.process ≤ n) s past all))
+    (λ f. all-at n past (All-tail (λ (r : Record). r.entry.process ≤ n) s past all) k r (rw f at e))
+  where
+    ap-le : s ≡ r → s.entry.process ≤ n → r.entry.process ≤ n
+    ap-le same le = subst (λ (x : Record). x.entry.process ≤ n) same le
+
+pub registered-inside : (past : Past) (n : ℕ) (owners : List Owner) (queues : List QueueShown) (inboxes : List InboxShown) → TablesMirror past n owners queues inboxes → AreAtMost n past → (q : ℕ) (r : Registration) → registration_in queues q ≡ Some r → r.process < length inboxes
+unfolding registration_in
+registered-inside past n owners queues inboxes m all q r e = by (queue_in queues q) refl e
+  where
+    by : (o : Option QueueShown) → queue_in queues q ≡ o → option_and_then (λ x. x.registration) o ≡ Some r → r.process < length inboxes
+    by None is e = absurd (cc)
+    by (Some x) is e =
+        let stands : registered past x.place ≡ Some r = sym ((m.existing.lines q x is).registration) ∙ e in
+        let made = registered-made past x.place r stands in
+        let le : made.record_.entry.process ≤ n = all-at n past all r.place made.record_ made.at in
+        let same = made.process in
+        let count = m.inbox_count in
+        omega (arith, le, same, count)

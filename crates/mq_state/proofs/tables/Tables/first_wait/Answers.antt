@@ -1,0 +1,11 @@
+use Rattle.std.proofs.Common.{◌≡◌, ◌∙◌, sym, ap, subst, List, refl}
+use Rattle.mq_core.specs.Owners.{IsFirstWait, pending_in}
+use Rattle.mq_core.specs.declared.owners.Owner.{Owner}
+use Rattle.mq_core.proofs.Pending.{least-pending, no-pending}
+use Rattle.mq_state.proofs.tables.Tables.first_wait.Goals as goal
+
+pub returns-in-None : goal.returns-in-None
+returns-in-None c = sym (no-pending c.args.journal.now.records c.args.self.now.owners.items c.requires.mirror.lines c.requires.legal c.args.q c.args.sends (λ k. ap (λ xs. pending_in xs k c.args.q c.args.sends) (sym c.deref.ensures.value) ∙ c.in-None.ensures.none refl k))
+
+pub returns-in-Some : goal.returns-in-Some
+returns-in-Some c = sym (least-pending c.args.journal.now.records c.args.self.now.owners.items c.requires.mirror.lines c.requires.legal c.args.q c.args.sends c.in-Some.field-0-0 c.in-Some.place (subst (λ (xs : List Owner). IsFirstWait xs c.args.q c.args.sends c.in-Some.field-0-0 c.in-Some.place) c.deref.ensures.value c.in-Some.ensures.some))

@@ -1,0 +1,70 @@
+-- What a receive and a collect put into their buffer.
+use Rattle.std.specs.Prelude.{ℕ, ◌≤◌, List, [], ◌++◌, drop, length, Option, Some, None}
+use Rattle.std.specs.Option.{option_map, option_and_then, unwrap_or}
+use Rattle.mq_core.specs.Record.{Record, Past, record_at}
+use Rattle.mq_core.specs.Messages.{priority}
+use Rattle.mq_core.specs.Waits.{open_wait, answered_by}
+use Rattle.mq_core.specs.declared.entries.Received.{Received}
+use Rattle.mq_core.specs.declared.entries.Call.{Call}
+use Rattle.mq_core.specs.declared.entries.Call.TheVariants.{MqReceive, Collect}
+use Rattle.mq_core.specs.declared.entries.Reply.{Reply}
+use Rattle.mq_core.specs.declared.entries.Reply.TheVariants.{Got}
+use Rattle.mq_state.specs.declared.collected.Collected.{Collected}
+use Rattle.mq_state.specs.declared.collected.Collected.TheVariants.{Sent, Got as GotMessage}
+
+-- the message that was sent at a place
+abbrev pub message_at : Past → ℕ → List ℕ
+message_at past place = unwrap_or (option_map (λ r. r.payload) (record_at past place)) []
+
+-- a buffer with a message in its front
+unfoldable pub with_front : List ℕ → List ℕ → List ℕ
+with_front message buffer = message ++ drop (length message) buffer
+
+-- what a buffer holds after the reply to a receive: in its front the message that was got, else what it held
+abbrev pub filled : Past → Reply → List ℕ → List ℕ
+filled past (Got place admitted notified) buffer = with_front (message_at past place) buffer
+filled past _ buffer = buffer
+
+-- the message that a reply gives has room
+abbrev pub Fits : Past → Reply → ℕ → Type 0
+Fits past (Got place admitted notified) room = length (message_at past place) ≤ room
+Fits past _ room = Unit {0}
+
+-- the length and the priority of the message that was sent at a place
+abbrev pub received_at : Past → ℕ → Received
+received_at past place = record { len = length (message_at past place); prio = priority past place }
+
+-- the call that waits. The collect never stands for a process that has an open wait
+abbrev pub waiting_call : Past → ℕ → Call
+waiting_call past p = unwrap_or (option_map (λ r. r.entry.call) (option_and_then (record_at past) (open_wait past p))) Collect
+
+abbrev pub collected_by : Past → Call → Option ℕ → Option Collected
+collected_by past call None = None
+collected_by past (MqReceive d room) (Some by) = Some (GotMessage (received_at past by))
+collected_by past _ (Some by) = Some Sent
+
+-- what the open wait of process p came to, if it is answered: a receive has the message of the send that names it
+abbrev pub collected : Past → ℕ → Option Collected
+collected past p = collected_by past (waiting_call past p) (answered_by past p)
+
+abbrev pub into_by : Past → Call → Option ℕ → List ℕ → List ℕ
+into_by past call None buffer = buffer
+into_by past (MqReceive d room) (Some by) buffer = with_front (message_at past by) buffer
+into_by past _ (Some by) buffer = buffer
+
+-- what the buffer of a collect holds then
+abbrev pub collected_into : Past → ℕ → List ℕ → List ℕ
+collected_into past p buffer = into_by past (waiting_call past p) (answered_by past p) buffer
+
+abbrev pub room_of : Call → ℕ
+room_of (MqReceive d room) = room
+room_of _ = 0
+
+-- the length of the buffer of the receive that waits, or 0 for a send
+abbrev pub waiting_room : Past → ℕ → Option ℕ
+waiting_room past p = option_map (λ w. room_of (waiting_call past p)) (open_wait past p)
+
+-- the message that a wait in a call comes to, answered at place `by`, has room in a buffer
+abbrev pub FitsOutcome : Past → Call → ℕ → ℕ → Type 0
+FitsOutcome past (MqReceive d room) by len = length (message_at past by) ≤ len
+FitsOutcome past _ by len = Unit {0}

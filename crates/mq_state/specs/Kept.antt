@@ -1,0 +1,29 @@
+use Rattle.std.specs.Prelude.{ℕ, ◌+◌, ◌≤◌}
+use Rattle.mq_core.specs.Record.{Past, Shown}
+use Rattle.mq_core.specs.Answer.{Legal}
+use Rattle.mq_core.specs.Owners.{waits_count}
+use Rattle.mq_core.specs.declared.entries.Reply.{Reply}
+use Rattle.mq_core.specs.declared.entries.Reply.TheVariants.{Waits, Collected}
+use Rattle.mq_state.specs.Tables.{TablesMirror, AreAtMost}
+use Rattle.mq_state.specs.declared.tables.Tables.{Tables}
+
+-- what a `Books` shows: its records, the latest first, and how many processes it has
+pub record Kept : Type 0 where
+  pub records : Past
+  pub n : ℕ
+
+-- the journal is legal and has entries of the first n processes alone, the tables are those of the journal, and it keeps
+-- room for the collect entry of each open wait
+pub record IsKeptBy (j : Shown) (t : Tables) : Type 0 where
+  pub legal : Legal j.records
+  pub few : t.n ≤ 32
+  pub processes : AreAtMost t.n j.records
+  pub mirror : TablesMirror j.records t.n t.owners.items t.queues.items t.inboxes.items
+  pub room : waits_count t.owners.items ≤ j.entry_room
+
+-- room for the entry, for the collect entry of each open wait, and for that of a wait that the entry begins. The collect
+-- entry itself stands in the room that was kept for it
+abbrev pub HasEntryRoom : Reply → ℕ → ℕ → Type 0
+HasEntryRoom Waits waits room = waits + 2 ≤ room
+HasEntryRoom (Collected by) waits room = waits ≤ room
+HasEntryRoom _ waits room = waits + 1 ≤ room

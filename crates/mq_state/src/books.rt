@@ -1,0 +1,259 @@
+//! The queues of one thread, with the journal of the calls made on them.
+//!
+//! Each call is made by a process p from 1 to n that has no open wait, appends exactly one entry, the call with the answer
+//! that the definitions give, and returns that reply. A call that is answered `Refused(NoMemory)` has no entry and changes
+//! nothing; it comes only where a growth was refused.
+ghost use Rattle.std.specs.Prelude.{◌≡◌, ◌≢◌, ◌<◌, ◌≤◌, ◌+◌, IfOk, IfSome, IsSome, IsTrue, ◌↔◌, Some, None, length, [], All};
+ghost use Rattle.mq_core.specs.Waits.{open_wait, answered_by, is_answered};
+ghost use Rattle.mq_core.specs.Descriptors.{lowest_held};
+ghost use Rattle.mq_core.specs.Answer.{Appends, Legal};
+ghost use Rattle.mq_state.specs.Buffers.{filled, collected, collected_into, collected_by, into_by, waiting_call, waiting_room, room_of, FitsOutcome};
+ghost use Rattle.mq_state.specs.Kept.{IsKeptBy};
+
+use crate::buffers;
+use crate::collected::Collected;
+use crate::tables::Tables;
+use mq_core::entries::{Attr, Call, OpenFlags, Reply, Status};
+use mq_core::faults::Fault;
+use mq_core::journals::Journal;
+use mq_core::names::Name;
+use std::alloc::{AllocError, Global};
+use std::marker::Model;
+
+/// The queues of one thread.
+#[derive(Debug, Drop)]
+pub struct Books {
+    journal: Journal,
+    tables: Tables,
+}
+
+impl Model for Books {
+    ghost use Rattle.mq_state.specs.Kept.{Kept};
+
+    ghost Value = { Kept };
+
+    ghost use Rattle.mq_state.specs.BooksModel.{kept, IsKept};
+
+    ghost view = { kept };
+
+    ghost invariant = { IsKept };
+}
+
+impl Books {
+    /// The queues of n processes: none yet, and an empty journal.
+    pub fn new(alloc: Global, n: u32) -> Result<Books, AllocError>
+        requires { (1 ≤ n) × (n ≤ 32) }
+        ensures empty { IfOk result (λ b. b.records ≡ []) }
+        ensures processes { IfOk result (λ b. b.n ≡ n) }
+    {
+        let tables = Tables::new(alloc, n)?;
+        Ok(Books {
+            journal: Journal::new(alloc),
+            tables,
+        })
+    }
+
+    /// An open of a name (`mq_open`). Replies `Opened`, or refuses with `Exists`, `NoEntry`, `Invalid`, `TooManyOpen` or `NoSpace`.
+    pub fn open(&mut self, p: u32, name: &Name, flags: OpenFlags, attr: Option<Attr>) -> Reply
+        requires process { (1 ≤ p) × (p ≤ self.old.n) }
+        requires no_wait { open_wait self.old.records p ≡ None }
+        ensures entry { result ≢ Reply.Refused Fault.NoMemory → Appends self.old.records self.new.records p (Call.MqOpen flags attr) name.now result }
+        ensures no_memory { result ≡ Reply.Refused Fault.NoMemory → self.new.records ≡ self.old.records }
+        ensures processes { self.new.n ≡ self.old.n }
+    {
+        self.tables.open(&mut self.journal, p, name.bytes(), flags, attr)
+    }
+
+    /// A close of descriptor d (`mq_close`). Replies `Done`, or refuses with `BadDescriptor`.
+    pub fn close(&mut self, p: u32, d: u32) -> Reply
+        requires process { (1 ≤ p) × (p ≤ self.old.n) }
+        requires no_wait { open_wait self.old.records p ≡ None }
+        ensures entry { result ≢ Reply.Refused Fault.NoMemory → Appends self.old.records self.new.records p (Call.MqClose d) [] result }
+        ensures no_memory { result ≡ Reply.Refused Fault.NoMemory → self.new.records ≡ self.old.records }
+        ensures processes { self.new.n ≡ self.old.n }
+    {
+        self.tables.close(&mut self.journal, p, d)
+    }
+
+    /// An unlink of a name (`mq_unlink`). Replies `Done`, or refuses with `NoEntry`.
+    pub fn unlink(&mut self, p: u32, name: &Name) -> Reply
+        requires process { (1 ≤ p) × (p ≤ self.old.n) }
+        requires no_wait { open_wait self.old.records p ≡ None }
+        ensures entry { result ≢ Reply.Refused Fault.NoMemory → Appends self.old.records self.new.records p (Call.MqUnlink) name.now result }
+        ensures no_memory { result ≡ Reply.Refused Fault.NoMemory → self.new.records ≡ self.old.records }
+        ensures processes { self.new.n ≡ self.old.n }
+    {
+        self.tables.unlink(&mut self.journal, p, name.bytes())
+    }
+
+    /// The attributes of descriptor d (`mq_getattr`). Replies `Attrs`, or refuses with `BadDescriptor`.
+    pub fn getattr(&mut self, p: u32, d: u32) -> Reply
+        requires process { (1 ≤ p) × (p ≤ self.old.n) }
+        requires no_wait { open_wait self.old.records p ≡ None }
+        ensures entry { result ≢ Reply.Refused Fault.NoMemory → Appends self.old.records self.new.records p (Call.MqGetattr d) [] result }
+        ensures no_memory { result ≡ Reply.Refused Fault.NoMemory → self.new.records ≡ self.old.records }
+        ensures processes { self.new.n ≡ self.old.n }
+    {
+        self.tables.getattr(&mut self.journal, p, d)
+    }
+
+    /// Another flag for descriptor d (`mq_setattr`): of `new` its `nonblock` alone is used. Replies `Attrs` from before, or refuses
+    /// with `BadDescriptor`.
+    pub fn setattr(&mut self, p: u32, d: u32, new: Status) -> Reply
+        requires process { (1 ≤ p) × (p ≤ self.old.n) }
+        requires no_wait { open_wait self.old.records p ≡ None }
+        ensures entry { result ≢ Reply.Refused Fault.NoMemory → Appends self.old.records self.new.records p (Call.MqSetattr d new.nonblock) [] result }
+        ensures no_memory { result ≡ Reply.Refused Fault.NoMemory → self.new.records ≡ self.old.records }
+        ensures processes { self.new.n ≡ self.old.n }
+    {
+        self.tables.setattr(&mut self.journal, p, d, new.nonblock)
+    }
+
+    /// A registration on the queue of descriptor d with the value of its notice, or the removal of one (`mq_notify`). Replies
+    /// `Done`, or refuses with `BadDescriptor`, `Busy` or, a removal, `Invalid`.
+    pub fn notify(&mut self, p: u32, d: u32, value: Option<u64>) -> Reply
+        requires process { (1 ≤ p) × (p ≤ self.old.n) }
+        requires no_wait { open_wait self.old.records p ≡ None }
+        ensures entry { result ≢ Reply.Refused Fault.NoMemory → Appends self.old.records self.new.records p (Call.MqNotify d value) [] result }
+        ensures no_memory { result ≡ Reply.Refused Fault.NoMemory → self.new.records ≡ self.old.records }
+        ensures processes { self.new.n ≡ self.old.n }
+    {
+        self.tables.notify(&mut self.journal, p, d, value)
+    }
+
+    /// The oldest notice that process p has not yet taken. Replies `Notice`.
+    pub fn next_notice(&mut self, p: u32) -> Reply
+        requires process { (1 ≤ p) × (p ≤ self.old.n) }
+        requires no_wait { open_wait self.old.records p ≡ None }
+        ensures entry { result ≢ Reply.Refused Fault.NoMemory → Appends self.old.records self.new.records p (Call.NextNotice) [] result }
+        ensures no_memory { result ≡ Reply.Refused Fault.NoMemory → self.new.records ≡ self.old.records }
+        ensures processes { self.new.n ≡ self.old.n }
+    {
+        self.tables.next_notice(&mut self.journal, p)
+    }
+
+    /// A send of a message to the queue of descriptor d (`mq_send`). Replies `Queued`, `Handed` or `Waits`, or refuses with
+    /// `BadDescriptor`, `Invalid`, `MessageSize` or `Again`.
+    pub fn send(&mut self, p: u32, d: u32, bytes: &[u8], prio: u32) -> Reply
+        requires process { (1 ≤ p) × (p ≤ self.old.n) }
+        requires no_wait { open_wait self.old.records p ≡ None }
+        ensures entry { result ≢ Reply.Refused Fault.NoMemory → Appends self.old.records self.new.records p (Call.MqSend d prio (length bytes.now)) bytes.now result }
+        ensures no_memory { result ≡ Reply.Refused Fault.NoMemory → self.new.records ≡ self.old.records }
+        ensures processes { self.new.n ≡ self.old.n }
+    {
+        self.tables.send(&mut self.journal, p, d, bytes, prio)
+    }
+
+    /// A receive from the queue of descriptor d (`mq_receive`). Replies `Got`, and then the front of the buffer holds the
+    /// message, or `Waits`; or refuses with `BadDescriptor`, `MessageSize` or `Again`.
+    pub fn receive(&mut self, p: u32, d: u32, buf: &mut [u8]) -> Reply
+        requires process { (1 ≤ p) × (p ≤ self.old.n) }
+        requires no_wait { open_wait self.old.records p ≡ None }
+        ensures entry { result ≢ Reply.Refused Fault.NoMemory → Appends self.old.records self.new.records p (Call.MqReceive d (length buf.old)) [] result }
+        ensures no_memory { result ≡ Reply.Refused Fault.NoMemory → self.new.records ≡ self.old.records }
+        ensures processes { self.new.n ≡ self.old.n }
+        ensures buffer { buf.new ≡ filled self.old.records result buf.old }
+    {
+        self.tables.receive(&mut self.journal, p, d, buf)
+    }
+
+    /// `None` where process p has no open wait, else the length of the buffer of the receive that waits, or 0 for a send.
+    pub fn waiting(&self, p: u32) -> Option<usize>
+        ensures { result ≡ waiting_room self.now.records p }
+    {
+        match self.tables.wait(p) {
+            None => None,
+            Some(_) => Some(room_of(waiting_call(&self.journal, &self.tables, p))),
+        }
+    }
+
+    /// Process p has an open wait, and a later entry names it.
+    pub fn answered(&self, p: u32) -> bool
+        ensures { result ≡ is_answered self.now.records p }
+    {
+        self.tables.answer(p).is_some()
+    }
+
+    /// Ends the open wait of process p, if it is answered, and gives what it came to. A message that was received lies in the
+    /// front of the buffer then. Takes no memory.
+    pub fn collect(&mut self, p: u32, buf: &mut [u8]) -> Option<Collected>
+        requires process { (1 ≤ p) × (p ≤ self.old.n) }
+        requires wait { IsSome (open_wait self.old.records p) }
+        requires room { room_of (waiting_call self.old.records p) ≤ length buf.old }
+        ensures some { IsSome result ↔ IsSome (answered_by self.old.records p) }
+        ensures value { result ≡ collected self.old.records p }
+        ensures entry { IfSome (answered_by self.old.records p) (λ by. Appends self.old.records self.new.records p Call.Collect [] (Reply.Collected by)) }
+        ensures none { result ≡ None → self.new.records ≡ self.old.records }
+        ensures buffer { buf.new ≡ collected_into self.old.records p buf.old }
+        ensures processes { self.new.n ≡ self.old.n }
+    {
+        let by = self.tables.answer(p)?;
+        let call = waiting_call(&self.journal, &self.tables, p);
+        let outcome = outcome(&self.journal, call, by, buf);
+        self.tables.collect(&mut self.journal, p, by);
+        Some(outcome)
+    }
+
+    /// The lowest descriptor that process p holds.
+    pub fn lowest_open(&self, p: u32) -> Option<u32>
+        ensures { result ≡ lowest_held self.now.records p }
+    {
+        self.tables.lowest_open(p)
+    }
+
+    /// The journal.
+    pub fn journal(&self) -> &Journal
+        ensures value { result.now.records ≡ self.now.records }
+        ensures legal { Legal result.now.records }
+        ensures processes { All (λ r. r.entry.process ≤ self.now.n) result.now.records }
+    {
+        &self.journal
+    }
+
+    /// The journal, which is all that is left.
+    pub fn into_journal(self) -> Journal
+        ensures value { result.records ≡ self.records }
+        ensures legal { Legal result.records }
+        ensures processes { All (λ r. r.entry.process ≤ self.n) result.records }
+    {
+        self.journal
+    }
+}
+
+fn room_of(call: Call) -> usize
+    ensures { result ≡ room_of call }
+{
+    match call {
+        Call::MqReceive { d: _, room } => room as usize,
+        _ => 0,
+    }
+}
+
+// The call that process p waits in.
+fn waiting_call(journal: &Journal, tables: &Tables, p: u32) -> Call
+    requires { IsKeptBy journal.now tables.now }
+    ensures { result ≡ waiting_call journal.now.records p }
+{
+    match tables.wait(p) {
+        None => Call::Collect,
+        Some(place) => match journal.entry(place) {
+            None => Call::Collect,
+            Some(entry) => entry.call,
+        },
+    }
+}
+
+// What a wait in a call comes to, which the entry at place `by` answers.
+fn outcome(journal: &Journal, call: Call, by: u64, buf: &mut [u8]) -> Collected
+    requires { FitsOutcome journal.now.records call by (length buf.old) }
+    ensures value { Some result ≡ collected_by journal.now.records call (Some by) }
+    ensures buffer { buf.new ≡ into_by journal.now.records call (Some by) buf.old }
+{
+    match call {
+        Call::MqReceive { .. } => {
+            buffers::put_message(journal, by, buf);
+            Collected::Got(buffers::received(journal, by))
+        }
+        _ => Collected::Sent,
+    }
+}

@@ -1,0 +1,57 @@
+//! Messages in the journal, and the buffers that they are put into.
+ghost use Rattle.std.specs.Prelude.{◌≡◌, ◌≤◌, length};
+ghost use Rattle.mq_core.specs.Messages.{priority};
+ghost use Rattle.mq_state.specs.Buffers.{message_at, with_front, filled, Fits, received_at};
+
+use crate::queues;
+use mq_core::entries::{Received, Reply};
+use mq_core::journals::Journal;
+
+/// The priority of the message that was sent at a place.
+pub fn priority_at(journal: &Journal, place: u64) -> u32
+    ensures { result ≡ priority journal.now.records place }
+{
+    match journal.entry(place) {
+        Some(entry) => queues::priority_given(entry.call),
+        None => 0,
+    }
+}
+
+/// Puts the message that was sent at a place into the front of the buffer.
+pub fn put_message(journal: &Journal, place: u64, buf: &mut [u8])
+    requires { length (message_at journal.now.records place) ≤ length buf.old }
+    ensures { buf.new ≡ with_front (message_at journal.now.records place) buf.old }
+{
+    if let Some(message) = journal.payload(place) {
+        buf[..message.len()].copy_from_slice(message);
+    }
+}
+
+/// Puts the message that a reply gives into the front of the buffer.
+pub fn fill(journal: &Journal, reply: Reply, buf: &mut [u8])
+    requires { Fits journal.now.records reply (length buf.old) }
+    ensures { buf.new ≡ filled journal.now.records reply buf.old }
+{
+    if let Reply::Got {
+        place,
+        admitted: _,
+        notified: _,
+    } = reply
+    {
+        put_message(journal, place, buf);
+    }
+}
+
+/// The length and the priority of the message that was sent at a place.
+pub fn received(journal: &Journal, place: u64) -> Received
+    ensures { result ≡ received_at journal.now.records place }
+{
+    let len = match journal.payload(place) {
+        Some(message) => message.len(),
+        None => 0,
+    };
+    Received {
+        len,
+        prio: priority_at(journal, place),
+    }
+}

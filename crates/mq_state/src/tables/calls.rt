@@ -1,0 +1,356 @@
+//! The calls: each makes room, decides its reply, and appends its entry, which the tables note.
+ghost use Rattle.std.specs.Prelude.{◌≡◌, ◌≢◌, ◌<◌, ◌≤◌, ◌+◌, ◌-◌, IfOk, OnOk, IsTrue, Some, None, ℕ, length, [], ◌∷◌, is_some, vec_len, vec_capacity, if◌then◌else◌};
+ghost use Rattle.mq_core.specs.Name.{is_name};
+ghost use Rattle.mq_core.specs.Waits.{open_wait, answered_by};
+ghost use Rattle.mq_core.specs.Answer.{Appends, answer, may_call, is_payload, payload_of, is_refused, Legal, IsLegalNext};
+ghost use Rattle.std.specs.Option.{option_map};
+ghost use Rattle.mq_core.specs.Owners.{waits_count, answer_in, wait_in, lowest_held_in};
+ghost use Rattle.mq_state.specs.Buffers.{filled};
+ghost use Rattle.mq_core.specs.declared.entries.Registration.{Registration};
+ghost use Rattle.mq_state.specs.Tables.{entry_queue, HasRoomToNotify, BringsOrder};
+ghost use Rattle.mq_state.specs.Kept.{IsKeptBy, HasEntryRoom};
+
+use crate::buffers;
+use crate::decided;
+use crate::notices;
+use crate::order::Order;
+use crate::queues;
+use crate::tables::Tables;
+use mq_core::entries::{Attr, Call, Entry, OpenFlags, Reply};
+use mq_core::faults::Fault;
+use mq_core::journals::Journal;
+use mq_core::owners;
+use std::alloc::{AllocError, Global};
+
+// The payload of a call that was given these bytes.
+fn payload_of(call: Call, reply: Reply, given: &[u8]) -> &[u8]
+    ensures value { result.now ≡ payload_of call reply given.now }
+    ensures bound { length result.now ≤ length given.now }
+{
+    match call {
+        Call::MqOpen { .. } | Call::MqUnlink => given,
+        Call::MqSend { .. } => match reply {
+            Reply::Refused(_) => &[],
+            _ => given,
+        },
+        _ => &[],
+    }
+}
+
+impl Tables {
+    ghost use Rattle.mq_state.specs.Queues.{registration_in};
+    ghost use Rattle.mq_state.specs.Inboxes.{HasNoticeRoom, notices_in};
+
+    /// How many processes have an open wait.
+    pub fn open_waits(&self) -> usize
+        ensures count { result ≡ waits_count self.now.owners.items }
+        ensures bound { result ≤ length self.now.owners.items }
+    {
+        owners::open_waits(&self.owners)
+    }
+
+    // Appends the entry of a call that gets its answer, with its payload.
+    fn append(&mut self, journal: &mut Journal, entry: Entry, payload: &[u8], fresh: Option<Order>)
+        requires kept { IsKeptBy journal.old self.old }
+        requires next { IsLegalNext journal.old.records (record { entry = entry; payload = payload.now }) }
+        requires at_most { entry.process ≤ self.old.n }
+        requires notice { HasRoomToNotify self.old.queues.items self.old.inboxes.items (entry_queue journal.old.records entry.process entry.call payload.now) entry.reply }
+        requires brings { BringsOrder entry.call entry.reply (vec_len self.old.queues) (vec_capacity self.old.queues) fresh }
+        requires bytes { length payload.now ≤ journal.old.byte_room }
+        requires entries { HasEntryRoom entry.reply (waits_count self.old.owners.items) journal.old.entry_room }
+        ensures records { journal.new.records ≡ record { entry = entry; payload = payload.now } ∷ journal.old.records }
+        ensures kept { IsKeptBy journal.new self.new }
+        ensures n { self.new.n ≡ self.old.n }
+    {
+        let q = self.entry_queue(journal, entry.process, entry.call, payload);
+        self.note(journal, entry, q, fresh);
+        journal.push(entry, payload);
+    }
+
+    // Appends the entry of a call that was given these bytes, with its answer.
+    fn record(&mut self, journal: &mut Journal, p: u32, call: Call, reply: Reply, given: &[u8], fresh: Option<Order>)
+        requires kept { IsKeptBy journal.old self.old }
+        requires process { (1 ≤ p) × (p ≤ self.old.n) }
+        requires turn { IsTrue (may_call journal.old.records p call) }
+        requires answers { reply ≡ answer journal.old.records p call given.now }
+        requires payload { IsTrue (is_payload call reply (payload_of call reply given.now)) }
+        requires notice { HasRoomToNotify self.old.queues.items self.old.inboxes.items (entry_queue journal.old.records p call given.now) reply }
+        requires brings { BringsOrder call reply (vec_len self.old.queues) (vec_capacity self.old.queues) fresh }
+        requires bytes { length given.now ≤ journal.old.byte_room }
+        requires entries { HasEntryRoom reply (waits_count self.old.owners.items) journal.old.entry_room }
+        ensures appends { Appends journal.old.records journal.new.records p call given.now reply }
+        ensures kept { IsKeptBy journal.new self.new }
+        ensures n { self.new.n ≡ self.old.n }
+    {
+        let entry = Entry { process: p, call, reply };
+        self.append(journal, entry, payload_of(call, reply, given), fresh);
+    }
+
+    /// A close of descriptor d (`mq_close`).
+    pub fn close(&mut self, journal: &mut Journal, p: u32, d: u32) -> Reply
+        requires kept { IsKeptBy journal.old self.old }
+        requires process { (1 ≤ p) × (p ≤ self.old.n) }
+        requires no_wait { open_wait journal.old.records p ≡ None }
+        ensures entry { result ≢ Reply.Refused Fault.NoMemory → Appends journal.old.records journal.new.records p (Call.MqClose d) [] result }
+        ensures no_memory { result ≡ Reply.Refused Fault.NoMemory → journal.new.records ≡ journal.old.records }
+        ensures kept { IsKeptBy journal.new self.new }
+        ensures n { self.new.n ≡ self.old.n }
+    {
+        if journal.reserve(self.open_waits() + 1, 0).is_err() {
+            return Reply::Refused(Fault::NoMemory);
+        }
+        let reply = self.answer_close(journal, p, d);
+        self.record(journal, p, Call::MqClose { d }, reply, &[], None);
+        reply
+    }
+
+    // The order of the queue that an open creates, if it creates one, and a place for the queue.
+    fn fresh_order(&mut self, journal: &Journal, flags: OpenFlags, attr: Option<Attr>, reply: Reply) -> Result<Option<Order>, AllocError>
+        requires kept { IsKeptBy journal.now self.old }
+        ensures kept { IsKeptBy journal.now self.new }
+        ensures n { self.new.n ≡ self.old.n }
+        ensures waits { waits_count self.new.owners.items ≡ waits_count self.old.owners.items }
+        ensures brings { IfOk result (BringsOrder (Call.MqOpen flags attr) reply (vec_len self.new.queues) (vec_capacity self.new.queues)) }
+    {
+        match reply {
+            Reply::Opened { d: _, created: true } => {
+                let room = decided::slots_for(decided::attributes_given(Call::MqOpen { flags, attr }));
+                self.queues.reserve(1)?;
+                let order = Order::new(self.alloc, room)?;
+                Ok(Some(order))
+            }
+            _ => Ok(None),
+        }
+    }
+
+    /// An open of a name (`mq_open`).
+    pub fn open(&mut self, journal: &mut Journal, p: u32, name: &[u8], flags: OpenFlags, attr: Option<Attr>) -> Reply
+        requires kept { IsKeptBy journal.old self.old }
+        requires process { (1 ≤ p) × (p ≤ self.old.n) }
+        requires no_wait { open_wait journal.old.records p ≡ None }
+        requires form { IsTrue (is_name name.now) }
+        ensures entry { result ≢ Reply.Refused Fault.NoMemory → Appends journal.old.records journal.new.records p (Call.MqOpen flags attr) name.now result }
+        ensures no_memory { result ≡ Reply.Refused Fault.NoMemory → journal.new.records ≡ journal.old.records }
+        ensures kept { IsKeptBy journal.new self.new }
+        ensures n { self.new.n ≡ self.old.n }
+    {
+        if journal.reserve(self.open_waits() + 1, name.len()).is_err() {
+            return Reply::Refused(Fault::NoMemory);
+        }
+        let reply = self.answer_open(journal, p, name, flags, attr);
+        let Ok(fresh) = self.fresh_order(journal, flags, attr, reply) else {
+            return Reply::Refused(Fault::NoMemory);
+        };
+        self.record(journal, p, Call::MqOpen { flags, attr }, reply, name, fresh);
+        reply
+    }
+
+    /// An unlink of a name (`mq_unlink`).
+    pub fn unlink(&mut self, journal: &mut Journal, p: u32, name: &[u8]) -> Reply
+        requires kept { IsKeptBy journal.old self.old }
+        requires process { (1 ≤ p) × (p ≤ self.old.n) }
+        requires no_wait { open_wait journal.old.records p ≡ None }
+        requires form { IsTrue (is_name name.now) }
+        ensures entry { result ≢ Reply.Refused Fault.NoMemory → Appends journal.old.records journal.new.records p (Call.MqUnlink) name.now result }
+        ensures no_memory { result ≡ Reply.Refused Fault.NoMemory → journal.new.records ≡ journal.old.records }
+        ensures kept { IsKeptBy journal.new self.new }
+        ensures n { self.new.n ≡ self.old.n }
+    {
+        if journal.reserve(self.open_waits() + 1, name.len()).is_err() {
+            return Reply::Refused(Fault::NoMemory);
+        }
+        let reply = self.answer_unlink(journal, p, name);
+        self.record(journal, p, Call::MqUnlink, reply, name, None);
+        reply
+    }
+
+    /// The attributes of descriptor d (`mq_getattr`).
+    pub fn getattr(&mut self, journal: &mut Journal, p: u32, d: u32) -> Reply
+        requires kept { IsKeptBy journal.old self.old }
+        requires process { (1 ≤ p) × (p ≤ self.old.n) }
+        requires no_wait { open_wait journal.old.records p ≡ None }
+        ensures entry { result ≢ Reply.Refused Fault.NoMemory → Appends journal.old.records journal.new.records p (Call.MqGetattr d) [] result }
+        ensures no_memory { result ≡ Reply.Refused Fault.NoMemory → journal.new.records ≡ journal.old.records }
+        ensures kept { IsKeptBy journal.new self.new }
+        ensures n { self.new.n ≡ self.old.n }
+    {
+        if journal.reserve(self.open_waits() + 1, 0).is_err() {
+            return Reply::Refused(Fault::NoMemory);
+        }
+        let reply = self.answer_attributes(journal, p, d);
+        self.record(journal, p, Call::MqGetattr { d }, reply, &[], None);
+        reply
+    }
+
+    /// Another flag for descriptor d (`mq_setattr`).
+    pub fn setattr(&mut self, journal: &mut Journal, p: u32, d: u32, nonblock: bool) -> Reply
+        requires kept { IsKeptBy journal.old self.old }
+        requires process { (1 ≤ p) × (p ≤ self.old.n) }
+        requires no_wait { open_wait journal.old.records p ≡ None }
+        ensures entry { result ≢ Reply.Refused Fault.NoMemory → Appends journal.old.records journal.new.records p (Call.MqSetattr d nonblock) [] result }
+        ensures no_memory { result ≡ Reply.Refused Fault.NoMemory → journal.new.records ≡ journal.old.records }
+        ensures kept { IsKeptBy journal.new self.new }
+        ensures n { self.new.n ≡ self.old.n }
+    {
+        if journal.reserve(self.open_waits() + 1, 0).is_err() {
+            return Reply::Refused(Fault::NoMemory);
+        }
+        let reply = self.answer_attributes(journal, p, d);
+        self.record(journal, p, Call::MqSetattr { d, nonblock }, reply, &[], None);
+        reply
+    }
+
+    // Makes room for the notices of all registrations of process p, and of one more, where a call makes a registration.
+    fn make_inbox_room(&mut self, journal: &Journal, p: u32, reply: Reply) -> Result<(), AllocError>
+        requires kept { IsKeptBy journal.now self.old }
+        requires process { p ≤ self.old.n }
+        ensures kept { IsKeptBy journal.now self.new }
+        ensures n { self.new.n ≡ self.old.n }
+        ensures waits { waits_count self.new.owners.items ≡ waits_count self.old.owners.items }
+    {
+        match reply {
+            Reply::Done => {
+                let standing = queues::registrations_of(&self.queues, p);
+                notices::make_room(&mut self.inboxes, p, standing.saturating_add(1))
+            }
+            _ => Ok(()),
+        }
+    }
+
+    /// A registration on the queue of descriptor d, or its removal (`mq_notify`).
+    pub fn notify(&mut self, journal: &mut Journal, p: u32, d: u32, value: Option<u64>) -> Reply
+        requires kept { IsKeptBy journal.old self.old }
+        requires process { (1 ≤ p) × (p ≤ self.old.n) }
+        requires no_wait { open_wait journal.old.records p ≡ None }
+        ensures entry { result ≢ Reply.Refused Fault.NoMemory → Appends journal.old.records journal.new.records p (Call.MqNotify d value) [] result }
+        ensures no_memory { result ≡ Reply.Refused Fault.NoMemory → journal.new.records ≡ journal.old.records }
+        ensures kept { IsKeptBy journal.new self.new }
+        ensures n { self.new.n ≡ self.old.n }
+    {
+        if journal.reserve(self.open_waits() + 1, 0).is_err() {
+            return Reply::Refused(Fault::NoMemory);
+        }
+        let reply = self.answer_notify(journal, p, d, value);
+        if value.is_some() && self.make_inbox_room(journal, p, reply).is_err() {
+            return Reply::Refused(Fault::NoMemory);
+        }
+        self.record(journal, p, Call::MqNotify { d, value }, reply, &[], None);
+        reply
+    }
+
+    /// The oldest notice that process p has not yet taken.
+    pub fn next_notice(&mut self, journal: &mut Journal, p: u32) -> Reply
+        requires kept { IsKeptBy journal.old self.old }
+        requires process { (1 ≤ p) × (p ≤ self.old.n) }
+        requires no_wait { open_wait journal.old.records p ≡ None }
+        ensures entry { result ≢ Reply.Refused Fault.NoMemory → Appends journal.old.records journal.new.records p (Call.NextNotice) [] result }
+        ensures no_memory { result ≡ Reply.Refused Fault.NoMemory → journal.new.records ≡ journal.old.records }
+        ensures kept { IsKeptBy journal.new self.new }
+        ensures n { self.new.n ≡ self.old.n }
+    {
+        if journal.reserve(self.open_waits() + 1, 0).is_err() {
+            return Reply::Refused(Fault::NoMemory);
+        }
+        let reply = self.answer_next_notice(journal, p);
+        self.record(journal, p, Call::NextNotice, reply, &[], None);
+        reply
+    }
+
+    // Room for the notice of the registration that stands on queue q. It is there since the registration was made.
+    fn make_notice_room(&mut self, journal: &Journal, q: u64) -> Result<(), AllocError>
+        requires kept { IsKeptBy journal.now self.old }
+        ensures kept { IsKeptBy journal.now self.new }
+        ensures n { self.new.n ≡ self.old.n }
+        ensures waits { waits_count self.new.owners.items ≡ waits_count self.old.owners.items }
+        ensures room { OnOk result ((n : Registration) → registration_in self.new.queues.items q ≡ Some n → HasNoticeRoom self.new.inboxes.items n.process) }
+    {
+        match queues::registration(&self.queues, q) {
+            None => Ok(()),
+            Some(n) => notices::make_room(&mut self.inboxes, n.process, 1),
+        }
+    }
+
+    /// A send of a message (`mq_send`).
+    pub fn send(&mut self, journal: &mut Journal, p: u32, d: u32, bytes: &[u8], prio: u32) -> Reply
+        requires kept { IsKeptBy journal.old self.old }
+        requires process { (1 ≤ p) × (p ≤ self.old.n) }
+        requires no_wait { open_wait journal.old.records p ≡ None }
+        ensures entry { result ≢ Reply.Refused Fault.NoMemory → Appends journal.old.records journal.new.records p (Call.MqSend d prio (length bytes.now)) bytes.now result }
+        ensures no_memory { result ≡ Reply.Refused Fault.NoMemory → journal.new.records ≡ journal.old.records }
+        ensures kept { IsKeptBy journal.new self.new }
+        ensures n { self.new.n ≡ self.old.n }
+    {
+        if journal.reserve(self.open_waits() + 2, bytes.len()).is_err() {
+            return Reply::Refused(Fault::NoMemory);
+        }
+        let q = self.descriptor_queue(journal, p, d);
+        if self.make_notice_room(journal, q).is_err() {
+            return Reply::Refused(Fault::NoMemory);
+        }
+        let len = bytes.len() as u64;
+        let reply = self.answer_send(journal, p, d, prio, len);
+        self.record(journal, p, Call::MqSend { d, prio, len }, reply, bytes, None);
+        reply
+    }
+
+    /// A receive, which fills the front of the buffer where it gets a message (`mq_receive`).
+    pub fn receive(&mut self, journal: &mut Journal, p: u32, d: u32, buf: &mut [u8]) -> Reply
+        requires kept { IsKeptBy journal.old self.old }
+        requires process { (1 ≤ p) × (p ≤ self.old.n) }
+        requires no_wait { open_wait journal.old.records p ≡ None }
+        ensures entry { result ≢ Reply.Refused Fault.NoMemory → Appends journal.old.records journal.new.records p (Call.MqReceive d (length buf.old)) [] result }
+        ensures no_memory { result ≡ Reply.Refused Fault.NoMemory → journal.new.records ≡ journal.old.records }
+        ensures buffer { buf.new ≡ filled journal.old.records result buf.old }
+        ensures kept { IsKeptBy journal.new self.new }
+        ensures n { self.new.n ≡ self.old.n }
+    {
+        if journal.reserve(self.open_waits() + 2, 0).is_err() {
+            return Reply::Refused(Fault::NoMemory);
+        }
+        let q = self.descriptor_queue(journal, p, d);
+        if self.make_notice_room(journal, q).is_err() {
+            return Reply::Refused(Fault::NoMemory);
+        }
+        let room = buf.len() as u64;
+        let reply = self.answer_receive(journal, p, d, room);
+        buffers::fill(journal, reply, buf);
+        self.record(journal, p, Call::MqReceive { d, room }, reply, &[], None);
+        reply
+    }
+
+    /// The open wait of process p with the place of the entry that answers it, if one does.
+    pub fn answer(&self, p: u32) -> Option<u64>
+        ensures { result ≡ answer_in self.now.owners.items p }
+    {
+        owners::answer(&self.owners, p)
+    }
+
+    /// The place of the open wait of process p.
+    pub fn wait(&self, p: u32) -> Option<u64>
+        ensures { result ≡ option_map (λ w. w.place) (wait_in self.now.owners.items p) }
+    {
+        match owners::wait(&self.owners, p) {
+            None => None,
+            Some(wait) => Some(wait.place),
+        }
+    }
+
+    /// The lowest descriptor that process p holds.
+    pub fn lowest_open(&self, p: u32) -> Option<u32>
+        ensures { result ≡ lowest_held_in self.now.owners.items p }
+    {
+        owners::lowest_held(&self.owners, p)
+    }
+
+    /// The end of the open wait of process p, which the entry at a place answers.
+    pub fn collect(&mut self, journal: &mut Journal, p: u32, by: u64)
+        requires kept { IsKeptBy journal.old self.old }
+        requires process { (1 ≤ p) × (p ≤ self.old.n) }
+        requires answered { answered_by journal.old.records p ≡ Some by }
+        ensures appends { Appends journal.old.records journal.new.records p Call.Collect [] (Reply.Collected by) }
+        ensures kept { IsKeptBy journal.new self.new }
+        ensures n { self.new.n ≡ self.old.n }
+    {
+        self.record(journal, p, Call::Collect, Reply::Collected { by }, &[], None);
+    }
+}

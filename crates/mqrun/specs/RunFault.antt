@@ -1,0 +1,34 @@
+-- Why a run ended before its end: what is printed, and the exit status.
+use Rattle.std.specs.Prelude.{◌≡◌, ℕ, ◌++◌, List, codes, Result, Ok, Err}
+use Rattle.std.specs.Fmt.{decimal}
+use Rattle.mqrun.specs.declared.fault.RunFault.{RunFault}
+use Rattle.mqrun.specs.declared.fault.RunFault.TheVariants.{BadCall, Input, Output, NoMemory}
+
+-- the line on the error stream
+abbrev pub fault_text : RunFault → List ℕ
+fault_text (BadCall line) = codes "line " ++ (decimal line ++ codes ": bad call")
+fault_text Input = codes "input fault"
+fault_text Output = codes "output fault"
+fault_text NoMemory = codes "no memory"
+
+-- the exit status of the program
+abbrev pub exit_status : RunFault → ℕ
+exit_status (BadCall line) = 2
+exit_status Input = 3
+exit_status Output = 3
+exit_status NoMemory = 4
+
+-- a fault that comes behind the reading
+abbrev pub IsLate : RunFault → Type 0
+IsLate (BadCall line) = Unit {0}
+IsLate Input = ⊥
+IsLate Output = Unit {0}
+IsLate NoMemory = Unit {0}
+
+-- a run of a script that is at fault in this line: it says so, unless a read failed or memory ran out before
+abbrev pub StopsAt : ℕ → Result (Unit {0}) RunFault → Type 0
+StopsAt line (Err (BadCall k)) = k ≡ line
+StopsAt line (Err Input) = Unit {0}
+StopsAt line (Err NoMemory) = Unit {0}
+StopsAt line (Err Output) = ⊥
+StopsAt line (Ok done) = ⊥
