@@ -4,7 +4,6 @@ use crate::entries::{Access, Attr, Call, Entry, OpenFlags, Reply};
 use crate::faults::Fault;
 use crate::journals::Journal;
 use crate::laws;
-use crate::names::Name;
 use std::alloc::{AllocError, Global};
 use std::process::Abort;
 use std::test::Fail;
@@ -246,20 +245,6 @@ fn wait_is_answered_and_collected(rt: HostRuntime) -> Result<(), Fail> {
         Err(3),
         "collected before an answer",
     )
-}
-
-#[test]
-fn names_are_read(rt: HostRuntime) {
-    for (bytes, fault) in [(b"/", Fault::Invalid), (b"q", Fault::Invalid)] {
-        match Name::read(bytes) {
-            Ok(_) => assert!(rt; false, "not a name"),
-            Err(e) => assert_eq!(rt; e, fault),
-        }
-    }
-    match Name::read(b"/q") {
-        Ok(name) => assert_eq!(rt; name.bytes(), b"/q".as_slice()),
-        Err(_) => assert!(rt; false, "a name"),
-    }
 }
 
 #[test]
