@@ -1,11 +1,10 @@
 -- Legal journals, record by record.
-use Rattle.std.proofs.Common.{◌≡◌, ℕ, suc, ◌+◌, ◌-◌, ◌<◌, ◌≤◌, ◌==◌, Bool, true, false, ◌&&◌, List, [], ◌∷◌, length, refl, sym, ◌∙◌, ap, arith, leb-true, leb-false, IsTrue}
+use Rattle.std.proofs.Common.{◌≡◌, Bool, ◌&&◌, ◌∷◌, sym, ◌∙◌, IsTrue}
 use Rattle.std.specs.Prelude.{nat_le}
 use Rattle.std.proofs.lemmas.Bool.{and_parts, and_from}
-use Rattle.mq_core.specs.Record.{Record, Past, first}
-use Rattle.mq_core.specs.Answer.{answer, is_payload, may_call, IsLegalNext, Legal}
+use Rattle.mq_core.specs.Record.{Record, Past}
+use Rattle.mq_core.specs.Answer.{answer, is_payload, may_call, Legal}
 use Rattle.mq_core.specs.declared.entries.Status.{Status}
-use Rattle.mq_core.proofs.Places.{split}
 
 pub status_from : (a b : Status) → a.nonblock ≡ b.nonblock → a.maxmsg ≡ b.maxmsg → a.msgsize ≡ b.msgsize → a.curmsgs ≡ b.curmsgs → a ≡ b
 status_from a b p q r s = λ i. record { nonblock = p i; maxmsg = q i; msgsize = r i; curmsgs = s i }

@@ -1,14 +1,13 @@
 -- What no two entries of a legal journal share.
-use Rattle.std.proofs.Common.{◌≡◌, ◌≢◌, ℕ, suc, ◌+◌, ◌<◌, ◌≤◌, ◌==◌, Bool, true, false, ◌&&◌, ◌||◌, not, List, [], ◌∷◌, length, Option, Some, None, is_some, if◌then◌else◌, refl, sym, ◌∙◌, ap, subst, arith, eqb-true, eq-eqb, ne_eqb, ◌⊎◌, inl, inr}
-use Rattle.std.specs.List.{filter, find}
+use Rattle.std.proofs.Common.{◌≡◌, ◌≢◌, ℕ, ◌<◌, ◌==◌, Bool, true, false, ◌&&◌, not, List, [], ◌∷◌, length, Option, Some, None, is_some, if◌then◌else◌, refl, sym, ◌∙◌, ap, subst, arith, eqb-true, eq-eqb, ◌⊎◌, inl, inr}
 use Rattle.std.specs.Option.{option_map, option_and_then, unwrap_or}
-use Rattle.std.proofs.lemmas.Bool.{eqb-false, and_parts, not-true, false_from_ne_true}
-use Rattle.mq_core.specs.Record.{Record, Past, record_at, first}
+use Rattle.std.proofs.lemmas.Bool.{eqb-false, not-true}
+use Rattle.mq_core.specs.Record.{Record, Past}
 use Rattle.mq_core.specs.Descriptors.{is_place, is_on}
-use Rattle.mq_core.specs.Messages.{is_in, with_place, admits, hands, taken, taken_by, present, admitted, best, admitted_waits, handed_waits, waiting_sends, waiting_receives, blocked_sends}
+use Rattle.mq_core.specs.Messages.{is_in, with_place, admits, hands, taken, taken_by, present, admitted, admitted_waits, handed_waits, waiting_sends, waiting_receives, blocked_sends}
 use Rattle.mq_core.specs.Notices.{notified, registered, registered_place, registration_of, only_if, unless, ends}
 use Rattle.mq_core.specs.Waits.{is_wait, open_wait, named_wait, names_wait, answered_by}
-use Rattle.mq_core.specs.Answer.{Legal, IsLegalNext, may_call}
+use Rattle.mq_core.specs.Answer.{Legal, IsLegalNext}
 use Rattle.mq_core.specs.Owners.{waiting, blocked}
 use Rattle.mq_core.proofs.Prefixes.{record_at-below}
 use Rattle.mq_core.specs.Laws.{reply_at, message_given, cause, Has, GivesOnce}
@@ -19,9 +18,8 @@ use Rattle.mq_core.proofs.Frames.{record_at-older}
 use Rattle.mq_core.proofs.NamedWaits.{least-in, blocked-below}
 use Rattle.mq_core.proofs.Waiters.{named_waits, waiter, unnamed, admits-least, hands-least, same-waiter, waiting-filter}
 use Rattle.mq_core.proofs.NoticeSteps.{registered-made, made-of, only-some}
-use Rattle.mq_core.proofs.Presence.{blocked-on, admitted-to, present-admitted, present-below, IsAdmittedTo}
+use Rattle.mq_core.proofs.Presence.{blocked-on, admitted-to, present-admitted, present-below}
 use Rattle.mq_core.proofs.LegalPlaces.{has-record, has-here, has-cases, once}
-use Rattle.mq_core.specs.declared.entries.Description.{Description}
 use Rattle.mq_core.specs.declared.entries.Registration.{Registration}
 use Rattle.mq_core.specs.declared.entries.Call.{Call}
 use Rattle.mq_core.specs.declared.entries.Call.TheVariants.{MqOpen, MqClose, MqUnlink, MqSend, MqReceive, MqGetattr, MqSetattr, MqNotify, NextNotice, Collect}

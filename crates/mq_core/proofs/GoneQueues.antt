@@ -1,35 +1,32 @@
 -- A queue that ceased to exist never exists again.
-use Rattle.std.proofs.Common.{◌≡◌, ◌≢◌, ℕ, suc, ◌+◌, ◌<◌, ◌≤◌, ◌==◌, Bool, true, false, ◌&&◌, ◌||◌, not, List, [], ◌∷◌, length, Option, Some, None, is_some, if◌then◌else◌, refl, sym, ◌∙◌, ap, subst, arith, eqb-true, eq-eqb, ne_eqb, ◌⊎◌, inl, inr, ◌-◌, leb-true, leb-false}
+use Rattle.std.proofs.Common.{◌≡◌, ℕ, suc, ◌<◌, ◌≤◌, ◌==◌, Bool, true, false, ◌&&◌, ◌||◌, not, List, [], ◌∷◌, length, Option, Some, None, is_some, refl, sym, ◌∙◌, ap, subst, arith, ◌⊎◌, inl, inr, ◌-◌, leb-true, leb-false}
 use Rattle.std.specs.Prelude.{nat_le}
 use Rattle.std.specs.List.{filter}
 use Rattle.std.specs.Str.{bytes_eq}
-use Rattle.std.specs.Option.{option_map, option_and_then, unwrap_or}
-use Rattle.std.proofs.lemmas.Bool.{eqb-false, and_parts, not-true, false_from_ne_true}
+use Rattle.std.specs.Option.{unwrap_or}
+use Rattle.std.proofs.lemmas.Bool.{not-true, false_from_ne_true}
 use Rattle.mq_core.specs.Record.{Record, Past, record_at, first}
 use Rattle.mq_core.specs.Names.{creates, unlinks, bound_queue, name_of}
 use Rattle.mq_core.specs.Descriptors.{held, held_after, opened_queue, called_queue, created, alive, is_named, is_held}
-use Rattle.mq_core.specs.Messages.{is_in, with_place, is_accepted, is_send, hands_over, handed, admitted, taken, taken_by, present, queues, entered, admits}
-use Rattle.mq_core.specs.Answer.{Legal, IsLegalNext, answer, answer_open}
-use Rattle.mq_core.specs.Laws.{reply_at, Has, message_given, IsTakenAt, IsGoneAt, EndsForGood}
+use Rattle.mq_core.specs.Messages.{is_in, is_accepted, handed, admitted, taken, taken_by, present}
+use Rattle.mq_core.specs.Answer.{Legal, IsLegalNext, answer_open}
+use Rattle.mq_core.specs.Laws.{message_given, IsTakenAt, IsGoneAt, EndsForGood}
 use Rattle.mq_core.proofs.Places.{split, clash, is_in-filter, find-in}
 use Rattle.mq_core.proofs.Cases.{Says}
 use Rattle.mq_core.proofs.LegalReplies.{legal_says, got_says}
 use Rattle.mq_core.proofs.Prefixes.{record_at-below, length-first, first-all, record_at-first}
-use Rattle.mq_core.proofs.Frames.{created-below, record_at-older}
+use Rattle.mq_core.proofs.Frames.{created-below}
 use Rattle.mq_core.proofs.HeldQueues.{after-cases, held-alive, created-more}
 use Rattle.mq_core.proofs.Waiters.{in-filter}
 use Rattle.mq_core.proofs.OpenReplies.{opened-says}
-use Rattle.mq_core.proofs.Alive.{held-is_held, is_held-holder, needed-alive, bound-named, name_of-older, named-bound, is_needed}
-use Rattle.mq_core.proofs.PresentFew.{created-cases, sent-created}
+use Rattle.mq_core.proofs.Alive.{held-is_held, is_held-holder, needed-alive, bound-named, named-bound}
 use Rattle.mq_core.proofs.Presence.{present-admitted, present-below}
 use Rattle.mq_core.proofs.SentMessages.{IsSentTo, accepted-sent, admitted-sent, handed-taken, called-alive}
-use Rattle.mq_core.proofs.LegalPlaces.{legal-at, legal-first, has-record, first-older, first-first}
-use Rattle.mq_core.proofs.GivenOnce.{given-reply, given-present}
+use Rattle.mq_core.proofs.LegalPlaces.{legal-at, has-record, first-older, first-first}
+use Rattle.mq_core.proofs.GivenOnce.{given-reply}
 use Rattle.mq_core.specs.declared.entries.Attr.{Attr}
 use Rattle.mq_core.specs.declared.entries.OpenFlags.{OpenFlags}
-use Rattle.mq_core.specs.declared.entries.Description.{Description}
-use Rattle.mq_core.specs.declared.entries.Call.{Call}
-use Rattle.mq_core.specs.declared.entries.Call.TheVariants.{MqOpen, MqClose, MqUnlink, MqSend, MqReceive, MqGetattr, MqSetattr, MqNotify, NextNotice, Collect}
+use Rattle.mq_core.specs.declared.entries.Call.TheVariants.{MqOpen}
 use Rattle.mq_core.specs.declared.entries.Reply.{Reply}
 use Rattle.mq_core.specs.declared.entries.Reply.TheVariants.{Opened, Queued, Handed, Waits, Got, Collected, Attrs, Notice, Done, Refused}
 

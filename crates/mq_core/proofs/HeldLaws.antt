@@ -1,13 +1,11 @@
 -- What a legal journal's sends, receives and collects held, what its receives got, and what others leave.
-use Rattle.std.proofs.Common.{◌≡◌, ℕ, suc, ◌+◌, ◌<◌, ◌≤◌, ◌==◌, Bool, true, false, ◌&&◌, not, List, [], ◌∷◌, ◌++◌, length, Option, Some, None, is_some, if◌then◌else◌, refl, sym, ◌∙◌, ap, subst, arith, eqb-true, eq-eqb, ne_eqb}
-use Rattle.std.specs.Option.{option_map}
-use Rattle.std.proofs.lemmas.Bool.{eqb-false, and_parts, not-true}
-use Rattle.mq_core.specs.Record.{Record, Past, record_at, first}
-use Rattle.mq_core.specs.Descriptors.{held, held_after, called_queue}
-use Rattle.mq_core.specs.Messages.{best}
+use Rattle.std.proofs.Common.{◌≡◌, ℕ, suc, ◌<◌, ◌==◌, Bool, true, false, not, List, [], ◌∷◌, ◌++◌, length, Option, Some, None, is_some, if◌then◌else◌, refl, sym, ◌∙◌, ap, arith}
+use Rattle.std.proofs.lemmas.Bool.{and_parts, not-true}
+use Rattle.mq_core.specs.Record.{Record, Past, first}
+use Rattle.mq_core.specs.Descriptors.{held, called_queue}
 use Rattle.mq_core.specs.Waits.{is_wait, open_wait, answered_by, is_answered, names_wait}
 use Rattle.mq_core.specs.Answer.{Legal, is_read_only, is_write_only, is_refused}
-use Rattle.mq_core.specs.Laws.{Has, message_given, IsReceivedAt, GivesBest, IsHeldAt, HoldsDescriptors, are_of_others, OthersLeave}
+use Rattle.mq_core.specs.Laws.{message_given, GivesBest, HoldsDescriptors, are_of_others, OthersLeave}
 use Rattle.mq_core.proofs.Places.{split}
 use Rattle.mq_core.proofs.Cases.{Says}
 use Rattle.mq_core.proofs.LegalReplies.{legal_says, got_says}
@@ -17,7 +15,7 @@ use Rattle.mq_core.proofs.LegalPlaces.{legal-at, has-record, first-older, first-
 use Rattle.mq_core.proofs.GivenOnce.{given-reply}
 use Rattle.mq_core.specs.declared.entries.Description.{Description}
 use Rattle.mq_core.specs.declared.entries.Call.{Call}
-use Rattle.mq_core.specs.declared.entries.Call.TheVariants.{MqOpen, MqClose, MqUnlink, MqSend, MqReceive, MqGetattr, MqSetattr, MqNotify, NextNotice, Collect}
+use Rattle.mq_core.specs.declared.entries.Call.TheVariants.{MqSend, MqReceive}
 use Rattle.mq_core.specs.declared.entries.Reply.{Reply}
 use Rattle.mq_core.specs.declared.entries.Reply.TheVariants.{Opened, Queued, Handed, Waits, Got, Collected, Attrs, Notice, Done, Refused}
 

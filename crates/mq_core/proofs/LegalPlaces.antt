@@ -1,15 +1,13 @@
 -- A legal journal at each of its places.
-use Rattle.std.proofs.Common.{◌≡◌, ℕ, suc, ◌+◌, ◌-◌, ◌<◌, ◌≤◌, ◌==◌, Bool, true, false, List, [], ◌∷◌, ◌++◌, length, Option, Some, None, refl, sym, ◌∙◌, ap, subst, arith, eqb-true, eq-eqb, ne_eqb, leb-true, leb-false}
+use Rattle.std.proofs.Common.{◌≡◌, ℕ, suc, ◌-◌, ◌<◌, ◌≤◌, ◌==◌, [], ◌∷◌, length, Option, Some, None, refl, sym, ◌∙◌, ap, arith, eqb-true, eq-eqb, leb-true, leb-false}
 use Rattle.std.specs.Prelude.{nat_le, drop}
 use Rattle.std.specs.Option.{option_map, option_and_then}
-use Rattle.std.proofs.lemmas.Bool.{eqb-false}
 use Rattle.mq_core.specs.Record.{Record, Past, record_at, first}
 use Rattle.mq_core.specs.Answer.{Legal, IsLegalNext}
 use Rattle.mq_core.specs.Laws.{reply_at, Has, IsOnce}
 use Rattle.mq_core.specs.declared.entries.Reply.{Reply}
 use Rattle.mq_core.proofs.Places.{split}
-use Rattle.mq_core.proofs.Frames.{record_at-older}
-use Rattle.mq_core.proofs.Prefixes.{record_at-below, length-first, record_at-first, first-all}
+use Rattle.mq_core.proofs.Prefixes.{record_at-below, first-all}
 
 -- the first places of a longer journal
 pub first-older : (past : Past) (r : Record) (k : ℕ) → k ≤ length past → first k (r ∷ past) ≡ first k past

@@ -1,35 +1,32 @@
 -- Messages of one queue and one priority leave it in the order of their sends.
-use Rattle.std.proofs.Common.{◌≡◌, ◌≢◌, ℕ, suc, ◌+◌, ◌-◌, ◌<◌, ◌≤◌, ◌==◌, Bool, true, false, ◌&&◌, ◌||◌, not, List, [], ◌∷◌, length, min, Option, Some, None, if◌then◌else◌, refl, sym, ◌∙◌, ap, subst, arith, eqb-true, eq-eqb, ne_eqb, ◌⊎◌, inl, inr}
+use Rattle.std.proofs.Common.{◌≡◌, ◌≢◌, ℕ, ◌<◌, ◌≤◌, ◌==◌, Bool, true, false, ◌&&◌, ◌||◌, not, List, [], ◌∷◌, length, min, Option, Some, None, refl, sym, ◌∙◌, ap, subst, arith, eqb-true, eq-eqb, ne_eqb, ◌⊎◌, inl, inr}
 use Rattle.std.specs.Prelude.{ℤ, int_le, pos, negsuc, nat_lt, nat_le}
-use Rattle.std.specs.List.{filter, find, list_all}
+use Rattle.std.specs.List.{list_all}
 use Rattle.std.specs.Option.{option_map, option_and_then, unwrap_or}
-use Rattle.std.proofs.lemmas.Bool.{eqb-false, and_parts, not-true, false_from_ne_true}
+use Rattle.std.proofs.lemmas.Bool.{and_parts, not-true}
 use Rattle.std.proofs.lemmas.Bool.Decides.{nat_tests}
 use Rattle.mq_core.specs.Record.{Record, Past, record_at, first}
 use Rattle.mq_core.specs.Names.{attributes}
-use Rattle.mq_core.specs.Descriptors.{held, called_queue, created, is_place, is_on}
-use Rattle.mq_core.specs.Messages.{is_in, with_place, if_in, is_accepted, is_send, queues, hands_over, blocks_send, admits, blocked_sends, admitted_waits, waiting_sends, waiting_receives, entered, admitted, handed, taken, taken_by, present, is_full, priority, priority_given, goes_first, best, least}
+use Rattle.mq_core.specs.Descriptors.{called_queue, created, is_on}
+use Rattle.mq_core.specs.Messages.{is_in, with_place, is_accepted, is_send, queues, blocks_send, admits, blocked_sends, admitted_waits, waiting_sends, waiting_receives, entered, admitted, handed, taken, taken_by, present, is_full, priority, priority_given, goes_first, least}
 use Rattle.mq_core.specs.Answer.{Legal, IsLegalNext}
-use Rattle.mq_core.specs.Laws.{reply_at, message_given, IsTakenAt, LeavesInOrder}
+use Rattle.mq_core.specs.Laws.{message_given, IsTakenAt, LeavesInOrder}
 use Rattle.mq_core.proofs.Places.{split, clash, is_in-filter, find-in}
-use Rattle.mq_core.proofs.Best.{find-test}
 use Rattle.mq_core.proofs.Cases.{Says}
 use Rattle.mq_core.proofs.LegalReplies.{legal_says, got_says}
 use Rattle.mq_core.proofs.Prefixes.{record_at-below, length-first, record_at-first}
 use Rattle.mq_core.proofs.Frames.{record_at-older}
-use Rattle.mq_core.proofs.HeldQueues.{created-held}
 use Rattle.mq_core.proofs.NamedWaits.{least-in, blocked-once}
 use Rattle.mq_core.proofs.Waiters.{admits-least, in-filter}
 use Rattle.mq_core.proofs.Waiting.{waiting-empty}
-use Rattle.mq_core.proofs.Steps.{without, filter-both, admitted-below, blocked_sends-below, if_in-inside}
-use Rattle.mq_core.proofs.Presence.{place-is, with-more, present-admitted, present-below}
+use Rattle.mq_core.proofs.Steps.{without, filter-both}
+use Rattle.mq_core.proofs.Presence.{with-more, present-admitted, present-below}
 use Rattle.mq_core.proofs.PresentFew.{attributes-within, within-positive_maxmsg, called-on}
-use Rattle.mq_core.proofs.WaitCauses.{waiting-full, waits-got, waiting-created}
+use Rattle.mq_core.proofs.WaitCauses.{waiting-full, waiting-created}
 use Rattle.mq_core.proofs.LegalPlaces.{legal-at, has-record, has-here, first-first}
 use Rattle.mq_core.proofs.GivenOnce.{given-reply, given-present, admitted-blocked}
-use Rattle.mq_core.proofs.SentMessages.{IsSentTo, SentStatus, accepted-sent, admitted-sent, handed-sent, sent-status, is_sent}
-use Rattle.mq_core.proofs.GoneQueues.{same-queue, sent-first, taken-reply, or-cases}
-use Rattle.mq_core.specs.declared.entries.Description.{Description}
+use Rattle.mq_core.proofs.SentMessages.{IsSentTo, SentStatus, accepted-sent, admitted-sent, sent-status, is_sent}
+use Rattle.mq_core.proofs.GoneQueues.{same-queue, sent-first}
 use Rattle.mq_core.specs.declared.entries.Call.{Call}
 use Rattle.mq_core.specs.declared.entries.Call.TheVariants.{MqOpen, MqClose, MqUnlink, MqSend, MqReceive, MqGetattr, MqSetattr, MqNotify, NextNotice, Collect}
 use Rattle.mq_core.specs.declared.entries.Reply.{Reply}

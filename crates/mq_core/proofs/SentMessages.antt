@@ -1,16 +1,16 @@
 -- The sends behind the messages of a queue.
-use Rattle.std.proofs.Common.{◌≡◌, ◌≢◌, ℕ, suc, ◌+◌, ◌<◌, ◌≤◌, ◌==◌, Bool, true, false, ◌&&◌, ◌||◌, not, List, [], ◌∷◌, length, Option, Some, None, if◌then◌else◌, refl, sym, ◌∙◌, ap, subst, arith, eqb-true, eq-eqb, ne_eqb}
+use Rattle.std.proofs.Common.{◌≡◌, ℕ, ◌==◌, Bool, true, false, ◌&&◌, ◌||◌, [], ◌∷◌, length, Option, Some, None, refl, sym, ◌∙◌, ap, subst, arith, eqb-true, eq-eqb}
 use Rattle.std.specs.Option.{option_map, option_and_then}
-use Rattle.std.proofs.lemmas.Bool.{eqb-false, and_parts}
+use Rattle.std.proofs.lemmas.Bool.{and_parts}
 use Rattle.mq_core.specs.Record.{Record, Past, record_at, first}
-use Rattle.mq_core.specs.Descriptors.{held, called_queue, descriptor_of, alive, is_place, is_on}
+use Rattle.mq_core.specs.Descriptors.{held, called_queue, descriptor_of, alive, is_on}
 use Rattle.mq_core.specs.Messages.{is_in, with_place, if_in, is_accepted, is_send, queues, hands_over, blocks_send, blocked_sends, admits, handed, admitted, entered, taken, taken_by}
-use Rattle.mq_core.specs.Answer.{Legal, is_refused}
+use Rattle.mq_core.specs.Answer.{Legal}
 use Rattle.mq_core.proofs.Places.{split}
 use Rattle.mq_core.proofs.Prefixes.{record_at-below, first-all}
 use Rattle.mq_core.proofs.Frames.{record_at-older}
 use Rattle.mq_core.proofs.HeldQueues.{held-alive}
-use Rattle.mq_core.proofs.Steps.{if_in-inside, blocked_sends-below, admitted-below}
+use Rattle.mq_core.proofs.Steps.{if_in-inside}
 use Rattle.mq_core.proofs.Presence.{place-is, with-more}
 use Rattle.mq_core.proofs.LegalPlaces.{first-older}
 use Rattle.mq_core.specs.declared.entries.Description.{Description}

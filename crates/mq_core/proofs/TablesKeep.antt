@@ -1,14 +1,14 @@
 -- The checker's tables stay those of the journal.
-use Rattle.std.proofs.Common.{◌≡◌, ℕ, zero, suc, ◌+◌, ◌<◌, ◌≤◌, Bool, true, false, ◌&&◌, List, [], ◌∷◌, length, replicate, Option, Some, None, refl, sym, ◌∙◌, ap, subst, arith, leb-true}
+use Rattle.std.proofs.Common.{◌≡◌, ℕ, zero, suc, ◌<◌, Bool, true, List, [], ◌∷◌, length, replicate, Option, Some, None, refl, sym, ◌∙◌, ap, subst, arith, leb-true}
 use Rattle.std.specs.Prelude.{slice_get, nat_le}
 use Rattle.std.specs.List.{find}
 use Rattle.std.specs.Option.{option_map, option_and_then, unwrap_or}
 use Rattle.std.proofs.lemmas.Bool.{and_parts}
 use Rattle.mq_core.specs.Record.{Record, Past}
-use Rattle.mq_core.specs.Descriptors.{held, opened_queue, called_queue, lowest_free, descriptor_numbers}
+use Rattle.mq_core.specs.Descriptors.{opened_queue, called_queue}
 use Rattle.mq_core.specs.Messages.{taken_by}
 use Rattle.mq_core.specs.Answer.{Legal, IsLegalNext}
-use Rattle.mq_core.specs.Owners.{held_in, wait_in, answer_in, free_owner, slot_of, with_answer, waiter_in, OwnersMirror}
+use Rattle.mq_core.specs.Owners.{held_in, wait_in, answer_in, free_owner, slot_of, waiter_in, OwnersMirror}
 use Rattle.mq_core.specs.OwnersNoted.{noted, noted_open, noted_done, noted_attributes, with_answer_at}
 use Rattle.mq_core.specs.TakenTable.{marked, TakenMirror}
 use Rattle.mq_core.specs.CheckerTables.{TablesMirror}
@@ -21,7 +21,6 @@ use Rattle.mq_core.specs.declared.entries.Reply.TheVariants.{Opened, Queued, Han
 use Rattle.mq_core.specs.declared.owners.OpenWait.{OpenWait}
 use Rattle.mq_core.specs.declared.owners.Owner.{Owner}
 use Rattle.mq_core.proofs.Cases.{Says}
-use Rattle.mq_core.proofs.LegalReplies.{legal_says}
 use Rattle.mq_core.proofs.OwnerLines.{length-with_slot, length-with_wait, length-with_answer}
 use Rattle.mq_core.proofs.OwnersKeep.{EntryQueue, noted-keeps}
 use Rattle.mq_core.proofs.TakenBits.{taken-keeps}

@@ -1,16 +1,14 @@
 -- The table of messages that were taken stays that of the journal.
-use Rattle.std.proofs.Common.{◌≡◌, ℕ, zero, suc, ◌+◌, ◌<◌, ◌≤◌, ◌==◌, Bool, true, false, ◌&&◌, ◌||◌, not, List, [], ◌∷◌, length, Option, Some, None, if◌then◌else◌, refl, sym, ◌∙◌, ap, arith, eqb-true, eq-eqb, ne_eqb, get_or, ◌⊎◌, inl, inr}
+use Rattle.std.proofs.Common.{◌≡◌, ℕ, zero, suc, ◌<◌, ◌≤◌, ◌==◌, Bool, true, false, not, List, [], ◌∷◌, length, Option, Some, None, if◌then◌else◌, refl, sym, ◌∙◌, ap, arith, ne_eqb, get_or, ◌⊎◌, inl, inr}
 use Rattle.std.specs.Prelude.{slice_get, set, replicate}
 use Rattle.std.specs.List.{filter}
-use Rattle.std.specs.Option.{option_map, unwrap_or}
-use Rattle.std.proofs.lemmas.Bool.{eqb-false}
+use Rattle.std.specs.Option.{option_map}
 use Rattle.std.proofs.lemmas.Bool.Decides.{nat_tests}
 use Rattle.std.proofs.lemmas.Option.{get_or_from_slice_get}
 use Rattle.mq_core.specs.Record.{Record, Past, record_at, first}
-use Rattle.mq_core.specs.Names.{attributes, attributes_given, default_attributes}
 use Rattle.mq_core.specs.Descriptors.{is_on}
-use Rattle.mq_core.specs.Messages.{is_in, with_place, if_in, queues, admits, blocked_sends, entered, taken, taken_by, priority_given}
-use Rattle.mq_core.specs.OnePass.{better, best_of}
+use Rattle.mq_core.specs.Messages.{is_in, with_place, queues, admits, blocked_sends, entered, taken, taken_by}
+use Rattle.mq_core.specs.OnePass.{best_of}
 use Rattle.mq_core.specs.TakenTable.{TakenMirror, marked, enters, unless_in, with_best}
 use Rattle.mq_core.specs.declared.entries.Entry.{Entry}
 use Rattle.mq_core.specs.declared.entries.Reply.{Reply}

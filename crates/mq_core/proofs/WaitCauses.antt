@@ -1,27 +1,25 @@
 -- Where a send waits, its queue is full.
-use Rattle.std.proofs.Common.{◌≡◌, ◌≢◌, ℕ, suc, ◌+◌, ◌<◌, ◌≤◌, ◌==◌, Bool, true, false, ◌&&◌, ◌||◌, not, List, [], ◌∷◌, length, Option, Some, None, if◌then◌else◌, refl, sym, ◌∙◌, ap, subst, arith, eqb-true, eq-eqb, ne_eqb}
+use Rattle.std.proofs.Common.{◌≡◌, ℕ, suc, ◌<◌, ◌==◌, Bool, true, false, ◌&&◌, not, List, [], ◌∷◌, length, Option, Some, None, refl, sym, ◌∙◌, ap, subst, arith, eqb-true, eq-eqb, ne_eqb}
 use Rattle.std.specs.Prelude.{ℤ, int_le, pos, negsuc}
 use Rattle.std.specs.List.{filter}
-use Rattle.std.specs.Option.{option_map}
 use Rattle.std.proofs.lemmas.Bool.{eqb-false, and_parts, false_from_ne_true}
 use Rattle.std.proofs.lemmas.Bool.Decides.{nat_tests}
 use Rattle.mq_core.specs.Record.{Record, Past}
 use Rattle.mq_core.specs.Names.{attributes}
-use Rattle.mq_core.specs.Descriptors.{held, called_queue, created, is_place, is_on}
-use Rattle.mq_core.specs.Messages.{is_in, with_place, if_in, is_send, queues, admits, blocks_send, blocked_sends, admitted_waits, waiting_sends, waiting_receives, entered, admitted, taken, present, is_full, least}
+use Rattle.mq_core.specs.Descriptors.{called_queue, created, is_place, is_on}
+use Rattle.mq_core.specs.Messages.{is_in, with_place, if_in, queues, admits, blocked_sends, admitted_waits, waiting_sends, entered, admitted, taken, present, is_full, least}
 use Rattle.mq_core.specs.Answer.{Legal, IsLegalNext}
 use Rattle.mq_core.specs.Laws.{WaitsForCause}
 use Rattle.mq_core.proofs.Places.{split, clash, is_in-filter, find-in}
 use Rattle.mq_core.proofs.Cases.{Says}
 use Rattle.mq_core.proofs.LegalReplies.{legal_says}
-use Rattle.mq_core.proofs.NamedWaits.{least-in, blocked-once}
+use Rattle.mq_core.proofs.NamedWaits.{least-in}
 use Rattle.mq_core.proofs.Waiting.{waiting-empty}
-use Rattle.mq_core.proofs.Steps.{Below, without, filter-both, not-below, admitted-below, blocked_sends-below, if_in-inside, present-queued, present-queued_elsewhere}
-use Rattle.mq_core.proofs.Presence.{place-is, sent_to, blocked-on, waiting-not_admitted, without-fewer, without-absent, present-got_here, present-got_elsewhere, present-handed, GotFacts}
+use Rattle.mq_core.proofs.Steps.{without, filter-both, not-below, admitted-below, if_in-inside, present-queued_elsewhere}
+use Rattle.mq_core.proofs.Presence.{place-is, blocked-on, waiting-not_admitted, without-absent, present-got_here, present-got_elsewhere, present-handed, GotFacts}
 use Rattle.mq_core.proofs.PresentFew.{attributes-older, sent-created, present-few, called-on, called-created}
 use Rattle.mq_core.proofs.Frames.{created-below}
 use Rattle.mq_core.proofs.Waiters.{admits-least}
-use Rattle.mq_core.specs.declared.entries.Description.{Description}
 use Rattle.mq_core.specs.declared.entries.Call.{Call}
 use Rattle.mq_core.specs.declared.entries.Call.TheVariants.{MqOpen, MqClose, MqUnlink, MqSend, MqReceive, MqGetattr, MqSetattr, MqNotify, NextNotice, Collect}
 use Rattle.mq_core.specs.declared.entries.Reply.{Reply}

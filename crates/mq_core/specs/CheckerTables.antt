@@ -1,5 +1,5 @@
 -- When the checker's tables are those of a journal.
-use Rattle.std.specs.Prelude.{ℕ, ◌≡◌, List, length}
+use Rattle.std.specs.Prelude.{◌≡◌, length}
 use Rattle.mq_core.specs.Record.{Past}
 use Rattle.mq_core.specs.Owners.{OwnersMirror}
 use Rattle.mq_core.specs.TakenTable.{TakenMirror}

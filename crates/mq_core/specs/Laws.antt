@@ -10,7 +10,6 @@ use Rattle.mq_core.specs.Notices.{notified}
 use Rattle.mq_core.specs.Waits.{open_wait, named_wait, is_answered}
 use Rattle.mq_core.specs.Answer.{is_read_only, is_write_only, is_refused}
 use Rattle.mq_core.specs.declared.entries.Description.{Description}
-use Rattle.mq_core.specs.declared.entries.Call.{Call}
 use Rattle.mq_core.specs.declared.entries.Call.TheVariants.{MqSend, MqReceive, Collect}
 use Rattle.mq_core.specs.declared.entries.Reply.{Reply}
 use Rattle.mq_core.specs.declared.entries.Reply.TheVariants.{Handed, Got, Collected}

@@ -1,6 +1,6 @@
 -- What a table of places says of the messages that were taken. It defines nothing: where a table mirrors a journal, each bit is
 -- what `taken` says.
-use Rattle.std.specs.Prelude.{ℕ, ◌≡◌, ◌<◌, Bool, true, List, [], ◌∷◌, length, Option, Some, None, slice_get, set, if◌then◌else◌}
+use Rattle.std.specs.Prelude.{ℕ, ◌≡◌, ◌<◌, Bool, true, List, length, Option, Some, None, slice_get, set, if◌then◌else◌}
 use Rattle.mq_core.specs.Record.{Past}
 use Rattle.mq_core.specs.Messages.{is_in, taken, queues, admits}
 use Rattle.mq_core.specs.OnePass.{better}

@@ -5,6 +5,8 @@ pub mod checker;
 pub mod entries;
 mod expected;
 pub mod faults;
+#[cfg(test)]
+mod histories;
 pub mod journals;
 pub mod laws;
 pub mod names;
@@ -16,8 +18,5 @@ mod scan_names;
 mod scan_notices;
 mod tables;
 mod taken;
-
-#[cfg(test)]
-mod histories;
 #[cfg(test)]
 mod tests;

@@ -1,4 +1,4 @@
-use Rattle.std.proofs.Common.{◌≡◌, ◌+◌, refl, List, []}
+use Rattle.std.proofs.Common.{◌+◌, refl, []}
 use Rattle.mq_core.specs.Record.{Past, first}
 use Rattle.mq_core.specs.Answer.{Legal}
 use Rattle.mq_core.specs.CheckerTables.{TablesMirror}

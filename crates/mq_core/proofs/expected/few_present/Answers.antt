@@ -1,6 +1,4 @@
-use Rattle.std.proofs.Common.{◌≡◌, ◌≤◌, arith, length}
 use Rattle.mq_core.specs.Record.{first}
-use Rattle.mq_core.specs.Messages.{present}
 use Rattle.mq_core.proofs.PresentFew.{created-bound}
 use Rattle.mq_core.proofs.expected.few_present.Goals as goal
 

@@ -1,4 +1,4 @@
-use Rattle.std.proofs.Common.{◌≡◌, ℕ, true, Option, Some, None, sym, IfSome, IsTrue}
+use Rattle.std.proofs.Common.{◌≡◌, ℕ, Option, Some, None, sym, IfSome, IsTrue}
 use Rattle.mq_core.specs.Record.{Past, first}
 use Rattle.mq_core.specs.Descriptors.{held, created}
 use Rattle.mq_core.specs.Messages.{is_in}

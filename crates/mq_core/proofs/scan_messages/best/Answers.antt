@@ -1,7 +1,6 @@
-use Rattle.std.proofs.Common.{◌≡◌, ◌∙◌, arith, not}
-use Rattle.std.specs.List.{filter}
+use Rattle.std.proofs.Common.{◌≡◌, ◌∙◌, arith}
 use Rattle.mq_core.specs.Record.{first}
-use Rattle.mq_core.specs.Messages.{goes_first, present, is_in, taken, admitted}
+use Rattle.mq_core.specs.Messages.{goes_first, present}
 use Rattle.mq_core.specs.OnePass.{best_of}
 use Rattle.mq_core.proofs.Best.{best_of-best, messages-ranking}
 use Rattle.mq_core.proofs.scan_messages.best.Goals as goal

@@ -1,5 +1,4 @@
-use Rattle.std.proofs.Common.{◌≡◌, ◌≤◌, length, not}
-use Rattle.std.specs.List.{filter}
+use Rattle.std.proofs.Common.{◌≡◌}
 use Rattle.mq_core.specs.Record.{first}
 use Rattle.mq_core.specs.Messages.{is_in, blocked_sends}
 use Rattle.mq_core.proofs.scan_messages.is_blocked_send.Given as goal

@@ -1,4 +1,4 @@
-use Rattle.std.proofs.Common.{◌≡◌, ◌≤◌, length, not}
+use Rattle.std.proofs.Common.{◌≡◌, ◌≤◌, length}
 use Rattle.std.specs.List.{filter}
 use Rattle.mq_core.specs.Record.{first}
 use Rattle.std.proofs.Common.{◌||◌}

@@ -1,5 +1,4 @@
-use Rattle.std.proofs.Common.{◌≡◌, ◌∙◌, sym, arith, length}
-use Rattle.mq_core.specs.Record.{first}
+use Rattle.std.proofs.Common.{◌∙◌, sym, arith}
 use Rattle.mq_core.proofs.Prefixes.{length-first}
 use Rattle.mq_core.proofs.TakenBits.{entry-before, entry-beyond}
 use Rattle.mq_core.proofs.scan_names.entry_before.Goals as goal

@@ -1,4 +1,4 @@
-use Rattle.std.proofs.Common.{◌≡◌, ◌≤◌, length, not}
+use Rattle.std.proofs.Common.{◌≡◌}
 use Rattle.mq_core.specs.Record.{first}
 use Rattle.mq_core.specs.Descriptors.{held}
 use Rattle.mq_core.proofs.Flagged.{flagged}

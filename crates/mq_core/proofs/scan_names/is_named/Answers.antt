@@ -1,4 +1,4 @@
-use Rattle.std.proofs.Common.{◌≡◌, sym, ◌∙◌, arith}
+use Rattle.std.proofs.Common.{sym, ◌∙◌}
 use Rattle.mq_core.proofs.Prefixes.{named_is}
 use Rattle.mq_core.proofs.scan_names.is_named.Goals as goal
 

@@ -1,5 +1,4 @@
-use Rattle.std.proofs.Common.{◌≡◌, ◌≤◌, length, not}
-use Rattle.std.specs.List.{filter}
+use Rattle.std.proofs.Common.{◌≡◌, ◌≤◌, length}
 use Rattle.mq_core.specs.Record.{first}
 use Rattle.std.specs.Prelude.{slice_get}
 use Rattle.mq_core.specs.Notices.{values_notified}

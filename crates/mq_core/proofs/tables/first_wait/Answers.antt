@@ -1,4 +1,4 @@
-use Rattle.std.proofs.Common.{◌≡◌, sym, refl}
+use Rattle.std.proofs.Common.{sym, refl}
 use Rattle.mq_core.specs.Record.{first}
 use Rattle.mq_core.proofs.Pending.{least-pending, no-pending}
 use Rattle.mq_core.proofs.tables.first_wait.Goals as goal

@@ -1,4 +1,4 @@
-use Rattle.std.proofs.Common.{◌≡◌, sym, ◌∙◌}
+use Rattle.std.proofs.Common.{sym, ◌∙◌}
 use Rattle.mq_core.specs.Record.{first}
 use Rattle.mq_core.proofs.Alive.{is_held-table}
 use Rattle.mq_core.proofs.tables.is_held.Goals as goal

@@ -1,4 +1,4 @@
-use Rattle.std.proofs.Common.{◌≡◌, ◌+◌, ◌≤◌, subst, arith, sym, ◌∷◌, length}
+use Rattle.std.proofs.Common.{◌+◌, subst, arith, ◌∷◌}
 use Rattle.mq_core.specs.Record.{Record, first}
 use Rattle.mq_core.specs.Answer.{Legal}
 use Rattle.mq_core.proofs.Prefixes.{length-first}
