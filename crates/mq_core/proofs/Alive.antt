@@ -1,29 +1,29 @@
 -- Which queues exist behind one more record.
-use Rattle.std.proofs.Common.{◌≡◌, ◌≢◌, ℕ, suc, ◌+◌, ◌<◌, ◌≤◌, ◌==◌, Bool, true, false, ◌&&◌, ◌||◌, not, List, [], ◌∷◌, length, Option, Some, None, is_some, is_none, if◌then◌else◌, refl, sym, ◌∙◌, ap, subst, arith, eqb-true, eq-eqb, ne_eqb, ◌⊎◌, inl, inr, zero}
+use Rattle.std.proofs.Common.{◌≡◌, ◌≢◌, ℕ, suc, ◌<◌, ◌==◌, Bool, true, false, ◌&&◌, ◌||◌, not, List, [], ◌∷◌, length, Option, Some, None, is_some, is_none, if◌then◌else◌, refl, sym, ◌∙◌, ap, subst, arith, eqb-true, eq-eqb, ne_eqb, zero}
 use Rattle.std.specs.Prelude.{slice_get}
 use Rattle.std.specs.List.{filter, list_any}
 use Rattle.std.specs.Str.{bytes_eq}
 use Rattle.std.specs.Option.{option_map, option_and_then, unwrap_or}
-use Rattle.std.proofs.lemmas.Bool.{eqb-false, and_parts, and_from}
+use Rattle.std.proofs.lemmas.Bool.{eqb-false, and_parts}
 use Rattle.std.proofs.lemmas.Slice.Eq.{bytes_eq-Decides}
-use Rattle.mq_core.specs.Record.{Record, Past, record_at}
-use Rattle.mq_core.specs.Names.{creates, unlinks, bound_queue, name_of, is_unlink}
-use Rattle.mq_core.specs.Descriptors.{held, description, held_after, after_open, after_close, after_setattr, opened_queue, opened_number, with_holder, openers, created, is_held, is_named, is_place, alive, Holder, lowest_free}
+use Rattle.mq_core.specs.Record.{Record, Past}
+use Rattle.mq_core.specs.Names.{creates, unlinks, bound_queue, name_of}
+use Rattle.mq_core.specs.Descriptors.{held, description, held_after, opened_queue, openers, created, is_held, is_named, is_place, alive, Holder}
 use Rattle.mq_core.specs.Messages.{is_in}
 use Rattle.mq_core.specs.Owners.{held_in, is_held_in, holds, slot_of, OwnersMirror}
-use Rattle.mq_core.specs.Answer.{Legal, IsLegalNext, answer}
+use Rattle.mq_core.specs.Answer.{Legal}
 use Rattle.mq_core.specs.declared.entries.Attr.{Attr}
 use Rattle.mq_core.specs.declared.entries.OpenFlags.{OpenFlags}
 use Rattle.mq_core.specs.declared.entries.Description.{Description}
 use Rattle.mq_core.specs.declared.entries.Call.{Call}
-use Rattle.mq_core.specs.declared.entries.Call.TheVariants.{MqOpen, MqClose, MqUnlink, MqSetattr}
+use Rattle.mq_core.specs.declared.entries.Call.TheVariants.{MqOpen, MqClose, MqUnlink}
 use Rattle.mq_core.specs.declared.entries.Reply.{Reply}
-use Rattle.mq_core.specs.declared.entries.Reply.TheVariants.{Opened, Attrs, Done}
+use Rattle.mq_core.specs.declared.entries.Reply.TheVariants.{Opened, Done}
 use Rattle.mq_core.specs.declared.owners.Owner.{Owner}
 use Rattle.mq_core.proofs.Places.{split, clash, is_in-filter}
 use Rattle.mq_core.proofs.Frames.{filter-same, created-below, record_at-older}
 use Rattle.mq_core.proofs.HeldQueues.{any-opener, bound-created, held-alive}
-use Rattle.mq_core.proofs.OpenReplies.{opened-says, lowest_free-is, OpenedFacts}
+use Rattle.mq_core.proofs.OpenReplies.{lowest_free-is, OpenedFacts}
 
 -- two tests that hold together are one
 pub same-tests : (a b : Bool) → (a ≡ true → b ≡ true) → (b ≡ true → a ≡ true) → a ≡ b
@@ -64,7 +64,7 @@ any-holder past q (x ∷ xs) e = by (held past x.process x.d) refl (λ rest. any
     by (Some h) is rest e = split (h.queue == q)
         (λ t. record { process = x.process; d = x.d; description = h; held = is; on = eqb-true _ _ t })
         (λ f. let e' : ((h.queue == q) || list_any (λ x. is_place q (option_map (λ h. h.queue) (held past x.process x.d))) xs) ≡ true = rw is at e in
-          let e'' : list_any (λ x. is_place q (option_map (λ h. h.queue) (held past x.process x.d))) xs ≡ true = rw f at e' in rest e'')
+        let e'' : list_any (λ x. is_place q (option_map (λ h. h.queue) (held past x.process x.d))) xs ≡ true = rw f at e' in rest e'')
 
 -- a held queue has a holder
 pub is_held-holder : (past : Past) (q : ℕ) → is_held past q ≡ true → IsHolder past q
@@ -99,8 +99,8 @@ unfolding held_in
 is_held-table past owners m q = same-tests _ _
     (λ t. let x = is_held-holder past q t in found x.process x.d x.description (m.held x.process x.d ∙ x.held) x.on)
     (λ t. let x = any-line q owners t in let y = any-slot q x.1.descriptors x.3 in
-      let there : held_in owners x.0 y.0 ≡ Some y.1 = rw x.2 y.2 in
-      held-is_held past x.0 y.0 q y.1 (sym (m.held x.0 y.0) ∙ there) y.3)
+    let there : held_in owners x.0 y.0 ≡ Some y.1 = rw x.2 y.2 in
+    held-is_held past x.0 y.0 q y.1 (sym (m.held x.0 y.0) ∙ there) y.3)
   where
     found : (p d : ℕ) (h : Description) → held_in owners p d ≡ Some h → h.queue ≡ q → is_held_in owners q ≡ true
     found p d h e on = by (slice_get owners p) refl e
@@ -128,11 +128,11 @@ pub bound-name : (past : Past) (name : List ℕ) (q : ℕ) → bound_queue past 
 bound-name [] name q e = absurd (cc)
 bound-name (r ∷ past) name q e = split (creates r.entry.call r.entry.reply && bytes_eq r.payload name)
     (λ t. let here : Some (length past) ≡ Some q = rw t at e in let same : length past ≡ q = cc in
-      rw (← same) (name_of-newest past r ∙ same-name r.payload name (and_parts (creates r.entry.call r.entry.reply) (bytes_eq r.payload name) t).1))
+    rw (← same) (name_of-newest past r ∙ same-name r.payload name (and_parts (creates r.entry.call r.entry.reply) (bytes_eq r.payload name) t).1))
     (λ f. split (unlinks r.entry.call r.entry.reply && bytes_eq r.payload name)
-      (λ t. let none : None ≡ Some q = rw (f, t) at e in absurd (cc))
-      (λ g. let old : bound_queue past name ≡ Some q = rw (f, g) at e in
-        name_of-older past r q (created-below past q (bound-created past name q old)) ∙ bound-name past name q old))
+    (λ t. let none : None ≡ Some q = rw (f, t) at e in absurd (cc))
+    (λ g. let old : bound_queue past name ≡ Some q = rw (f, g) at e in
+    name_of-older past r q (created-below past q (bound-created past name q old)) ∙ bound-name past name q old))
 
 -- a queue that is named is the one that its name is bound to
 pub named-bound : (past : Past) (q : ℕ) → is_named past q ≡ true → bound_queue past (name_of past q) ≡ Some q
@@ -153,8 +153,8 @@ named-same past r q c u lt = rw (c, u) (ap (λ name. is_place q (bound_queue pas
 pub named-created : (past : Past) (r : Record) (q : ℕ) → creates r.entry.call r.entry.reply ≡ true → bound_queue past r.payload ≡ None → q < length past → is_named (r ∷ past) q ≡ is_named past q
 named-created past r q c none lt = rw (c, name_of-older past r q lt) (split (bytes_eq r.payload (name_of past q))
     (λ t. let same : r.payload ≡ name_of past q = same-name r.payload (name_of past q) t in
-      let unbound : bound_queue past (name_of past q) ≡ None = ap (bound_queue past) (sym same) ∙ none in
-      rw (t, unbound) (ne_eqb (length past) q (λ e. omega arith)))
+    let unbound : bound_queue past (name_of past q) ≡ None = ap (bound_queue past) (sym same) ∙ none in
+    rw (t, unbound) (ne_eqb (length past) q (λ e. omega arith)))
     (λ f. rw (f, no-unlink r.entry.call r.entry.reply c) refl))
   where
     no-unlink : (call : Call) (reply : Reply) → creates call reply ≡ true → unlinks call reply ≡ false
@@ -169,13 +169,13 @@ named-newest past r c = rw (name_of-newest past r, c, name-itself r.payload) (eq
 pub named-unlinked : (past : Past) (r : Record) (q k : ℕ) → unlinks r.entry.call r.entry.reply ≡ true → bound_queue past r.payload ≡ Some k → q < length past → is_named (r ∷ past) q ≡ (if q == k then false else is_named past q)
 named-unlinked past r q k u bound lt = rw (no-create r.entry.call r.entry.reply u, u, name_of-older past r q lt) (split (bytes_eq r.payload (name_of past q))
     (λ t. let same : r.payload ≡ name_of past q = same-name r.payload (name_of past q) t in
-      let is : bound_queue past (name_of past q) ≡ Some k = ap (bound_queue past) (sym same) ∙ bound in
-      rw (t, is) (split (q == k) (λ e. rw e refl) (λ n. rw n (sym (ne_eqb k q (λ e. eqb-false _ _ n (sym e)))))))
+    let is : bound_queue past (name_of past q) ≡ Some k = ap (bound_queue past) (sym same) ∙ bound in
+    rw (t, is) (split (q == k) (λ e. rw e refl) (λ n. rw n (sym (ne_eqb k q (λ e. eqb-false _ _ n (sym e)))))))
     (λ f. rw f (split (q == k)
-      (λ e. let same : q ≡ k = eqb-true _ _ e in
-        let own : name_of past q ≡ r.payload = rw same (bound-name past r.payload k bound) in
-        clash (bytes_eq r.payload (name_of past q)) (rw own (name-itself r.payload)) f)
-      (λ n. rw n refl))))
+    (λ e. let same : q ≡ k = eqb-true _ _ e in
+    let own : name_of past q ≡ r.payload = rw same (bound-name past r.payload k bound) in
+    clash (bytes_eq r.payload (name_of past q)) (rw own (name-itself r.payload)) f)
+    (λ n. rw n refl))))
   where
     no-create : (call : Call) (reply : Reply) → unlinks call reply ≡ true → creates call reply ≡ false
     no-create call Done u = refl
@@ -220,10 +220,10 @@ pub alive-one : (past : Past) (r : Record) (x : ℕ) → creates r.entry.call r.
 alive-one past r x c was same = split (is_needed (r ∷ past) x)
     (λ t. rw t (alive-quiet past r c (λ q lt. split (q == x) (λ e. let is : q ≡ x = eqb-true _ _ e in rw (is, t) (sym was)) (λ n. same q lt (eqb-false _ _ n)))))
     (λ f. rw f (ap (filter (is_needed (r ∷ past))) newest
-      ∙ filter-same (is_needed (r ∷ past)) (λ k. is_needed past k && not (k == x)) (created past) (λ q h. split (q == x)
-          (λ e. let is : q ≡ x = eqb-true _ _ e in rw (is, f, was, eq-eqb x x refl) refl)
-          (λ n. rw (same q (created-below past q h) (eqb-false _ _ n), n) (sym (and-true (is_needed past q)))))
-      ∙ filter-filter (λ k. not (k == x)) (is_needed past) (created past)))
+    ∙ filter-same (is_needed (r ∷ past)) (λ k. is_needed past k && not (k == x)) (created past) (λ q h. split (q == x)
+    (λ e. let is : q ≡ x = eqb-true _ _ e in rw (is, f, was, eq-eqb x x refl) refl)
+    (λ n. rw (same q (created-below past q h) (eqb-false _ _ n), n) (sym (and-true (is_needed past q)))))
+    ∙ filter-filter (λ k. not (k == x)) (is_needed past) (created past)))
   where
     newest : created (r ∷ past) ≡ created past
     newest = rw c refl
@@ -259,17 +259,17 @@ queue-changed : (past : Past) (r : Record) (d : ℕ) (v : Option Description) �
     (q : ℕ) → (queue_at past r.entry.process d ≡ Some q → ⊥) → (option_map (λ h. h.queue) v ≡ Some q → ⊥) → is_held (r ∷ past) q ≡ is_held past q
 queue-changed past r d v changes q not-before not-after = is_held-same past (r ∷ past) q
     (λ k e old. split (r.entry.process == k)
-      (λ t. let own : r.entry.process ≡ k = eqb-true _ _ t in
-        split (d == e)
-        (λ s. let here : d ≡ e = eqb-true _ _ s in absurd (not-before (rw (own, here) old)))
-        (λ n. ap (option_map (λ h. h.queue)) (at k e own ∙ rw n refl) ∙ old))
-      (λ f. rw f old))
+    (λ t. let own : r.entry.process ≡ k = eqb-true _ _ t in
+    split (d == e)
+    (λ s. let here : d ≡ e = eqb-true _ _ s in absurd (not-before (rw (own, here) old)))
+    (λ n. ap (option_map (λ h. h.queue)) (at k e own ∙ rw n refl) ∙ old))
+    (λ f. rw f old))
     (λ k e new. split (r.entry.process == k)
-      (λ t. let own : r.entry.process ≡ k = eqb-true _ _ t in
-        split (d == e)
-        (λ s. absurd (not-after (ap (option_map (λ h. h.queue)) (sym (at k e own ∙ rw s refl)) ∙ new)))
-        (λ n. ap (option_map (λ h. h.queue)) (sym (at k e own ∙ rw n refl)) ∙ new))
-      (λ f. rw f at new))
+    (λ t. let own : r.entry.process ≡ k = eqb-true _ _ t in
+    split (d == e)
+    (λ s. absurd (not-after (ap (option_map (λ h. h.queue)) (sym (at k e own ∙ rw s refl)) ∙ new)))
+    (λ n. ap (option_map (λ h. h.queue)) (sym (at k e own ∙ rw n refl)) ∙ new))
+    (λ f. rw f at new))
   where
     at : (k e : ℕ) → r.entry.process ≡ k → held (r ∷ past) k e ≡ (if d == e then v else held past k e)
     at k e own = let P : ℕ → Type 0 = λ j. held (r ∷ past) j e ≡ (if d == e then v else held past j e) in
@@ -282,8 +282,8 @@ is_held-quiet past r same q = is_held-same past (r ∷ past) q (λ k e old. at k
     at : (k e : ℕ) → queue_at (r ∷ past) k e ≡ queue_at past k e
     at k e = split (r.entry.process == k)
         (λ t. let own : r.entry.process ≡ k = eqb-true _ _ t in
-          let P : ℕ → Type 0 = λ j. queue_at (r ∷ past) j e ≡ queue_at past j e in
-          subst P own (rw (eq-eqb r.entry.process r.entry.process refl) (same e)))
+        let P : ℕ → Type 0 = λ j. queue_at (r ∷ past) j e ≡ queue_at past j e in
+        subst P own (rw (eq-eqb r.entry.process r.entry.process refl) (same e)))
         (λ f. rw f refl)
 
 -- a record that opens, closes, creates and unlinks nothing leaves the queues that exist
@@ -308,12 +308,14 @@ alive-opened past p flags attr payload d facts = by (bound_queue past payload) r
     by None is bound = absurd (let bad : true ≡ false = rw is at bound in cc)
     by (Some x) is bound = alive-quiet past (rec p (MqOpen flags attr) (Opened d false) payload) refl (λ q lt. split (q == x)
         (λ t. let e : q ≡ x = eqb-true _ _ t in
-          let named : is_named past q ≡ true = rw e (bound-named past payload x is) in
-          rw (named-same past (rec p (MqOpen flags attr) (Opened d false) payload) q refl refl lt, named) refl)
-        (λ n. rw (named-same past (rec p (MqOpen flags attr) (Opened d false) payload) q refl refl lt,
-            queue-changed past (rec p (MqOpen flags attr) (Opened d false) payload) d (Some (description (opened_queue past payload false) flags)) (λ e. refl) q
+        let named : is_named past q ≡ true = rw e (bound-named past payload x is) in
+        rw (named-same past (rec p (MqOpen flags attr) (Opened d false) payload) q refl refl lt, named) refl)
+        (λ n. rw (
+          named-same past (rec p (MqOpen flags attr) (Opened d false) payload) q refl refl lt,
+          queue-changed past (rec p (MqOpen flags attr) (Opened d false) payload) d (Some (description (opened_queue past payload false) flags)) (λ e. refl) q
               (λ before. let bad : None ≡ Some q = sym free ∙ before in cc)
-              (λ after. let here : unwrap_or (bound_queue past payload) 0 ≡ q = cc in let x_is : x ≡ q = rw is at here in eqb-false _ _ n (sym x_is))) refl))
+              (λ after. let here : unwrap_or (bound_queue past payload) 0 ≡ q = cc in let x_is : x ≡ q = rw is at here in eqb-false _ _ n (sym x_is)),
+        ) refl))
 
 -- an open that creates its queue
 pub alive-new : (past : Past) (p : ℕ) (flags : OpenFlags) (attr : Option Attr) (payload : List ℕ) (d : ℕ) → OpenedFacts past p payload d true → alive (rec p (MqOpen flags attr) (Opened d true) payload ∷ past) ≡ length past ∷ alive past
@@ -321,10 +323,12 @@ alive-new past p flags attr payload d facts =
     let r : Record = rec p (MqOpen flags attr) (Opened d true) payload in
     let unbound : bound_queue past payload ≡ None = unbound-of (bound_queue past payload) facts.new in
     let free : queue_at past p d ≡ None = ap (option_map (λ h. h.queue)) (none-of (held past p d) (lowest_free-is past p d facts.free).0) in
-    alive-created past r refl (λ q lt. rw (named-created past r q refl unbound lt,
+    alive-created past r refl (λ q lt. rw (
+      named-created past r q refl unbound lt,
       queue-changed past r d (Some (description (length past) flags)) (λ e. refl) q
-        (λ before. let bad : None ≡ Some q = sym free ∙ before in cc)
-        (λ after. let here : length past ≡ q = cc in omega arith)) refl)
+          (λ before. let bad : None ≡ Some q = sym free ∙ before in cc)
+          (λ after. let here : length past ≡ q = cc in omega arith),
+    ) refl)
   where
     unbound-of : (o : Option ℕ) → not (is_some o) ≡ true → o ≡ None
     unbound-of None e = refl
@@ -335,10 +339,12 @@ pub alive-closed : (past : Past) → Legal past → (p d : ℕ) (payload : List 
     alive (rec p (MqClose d) Done payload ∷ past) ≡ (if is_needed (rec p (MqClose d) Done payload ∷ past) h.queue then alive past else filter (λ q. not (q == h.queue)) (alive past))
 alive-closed past legal p d payload h is =
     let r : Record = rec p (MqClose d) Done payload in
-    alive-one past r h.queue refl (needed-alive past h.queue (held-alive past legal p d h is)) (λ q lt ne. rw (named-same past r q refl refl lt,
+    alive-one past r h.queue refl (needed-alive past h.queue (held-alive past legal p d h is)) (λ q lt ne. rw (
+      named-same past r q refl refl lt,
       queue-changed past r d None (λ e. refl) q
-        (λ before. let mine : Some h.queue ≡ Some q = rw is at before in let same : h.queue ≡ q = cc in ne (sym same))
-        (λ after. cc)) refl)
+          (λ before. let mine : Some h.queue ≡ Some q = rw is at before in let same : h.queue ≡ q = cc in ne (sym same))
+          (λ after. cc),
+    ) refl)
 
 -- an unlink of the name of queue x
 pub alive-unlinked : (past : Past) (p : ℕ) (payload : List ℕ) (x : ℕ) → bound_queue past payload ≡ Some x →

@@ -1,6 +1,5 @@
 -- The best of a list, found in one pass.
-use Rattle.std.proofs.Common.{◌≡◌, ℕ, Bool, true, false, ◌&&◌, ◌||◌, ◌==◌, List, [], ◌∷◌, Option, Some, None, if◌then◌else◌, refl, sym, ◌∙◌, ap, arith}
-use Rattle.std.specs.Prelude.{nat_lt, nat_le}
+use Rattle.std.proofs.Common.{◌≡◌, ℕ, Bool, true, false, ◌&&◌, List, [], ◌∷◌, Option, Some, None, refl, sym, ◌∙◌, arith}
 use Rattle.std.specs.List.{find, list_all}
 use Rattle.std.proofs.lemmas.Bool.{and_parts, and_from}
 use Rattle.std.proofs.lemmas.Bool.Decides.{nat_tests}
@@ -40,7 +39,7 @@ find-narrower t s [] n e p = absurd (cc)
 find-narrower t s (x ∷ xs) n e p = split (t x)
     (λ y. let here : Some x ≡ Some n = rw y at e in let same : x ≡ n = cc in let passes : s x ≡ true = rw same p in rw (passes, y) here)
     (λ f. let rest : find t xs ≡ Some n = rw f at e in
-      split (s x) (λ y. rw (y, f) (find-narrower t s xs n rest p)) (λ g. rw g (find-narrower t s xs n rest p)))
+    split (s x) (λ y. rw (y, f) (find-narrower t s xs n rest p)) (λ g. rw g (find-narrower t s xs n rest p)))
 
 none-left : {X : Type 0} (first : X → X → Bool) (xs : List X) → best_of first xs ≡ None → xs ≡ []
 none-left first [] e = refl
@@ -57,10 +56,10 @@ best_of-best first is (x ∷ xs) = step (best_of first xs) refl (best_of-best fi
         let found : find (λ m. list_all (first m) xs) xs ≡ Some n = sym rest ∙ e in
         let all : list_all (first n) xs ≡ true = find-test (λ m. list_all (first m) xs) xs n found in
         rw e (split (first x n)
-          (λ t. let mine : list_all (first x) xs ≡ true = all-weaker first is x n t xs all in rw (t, is.self x, mine) refl)
-          (λ f. let back : first n x ≡ true = is.other x n f in
-            let fails : list_all (first x) xs ≡ false = split (list_all (first x) xs) (λ t. clash (first x n) (find-passes (λ m. list_all (first m) xs) (first x) xs n found t) f) (λ g. g) in
-            rw (f, is.self x, fails) (sym (find-narrower (λ m. list_all (first m) xs) (λ m. first m x) xs n found back))))
+        (λ t. let mine : list_all (first x) xs ≡ true = all-weaker first is x n t xs all in rw (t, is.self x, mine) refl)
+        (λ f. let back : first n x ≡ true = is.other x n f in
+        let fails : list_all (first x) xs ≡ false = split (list_all (first x) xs) (λ t. clash (first x n) (find-passes (λ m. list_all (first m) xs) (first x) xs n found t) f) (λ g. g) in
+        rw (f, is.self x, fails) (sym (find-narrower (λ m. list_all (first m) xs) (λ m. first m x) xs n found back))))
 
 -- messages by priority and place
 pub messages-ranking : (past : Past) → IsRanking (goes_first past)

@@ -1,21 +1,19 @@
 -- What one more record leaves as it was.
-use Rattle.std.proofs.Common.{◌≡◌, ℕ, zero, suc, ◌+◌, ◌<◌, ◌≤◌, ◌==◌, Bool, true, false, ◌&&◌, ◌||◌, not, List, [], ◌∷◌, ◌++◌, length, map, Option, Some, None, is_some, if◌then◌else◌, refl, sym, ◌∙◌, ap, subst, arith, eqb-true, eq-eqb, ne_eqb, cond}
+use Rattle.std.proofs.Common.{◌≡◌, ℕ, ◌<◌, ◌==◌, Bool, true, false, ◌&&◌, ◌||◌, List, [], ◌∷◌, length, Option, Some, None, if◌then◌else◌, refl, sym, ◌∙◌, ap, arith, eqb-true, eq-eqb, ne_eqb}
 use Rattle.std.specs.List.{filter, list_any}
-use Rattle.std.specs.Str.{bytes_eq}
-use Rattle.std.specs.Option.{option_map, option_and_then, unwrap_or}
-use Rattle.std.proofs.lemmas.Bool.{eqb-false}
+use Rattle.std.specs.Option.{option_map, unwrap_or}
 use Rattle.mq_core.specs.Record.{Record, Past, record_at}
 use Rattle.mq_core.specs.Names.{creates, unlinks, bound_queue, name_of}
 use Rattle.mq_core.specs.Descriptors.{held, held_after, opened_number, with_holder, openers, created, is_held, is_named, is_place, is_on, alive, Holder}
-use Rattle.mq_core.specs.Messages.{is_in, with_place, blocked_sends, blocked_receives, blocks_send, blocks_receive}
-use Rattle.mq_core.specs.Waits.{is_wait, named_wait, names_wait, open_wait, answered_by}
-use Rattle.mq_core.proofs.Places.{split, clash}
+use Rattle.mq_core.specs.Messages.{is_in, blocks_send, blocks_receive}
+use Rattle.mq_core.specs.Waits.{is_wait, names_wait, open_wait, answered_by}
+use Rattle.mq_core.proofs.Places.{split}
 use Rattle.mq_core.specs.declared.faults.Fault.{Fault}
 use Rattle.mq_core.specs.declared.entries.Description.{Description}
 use Rattle.mq_core.specs.declared.entries.Call.{Call}
 use Rattle.mq_core.specs.declared.entries.Call.TheVariants.{MqOpen, MqClose, MqUnlink, MqSend, MqReceive, MqGetattr, MqSetattr, MqNotify, NextNotice, Collect}
 use Rattle.mq_core.specs.declared.entries.Reply.{Reply}
-use Rattle.mq_core.specs.declared.entries.Reply.TheVariants.{Opened, Queued, Handed, Waits, Got, Collected, Attrs, Notice, Done, Refused}
+use Rattle.mq_core.specs.declared.entries.Reply.TheVariants.{Refused}
 use Rattle.mq_core.specs.Owners.{blocked}
 
 -- a record that changes neither names nor descriptors
@@ -111,4 +109,3 @@ keeps-refused past (MqSetattr d nonblock) f payload = record { creates = refl; u
 keeps-refused past (MqNotify d value) f payload = record { creates = refl; unlinks = refl; opens = refl; descriptors = λ d b. refl }
 keeps-refused past NextNotice f payload = record { creates = refl; unlinks = refl; opens = refl; descriptors = λ d b. refl }
 keeps-refused past Collect f payload = record { creates = refl; unlinks = refl; opens = refl; descriptors = λ d b. refl }
-

@@ -1,5 +1,5 @@
 -- A descriptor that is held names a queue that exists.
-use Rattle.std.proofs.Common.{◌≡◌, ℕ, ◌<◌, ◌==◌, Bool, true, false, ◌&&◌, ◌||◌, not, List, [], ◌∷◌, length, Option, Some, None, is_some, is_none, if◌then◌else◌, refl, sym, ◌∙◌, ap, subst, eqb-true, eq-eqb}
+use Rattle.std.proofs.Common.{◌≡◌, ℕ, ◌==◌, Bool, true, false, ◌&&◌, ◌||◌, not, List, [], ◌∷◌, length, Option, Some, None, is_some, is_none, refl, sym, ◌∙◌, ap, eqb-true, eq-eqb}
 use Rattle.std.specs.Prelude.{nat_le}
 use Rattle.std.specs.List.{filter, list_any}
 use Rattle.std.specs.Str.{bytes_eq}
@@ -10,7 +10,7 @@ use Rattle.mq_core.specs.Names.{creates, unlinks, bound_queue, are_within_limits
 use Rattle.mq_core.specs.Descriptors.{held, held_after, after_open, after_close, after_setattr, description, with_nonblock, opened_queue, opened_number, with_holder, openers, created, is_held, is_named, is_place, alive, lowest_free, Holder}
 use Rattle.mq_core.specs.Messages.{is_in}
 use Rattle.mq_core.specs.Answer.{Legal, answer_open}
-use Rattle.mq_core.proofs.Places.{split, clash}
+use Rattle.mq_core.proofs.Places.{split}
 use Rattle.mq_core.proofs.Cases.{either}
 use Rattle.mq_core.specs.declared.faults.Fault.TheVariants.{Exists, NoEntry, Invalid, TooManyOpen, NoSpace}
 use Rattle.mq_core.specs.declared.entries.Attr.{Attr}

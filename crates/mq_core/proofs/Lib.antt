@@ -24,3 +24,15 @@ pub mod Untouched
 pub mod Alive
 pub mod Presence
 pub mod NoticeSteps
+pub mod PresentFew
+pub mod TablesKeep
+pub mod TakenBits
+pub mod SendingOrder
+pub mod SentMessages
+pub mod GoneQueues
+pub mod HeldLaws
+pub mod GivenOnce
+pub mod WaitCauses
+pub mod LegalPlaces
+pub mod Checked
+pub mod Flagged

@@ -1,9 +1,8 @@
 -- The first of the descriptor numbers that passes a test.
-use Rattle.std.proofs.Common.{◌≡◌, ℕ, zero, suc, ◌+◌, ◌<◌, ◌≤◌, ◌==◌, Bool, true, false, Some, None, refl, arith, eqb-true, is_none}
+use Rattle.std.proofs.Common.{◌≡◌, ℕ, zero, suc, ◌+◌, ◌<◌, ◌≤◌, ◌==◌, Bool, true, false, Some, None, refl, arith, eqb-true}
 use Rattle.std.specs.List.{find}
 use Rattle.std.proofs.lemmas.Bool.{eqb-false}
-use Rattle.mq_core.specs.Record.{Past}
-use Rattle.mq_core.specs.Descriptors.{numbers_from, descriptor_numbers, lowest_free, held}
+use Rattle.mq_core.specs.Descriptors.{numbers_from, descriptor_numbers}
 use Rattle.mq_core.proofs.Places.{split}
 
 find-from : (t : ℕ → Bool) (low n d : ℕ) → low ≤ d → d < low + n → t d ≡ true → ((e : ℕ) → low ≤ e → e < d → t e ≡ false) → find t (numbers_from low n) ≡ Some d

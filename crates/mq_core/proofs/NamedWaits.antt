@@ -1,12 +1,11 @@
 -- Which waits the entries of a legal journal name.
-use Rattle.std.proofs.Common.{◌≡◌, ℕ, ◌<◌, ◌≤◌, ◌==◌, Bool, true, false, ◌&&◌, ◌||◌, not, List, [], ◌∷◌, length, min, Option, Some, None, if◌then◌else◌, refl, sym, ◌∙◌, ap, subst, arith, eqb-true, eq-eqb, ne_eqb}
-use Rattle.std.specs.List.{filter}
+use Rattle.std.proofs.Common.{◌≡◌, ℕ, ◌<◌, ◌==◌, Bool, true, false, ◌&&◌, ◌||◌, List, [], ◌∷◌, length, min, Option, Some, None, if◌then◌else◌, refl, ◌∙◌, ap, arith, eqb-true, eq-eqb, ne_eqb}
 use Rattle.std.specs.Option.{unwrap_or}
 use Rattle.std.proofs.lemmas.Bool.{and_parts, eqb-false}
 use Rattle.mq_core.specs.Record.{Record, Past}
 use Rattle.mq_core.specs.Descriptors.{is_place, is_on, called_queue}
-use Rattle.mq_core.specs.Messages.{is_in, with_place, is_send, is_receive, admits, hands, least, blocks_send, blocks_receive, blocked_sends, blocked_receives, waiting_sends, waiting_receives, admitted_waits, handed_waits}
-use Rattle.mq_core.specs.Waits.{is_wait, named_wait, names_wait, open_wait, answered_by}
+use Rattle.mq_core.specs.Messages.{is_in, with_place, is_send, is_receive, hands, least, blocks_send, blocks_receive, blocked_sends, blocked_receives, waiting_receives, handed_waits}
+use Rattle.mq_core.specs.Waits.{is_wait, names_wait, open_wait, answered_by}
 use Rattle.mq_core.specs.Answer.{Legal, IsLegalNext}
 use Rattle.mq_core.proofs.Places.{split, clash, is_in-filter}
 use Rattle.mq_core.proofs.Cases.{Says}

@@ -1,20 +1,18 @@
 -- The notices of each process behind one more record.
-use Rattle.std.proofs.Common.{◌≡◌, ℕ, suc, ◌+◌, ◌-◌, ◌<◌, ◌≤◌, ◌==◌, Bool, true, false, ◌&&◌, ◌||◌, not, List, [], ◌∷◌, ◌++◌, length, drop, Option, Some, None, if◌then◌else◌, refl, sym, ◌∙◌, ap, subst, arith, eqb-true, eq-eqb, ne_eqb, length-drop, length-append, zero}
+use Rattle.std.proofs.Common.{◌≡◌, ℕ, suc, ◌+◌, ◌<◌, ◌≤◌, ◌==◌, Bool, true, false, ◌&&◌, List, [], ◌∷◌, ◌++◌, length, drop, Option, Some, None, if◌then◌else◌, refl, sym, ◌∙◌, ap, arith, eqb-true, eq-eqb, length-drop, length-append, zero}
 use Rattle.std.specs.Prelude.{slice_get}
-use Rattle.std.specs.Option.{option_map, option_to_list}
-use Rattle.std.proofs.lemmas.Bool.{eqb-false}
+use Rattle.std.specs.Option.{option_to_list}
 use Rattle.std.proofs.lemmas.Grind.{common_steps}
 use Rattle.mq_core.specs.Record.{Record, Past, record_at}
-use Rattle.mq_core.specs.Descriptors.{is_place, is_on}
-use Rattle.mq_core.specs.Notices.{registration_by, registration_of, only_if, notified, ends, unless, or_else, registration_after, registered, registered_place, value_of_notify, value_given, value_notified, values_notified, gives_notice, notices_given, notices}
-use Rattle.mq_core.specs.Answer.{Legal, IsLegalNext}
+use Rattle.mq_core.specs.Descriptors.{is_on}
+use Rattle.mq_core.specs.Notices.{registration_by, registration_of, only_if, notified, ends, unless, registered, value_of_notify, value_given, value_notified, values_notified, gives_notice, notices_given, notices}
+use Rattle.mq_core.specs.Answer.{Legal}
 use Rattle.mq_core.specs.declared.entries.Registration.{Registration}
-use Rattle.mq_core.specs.declared.entries.Entry.{Entry}
 use Rattle.mq_core.specs.declared.entries.Call.{Call}
 use Rattle.mq_core.specs.declared.entries.Call.TheVariants.{MqOpen, MqClose, MqUnlink, MqSend, MqReceive, MqGetattr, MqSetattr, MqNotify, NextNotice, Collect}
 use Rattle.mq_core.specs.declared.entries.Reply.{Reply}
 use Rattle.mq_core.specs.declared.entries.Reply.TheVariants.{Opened, Queued, Handed, Waits, Got, Collected, Attrs, Notice, Done, Refused}
-use Rattle.mq_core.proofs.Places.{split, clash}
+use Rattle.mq_core.proofs.Places.{split}
 use Rattle.mq_core.proofs.Cases.{Says}
 use Rattle.mq_core.proofs.LegalReplies.{legal_says}
 use Rattle.mq_core.proofs.Frames.{record_at-older}
@@ -44,7 +42,7 @@ made-by p here (MqSetattr d nonblock) n e = absurd (cc)
 made-by p here NextNotice n e = absurd (cc)
 made-by p here Collect n e = absurd (cc)
 
-made-of : (p here : ℕ) (call : Call) (reply : Reply) (n : Registration) → registration_of here p call reply ≡ Some n → (n.place ≡ here) × (n.process ≡ p) × (value_of_notify call ≡ Some n.value)
+pub made-of : (p here : ℕ) (call : Call) (reply : Reply) (n : Registration) → registration_of here p call reply ≡ Some n → (n.place ≡ here) × (n.process ≡ p) × (value_of_notify call ≡ Some n.value)
 made-of p here call Done n e = made-by p here call n e
 made-of p here call (Opened d created) n e = absurd (cc)
 made-of p here call (Queued m) n e = absurd (cc)
@@ -56,7 +54,7 @@ made-of p here call (Attrs s) n e = absurd (cc)
 made-of p here call (Notice v) n e = absurd (cc)
 made-of p here call (Refused f) n e = absurd (cc)
 
-only-some : (b : Bool) (o : Option Registration) (n : Registration) → only_if b o ≡ Some n → o ≡ Some n
+pub only-some : (b : Bool) (o : Option Registration) (n : Registration) → only_if b o ≡ Some n → o ≡ Some n
 only-some b None n e = absurd (cc)
 only-some true (Some m) n e = e
 only-some false (Some m) n e = absurd (cc)
@@ -148,9 +146,9 @@ pub notices-notified : (past : Past) → Legal past → (r : Record) (q : ℕ) (
     notices (r ∷ past) p ≡ (if n.process == p then notices past p ++ n.value ∷ [] else notices past p)
 notices-notified past legal r q n p stands is quiet =
     rw (is, quiet) (ap (λ o. drop (notices_given past p) (values_notified past p ++ option_to_list o)) (value-of past q n stands p)
-      ∙ split (n.process == p)
-        (λ t. rw t (drop-append (notices_given past p) (values_notified past p) (n.value ∷ []) (given-few past legal p)))
-        (λ f. rw f (ap (drop (notices_given past p)) (append-nil (values_notified past p)))))
+    ∙ split (n.process == p)
+    (λ t. rw t (drop-append (notices_given past p) (values_notified past p) (n.value ∷ []) (given-few past legal p)))
+    (λ f. rw f (ap (drop (notices_given past p)) (append-nil (values_notified past p)))))
 
 drop-nothing : (k : ℕ) → drop {A = ℕ} k [] ≡ []
 drop-nothing zero = refl

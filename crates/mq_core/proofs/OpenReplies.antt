@@ -1,5 +1,5 @@
 -- What the replies Opened and Done say.
-use Rattle.std.proofs.Common.{◌≡◌, ℕ, ◌<◌, Bool, true, false, ◌&&◌, not, ◌==◌, List, [], ◌∷◌, length, Option, Some, None, is_some, is_none, if◌then◌else◌, refl, sym, ap, arith, eqb-true, ◌+◌, ◌≤◌, zero, suc}
+use Rattle.std.proofs.Common.{◌≡◌, ℕ, ◌<◌, Bool, true, false, ◌&&◌, not, List, length, Option, Some, None, is_some, is_none, refl, arith, ◌+◌, zero, suc}
 use Rattle.std.specs.Prelude.{nat_le}
 use Rattle.std.specs.List.{find}
 use Rattle.std.specs.Option.{unwrap_or}
@@ -9,11 +9,10 @@ use Rattle.mq_core.specs.Descriptors.{held, lowest_free, alive, numbers_from, de
 use Rattle.mq_core.specs.Answer.{answer_open}
 use Rattle.mq_core.proofs.Cases.{either}
 use Rattle.mq_core.proofs.Places.{split}
-use Rattle.mq_core.specs.declared.faults.Fault.TheVariants.{Exists, NoEntry, Invalid, TooManyOpen, NoSpace}
 use Rattle.mq_core.specs.declared.entries.Attr.{Attr}
 use Rattle.mq_core.specs.declared.entries.OpenFlags.{OpenFlags}
 use Rattle.mq_core.specs.declared.entries.Reply.{Reply}
-use Rattle.mq_core.specs.declared.entries.Reply.TheVariants.{Opened, Refused}
+use Rattle.mq_core.specs.declared.entries.Reply.TheVariants.{Opened}
 
 -- a successful open: the number is the lowest free one, the queue was created where the name was not bound, and then there
 -- was room for one more

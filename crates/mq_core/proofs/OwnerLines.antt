@@ -1,12 +1,12 @@
 -- The table of processes, line by line.
-use Rattle.std.proofs.Common.{◌≡◌, ℕ, zero, suc, ◌+◌, ◌<◌, ◌≤◌, ◌==◌, Bool, true, false, List, [], ◌∷◌, length, Option, Some, None, is_some, if◌then◌else◌, set, get_or, refl, sym, ◌∙◌, ap, arith, eqb-true, ◌⊎◌, inl, inr}
+use Rattle.std.proofs.Common.{◌≡◌, ℕ, zero, suc, ◌+◌, ◌<◌, ◌≤◌, ◌==◌, Bool, true, List, [], ◌∷◌, length, Option, Some, None, is_some, if◌then◌else◌, set, get_or, refl, sym, ◌∙◌, ap, arith, eqb-true, ◌⊎◌, inl, inr}
 use Rattle.std.specs.Prelude.{slice_get, IfSome}
 use Rattle.std.specs.List.{count_by}
 use Rattle.std.proofs.lemmas.List.Sums.{sum_by-cons}
 use Rattle.std.specs.Option.{option_map, option_and_then, unwrap_or}
 use Rattle.std.proofs.lemmas.Bool.Decides.{nat_tests}
 use Rattle.std.proofs.lemmas.Grind.{common_steps}
-use Rattle.std.proofs.lemmas.Option.{slice_get-get_or, slice_get_past}
+use Rattle.std.proofs.lemmas.Option.{slice_get_past}
 use Rattle.mq_core.specs.declared.entries.Description.{Description}
 use Rattle.mq_core.proofs.Places.{split}
 use Rattle.mq_core.specs.declared.owners.OpenWait.{OpenWait}
@@ -111,8 +111,8 @@ pub held_in-with_slot : (owners : List Owner) (p d k e : ℕ) (v : Option Descri
 unfolding held_in with_slot
 held_in-with_slot owners p d k e v slots lt small =
     read-changed (slot_of e) _ owners p k ∙ split (p == k)
-      (λ t. let same : p ≡ k = eqb-true _ _ t in let line = line-exists owners k (omega arith) in rw (t, line.1) (get-set line.0.descriptors d e v (let wide = slots k line.0 line.1 in omega arith)))
-      (λ f. rw f refl)
+    (λ t. let same : p ≡ k = eqb-true _ _ t in let line = line-exists owners k (omega arith) in rw (t, line.1) (get-set line.0.descriptors d e v (let wide = slots k line.0 line.1 in omega arith)))
+    (λ f. rw f refl)
 
 -- a descriptor that is held is below sixteen
 pub held_in-number : (owners : List Owner) (p d : ℕ) (h : Description) → HasSlots owners → held_in owners p d ≡ Some h → d < 16

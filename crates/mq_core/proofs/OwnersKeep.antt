@@ -1,19 +1,19 @@
 -- The table of processes stays that of the journal, where it notes each entry.
-use Rattle.std.proofs.Common.{◌≡◌, ℕ, suc, ◌+◌, ◌<◌, ◌≤◌, ◌==◌, Bool, true, false, ◌&&◌, ◌||◌, List, [], ◌∷◌, length, Option, Some, None, is_some, is_none, if◌then◌else◌, refl, sym, ◌∙◌, ap, subst, arith, eqb-true, eq-eqb, ne_eqb, ◌⊎◌, inl, inr, zero, get_or}
+use Rattle.std.proofs.Common.{◌≡◌, ℕ, suc, ◌+◌, ◌<◌, ◌≤◌, ◌==◌, Bool, true, false, List, [], ◌∷◌, length, Option, Some, None, is_some, is_none, if◌then◌else◌, refl, sym, ◌∙◌, ap, subst, arith, eqb-true, eq-eqb, ne_eqb, ◌⊎◌, inl, inr, zero, get_or}
 use Rattle.std.specs.Prelude.{slice_get}
-use Rattle.std.specs.Option.{option_map, option_and_then, unwrap_or}
-use Rattle.std.specs.List.{find, position_from}
+use Rattle.std.specs.Option.{option_map, option_and_then}
+use Rattle.std.specs.List.{position_from}
 use Rattle.std.proofs.lemmas.List.Quantifiers.{position-Some}
 use Rattle.std.proofs.lemmas.Iterator.Adapters.{position_from-zero}
 use Rattle.std.proofs.lemmas.Option.{slice_get-get_or, slice_get_past}
 use Rattle.std.proofs.lemmas.Bool.{eqb-false}
 use Rattle.mq_core.specs.Record.{Record, Past}
-use Rattle.mq_core.specs.Descriptors.{held, held_after, after_open, after_close, after_setattr, description, with_nonblock, opened_queue, called_queue, is_place, is_on, lowest_free, descriptor_numbers}
-use Rattle.mq_core.specs.Messages.{is_in, is_send, is_receive, blocks_send, blocks_receive, least, waiting_sends, waiting_receives}
+use Rattle.mq_core.specs.Descriptors.{held, held_after, description, with_nonblock, opened_queue, called_queue, is_place}
+use Rattle.mq_core.specs.Messages.{is_in, is_send, is_receive, least}
 use Rattle.mq_core.specs.Waits.{is_wait, named_wait, names_wait, open_wait, answered_by}
 use Rattle.mq_core.specs.Answer.{Legal, IsLegalNext, may_call, answer}
-use Rattle.mq_core.specs.Owners.{held_in, wait_in, answer_in, with_wait, with_answer, with_slot, with_flag, waiter_in, OwnersMirror, blocked, waiting}
-use Rattle.mq_core.specs.OwnersNoted.{FitsSlots, noted, noted_open, noted_done, noted_attributes, with_answer_at}
+use Rattle.mq_core.specs.Owners.{held_in, wait_in, with_wait, with_answer, with_slot, waiter_in, OwnersMirror, blocked, waiting}
+use Rattle.mq_core.specs.OwnersNoted.{FitsSlots, noted, noted_done, noted_attributes, with_answer_at}
 use Rattle.mq_core.specs.declared.owners.OpenWait.{OpenWait}
 use Rattle.mq_core.specs.declared.owners.Owner.{Owner}
 use Rattle.mq_core.specs.declared.entries.Attr.{Attr}
@@ -28,12 +28,11 @@ use Rattle.mq_core.specs.declared.entries.Reply.TheVariants.{Opened, Queued, Han
 use Rattle.mq_core.proofs.Places.{split, clash}
 use Rattle.mq_core.proofs.Cases.{Says, answer_says}
 use Rattle.mq_core.proofs.LegalReplies.{legal_says}
-use Rattle.mq_core.proofs.OwnerLines.{line-exists, HasSlots, held_in-with_slot, held_in-number, held_in-process, held_in-with_wait, held_in-with_answer, wait_in-with_wait, wait_in-with_answer, wait_in-with_slot, answer_in-with_wait, answer_in-with_answer, answer_in-with_slot, slots-with_slot, slots-with_wait, slots-with_answer}
-use Rattle.mq_core.proofs.Frames.{open_wait-same, answered_by-none, answered_by-step, blocked-older}
+use Rattle.mq_core.proofs.OwnerLines.{line-exists, held_in-with_slot, held_in-number, held_in-with_wait, held_in-with_answer, wait_in-with_wait, wait_in-with_answer, wait_in-with_slot, answer_in-with_wait, answer_in-with_answer, answer_in-with_slot, slots-with_slot, slots-with_wait, slots-with_answer}
+use Rattle.mq_core.proofs.Frames.{open_wait-same, answered_by-step, blocked-older}
 use Rattle.mq_core.proofs.Waiters.{same-waiter, waiter, admits-least, hands-least}
 use Rattle.mq_core.proofs.OpenReplies.{opened-says, lowest_free-is}
 use Rattle.mq_core.proofs.NamedWaits.{least-in}
-
 
 -- q is the queue that an open opened, or on whose descriptor a call blocked
 abbrev pub EntryQueue : Past → ℕ → Call → List ℕ → Reply → ℕ → Type 0
@@ -89,7 +88,7 @@ keep-quiet past owners m p call reply payload quiet =
       held = λ k d. m.held k d ∙ sym (held-quiet past r quiet.descriptors k d);
       waits = λ k. m.waits k ∙ sym (open_wait-same past r quiet.free quiet.goes k);
       blocked = λ k w e. blocked-older past r w.sends w.queue w.place (m.blocked k w e);
-      answers = λ k. m.answers k ∙ sym (answered-same past r quiet.free quiet.unnamed k)
+      answers = λ k. m.answers k ∙ sym (answered-same past r quiet.free quiet.unnamed k);
     }
 
 -- one descriptor of the process is now this
@@ -106,14 +105,14 @@ keep-slot past owners m p call reply payload d v lt changes =
     record {
       slots = slots-with_slot owners p d v m.slots;
       held = λ k e. held_in-with_slot owners p d k e v m.slots lt changes.number ∙ split (p == k)
-        (λ t. let same : p ≡ k = eqb-true _ _ t in
+          (λ t. let same : p ≡ k = eqb-true _ _ t in
           let P : ℕ → Type 0 = λ j. (if d == e then v else held_in owners j e) ≡ held_after past call payload reply e (held past j e) in
           let at : P p = ap (λ o. if d == e then v else o) (m.held p e) ∙ sym (changes.descriptors e) in
           rw t (subst P same at))
-        (λ f. rw f (m.held k e));
+          (λ f. rw f (m.held k e));
       waits = λ k. ap (option_map (λ (w : OpenWait). w.place)) (wait_in-with_slot owners p d k v) ∙ m.waits k ∙ sym (open_wait-same past r changes.free changes.goes k);
       blocked = λ k w e. blocked-older past r w.sends w.queue w.place (m.blocked k w (sym (wait_in-with_slot owners p d k v) ∙ e));
-      answers = λ k. answer_in-with_slot owners p d k v ∙ m.answers k ∙ sym (answered-same past r changes.free changes.unnamed k)
+      answers = λ k. answer_in-with_slot owners p d k v ∙ m.answers k ∙ sym (answered-same past r changes.free changes.unnamed k);
     }
 
 -- the entry answers the open wait of one process
@@ -127,7 +126,7 @@ keep-answer past owners m p call reply payload receiver w free goes named same o
       held = λ k d. held_in-with_answer owners receiver (length past) k d ∙ m.held k d ∙ sym (held-quiet past r same k d);
       waits = λ k. ap (option_map (λ (w : OpenWait). w.place)) (wait_in-with_answer owners receiver (length past) k) ∙ m.waits k ∙ sym (open_wait-same past r free goes k);
       blocked = λ k x e. blocked-older past r x.sends x.queue x.place (m.blocked k x (sym (wait_in-with_answer owners receiver (length past) k) ∙ e));
-      answers = λ k. answer_in-with_answer owners receiver (length past) k lt ∙ sym (answered_by-step past r free k ∙ rw (names-one past reply receiver w named open_at k) (ap (λ o. if receiver == k then Some (length past) else o) (sym (m.answers k))))
+      answers = λ k. answer_in-with_answer owners receiver (length past) k lt ∙ sym (answered_by-step past r free k ∙ rw (names-one past reply receiver w named open_at k) (ap (λ o. if receiver == k then Some (length past) else o) (sym (m.answers k))));
     }
 
 -- the process waits no longer
@@ -139,7 +138,7 @@ keep-collected past owners m p call by payload lt =
       held = λ k d. held_in-with_wait owners p None k d ∙ m.held k d ∙ sym (held-quiet past r (λ d. refl) k d);
       waits = λ k. ap (option_map (λ (w : OpenWait). w.place)) (wait_in-with_wait owners p None k lt) ∙ split (p == k) (λ t. rw t refl) (λ f. rw f (m.waits k));
       blocked = λ k w e. blocked-older past r w.sends w.queue w.place (m.blocked k w (still k w e));
-      answers = λ k. answer_in-with_wait owners p None k lt ∙ split (p == k) (λ t. rw t refl) (λ f. rw f (m.answers k ∙ unnamed k))
+      answers = λ k. answer_in-with_wait owners p None k lt ∙ split (p == k) (λ t. rw t refl) (λ f. rw f (m.answers k ∙ unnamed k));
     }
   where
     still : (k : ℕ) (w : OpenWait) → wait_in (with_wait owners p None) k ≡ Some w → wait_in owners k ≡ Some w
@@ -177,7 +176,7 @@ keep-waits past owners m p call payload q says free on lt =
       held = λ k d. held_in-with_wait owners p (Some wait) k d ∙ m.held k d ∙ sym (held-quiet past r (λ d. refl) k d);
       waits = λ k. ap (option_map (λ (w : OpenWait). w.place)) (wait_in-with_wait owners p (Some wait) k lt) ∙ split (p == k) (λ t. rw t refl) (λ f. rw f (m.waits k));
       blocked = λ k w e. stands k w (sym (wait_in-with_wait owners p (Some wait) k lt) ∙ e);
-      answers = λ k. answer_in-with_wait owners p (Some wait) k lt ∙ split (p == k) (λ t. rw t refl) (λ f. rw f (m.answers k ∙ unnamed k))
+      answers = λ k. answer_in-with_wait owners p (Some wait) k lt ∙ split (p == k) (λ t. rw t refl) (λ f. rw f (m.answers k ∙ unnamed k));
     }
   where
     unnamed : (k : ℕ) → answered_by past k ≡ (if names_wait Waits (open_wait past k) then Some (length past) else answered_by past k)
@@ -186,9 +185,9 @@ keep-waits past owners m p call payload q says free on lt =
     stands : (k : ℕ) (w : OpenWait) → (if p == k then Some (record { place = length past; queue = q; sends = is_send call }) else wait_in owners k) ≡ Some w → is_in (blocked (rec p call Waits payload ∷ past) w.sends w.queue) w.place ≡ true
     stands k w e = split (p == k)
         (λ t. let it : Some (record { place = length past; queue = q; sends = is_send call }) ≡ Some w = rw t at e in
-          let same : record { place = length past; queue = q; sends = is_send call } ≡ w = cc in
-          let P : OpenWait → Type 0 = λ w. is_in (blocked (rec p call Waits payload ∷ past) w.sends w.queue) w.place ≡ true in
-          subst P same (blocked-newest past p call payload q on (waits-kind past p call says)))
+        let same : record { place = length past; queue = q; sends = is_send call } ≡ w = cc in
+        let P : OpenWait → Type 0 = λ w. is_in (blocked (rec p call Waits payload ∷ past) w.sends w.queue) w.place ≡ true in
+        subst P same (blocked-newest past p call payload q on (waits-kind past p call says)))
         (λ f. let old : wait_in owners k ≡ Some w = rw f at e in blocked-older past (rec p call Waits payload) w.sends w.queue w.place (m.blocked k w old))
 
 -- the process found is the one that waits since this place
@@ -309,7 +308,7 @@ keep-opened : (past : Past) (owners : List Owner) → OwnersMirror past owners �
     OwnersMirror (rec p call (Opened d created) payload ∷ past) (noted owners (length past) p call (Opened d created) q)
 keep-opened past owners m p (MqOpen flags attr) payload d created q is free lt at =
     keep-slot past owners m p (MqOpen flags attr) (Opened d created) payload d (Some (description q flags)) lt
-      (record { free = free; goes = refl; unnamed = refl; number = (lowest_free-is past p d (opened-says past p flags attr payload d created is).free).1; descriptors = after-open past p flags attr payload d created q at })
+    (record { free = free; goes = refl; unnamed = refl; number = (lowest_free-is past p d (opened-says past p flags attr payload d created is).free).1; descriptors = after-open past p flags attr payload d created q at })
 keep-opened past owners m p call payload d created q is free lt at = keep-quiet past owners m p call (Opened d created) payload (quiet past p call (Opened d created) payload free refl refl (λ d. refl))
 
 keep-done : (past : Past) (owners : List Owner) → OwnersMirror past owners → (p : ℕ) (call : Call) (payload : List ℕ) → Done ≡ answer past p call payload → open_wait past p ≡ None → p < length owners →

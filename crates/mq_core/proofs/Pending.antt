@@ -1,8 +1,8 @@
 -- The waits that a table of processes holds are those that the definitions give.
-use Rattle.std.proofs.Common.{◌≡◌, ℕ, ◌<◌, ◌≤◌, ◌==◌, Bool, true, false, ◌&&◌, ◌||◌, not, List, [], ◌∷◌, length, Option, Some, None, if◌then◌else◌, refl, sym, ◌∙◌, ap, subst, arith, eqb-true, eq-eqb, ◌⊎◌, inl, inr}
+use Rattle.std.proofs.Common.{◌≡◌, ℕ, ◌<◌, ◌≤◌, ◌==◌, Bool, true, false, ◌&&◌, not, List, length, Option, Some, None, refl, sym, ◌∙◌, ap, arith, eqb-true, eq-eqb, ◌⊎◌, inl, inr}
 use Rattle.std.specs.List.{filter}
-use Rattle.std.specs.Option.{option_map, unwrap_or}
-use Rattle.std.proofs.lemmas.Bool.{and_parts, eqb-false}
+use Rattle.std.specs.Option.{option_map}
+use Rattle.std.proofs.lemmas.Bool.{and_parts}
 use Rattle.mq_core.specs.Record.{Past}
 use Rattle.mq_core.specs.Messages.{is_in, least}
 use Rattle.mq_core.specs.Waits.{open_wait, answered_by}

@@ -1,14 +1,13 @@
 -- What a receive and a hand-over leave in the queues.
-use Rattle.std.proofs.Common.{◌≡◌, ◌≢◌, ℕ, suc, ◌+◌, ◌<◌, ◌≤◌, ◌==◌, Bool, true, false, ◌&&◌, ◌||◌, not, List, [], ◌∷◌, length, Option, Some, None, if◌then◌else◌, refl, sym, ◌∙◌, ap, subst, arith, eqb-true, eq-eqb, ne_eqb, ◌⊎◌, inl, inr}
-use Rattle.std.specs.List.{filter, find, list_all}
+use Rattle.std.proofs.Common.{◌≡◌, ◌≢◌, ℕ, ◌<◌, ◌≤◌, ◌==◌, true, false, ◌&&◌, ◌||◌, not, List, [], ◌∷◌, length, Option, Some, None, if◌then◌else◌, refl, sym, ◌∙◌, ap, subst, arith, eqb-true, eq-eqb, ne_eqb, ◌⊎◌, inl, inr}
+use Rattle.std.specs.List.{filter}
 use Rattle.std.specs.Option.{option_map, unwrap_or}
 use Rattle.std.proofs.lemmas.Bool.{eqb-false, and_parts, false_from_ne_true, not-true}
 use Rattle.mq_core.specs.Record.{Record, Past, record_at}
-use Rattle.mq_core.specs.Descriptors.{is_place, is_on, called_queue, held}
-use Rattle.mq_core.specs.Messages.{is_in, with_place, if_in, queues, admits, is_send, blocks_send, blocked_sends, waiting_sends, admitted_waits, entered, admitted, taken, taken_by, present, best, least, priority, priority_given}
-use Rattle.mq_core.specs.Answer.{Legal, IsLegalNext}
+use Rattle.mq_core.specs.Descriptors.{is_place, is_on, called_queue}
+use Rattle.mq_core.specs.Messages.{is_in, with_place, if_in, queues, admits, blocks_send, blocked_sends, waiting_sends, admitted_waits, entered, admitted, taken, taken_by, present, least, priority, priority_given}
+use Rattle.mq_core.specs.Answer.{Legal}
 use Rattle.mq_core.specs.declared.entries.Call.{Call}
-use Rattle.mq_core.specs.declared.entries.Call.TheVariants.{MqOpen, MqClose, MqUnlink, MqSend, MqReceive, MqGetattr, MqSetattr, MqNotify, NextNotice, Collect}
 use Rattle.mq_core.specs.declared.entries.Reply.{Reply}
 use Rattle.mq_core.specs.declared.entries.Reply.TheVariants.{Opened, Queued, Handed, Waits, Got, Collected, Attrs, Notice, Done, Refused}
 use Rattle.mq_core.proofs.Places.{split, clash, is_in-filter, find-in}
@@ -16,8 +15,7 @@ use Rattle.mq_core.proofs.Cases.{Says}
 use Rattle.mq_core.proofs.LegalReplies.{legal_says, got_says}
 use Rattle.mq_core.proofs.Frames.{filter-same, record_at-older}
 use Rattle.mq_core.proofs.NamedWaits.{least-in}
-use Rattle.mq_core.proofs.Prefixes.{record_at-below}
-use Rattle.mq_core.proofs.Steps.{Below, without, filter-both, admitted-below, blocked_sends-below, taken-below, not-below, if_in-inside}
+use Rattle.mq_core.proofs.Steps.{Below, without, filter-both, admitted-below, blocked_sends-below, taken-below, if_in-inside}
 
 -- the queue that the call at a place was made on
 abbrev pub sent_to : Past → ℕ → Option ℕ
@@ -27,7 +25,7 @@ sent_to (r ∷ past) m = if m == length past then called_queue past r.entry.proc
 abbrev pub reply_at : Past → ℕ → Option Reply
 reply_at past m = option_map (λ r. r.entry.reply) (record_at past m)
 
-place-is : (o : Option ℕ) (q : ℕ) → is_place q o ≡ true → o ≡ Some q
+pub place-is : (o : Option ℕ) (q : ℕ) → is_place q o ≡ true → o ≡ Some q
 place-is None q e = absurd (cc)
 place-is (Some k) q e = ap Some (eqb-true _ _ e)
 
@@ -61,14 +59,14 @@ pub blocked-on : (past : Past) (q w : ℕ) → is_in (blocked_sends past q) w �
 blocked-on [] q w h = absurd (cc)
 blocked-on (r ∷ past) q w h = split (blocks_send r.entry.call r.entry.reply && is_on past r.entry q)
     (λ t. let new : (length past == w || is_in (blocked_sends past q) w) ≡ true = rw t at h in
-      let parts = and_parts (blocks_send r.entry.call r.entry.reply) (is_on past r.entry q) t in
-      split (length past == w)
-      (λ e. let same : length past ≡ w = eqb-true _ _ e in
-        record {
-          to = rw (← same, eq-eqb (length past) (length past) refl) (place-is _ q parts.1);
-          reply = rw (← same) (reply_at-newest past r ∙ ap Some (blocks-reply r.entry.call r.entry.reply parts.0))
-        })
-      (λ n. older (blocked-on past q w (rw n at new)) (blocked_sends-below past q w (rw n at new))))
+    let parts = and_parts (blocks_send r.entry.call r.entry.reply) (is_on past r.entry q) t in
+    split (length past == w)
+    (λ e. let same : length past ≡ w = eqb-true _ _ e in
+    record {
+      to = rw (← same, eq-eqb (length past) (length past) refl) (place-is _ q parts.1);
+      reply = rw (← same) (reply_at-newest past r ∙ ap Some (blocks-reply r.entry.call r.entry.reply parts.0));
+    })
+    (λ n. older (blocked-on past q w (rw n at new)) (blocked_sends-below past q w (rw n at new))))
     (λ f. older (blocked-on past q w (rw f at h)) (blocked_sends-below past q w (rw f at h)))
   where
     older : IsBlockedOn past q w → w < length past → IsBlockedOn (r ∷ past) q w
@@ -91,7 +89,7 @@ pub record IsAdmittedTo (past : Past) (q m : ℕ) : Type 0 where
   pub to : sent_to past m ≡ Some q
   pub how : ((n : Option ℕ) × (reply_at past m ≡ Some (Queued n))) ⊎ (is_in (admitted_waits past) m ≡ true)
 
-with-more : (o : Option ℕ) (xs : List ℕ) (m : ℕ) → is_in xs m ≡ true → is_in (with_place o xs) m ≡ true
+pub with-more : (o : Option ℕ) (xs : List ℕ) (m : ℕ) → is_in xs m ≡ true → is_in (with_place o xs) m ≡ true
 with-more None xs m h = h
 with-more (Some k) xs m h = split (k == m) (λ t. rw t refl) (λ f. rw (f, h) refl)
 
@@ -109,19 +107,19 @@ admitted-to (r ∷ past) q m h = by (entered past r.entry q) refl h (λ rest. ad
     here : entered past r.entry q ≡ Some m → IsAdmittedTo (r ∷ past) q m
     here e = split (queues r.entry.call r.entry.reply && is_on past r.entry q)
         (λ t. let is : Some (length past) ≡ Some m = rw t at e in let same : length past ≡ m = cc in
-          let parts = and_parts (queues r.entry.call r.entry.reply) (is_on past r.entry q) t in
-          let reply = queues-reply r.entry.call r.entry.reply parts.0 in
-          record {
-            to = rw (← same, eq-eqb (length past) (length past) refl) (place-is _ q parts.1);
-            how = inl (reply.0, rw (← same) (reply_at-newest past r ∙ ap Some reply.1))
-          })
+        let parts = and_parts (queues r.entry.call r.entry.reply) (is_on past r.entry q) t in
+        let reply = queues-reply r.entry.call r.entry.reply parts.0 in
+        record {
+          to = rw (← same, eq-eqb (length past) (length past) refl) (place-is _ q parts.1);
+          how = inl (reply.0, rw (← same) (reply_at-newest past r ∙ ap Some reply.1));
+        })
         (λ f. let is : if_in (blocked_sends past q) (admits r.entry.reply) ≡ Some m = rw f at e in
-          let inside = if_in-inside (blocked_sends past q) (admits r.entry.reply) m is in
-          let lt = blocked_sends-below past q m inside.0 in
-          record {
-            to = sent_to-older past r m lt ∙ (blocked-on past q m inside.0).to;
-            how = inr (rw inside.1 (rw (eq-eqb m m refl) refl))
-          })
+        let inside = if_in-inside (blocked_sends past q) (admits r.entry.reply) m is in
+        let lt = blocked_sends-below past q m inside.0 in
+        record {
+          to = sent_to-older past r m lt ∙ (blocked-on past q m inside.0).to;
+          how = inr (rw inside.1 (rw (eq-eqb m m refl) refl));
+        })
 
     by : (o : Option ℕ) → entered past r.entry q ≡ o → is_in (with_place (entered past r.entry q) (admitted past q)) m ≡ true → (is_in (admitted past q) m ≡ true → IsAdmittedTo past q m) → IsAdmittedTo (r ∷ past) q m
     by None e h rest = let old : is_in (admitted past q) m ≡ true = rw e at h in older (rest old) (admitted-below past q m old)

@@ -1,10 +1,10 @@
 -- The registration that stands on a queue, entry by entry.
-use Rattle.std.proofs.Common.{◌≡◌, ℕ, Bool, true, false, List, Option, Some, None, refl, sym, subst}
-use Rattle.mq_core.specs.Notices.{registration_after, is_about_registrations, registration_by, is_removal, is_close_of}
+use Rattle.std.proofs.Common.{◌≡◌, ℕ, Bool, true, false, Option, Some, None, refl, sym, subst}
+use Rattle.mq_core.specs.Notices.{registration_after, is_about_registrations}
 use Rattle.mq_core.specs.declared.entries.Entry.{Entry}
 use Rattle.mq_core.specs.declared.entries.Registration.{Registration}
 use Rattle.mq_core.specs.declared.entries.Call.{Call}
-use Rattle.mq_core.specs.declared.entries.Call.TheVariants.{MqOpen, MqClose, MqUnlink, MqSend, MqReceive, MqGetattr, MqSetattr, MqNotify, NextNotice, Collect}
+use Rattle.mq_core.specs.declared.entries.Call.TheVariants.{MqClose, MqNotify}
 use Rattle.mq_core.specs.declared.entries.Reply.{Reply}
 use Rattle.mq_core.specs.declared.entries.Reply.TheVariants.{Done}
 

@@ -1,5 +1,5 @@
 -- Whose open wait a call is that still waits.
-use Rattle.std.proofs.Common.{◌≡◌, ℕ, ◌<◌, ◌≤◌, ◌==◌, Bool, true, false, ◌&&◌, ◌||◌, not, List, [], ◌∷◌, length, Option, Some, None, if◌then◌else◌, refl, sym, ◌∙◌, ap, subst, arith, eqb-true, eq-eqb, min, ◌⊎◌, inl, inr}
+use Rattle.std.proofs.Common.{◌≡◌, ℕ, ◌<◌, ◌≤◌, ◌==◌, Bool, true, false, ◌&&◌, not, List, [], ◌∷◌, length, Option, Some, None, if◌then◌else◌, refl, sym, ◌∙◌, ap, subst, arith, eqb-true, eq-eqb, min}
 use Rattle.std.specs.List.{filter}
 use Rattle.std.specs.Option.{option_map, unwrap_or}
 use Rattle.std.proofs.lemmas.Bool.{and_parts, eqb-false}
@@ -8,7 +8,7 @@ use Rattle.mq_core.specs.Descriptors.{is_on}
 use Rattle.mq_core.specs.Messages.{is_in, with_place, hands, admits, blocks_receive, blocks_send, blocked_sends, blocked_receives, least, waiting_sends, waiting_receives, admitted_waits, handed_waits}
 use Rattle.mq_core.specs.Waits.{is_wait, names_wait, open_wait, answered_by}
 use Rattle.mq_core.specs.Answer.{Legal, IsLegalNext, may_call}
-use Rattle.mq_core.proofs.Places.{split, clash, is_in-filter, is_in-with_place}
+use Rattle.mq_core.proofs.Places.{split, is_in-filter, is_in-with_place}
 use Rattle.mq_core.proofs.Cases.{Says}
 use Rattle.mq_core.proofs.LegalReplies.{legal_says}
 use Rattle.mq_core.proofs.Steps.{Below, not-below}
@@ -296,4 +296,3 @@ least-some (x ∷ xs) m h below = by (λ rest. least-some xs m rest (λ k g. bel
         split (x == m)
         (λ t. let same : x ≡ m = eqb-true _ _ t in let above : m ≤ k = below k (in_rest k (least-in xs k e)) in ap Some (omega arith))
         (λ f. let rest : is_in xs m ≡ true = rw f at h in let some : least xs ≡ Some m = inner rest in let same : k ≡ m = cc in ap Some (omega arith))
-

@@ -4,7 +4,7 @@ use Rattle.std.specs.Option.{option_map}
 use Rattle.std.proofs.lemmas.Bool.{eqb-false, and_parts}
 use Rattle.mq_core.specs.Record.{Record, Past}
 use Rattle.mq_core.specs.Descriptors.{is_place, is_on, called_queue, held}
-use Rattle.mq_core.specs.Messages.{is_in, if_in, taken, present, admitted, best, least, blocked_sends, blocked_receives, blocks_send, handed_waits, admitted_waits, waiting_sends, waiting_receives}
+use Rattle.mq_core.specs.Messages.{is_in, if_in, taken, present, admitted, least, blocked_sends, blocked_receives, blocks_send, handed_waits, admitted_waits, waiting_sends, waiting_receives}
 use Rattle.mq_core.specs.Answer.{Legal}
 use Rattle.mq_core.proofs.Places.{split, is_in-filter, find-in}
 use Rattle.mq_core.proofs.Best.{best-none}

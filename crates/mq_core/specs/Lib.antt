@@ -11,3 +11,6 @@ pub mod Answer
 pub mod OnePass
 pub mod Owners
 pub mod OwnersNoted
+pub mod Laws
+pub mod TakenTable
+pub mod CheckerTables

@@ -1,10 +1,9 @@
 -- What the table of processes becomes behind one more entry.
-use Rattle.std.specs.Prelude.{ℕ, ◌<◌, Bool, List, Option, Some, None}
+use Rattle.std.specs.Prelude.{ℕ, ◌<◌, List, Option, Some, None}
 use Rattle.std.specs.Option.{option_and_then}
 use Rattle.mq_core.specs.Descriptors.{description}
 use Rattle.mq_core.specs.Messages.{is_send}
 use Rattle.mq_core.specs.Owners.{with_wait, with_answer, with_slot, with_flag, waiter_in}
-use Rattle.mq_core.specs.declared.entries.Entry.{Entry}
 use Rattle.mq_core.specs.declared.entries.Call.{Call}
 use Rattle.mq_core.specs.declared.entries.Call.TheVariants.{MqOpen, MqClose, MqSetattr}
 use Rattle.mq_core.specs.declared.entries.Reply.{Reply}

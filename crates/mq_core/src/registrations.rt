@@ -9,7 +9,10 @@ fn registration_by(here: u64, p: u32, call: Call) -> Option<Registration>
     ensures { result ≡ registration_by here p call }
 {
     match call {
-        Call::MqNotify { d, value: Some(value) } => Some(Registration {
+        Call::MqNotify {
+            d,
+            value: Some(value),
+        } => Some(Registration {
             place: here,
             process: p,
             d,
@@ -34,7 +37,11 @@ pub fn notified(reply: Reply) -> Option<u64>
 {
     match reply {
         Reply::Queued { notified } => notified,
-        Reply::Got { place: _, admitted: _, notified } => notified,
+        Reply::Got {
+            place: _,
+            admitted: _,
+            notified,
+        } => notified,
         _ => None,
     }
 }
@@ -97,13 +104,7 @@ fn unless_ended(on: bool, entry: Entry, before: Option<Registration>) -> Option<
 {
     match before {
         None => None,
-        Some(n) => {
-            if ends(on, entry, n) {
-                None
-            } else {
-                Some(n)
-            }
-        }
+        Some(n) => { if ends(on, entry, n) { None } else { Some(n) } }
     }
 }
 

@@ -21,9 +21,15 @@ const OPEN: Entry = Entry {
     process: 1,
     call: Call::MqOpen {
         flags: CREATE,
-        attr: Some(Attr { maxmsg: 1, msgsize: 8 }),
+        attr: Some(Attr {
+            maxmsg: 1,
+            msgsize: 8,
+        }),
     },
-    reply: Reply::Opened { d: 0, created: true },
+    reply: Reply::Opened {
+        d: 0,
+        created: true,
+    },
 };
 
 #[test]
@@ -98,7 +104,15 @@ fn a_name_is_a_slash_and_up_to_255_bytes(rt: HostRuntime) -> Result<(), Fail> {
     long.push(b'a')?;
     assert!(rt; matches!(Name::read(long.as_slice()), Err(Fault::NameTooLong)));
     long.push(b'/')?;
-    let malformed = [b"".as_slice(), b"/", b"q", b"//", b"/a/b", b"/a\0", long.as_slice()];
+    let malformed = [
+        b"".as_slice(),
+        b"/",
+        b"q",
+        b"//",
+        b"/a/b",
+        b"/a\0",
+        long.as_slice(),
+    ];
     for bytes in malformed {
         assert!(rt; matches!(Name::read(bytes), Err(Fault::Invalid)));
     }
@@ -217,7 +231,10 @@ fn a_registration_ends_with_its_notice_its_removal_or_its_close(
     rt: HostRuntime,
 ) -> Result<(), Fail> {
     let made = registration_after(true, 4, REGISTER, None);
-    assert_eq!(rt; made.map(|n| (n.place, n.process, n.d, n.value)), Some((4, 1, 0, 7)));
+    assert_eq!(rt;
+        made.map(|n| (n.place, n.process, n.d, n.value)),
+        Some((4, 1, 0, 7))
+    );
     assert_eq!(rt; registration_after(false, 4, REGISTER, None), None);
     assert_eq!(rt; notified(SEND_NOTIFIES.reply), Some(4));
     assert!(rt; touches_registrations(SEND_NOTIFIES));

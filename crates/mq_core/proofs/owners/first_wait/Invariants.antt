@@ -1,5 +1,3 @@
-use Rattle.std.proofs.Common.{◌≡◌, ◌<◌, ℕ, Some, None, IfSome, Option, IfSome}
-use Rattle.mq_core.specs.Owners.{pending_in, IsFirstWait}
 use Rattle.mq_core.proofs.OwnerLines.{IsFirstBelow}
 use Rattle.mq_core.proofs.owners.first_wait.Given as goal
 

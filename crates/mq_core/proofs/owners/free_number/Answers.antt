@@ -1,4 +1,4 @@
-use Rattle.std.proofs.Common.{◌≡◌, Bool, true, false, Option, Some, None, is_some, is_none, refl, sym, arith, ◌<◌, rules}
+use Rattle.std.proofs.Common.{◌≡◌, true, false, Option, Some, None, is_some, is_none, refl, sym, arith}
 use Rattle.mq_core.specs.Owners.{held_in}
 use Rattle.mq_core.proofs.LowestFree.{first-Some, first-None}
 use Rattle.mq_core.proofs.owners.free_number.Goals as goal

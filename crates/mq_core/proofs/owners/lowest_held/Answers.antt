@@ -1,4 +1,4 @@
-use Rattle.std.proofs.Common.{◌≡◌, true, false, is_some, sym, arith, ◌<◌}
+use Rattle.std.proofs.Common.{is_some, sym, arith}
 use Rattle.mq_core.specs.Owners.{held_in}
 use Rattle.mq_core.proofs.LowestFree.{first-Some, first-None}
 use Rattle.mq_core.proofs.owners.lowest_held.Goals as goal

@@ -1,0 +1,269 @@
+// Built journals, the checker's verdict on each, and the calls that no clause sees succeed.
+use crate::checker::check_history;
+use crate::entries::{Access, Attr, Call, Entry, OpenFlags, Reply};
+use crate::faults::Fault;
+use crate::journals::Journal;
+use crate::laws;
+use std::alloc::{AllocError, Global};
+use std::process::Abort;
+use std::test::Fail;
+
+// An entry and its payload.
+type Line = (Entry, &'static [u8]);
+
+fn journal_of(alloc: Global, lines: &[Line]) -> Result<Journal, AllocError> {
+    let mut journal = Journal::new(alloc);
+    for line in lines {
+        let (entry, payload) = *line;
+        journal.reserve(1, payload.len())?;
+        journal.push(entry, payload);
+    }
+    Ok(journal)
+}
+
+fn line(entry: Entry, payload: &'static [u8]) -> Line {
+    (entry, payload)
+}
+
+fn by(process: u32, call: Call, reply: Reply) -> Entry {
+    Entry {
+        process,
+        call,
+        reply,
+    }
+}
+
+// An open of a queue for 2 messages of 8 bytes, for reading and writing.
+fn open(process: u32, d: u32, name: &'static [u8]) -> Line {
+    let flags = OpenFlags {
+        access: Access::Both,
+        create: true,
+        excl: false,
+        nonblock: false,
+    };
+    let attr = Some(Attr {
+        maxmsg: 2,
+        msgsize: 8,
+    });
+    (
+        by(
+            process,
+            Call::MqOpen { flags, attr },
+            Reply::Opened { d, created: true },
+        ),
+        name,
+    )
+}
+
+fn send(message: &'static [u8], reply: Reply) -> Line {
+    (
+        by(
+            1,
+            Call::MqSend {
+                d: 0,
+                prio: 1,
+                len: 1,
+            },
+            reply,
+        ),
+        message,
+    )
+}
+
+const QUEUED: Reply = Reply::Queued { notified: None };
+
+fn receive(place: u64) -> Line {
+    let reply = Reply::Got {
+        place,
+        admitted: None,
+        notified: None,
+    };
+    line(by(1, Call::MqReceive { d: 0, room: 8 }, reply), b"")
+}
+
+fn expect<A: Abort>(
+    rt: &A,
+    alloc: Global,
+    lines: &[Line],
+    verdict: Result<(), u64>,
+    what: &str,
+) -> Result<(), Fail> {
+    let journal = journal_of(alloc, lines)?;
+    assert_eq!(rt; check_history(&journal), verdict, "{what}");
+    Ok(())
+}
+
+#[test]
+fn history_of_two_messages_is_checked(rt: HostRuntime) -> Result<(), Fail> {
+    let created = open(1, 0, b"/q");
+    let a = send(b"a", QUEUED);
+    let b = send(b"b", QUEUED);
+    let collect = line(by(1, Call::Collect, Reply::Collected { by: 3 }), b"");
+    let unlocked = line(by(0, created.0.call, created.0.reply), created.1);
+    let refused = send(b"", Reply::Refused(Fault::NoMemory));
+    expect(&rt, rt.alloc(), &[], Ok(()), "no entry")?;
+    expect(
+        &rt,
+        rt.alloc(),
+        &[created, a, b, receive(1), receive(2)],
+        Ok(()),
+        "two messages",
+    )?;
+    expect(
+        &rt,
+        rt.alloc(),
+        &[created, a, b, receive(2), receive(1)],
+        Err(3),
+        "the later message first",
+    )?;
+    expect(
+        &rt,
+        rt.alloc(),
+        &[unlocked, a, b, receive(1), receive(2)],
+        Err(0),
+        "process 0",
+    )?;
+    expect(
+        &rt,
+        rt.alloc(),
+        &[open(1, 0, b"/a/b"), a, b, receive(1), receive(2)],
+        Err(0),
+        "no name",
+    )?;
+    expect(
+        &rt,
+        rt.alloc(),
+        &[created, refused, b, receive(1), receive(2)],
+        Err(1),
+        "want of memory",
+    )?;
+    expect(
+        &rt,
+        rt.alloc(),
+        &[created, a, send(b"", QUEUED), receive(1), receive(2)],
+        Err(2),
+        "a lost payload",
+    )?;
+    expect(
+        &rt,
+        rt.alloc(),
+        &[created, a, b, receive(1), receive(2), collect],
+        Err(5),
+        "a collect without a wait",
+    )
+}
+
+fn notify(d: u32, value: Option<u64>, reply: Reply) -> Line {
+    line(by(1, Call::MqNotify { d, value }, reply), b"")
+}
+
+#[test]
+fn removal_is_of_the_queue_that_it_names(rt: HostRuntime) -> Result<(), Fail> {
+    let invalid = Reply::Refused(Fault::Invalid);
+    let busy = Reply::Refused(Fault::Busy);
+    let q = open(1, 0, b"/q");
+    let r = open(1, 1, b"/r");
+    let made = notify(0, Some(7), Reply::Done);
+    let again = notify(0, Some(8), busy);
+    expect(
+        &rt,
+        rt.alloc(),
+        &[q, r, made, notify(1, None, invalid), again],
+        Ok(()),
+        "none stands there",
+    )?;
+    expect(
+        &rt,
+        rt.alloc(),
+        &[q, r, made, notify(1, None, Reply::Done)],
+        Err(3),
+        "another queue's",
+    )?;
+    expect(
+        &rt,
+        rt.alloc(),
+        &[q, r, made, notify(0, None, Reply::Done), again],
+        Err(4),
+        "none stands any more",
+    )
+}
+
+#[test]
+fn unlink_has_a_name(rt: HostRuntime) -> Result<(), Fail> {
+    let unbound = by(1, Call::MqUnlink, Reply::Refused(Fault::NoEntry));
+    expect(&rt, rt.alloc(), &[line(unbound, b"/q")], Ok(()), "a name")?;
+    expect(
+        &rt,
+        rt.alloc(),
+        &[line(unbound, b"/a/b")],
+        Err(0),
+        "two slashes",
+    )
+}
+
+#[test]
+fn wait_is_answered_and_collected(rt: HostRuntime) -> Result<(), Fail> {
+    let q = open(1, 0, b"/q");
+    let flags = OpenFlags {
+        access: Access::Both,
+        create: false,
+        excl: false,
+        nonblock: false,
+    };
+    let other = line(
+        by(
+            2,
+            Call::MqOpen { flags, attr: None },
+            Reply::Opened {
+                d: 0,
+                created: false,
+            },
+        ),
+        b"/q",
+    );
+    let waits = line(by(2, Call::MqReceive { d: 0, room: 8 }, Reply::Waits), b"");
+    let handed = send(b"a", Reply::Handed { wait: 2 });
+    let collect = line(by(2, Call::Collect, Reply::Collected { by: 3 }), b"");
+    expect(
+        &rt,
+        rt.alloc(),
+        &[q, other, waits, handed, collect],
+        Ok(()),
+        "handed over",
+    )?;
+    expect(
+        &rt,
+        rt.alloc(),
+        &[q, other, waits, send(b"a", QUEUED)],
+        Err(3),
+        "queued past a receive",
+    )?;
+    expect(
+        &rt,
+        rt.alloc(),
+        &[q, other, waits, collect],
+        Err(3),
+        "collected before an answer",
+    )
+}
+
+#[test]
+fn laws_take_a_legal_journal(rt: HostRuntime) -> Result<(), Fail> {
+    let journal = journal_of(
+        rt.alloc(),
+        &[open(1, 0, b"/q"), send(b"a", QUEUED), receive(1)],
+    )?;
+    match check_history(&journal) {
+        Ok(()) => {
+            laws::gives_once(&journal);
+            laws::gives_best(&journal);
+            laws::leaves_in_order(&journal);
+            laws::holds_descriptors(&journal);
+            laws::ends_for_good(&journal);
+            laws::waits_for_cause(&journal);
+            laws::others_leave(&journal, 1);
+        }
+        Err(k) => assert!(rt; false, "illegal at {k}"),
+    }
+    Ok(())
+}
