@@ -66,6 +66,7 @@ struct Trial {
 }
 
 impl Model for Trial {
+    ghost use Rattle.std.specs.Prelude.{◌≡◌};
     ghost use Rattle.mq_core.specs.Record.{Past};
 
     ghost Value = { Past };

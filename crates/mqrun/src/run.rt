@@ -10,6 +10,7 @@ use crate::input::{MOST_BYTES, read_all};
 use crate::output::write_bytes;
 use crate::phase::run_phase;
 use crate::script::{Script, read_script};
+use mq_core::checker::check_history;
 use mq_state::books::Books;
 use std::alloc::Global;
 use std::io::{Read, Write};
@@ -46,5 +47,7 @@ fn run_phases<W: Write>(alloc: Global, script: &Script<'_>, output: &mut W) -> R
         let text = run_phase(alloc, &mut books, script.processes, calls.as_slice())?;
         write_bytes(output, text.as_slice())?;
     }
+    // The journal of the queues is legal, so the checker accepts it.
+    check_history(books.journal()).unwrap();
     write_bytes(output, b"history ok\n")
 }
