@@ -11,6 +11,7 @@ pub mod Records
 pub mod Steps
 pub mod Waiting
 pub mod WorkedJournals
+pub mod WorkedWaits
 pub mod WorkedRefusals
 pub mod OwnerLines
 pub mod Frames
