@@ -80,11 +80,11 @@ blocked-sent : (past : Past) (q w : ℕ) → is_in (blocked_sends past q) w ≡ 
 blocked-sent [] q w h = absurd (cc)
 blocked-sent (s ∷ past) q w h = split (blocks_send s.entry.call s.entry.reply && is_on past s.entry q)
     (λ t. let new : (length past == w || is_in (blocked_sends past q) w) ≡ true = rw t at h in
-      let parts = and_parts (blocks_send s.entry.call s.entry.reply) (is_on past s.entry q) t in
-      let facts = blocks-facts s.entry.call s.entry.reply parts.0 in
-      split (length past == w)
-      (λ e. sent-here past s q w (eqb-true _ _ e) facts.0 facts.1 parts.1)
-      (λ n. sent-older past s q w (blocked-sent past q w (rw n at new))))
+    let parts = and_parts (blocks_send s.entry.call s.entry.reply) (is_on past s.entry q) t in
+    let facts = blocks-facts s.entry.call s.entry.reply parts.0 in
+    split (length past == w)
+    (λ e. sent-here past s q w (eqb-true _ _ e) facts.0 facts.1 parts.1)
+    (λ n. sent-older past s q w (blocked-sent past q w (rw n at new))))
     (λ f. sent-older past s q w (blocked-sent past q w (rw f at h)))
 
 admitted-sent : (past : Past) (q m : ℕ) → is_in (admitted past q) m ≡ true → IsSentTo past q m
@@ -94,11 +94,11 @@ admitted-sent (s ∷ past) q m h = by (entered past s.entry q) refl h (λ rest. 
     here : entered past s.entry q ≡ Some m → IsSentTo (s ∷ past) q m
     here e = split (queues s.entry.call s.entry.reply && is_on past s.entry q)
         (λ t. let is : Some (length past) ≡ Some m = rw t at e in let same : length past ≡ m = cc in
-          let parts = and_parts (queues s.entry.call s.entry.reply) (is_on past s.entry q) t in
-          let facts = queues-facts s.entry.call s.entry.reply parts.0 in
-          sent-here past s q m same facts.0 facts.1 parts.1)
+        let parts = and_parts (queues s.entry.call s.entry.reply) (is_on past s.entry q) t in
+        let facts = queues-facts s.entry.call s.entry.reply parts.0 in
+        sent-here past s q m same facts.0 facts.1 parts.1)
         (λ f. let is : if_in (blocked_sends past q) (admits s.entry.reply) ≡ Some m = rw f at e in
-          sent-older past s q m (blocked-sent past q m (if_in-inside (blocked_sends past q) (admits s.entry.reply) m is).0))
+        sent-older past s q m (blocked-sent past q m (if_in-inside (blocked_sends past q) (admits s.entry.reply) m is).0))
 
     by : (o : Option ℕ) → entered past s.entry q ≡ o → is_in (with_place (entered past s.entry q) (admitted past q)) m ≡ true → (is_in (admitted past q) m ≡ true → IsSentTo past q m) → IsSentTo (s ∷ past) q m
     by None e h rest = let old : is_in (admitted past q) m ≡ true = rw e at h in sent-older past s q m (rest old)
@@ -148,18 +148,18 @@ pub sent-fits : (past : Past) → Legal past → (q m : ℕ) → IsSentTo past q
 sent-fits [] legal q m x = absurd (let bad = x.at in cc)
 sent-fits (s ∷ past) legal q m x = split (m == length past)
     (λ t. let is : Some s ≡ Some x.r = rw t at x.at in let same : s ≡ x.r = cc in
-      let on : called_queue past s.entry.process s.entry.call ≡ Some q = rw t at x.to in
-      let lt = alive-below past q (called-alive past legal.0 s.entry.process s.entry.call q on) in
-      let message : message_at (s ∷ past) m ≡ s.payload = rw t refl in
-      ap (λ xs. int_lt (attributes (s ∷ past) q).msgsize (pos (length xs))) message
-      ∙ ap (λ a. int_lt a (pos (length s.payload))) (ap (λ (b : Attr). b.msgsize) (attributes-older past s q lt))
-      ∙ send-fits past s.entry.process s.entry.call s.entry.reply s.payload q (legal_says past s legal.1) legal.1.payload (ap (λ (y : Record). is_send y.entry.call) same ∙ x.sends) (ap (λ (y : Record). is_refused y.entry.reply) same ∙ x.goes) on)
+    let on : called_queue past s.entry.process s.entry.call ≡ Some q = rw t at x.to in
+    let lt = alive-below past q (called-alive past legal.0 s.entry.process s.entry.call q on) in
+    let message : message_at (s ∷ past) m ≡ s.payload = rw t refl in
+    ap (λ xs. int_lt (attributes (s ∷ past) q).msgsize (pos (length xs))) message
+    ∙ ap (λ a. int_lt a (pos (length s.payload))) (ap (λ (b : Attr). b.msgsize) (attributes-older past s q lt))
+    ∙ send-fits past s.entry.process s.entry.call s.entry.reply s.payload q (legal_says past s legal.1) legal.1.payload (ap (λ (y : Record). is_send y.entry.call) same ∙ x.sends) (ap (λ (y : Record). is_refused y.entry.reply) same ∙ x.goes) on)
     (λ n. let old : IsSentTo past q m = record { r = x.r; at = rw n at x.at; sends = x.sends; goes = x.goes; to = rw n at x.to } in
-      let lt = record_at-below past m x.r old.at in
-      let below = sent_to-below past legal.0 m q old.to in
-      ap (λ xs. int_lt (attributes (s ∷ past) q).msgsize (pos (length xs))) (ap (λ o. unwrap_or (option_map (λ (y : Record). y.payload) o) []) (record_at-older past s m lt))
-      ∙ ap (λ a. int_lt a (pos (length (message_at past m)))) (ap (λ (b : Attr). b.msgsize) (attributes-older past s q below))
-      ∙ sent-fits past legal.0 q m old)
+    let lt = record_at-below past m x.r old.at in
+    let below = sent_to-below past legal.0 m q old.to in
+    ap (λ xs. int_lt (attributes (s ∷ past) q).msgsize (pos (length xs))) (ap (λ o. unwrap_or (option_map (λ (y : Record). y.payload) o) []) (record_at-older past s m lt))
+    ∙ ap (λ a. int_lt a (pos (length (message_at past m)))) (ap (λ (b : Attr). b.msgsize) (attributes-older past s q below))
+    ∙ sent-fits past legal.0 q m old)
 
 int-chain : (a : ℤ) (m n : ℕ) → int_lt a (pos m) ≡ false → int_lt (pos n) a ≡ false → m ≤ n
 int-chain (pos k) m n h g = grind (arith, nat_tests)
@@ -170,8 +170,8 @@ pub received-fits : (past : Past) → Legal past → (p d room m : ℕ) (a n : O
 received-fits past legal p d room m a n says =
     let inside = (find-in _ (present past says.0.queue) m says.3.0).0 in
     int-chain (attributes past says.0.queue).msgsize (length (message_at past m)) room
-      (sent-fits past legal says.0.queue m (admitted-sent past says.0.queue m (present-admitted past says.0.queue m inside)))
-      says.2.fits
+    (sent-fits past legal says.0.queue m (admitted-sent past says.0.queue m (present-admitted past says.0.queue m inside)))
+    says.2.fits
 
 pub reply-fits : (past : Past) → Legal past → (p d room : ℕ) (reply : Reply) → reply ≡ answer past p (MqReceive d room) [] → Fits past reply room
 reply-fits past legal p d room reply is = by reply (subst (Says past p (MqReceive d room)) (sym is) (answer_says past p (MqReceive d room) []))
@@ -206,7 +206,7 @@ blocked-on-below : (past : Past) → Legal past → (q w : ℕ) → is_in (block
 blocked-on-below [] legal q w h = absurd (cc)
 blocked-on-below (s ∷ past) legal q w h = split (blocks_receive s.entry.call s.entry.reply && is_on past s.entry q)
     (λ t. let parts = and_parts (blocks_receive s.entry.call s.entry.reply) (is_on past s.entry q) t in
-      let lt = on-alive (called_queue past s.entry.process s.entry.call) refl parts.1 in omega (arith, lt))
+    let lt = on-alive (called_queue past s.entry.process s.entry.call) refl parts.1 in omega (arith, lt))
     (λ f. let lt = blocked-on-below past legal.0 q w (rw f at h) in omega (arith, lt))
   where
     on-alive : (o : Option ℕ) → called_queue past s.entry.process s.entry.call ≡ o → is_place q (called_queue past s.entry.process s.entry.call) ≡ true → q < length past
@@ -267,10 +267,10 @@ blocked-receive : (past : Past) → Legal past → (q w : ℕ) → is_in (blocke
 blocked-receive [] legal q w h = absurd (cc)
 blocked-receive (s ∷ past) legal q w h = split (blocks_receive s.entry.call s.entry.reply && is_on past s.entry q)
     (λ t. let new : (length past == w || is_in (blocked_receives past q) w) ≡ true = rw t at h in
-      let parts = and_parts (blocks_receive s.entry.call s.entry.reply) (is_on past s.entry q) t in
-      split (length past == w)
-      (λ e. let same : length past ≡ w = eqb-true _ _ e in subst (IsReceiveOn (s ∷ past) q) same (receive-here past legal.0 s q (legal_says past s legal.1) parts.0 parts.1))
-      (λ n. older (rw n at new) (blocked-receive past legal.0 q w (rw n at new))))
+    let parts = and_parts (blocks_receive s.entry.call s.entry.reply) (is_on past s.entry q) t in
+    split (length past == w)
+    (λ e. let same : length past ≡ w = eqb-true _ _ e in subst (IsReceiveOn (s ∷ past) q) same (receive-here past legal.0 s q (legal_says past s legal.1) parts.0 parts.1))
+    (λ n. older (rw n at new) (blocked-receive past legal.0 q w (rw n at new))))
     (λ f. older (rw f at h) (blocked-receive past legal.0 q w (rw f at h)))
   where
     older : is_in (blocked_receives past q) w ≡ true → IsReceiveOn past q w → IsReceiveOn (s ∷ past) q w
@@ -288,9 +288,9 @@ answered-below [] p b e = absurd (cc)
 answered-below (s ∷ past) p b e = split (s.entry.process == p)
     (λ own. let bad : None ≡ Some b = rw own at e in absurd (cc))
     (λ other. let rest : (if names_wait s.entry.reply (open_wait past p) then Some (length past) else answered_by past p) ≡ Some b = rw other at e in
-      split (names_wait s.entry.reply (open_wait past p))
-      (λ t. let here : Some (length past) ≡ Some b = rw t at rest in let same : length past ≡ b = cc in omega arith)
-      (λ f. let old : answered_by past p ≡ Some b = rw f at rest in let lt = answered-below past p b old in omega (arith, lt)))
+    split (names_wait s.entry.reply (open_wait past p))
+    (λ t. let here : Some (length past) ≡ Some b = rw t at rest in let same : length past ≡ b = cc in omega arith)
+    (λ f. let old : answered_by past p ≡ Some b = rw f at rest in let lt = answered-below past p b old in omega (arith, lt)))
 
 message-newest : (past : Past) (s : Record) → message_at (s ∷ past) (length past) ≡ s.payload
 message-newest past s = rw (eq-eqb (length past) (length past) refl) refl
@@ -325,8 +325,8 @@ handed-here past legal s next w named r d room at call = by s.entry.call s.entry
         let waits : is_in (blocked_receives past says.0.queue) w ≡ true = rw (← same) (is_in-filter (λ j. not (is_in (handed_waits past) j)) (blocked_receives past says.0.queue) k (least-in (waiting_receives past says.0.queue) k says.3)).0 in
         let on : called_queue past s.entry.process (MqSend e prio len) ≡ Some says.0.queue = rw says.1 refl in
         int-chain (attributes past says.0.queue).msgsize (length s.payload) room
-          (send-fits past s.entry.process (MqSend e prio len) (Handed k) s.payload says.0.queue says paid refl refl on)
-          (same-room says.0.queue waits)
+        (send-fits past s.entry.process (MqSend e prio len) (Handed k) s.payload says.0.queue says paid refl refl on)
+        (same-room says.0.queue waits)
     by (MqReceive e rm) (Got m (Some k) n) says paid named =
         let same : k ≡ w = eqb-true _ _ named in
         let waits = (is_in-filter (λ j. not (is_in (admitted_waits past) j)) (blocked_sends past says.0.queue) k (least-in (waiting_sends past says.0.queue) k (sym says.3.1))).0 in
@@ -365,13 +365,13 @@ handed-fits [] legal p w b open_at answered r d room at call = absurd (cc)
 handed-fits (s ∷ past) legal p w b open_at answered r d room at call = split (s.entry.process == p)
     (λ own. let bad : None ≡ Some b = rw own at answered in absurd (cc))
     (λ other.
-      let old_wait : open_wait past p ≡ Some w = rw other at open_at in
-      let rest : (if names_wait s.entry.reply (open_wait past p) then Some (length past) else answered_by past p) ≡ Some b = rw other at answered in
-      let rest' : (if names_wait s.entry.reply (Some w) then Some (length past) else answered_by past p) ≡ Some b = rw old_wait at rest in
-      let lt = open_wait-below past p w old_wait in
-      let old_at : record_at past w ≡ Some r = sym (record_at-older past s w lt) ∙ at in
-      split (names_wait s.entry.reply (Some w))
-      (λ t. let here : Some (length past) ≡ Some b = rw t at rest' in let same : length past ≡ b = cc in
-        subst (λ k. length (message_at (s ∷ past) k) ≤ room) same (subst (λ xs. length xs ≤ room) (sym (message-newest past s)) (handed-here past legal.0 s legal.1 w t r d room old_at call)))
-      (λ f. let old : answered_by past p ≡ Some b = rw f at rest' in
-        subst (λ xs. length xs ≤ room) (sym (message-older past s b (answered-below past p b old))) (handed-fits past legal.0 p w b old_wait old r d room old_at call)))
+    let old_wait : open_wait past p ≡ Some w = rw other at open_at in
+    let rest : (if names_wait s.entry.reply (open_wait past p) then Some (length past) else answered_by past p) ≡ Some b = rw other at answered in
+    let rest' : (if names_wait s.entry.reply (Some w) then Some (length past) else answered_by past p) ≡ Some b = rw old_wait at rest in
+    let lt = open_wait-below past p w old_wait in
+    let old_at : record_at past w ≡ Some r = sym (record_at-older past s w lt) ∙ at in
+    split (names_wait s.entry.reply (Some w))
+    (λ t. let here : Some (length past) ≡ Some b = rw t at rest' in let same : length past ≡ b = cc in
+    subst (λ k. length (message_at (s ∷ past) k) ≤ room) same (subst (λ xs. length xs ≤ room) (sym (message-newest past s)) (handed-here past legal.0 s legal.1 w t r d room old_at call)))
+    (λ f. let old : answered_by past p ≡ Some b = rw f at rest' in
+    subst (λ xs. length xs ≤ room) (sym (message-older past s b (answered-below past p b old))) (handed-fits past legal.0 p w b old_wait old r d room old_at call)))

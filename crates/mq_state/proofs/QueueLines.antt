@@ -152,23 +152,23 @@ unfolding queue_in without_queue
 queue_in-without [] q k x e = absurd (cc)
 queue_in-without (y ∷ queues) q k x e = split (y.place == q)
     (λ t. let rest : find (λ x. x.place == k) (filter (λ x. not (x.place == q)) queues) ≡ Some x = rw t at e in
-      let found : find (λ x. x.place == k) queues ≡ Some x = queue_in-without queues q k x rest in
-      split (y.place == k)
-      (λ s. let at : x.place ≡ q = queue_in-place queues k x found ∙ sym (eqb-true _ _ s) ∙ eqb-true _ _ t in absurd (not-there queues q k x rest at))
-      (λ n. rw n found))
+    let found : find (λ x. x.place == k) queues ≡ Some x = queue_in-without queues q k x rest in
+    split (y.place == k)
+    (λ s. let at : x.place ≡ q = queue_in-place queues k x found ∙ sym (eqb-true _ _ s) ∙ eqb-true _ _ t in absurd (not-there queues q k x rest at))
+    (λ n. rw n found))
     (λ n. let here : find (λ x. x.place == k) (y ∷ filter (λ x. not (x.place == q)) queues) ≡ Some x = rw n at e in
-      split (y.place == k)
-      (λ s. let same : Some y ≡ Some x = rw s at here in rw s same)
-      (λ f. let rest : find (λ x. x.place == k) (filter (λ x. not (x.place == q)) queues) ≡ Some x = rw f at here in rw f (queue_in-without queues q k x rest)))
+    split (y.place == k)
+    (λ s. let same : Some y ≡ Some x = rw s at here in rw s same)
+    (λ f. let rest : find (λ x. x.place == k) (filter (λ x. not (x.place == q)) queues) ≡ Some x = rw f at here in rw f (queue_in-without queues q k x rest)))
   where
     not-there : (queues : List QueueShown) (q k : ℕ) (x : QueueShown) → find (λ x. x.place == k) (filter (λ x. not (x.place == q)) queues) ≡ Some x → x.place ≡ q → ⊥
     not-there [] q k x e at = cc
     not-there (y ∷ queues) q k x e at = split (y.place == q)
         (λ t. let rest : find (λ x. x.place == k) (filter (λ x. not (x.place == q)) queues) ≡ Some x = rw t at e in not-there queues q k x rest at)
         (λ n. let here : find (λ x. x.place == k) (y ∷ filter (λ x. not (x.place == q)) queues) ≡ Some x = rw n at e in
-          split (y.place == k)
-          (λ s. let same : Some y ≡ Some x = rw s at here in let is : y ≡ x = cc in let bad : (y.place == q) ≡ true = eq-eqb y.place q (ap (λ (z : QueueShown). z.place) is ∙ at) in clash _ bad n)
-          (λ f. let rest : find (λ x. x.place == k) (filter (λ x. not (x.place == q)) queues) ≡ Some x = rw f at here in not-there queues q k x rest at))
+        split (y.place == k)
+        (λ s. let same : Some y ≡ Some x = rw s at here in let is : y ≡ x = cc in let bad : (y.place == q) ≡ true = eq-eqb y.place q (ap (λ (z : QueueShown). z.place) is ∙ at) in clash _ bad n)
+        (λ f. let rest : find (λ x. x.place == k) (filter (λ x. not (x.place == q)) queues) ≡ Some x = rw f at here in not-there queues q k x rest at))
 
 pub places-without : (queues : List QueueShown) (q : ℕ) → map (λ x. x.place) (without_queue queues q) ≡ filter (λ k. not (k == q)) (map (λ x. x.place) queues)
 unfolding without_queue

@@ -106,7 +106,6 @@ pub length-slots_of : (past : Past) (xs : List ℕ) → length (slots_of past xs
 length-slots_of past [] = refl
 length-slots_of past (x ∷ xs) = ap suc (length-slots_of past xs)
 
-
 pub attributes-older : (past : Past) (r : Record) (k : ℕ) → k < length past → attributes (r ∷ past) k ≡ attributes past k
 attributes-older past r k lt = ap (λ o. unwrap_or (option_map (λ (x : Record). attributes_given x.entry.call) o) default_attributes) (record_at-older past r k lt)
 
@@ -197,20 +196,20 @@ same-slots past r k x is same = is ∙ sym (slots_of-older past r (present past 
 presence-quiet : (past : Past) (p : ℕ) (call : Call) (reply : Reply) (payload : List ℕ) (q prio : ℕ) → ((k : ℕ) → present (rec p call reply payload ∷ past) k ≡ present past k) → ((x : QueueShown) → (renewed (length past) call reply prio x).slots ≡ x.slots) → Presence past p call reply payload q prio
 presence-quiet past p call reply payload q prio same keeps = record {
   elsewhere = λ k lt ne. same k;
-  here = λ x is lt. keeps x ∙ same-slots past (rec p call reply payload) q x is (same q)
+  here = λ x is lt. keeps x ∙ same-slots past (rec p call reply payload) q x is (same q);
 }
 
 presence-queued : (past : Past) → Legal past → (p : ℕ) (call : Call) (n : Option ℕ) (payload : List ℕ) (q prio : ℕ) → Says past p call (Queued n) → called_queue past p call ≡ Some q → Presence past p call (Queued n) payload q prio
 presence-queued past legal p (MqSend d pr len) n payload q prio says on = record {
   elsewhere = λ k lt ne. present-queued_elsewhere past p d pr len k n payload (rw on (ne_eqb q k (λ e. ne (sym e))));
   here = λ x is lt.
-    let r : Record = rec p (MqSend d pr len) (Queued n) payload in
-    let now : present (r ∷ past) q ≡ length past ∷ present past q = present-queued past p d pr len q n payload legal (rw on (eq-eqb q q refl)) in
-    let newest : slot_of (r ∷ past) (length past) ≡ record { prio = pr; place = length past } = rw (eq-eqb (length past) (length past) refl) refl in
-    let s : Slot = record { prio = pr; place = length past } in
-    ap (λ xs. s ∷ xs) (is ∙ sym (slots_of-older past r (present past q) (present-below past q)))
-    ∙ ap (λ y. y ∷ slots_of (r ∷ past) (present past q)) (sym newest)
-    ∙ ap (slots_of (r ∷ past)) (sym now)
+      let r : Record = rec p (MqSend d pr len) (Queued n) payload in
+      let now : present (r ∷ past) q ≡ length past ∷ present past q = present-queued past p d pr len q n payload legal (rw on (eq-eqb q q refl)) in
+      let newest : slot_of (r ∷ past) (length past) ≡ record { prio = pr; place = length past } = rw (eq-eqb (length past) (length past) refl) refl in
+      let s : Slot = record { prio = pr; place = length past } in
+      ap (λ xs. s ∷ xs) (is ∙ sym (slots_of-older past r (present past q) (present-below past q)))
+      ∙ ap (λ y. y ∷ slots_of (r ∷ past) (present past q)) (sym newest)
+      ∙ ap (slots_of (r ∷ past)) (sym now);
 }
 presence-queued past legal p (MqOpen flags attr) n payload q prio says on = absurd says
 presence-queued past legal p (MqClose d) n payload q prio says on = absurd says.0
@@ -229,24 +228,24 @@ presence-got : (past : Past) → Legal past → (p : ℕ) (call : Call) (m : ℕ
 presence-got past legal p call m None n payload q prio got = record {
   elsewhere = λ k lt ne. present-got_elsewhere past p call m None n payload q k got.facts ne;
   here = λ x is lt.
-    let r : Record = rec p call (Got m None n) payload in
-    ap (without_place m) is ∙ slots_of-without past m (present past q)
-    ∙ sym (slots_of-older past r (without m (present past q)) (below-without (length past) m (present past q) (present-below past q)))
-    ∙ ap (slots_of (r ∷ past)) (sym (present-got_here past legal p call m None n payload q got.facts))
+      let r : Record = rec p call (Got m None n) payload in
+      ap (without_place m) is ∙ slots_of-without past m (present past q)
+      ∙ sym (slots_of-older past r (without m (present past q)) (below-without (length past) m (present past q) (present-below past q)))
+      ∙ ap (slots_of (r ∷ past)) (sym (present-got_here past legal p call m None n payload q got.facts));
 }
 presence-got past legal p call m (Some w) n payload q prio got = record {
   elsewhere = λ k lt ne. present-got_elsewhere past p call m (Some w) n payload q k got.facts ne;
   here = λ x is lt.
-    let r : Record = rec p call (Got m (Some w) n) payload in
-    let rest : without_place m x.slots ≡ slots_of (r ∷ past) (without m (present past q)) =
+      let r : Record = rec p call (Got m (Some w) n) payload in
+      let rest : without_place m x.slots ≡ slots_of (r ∷ past) (without m (present past q)) =
       ap (without_place m) is ∙ slots_of-without past m (present past q)
       ∙ sym (slots_of-older past r (without m (present past q)) (below-without (length past) m (present past q) (present-below past q))) in
-    let s : Slot = record { prio = prio; place = w } in
-    let waits = waiting-below past q w got.facts.admitted in
-    let same : prio ≡ priority (r ∷ past) w = got.prio_is w refl ∙ sym (priority-older past r w waits) in
-    ap (λ xs. s ∷ xs) rest
-    ∙ ap (λ pr. (let t : Slot = record { prio = pr; place = w } in t) ∷ slots_of (r ∷ past) (without m (present past q))) same
-    ∙ ap (slots_of (r ∷ past)) (sym (present-got_here past legal p call m (Some w) n payload q got.facts))
+      let s : Slot = record { prio = prio; place = w } in
+      let waits = waiting-below past q w got.facts.admitted in
+      let same : prio ≡ priority (r ∷ past) w = got.prio_is w refl ∙ sym (priority-older past r w waits) in
+      ap (λ xs. s ∷ xs) rest
+      ∙ ap (λ pr. (let t : Slot = record { prio = pr; place = w } in t) ∷ slots_of (r ∷ past) (without m (present past q))) same
+      ∙ ap (slots_of (r ∷ past)) (sym (present-got_here past legal p call m (Some w) n payload q got.facts));
 }
   where
     waiting-below : (past : Past) (q w : ℕ) → Some w ≡ least (waiting_sends past q) → w < length past

@@ -130,26 +130,26 @@ line-keeps past legal p call reply payload q prio next on x m lt room =
     let P : QueueShown → Type 0 = λ z. LineMirror (r ∷ past) z in
     split (q == x.place)
     (λ t. let here : q ≡ x.place = eqb-true _ _ t in
-      let z : QueueShown = renewed (length past) call reply prio y in
-      let place : z.place ≡ x.place = renewed-place (length past) call reply prio y in
-      let line : LineMirror (r ∷ past) z = record {
-        named = sym (when-true (q == x.place) z.named y.named t) ∙ named ∙ ap (is_named (r ∷ past)) (sym place);
-        registration = renewed-registration (length past) call reply prio y ∙ stands ∙ ap (registered (r ∷ past)) (sym place);
-        slots = there.here y (m.slots ∙ ap (λ k. slots_of past (present past k)) (sym here)) (rw here lt) ∙ ap (λ k. slots_of (r ∷ past) (present (r ∷ past) k)) (here ∙ sym place);
-        room = ap (λ k. int_le (attributes (r ∷ past) k).maxmsg (pos (z.room + length z.slots))) place
+    let z : QueueShown = renewed (length past) call reply prio y in
+    let place : z.place ≡ x.place = renewed-place (length past) call reply prio y in
+    let line : LineMirror (r ∷ past) z = record {
+      named = sym (when-true (q == x.place) z.named y.named t) ∙ named ∙ ap (is_named (r ∷ past)) (sym place);
+      registration = renewed-registration (length past) call reply prio y ∙ stands ∙ ap (registered (r ∷ past)) (sym place);
+      slots = there.here y (m.slots ∙ ap (λ k. slots_of past (present past k)) (sym here)) (rw here lt) ∙ ap (λ k. slots_of (r ∷ past) (present (r ∷ past) k)) (here ∙ sym place);
+      room = ap (λ k. int_le (attributes (r ∷ past) k).maxmsg (pos (z.room + length z.slots))) place
           ∙ ap (λ n. int_le (attributes (r ∷ past) x.place).maxmsg (pos n)) (renewed-total (length past) call reply prio y (room here))
-          ∙ ap (λ (a : Attr). int_le a.maxmsg (pos (y.room + length y.slots))) same_attributes ∙ m.room
-      } in
-      subst P (sym (when-true (q == x.place) z y t)) line)
+          ∙ ap (λ (a : Attr). int_le a.maxmsg (pos (y.room + length y.slots))) same_attributes ∙ m.room;
+    } in
+    subst P (sym (when-true (q == x.place) z y t)) line)
     (λ n. let ne : q ≢ x.place = eqb-false _ _ n in
-      let z : QueueShown = renewed (length past) call reply prio y in
-      let line : LineMirror (r ∷ past) y = record {
-        named = sym (when-false (q == x.place) z.named y.named n) ∙ named;
-        registration = stands;
-        slots = same-slots past r x.place x m.slots (there.elsewhere x.place lt (λ e. ne (sym e)));
-        room = ap (λ (a : Attr). int_le a.maxmsg (pos (x.room + length x.slots))) same_attributes ∙ m.room
-      } in
-      subst P (sym (when-false (q == x.place) z y n)) line)
+    let z : QueueShown = renewed (length past) call reply prio y in
+    let line : LineMirror (r ∷ past) y = record {
+      named = sym (when-false (q == x.place) z.named y.named n) ∙ named;
+      registration = stands;
+      slots = same-slots past r x.place x m.slots (there.elsewhere x.place lt (λ e. ne (sym e)));
+      room = ap (λ (a : Attr). int_le a.maxmsg (pos (x.room + length x.slots))) same_attributes ∙ m.room;
+    } in
+    subst P (sym (when-false (q == x.place) z y n)) line)
 
 -- which queues the table has ---------------------------------------------------------------------------------------------
 
@@ -174,14 +174,17 @@ line-from q here e prio queues k y found = by (queue_in queues k) refl (sym at �
     by None is g = absurd (split (q == k) (λ t. let bad : None ≡ Some y = rw (t, is) at g in cc) (λ n. let bad : None ≡ Some y = rw (n, is) at g in cc))
     by (Some x) is g =
         let place : x.place ≡ k = queue_in-place queues k x is in
-        let same_test : (q == x.place) ≡ (q == k) = ap (λ j. q == j) place in
-        (x, is, split (q == k)
-          (λ t. let here_is : Some (renewed here e.call e.reply prio (reregistered q here e x)) ≡ Some y = sym (when-true (q == k) (option_map (renewed here e.call e.reply prio) (option_map (reregistered q here e) (Some x))) (option_map (reregistered q here e) (Some x)) t) ∙ ap (λ o. if q == k then option_map (renewed here e.call e.reply prio) (option_map (reregistered q here e) o) else option_map (reregistered q here e) o) (sym is) ∙ g in
-            let same : renewed here e.call e.reply prio (reregistered q here e x) ≡ y = cc in
-            sym same ∙ sym (when-true (q == x.place) (renewed here e.call e.reply prio (reregistered q here e x)) (reregistered q here e x) (same_test ∙ t)))
-          (λ n. let here_is : Some (reregistered q here e x) ≡ Some y = sym (when-false (q == k) (option_map (renewed here e.call e.reply prio) (option_map (reregistered q here e) (Some x))) (option_map (reregistered q here e) (Some x)) n) ∙ ap (λ o. if q == k then option_map (renewed here e.call e.reply prio) (option_map (reregistered q here e) o) else option_map (reregistered q here e) o) (sym is) ∙ g in
-            let same : reregistered q here e x ≡ y = cc in
-            sym same ∙ sym (when-false (q == x.place) (renewed here e.call e.reply prio (reregistered q here e x)) (reregistered q here e x) (same_test ∙ n))))
+        let same_test : (q == x.place) ≡ (q == k) = ap (λ j. q == j) place in (
+          x,
+          is,
+          split (q == k)
+              (λ t. let here_is : Some (renewed here e.call e.reply prio (reregistered q here e x)) ≡ Some y = sym (when-true (q == k) (option_map (renewed here e.call e.reply prio) (option_map (reregistered q here e) (Some x))) (option_map (reregistered q here e) (Some x)) t) ∙ ap (λ o. if q == k then option_map (renewed here e.call e.reply prio) (option_map (reregistered q here e) o) else option_map (reregistered q here e) o) (sym is) ∙ g in
+              let same : renewed here e.call e.reply prio (reregistered q here e x) ≡ y = cc in
+              sym same ∙ sym (when-true (q == x.place) (renewed here e.call e.reply prio (reregistered q here e x)) (reregistered q here e x) (same_test ∙ t)))
+              (λ n. let here_is : Some (reregistered q here e x) ≡ Some y = sym (when-false (q == k) (option_map (renewed here e.call e.reply prio) (option_map (reregistered q here e) (Some x))) (option_map (reregistered q here e) (Some x)) n) ∙ ap (λ o. if q == k then option_map (renewed here e.call e.reply prio) (option_map (reregistered q here e) o) else option_map (reregistered q here e) o) (sym is) ∙ g in
+              let same : reregistered q here e x ≡ y = cc in
+              sym same ∙ sym (when-false (q == x.place) (renewed here e.call e.reply prio (reregistered q here e x)) (reregistered q here e x) (same_test ∙ n))),
+        )
 
 -- the entry's queue has room for the message that it lets in
 abbrev pub HasRoomIn : List QueueShown → ℕ → ℕ → Entry → Type 0
@@ -197,7 +200,7 @@ lines-keep past legal queues m p call reply payload q prio next on room k y foun
     let place : x.0.place ≡ k = queue_in-place queues k x.0 x.1 in
     let inside : x.0.place < length past = rw place (alive-below past k (line-alive past queues m k x.0 x.1)) in
     subst (LineMirror (rec p call reply payload ∷ past)) (sym x.2) (line-keeps past legal p call reply payload q prio next on x.0 (m.lines k x.0 x.1) inside
-      (λ same. room (reregistered q (length past) e x.0) (queue_in-map (reregistered q (length past) e) queues q (λ x. refl) ∙ ap (option_map (reregistered q (length past) e)) (ap (queue_in queues) (same ∙ place) ∙ x.1))))
+    (λ same. room (reregistered q (length past) e x.0) (queue_in-map (reregistered q (length past) e) queues q (λ x. refl) ∙ ap (option_map (reregistered q (length past) e)) (ap (queue_in queues) (same ∙ place) ∙ x.1))))
 
 -- a record that creates no queue, and frees none
 setattr-queue : (call : Call) (d : ℕ) (before : Option Description) → option_map (λ h. h.queue) (after_setattr call d before) ≡ option_map (λ h. h.queue) before
@@ -313,12 +316,12 @@ noted-queues-keeps past legal owners queues m p call reply payload q prio next o
     split (may_free call reply && not (is_named_in lines q || is_held_in owners q))
     (λ t. subst (QueuesMirror r) (sym (when-true (may_free call reply && not (is_named_in lines q || is_held_in owners q)) (without_queue lines q) lines t)) (record {
       places = places-without lines q ∙ ap (filter (λ k. not (k == q))) places ∙ filter-reverse (λ k. not (k == q)) (alive past)
-        ∙ ap reverse (sym (alive-noted past legal p call reply payload q prio next on c ∙ when-true (may_free call reply && not (is_needed r q)) (filter (λ k. not (k == q)) (alive past)) (alive past) (sym (same_test) ∙ t)));
-      lines = λ k y found. lines-keep past legal queues m p call reply payload q prio next on room k y (queue_in-without lines q k y found)
+          ∙ ap reverse (sym (alive-noted past legal p call reply payload q prio next on c ∙ when-true (may_free call reply && not (is_needed r q)) (filter (λ k. not (k == q)) (alive past)) (alive past) (sym (same_test) ∙ t)));
+      lines = λ k y found. lines-keep past legal queues m p call reply payload q prio next on room k y (queue_in-without lines q k y found);
     }))
     (λ n. subst (QueuesMirror r) (sym (when-false (may_free call reply && not (is_named_in lines q || is_held_in owners q)) (without_queue lines q) lines n)) (record {
       places = places ∙ ap reverse (sym (alive-noted past legal p call reply payload q prio next on c ∙ when-false (may_free call reply && not (is_needed r q)) (filter (λ k. not (k == q)) (alive past)) (alive past) (sym (same_test) ∙ n)));
-      lines = λ k y found. lines-keep past legal queues m p call reply payload q prio next on room k y found
+      lines = λ k y found. lines-keep past legal queues m p call reply payload q prio next on room k y found;
     }))
   where
     r : Past
@@ -389,7 +392,7 @@ noted-queues-creates past legal owners queues m p flags attr d payload q prio ro
     let y : QueueShown = fresh (length past) room in
     record {
       places = places-push lines y ∙ ap (λ xs. xs ++ length past ∷ []) (lines-places q (length past) e prio queues ∙ m.places) ∙ sym (reverse-cons (length past) (alive past)) ∙ ap reverse (sym (alive-new past p flags attr payload d facts));
-      lines = λ k z found. by k z (queue_in-push lines y k z found)
+      lines = λ k z found. by k z (queue_in-push lines y k z found);
     }
   where
     new-line : LineMirror (rec p (MqOpen flags attr) (Opened d true) payload ∷ past) (fresh (length past) room)
@@ -399,7 +402,7 @@ noted-queues-creates past legal owners queues m p flags attr d payload q prio ro
           named = sym (named-newest past r refl);
           registration = sym (rw (registered-later past legal (length past) (omega arith)) refl);
           slots = sym (ap (slots_of (r ∷ past)) (present-later past legal (length past) (omega arith)));
-          room = ap (λ (a : Attr). int_le a.maxmsg (pos (room + 0))) (newest r) ∙ ap (λ n. int_le (attributes_given (MqOpen flags attr)).maxmsg (pos n)) (omega arith) ∙ roomy
+          room = ap (λ (a : Attr). int_le a.maxmsg (pos (room + 0))) (newest r) ∙ ap (λ n. int_le (attributes_given (MqOpen flags attr)).maxmsg (pos n)) (omega arith) ∙ roomy;
         }
       where
         newest : (r : Record) → attributes (r ∷ past) (length past) ≡ attributes_given r.entry.call
@@ -427,7 +430,7 @@ line-room past queues m p call (Queued n) payload q prio on free x found =
     let place : y.0.place ≡ q = queue_in-place queues q y.0 y.1 in
     let roomy : int_le (attributes past q).maxmsg (pos (y.0.room + length y.0.slots)) ≡ true = ap (λ k. int_le (attributes past k).maxmsg (pos (y.0.room + length y.0.slots))) (sym place) ∙ mirror.room in
     let few : int_le (attributes past q).maxmsg (pos (length y.0.slots)) ≡ false =
-      ap (λ n. int_le (attributes past q).maxmsg (pos n)) (ap length mirror.slots ∙ length-slots_of past (present past y.0.place) ∙ ap (λ k. length (present past k)) place) ∙ free n refl in
+    ap (λ n. int_le (attributes past q).maxmsg (pos n)) (ap length mirror.slots ∙ length-slots_of past (present past y.0.place) ∙ ap (λ k. length (present past k)) place) ∙ free n refl in
     let lt : length y.0.slots < y.0.room + length y.0.slots = int-room (attributes past q).maxmsg (y.0.room + length y.0.slots) (length y.0.slots) roomy few in
     let has : 0 < y.0.room = omega (arith, lt) in
     subst (λ (z : QueueShown). 0 < z.room) (sym y.2) has

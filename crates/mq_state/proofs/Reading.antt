@@ -163,9 +163,9 @@ found-line t (y ∷ queues) distinct x e =
     split (t y)
     (λ p. let here : Some y ≡ Some x = rw p at e in let same : y ≡ x = cc in rw (eq-eqb y.place x.place (ap (λ (z : QueueShown). z.place) same)) here)
     (λ n. let rest : find t queues ≡ Some x = rw n at e in
-      let inside = find-line t queues x rest in
-      let ne : (y.place == x.place) ≡ false = false_from_ne_true _ (λ s. let same : y.place ≡ x.place = eqb-true _ _ s in let bad : is_in (map (λ x. x.place) queues) y.place ≡ true = rw same inside in let clashes : false ≡ true = rw bad at parts.0 in cc) in
-      rw ne (found-line t queues parts.1 x rest))
+    let inside = find-line t queues x rest in
+    let ne : (y.place == x.place) ≡ false = false_from_ne_true _ (λ s. let same : y.place ≡ x.place = eqb-true _ _ s in let bad : is_in (map (λ x. x.place) queues) y.place ≡ true = rw same inside in let clashes : false ≡ true = rw bad at parts.0 in cc) in
+    rw ne (found-line t queues parts.1 x rest))
 
 -- the queue that a name is bound to
 pub bound-read : (past : Past) (queues : List QueueShown) → QueuesMirror past queues → (name : List ℕ) → bound_in past queues name ≡ bound_queue past name

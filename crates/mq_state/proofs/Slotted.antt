@@ -27,8 +27,8 @@ pub filter-reverse : {X : Type 0} (t : X → Bool) (xs : List X) → filter t (r
 filter-reverse t [] = refl
 filter-reverse t (x ∷ xs) =
     ap (filter t) (reverse-cons x xs) ∙ filter-append t (reverse xs) (x ∷ []) ∙ split (t x)
-      (λ y. rw (y, filter-reverse t xs) (sym (reverse-cons x (filter t xs))))
-      (λ f. rw (f, filter-reverse t xs) (grind (arith, common_steps)))
+    (λ y. rw (y, filter-reverse t xs) (sym (reverse-cons x (filter t xs))))
+    (λ f. rw (f, filter-reverse t xs) (grind (arith, common_steps)))
 
 pub length-reverse : {X : Type 0} (xs : List X) → length (reverse xs) ≡ length xs
 length-reverse xs = grind (arith, common_steps)

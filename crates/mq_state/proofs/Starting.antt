@@ -57,10 +57,10 @@ mirrors-new n owners inboxes is count none = record {
     held = λ p d. ap (λ xs. held_in xs p d) is ∙ held-free (n + 1) p d;
     waits = λ p. ap (λ xs. option_map (λ (w : OpenWait). w.place) (wait_in xs p)) is ∙ ap (option_map (λ (w : OpenWait). w.place)) (wait-free (n + 1) p);
     blocked = λ p w e. absurd (let none : None ≡ Some w = sym (ap (λ xs. wait_in xs p) is ∙ wait-free (n + 1) p) ∙ e in cc);
-    answers = λ p. ap (λ xs. answer_in xs p) is ∙ answer-free (n + 1) p
+    answers = λ p. ap (λ xs. answer_in xs p) is ∙ answer-free (n + 1) p;
   };
   existing = record { places = refl; lines = λ q x e. absurd (let none : None ≡ Some x = no-queue q x e in cc) };
-  notices = none
+  notices = none;
 }
 
 pub waits_count-new : (m : ℕ) → waits_count (replicate m free_owner) ≡ 0

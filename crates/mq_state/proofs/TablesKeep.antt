@@ -312,7 +312,7 @@ tables-keep past legal n owners after_owners queues after_queues inboxes after_i
     let prio = admitted_priority past reply in
     let on = entry-on past p call reply payload next in
     let noted_lines : OwnersMirror (rec p call reply payload ∷ past) (noted owners (length past) p call reply q) =
-      noted-keeps past owners m.lines legal (rec p call reply payload) q next (let c = m.owner_count in omega (arith, c)) (entry-queue past p call reply payload q prio on) in
+    noted-keeps past owners m.lines legal (rec p call reply payload) q next (let c = m.owner_count in omega (arith, c)) (entry-queue past p call reply payload q prio on) in
     let lines : OwnersMirror (rec p call reply payload ∷ past) after_owners = subst (OwnersMirror (rec p call reply payload ∷ past)) (sym by.owners_are) noted_lines in
     record {
       owner_count = count ∙ m.owner_count;
@@ -320,7 +320,7 @@ tables-keep past legal n owners after_owners queues after_queues inboxes after_i
       lines = lines;
       existing = subst (QueuesMirror (rec p call reply payload ∷ past)) (sym by.queues_are) (queues-by brought brings lines on);
       notices = λ k. by.inboxes_are k ∙ ap (noted_values p (registration_in queues q) reply k) (m.notices k)
-        ∙ notices-keep past legal p call reply payload next (registration_in queues q) (λ some. registration-read past queues m.existing q (notifies-alive past legal p call reply payload next some)) k
+          ∙ notices-keep past legal p call reply payload next (registration_in queues q) (λ some. registration-read past queues m.existing q (notifies-alive past legal p call reply payload next some)) k;
     }
   where
     queues-by : (brought : Option Slots) → BringsOrder call reply len capacity brought → OwnersMirror (rec p call reply payload ∷ past) after_owners → EntryOn past p call payload reply (entry_queue past p call payload) (admitted_priority past reply) →

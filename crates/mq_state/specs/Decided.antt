@@ -66,5 +66,5 @@ status_of past h = record {
   nonblock = h.nonblock;
   maxmsg = (attributes past h.queue).maxmsg;
   msgsize = (attributes past h.queue).msgsize;
-  curmsgs = pos (length (present past h.queue))
+  curmsgs = pos (length (present past h.queue));
 }

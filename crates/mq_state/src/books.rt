@@ -61,7 +61,8 @@ impl Books {
         ensures no_memory { result ≡ Reply.Refused Fault.NoMemory → self.new.records ≡ self.old.records }
         ensures processes { self.new.n ≡ self.old.n }
     {
-        self.tables.open(&mut self.journal, p, name.bytes(), flags, attr)
+        self.tables
+            .open(&mut self.journal, p, name.bytes(), flags, attr)
     }
 
     /// A close of descriptor d (`mq_close`). Replies `Done`, or refuses with `BadDescriptor`.

@@ -86,7 +86,13 @@ fn is_write_only(access: Access) -> bool
 }
 
 /// The reply to an open: whether its name is bound, the lowest free descriptor, and whether 64 queues exist.
-pub fn open(flags: OpenFlags, attr: Option<Attr>, bound: bool, free: Option<u32>, many: bool) -> Reply
+pub fn open(
+    flags: OpenFlags,
+    attr: Option<Attr>,
+    bound: bool,
+    free: Option<u32>,
+    many: bool,
+) -> Reply
     ensures { result ≡ decided_open flags attr bound free many }
 {
     if flags.create && flags.excl && bound {
@@ -151,7 +157,13 @@ pub fn send(
     accepted(full, wait, empty, registered)
 }
 
-fn found(nonblock: bool, found: Option<u64>, wait: Option<u64>, only: bool, registered: Option<u64>) -> Reply
+fn found(
+    nonblock: bool,
+    found: Option<u64>,
+    wait: Option<u64>,
+    only: bool,
+    registered: Option<u64>,
+) -> Reply
     ensures { result ≡ decided_found nonblock found wait only registered }
 {
     match found {
@@ -162,7 +174,11 @@ fn found(nonblock: bool, found: Option<u64>, wait: Option<u64>, only: bool, regi
             Reply::Waits
         }
         Some(place) => {
-            let notified = if wait.is_some() && only { registered } else { None };
+            let notified = if wait.is_some() && only {
+                registered
+            } else {
+                None
+            };
             Reply::Got {
                 place,
                 admitted: wait,

@@ -1,6 +1,5 @@
 //! The notices that each process has not yet taken.
 ghost use Rattle.std.specs.Prelude.{◌≡◌, ◌<◌, ◌≤◌, ◌++◌, ◌∷◌, [], length, IfOk, OnOk, OnErr, drop, slice_get, Some, None, ◌+◌, ◌-◌, ℕ, ◌==◌, if◌then◌else◌};
-
 ghost use Rattle.mq_state.specs.Inboxes.{notices_in, HasNoticeRoom};
 
 use std::alloc::{AllocError, Global};

@@ -11,9 +11,8 @@ ghost use Rattle.mq_state.specs.SlotOrder.{best_slot};
 use crate::order::{Order, Slot};
 use mq_core::entries::{Call, Entry, Registration, Reply};
 use mq_core::journals::Journal;
-use mq_core::owners;
 use mq_core::owners::Owner;
-use mq_core::registrations;
+use mq_core::{owners, registrations};
 use std::marker::Model;
 
 /// A queue that exists, named by the place of the open that created it.

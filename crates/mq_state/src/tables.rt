@@ -14,19 +14,15 @@ ghost use Rattle.mq_core.specs.Waits.{open_wait, answered_by};
 
 mod calls;
 
-use crate::buffers;
-use crate::decided;
-use crate::notices;
 use crate::notices::Inbox;
 use crate::order::Order;
-use crate::queues;
 use crate::queues::Queue;
+use crate::{buffers, decided, notices, queues};
 use mq_core::entries::{Attr, Call, Description, Entry, OpenFlags, Reply, Status};
 use mq_core::faults::Fault;
 use mq_core::journals::Journal;
-use mq_core::owners;
 use mq_core::owners::Owner;
-use mq_core::registrations;
+use mq_core::{owners, registrations};
 use std::alloc::{AllocError, Global};
 
 /// How many queues exist at most.
@@ -70,7 +66,14 @@ impl Tables {
     }
 
     // The reply to an open.
-    fn answer_open(&self, journal: &Journal, p: u32, name: &[u8], flags: OpenFlags, attr: Option<Attr>) -> Reply
+    fn answer_open(
+        &self,
+        journal: &Journal,
+        p: u32,
+        name: &[u8],
+        flags: OpenFlags,
+        attr: Option<Attr>,
+    ) -> Reply
         requires mirror { TablesMirror journal.now.records self.now.n self.now.owners.items self.now.queues.items self.now.inboxes.items }
         requires legal { Legal journal.now.records }
         ensures { result ≡ answer journal.now.records p (Call.MqOpen flags attr) name.now }
@@ -199,7 +202,16 @@ impl Tables {
         let full = decided::is_full(attributes, count);
         let wait = self.first_wait(journal, h.queue, false);
         let registered = self.registered_place(journal, h.queue);
-        decided::send(h.access, h.nonblock, prio, long, full, wait, count == 0, registered)
+        decided::send(
+            h.access,
+            h.nonblock,
+            prio,
+            long,
+            full,
+            wait,
+            count == 0,
+            registered,
+        )
     }
 
     // The reply to a send.

@@ -146,12 +146,7 @@ fn send(
     said(trial.books.send(p, d, bytes, prio))
 }
 
-fn receive(
-    trial: &mut Trial,
-    p: u32,
-    d: u32,
-    buf: &mut [u8],
-) -> Result<Option<Reply>, AllocError>
+fn receive(trial: &mut Trial, p: u32, d: u32, buf: &mut [u8]) -> Result<Option<Reply>, AllocError>
     requires process { (1 ≤ p) × (p ≤ 5) }
 {
     if !may_call(&trial.books, p) {
@@ -192,12 +187,7 @@ fn getattr(trial: &mut Trial, p: u32, d: u32) -> Result<Option<Reply>, AllocErro
     said(trial.books.getattr(p, d))
 }
 
-fn setattr(
-    trial: &mut Trial,
-    p: u32,
-    d: u32,
-    new: Status,
-) -> Result<Option<Reply>, AllocError>
+fn setattr(trial: &mut Trial, p: u32, d: u32, new: Status) -> Result<Option<Reply>, AllocError>
     requires process { (1 ≤ p) × (p ≤ 5) }
 {
     if !may_call(&trial.books, p) {
@@ -227,7 +217,10 @@ fn messages_are_handed_over_and_admitted_in_the_order_of_the_waits(
     assert_eq!(rt; open(&mut trial, 3, b"/q", OPEN, None)?, OPENED);
     assert_eq!(rt; receive(&mut trial, 1, 0, &mut buf)?, WAITS);
     assert_eq!(rt; trial.books.waiting(1), Some(8));
-    assert_eq!(rt; send(&mut trial, 2, 0, b"x", 3)?, Some(Reply::Handed { wait: 3 }));
+    assert_eq!(rt;
+        send(&mut trial, 2, 0, b"x", 3)?,
+        Some(Reply::Handed { wait: 3 })
+    );
     assert_eq!(rt; collect(&mut trial, 1, &mut buf), received(3));
     assert_eq!(rt; buf[0], b'x');
     assert_eq!(rt; send(&mut trial, 2, 0, b"a", 1)?, QUEUED);
@@ -248,7 +241,10 @@ fn messages_are_handed_over_and_admitted_in_the_order_of_the_waits(
     assert_eq!(rt; buf[0], b'c');
     let journal = trial.books.into_journal();
     assert_eq!(rt; journal.len(), 14);
-    assert_eq!(rt; journal.entry(12).map(|e| e.reply), Some(Reply::Collected { by: 10 }));
+    assert_eq!(rt;
+        journal.entry(12).map(|e| e.reply),
+        Some(Reply::Collected { by: 10 })
+    );
     Ok(())
 }
 
@@ -270,22 +266,34 @@ fn no_notice_is_given_while_a_receive_waits(rt: HostRuntime) -> Result<(), Fail>
     assert_eq!(rt; notify(&mut trial, 3, 0, Some(7))?, DONE);
     assert_eq!(rt; receive(&mut trial, 1, 0, &mut buf)?, WAITS);
     assert_eq!(rt; receive(&mut trial, 2, 0, &mut buf)?, WAITS);
-    assert_eq!(rt; send(&mut trial, 3, 0, b"a", 0)?, Some(Reply::Handed { wait: 4 }));
+    assert_eq!(rt;
+        send(&mut trial, 3, 0, b"a", 0)?,
+        Some(Reply::Handed { wait: 4 })
+    );
     assert!(rt; trial.books.answered(1));
     assert!(rt; !trial.books.answered(2));
     assert_eq!(rt; collect(&mut trial, 2, &mut buf), None);
-    assert_eq!(rt; send(&mut trial, 3, 0, b"b", 0)?, Some(Reply::Handed { wait: 5 }));
+    assert_eq!(rt;
+        send(&mut trial, 3, 0, b"b", 0)?,
+        Some(Reply::Handed { wait: 5 })
+    );
     assert_eq!(rt; collect(&mut trial, 2, &mut buf), received(0));
     assert_eq!(rt; buf[0], b'b');
     assert_eq!(rt; collect(&mut trial, 1, &mut buf), received(0));
     assert_eq!(rt; buf[0], b'a');
     assert_eq!(rt; next_notice(&mut trial, 3)?, Some(Reply::Notice(None)));
-    assert_eq!(rt; send(&mut trial, 3, 0, b"c", 0)?, Some(Reply::Queued { notified: Some(3) }));
+    assert_eq!(rt;
+        send(&mut trial, 3, 0, b"c", 0)?,
+        Some(Reply::Queued { notified: Some(3) })
+    );
     assert_eq!(rt; next_notice(&mut trial, 3)?, Some(Reply::Notice(Some(7))));
     assert_eq!(rt; next_notice(&mut trial, 3)?, Some(Reply::Notice(None)));
     let replies = [Reply::Collected { by: 7 }, Reply::Collected { by: 6 }];
     for (place, reply) in [8, 9].into_iter().zip(replies) {
-        assert_eq!(rt; trial.books.journal().entry(place).map(|e| e.reply), Some(reply));
+        assert_eq!(rt;
+            trial.books.journal().entry(place).map(|e| e.reply),
+            Some(reply)
+        );
     }
     Ok(())
 }
@@ -299,10 +307,16 @@ fn an_admission_to_an_emptied_queue_gives_a_notice(rt: HostRuntime) -> Result<()
     assert_eq!(rt; send(&mut trial, 2, 0, b"a", 1)?, QUEUED);
     assert_eq!(rt; notify(&mut trial, 1, 0, Some(9))?, DONE);
     assert_eq!(rt; send(&mut trial, 2, 0, b"b", 2)?, WAITS);
-    assert_eq!(rt; receive(&mut trial, 1, 0, &mut buf)?, got(2, Some(4), Some(3)));
+    assert_eq!(rt;
+        receive(&mut trial, 1, 0, &mut buf)?,
+        got(2, Some(4), Some(3))
+    );
     assert_eq!(rt; buf[0], b'a');
     assert_eq!(rt; collect(&mut trial, 2, &mut buf), Some(Collected::Sent));
-    assert_eq!(rt; trial.books.journal().entry(6).map(|e| e.reply), Some(Reply::Collected { by: 5 }));
+    assert_eq!(rt;
+        trial.books.journal().entry(6).map(|e| e.reply),
+        Some(Reply::Collected { by: 5 })
+    );
     assert_eq!(rt; next_notice(&mut trial, 1)?, Some(Reply::Notice(Some(9))));
     assert_eq!(rt; receive(&mut trial, 1, 0, &mut buf)?, got(4, None, None));
     assert_eq!(rt; buf[0], b'b');
@@ -322,16 +336,31 @@ fn at_most_64_queues_exist_and_an_open_one_exists_without_its_name(
             assert_eq!(rt; reply, Some(Reply::Opened { d, created: true }));
         }
     }
-    assert_eq!(rt; open(&mut trial, 1, b"/0", OPEN, None)?, refused(Fault::TooManyOpen));
-    assert_eq!(rt; open(&mut trial, 1, b"/z", CREATE, limits(1))?, refused(Fault::TooManyOpen));
-    assert_eq!(rt; open(&mut trial, 5, b"/x", CREATE, limits(1))?, refused(Fault::NoSpace));
+    assert_eq!(rt;
+        open(&mut trial, 1, b"/0", OPEN, None)?,
+        refused(Fault::TooManyOpen)
+    );
+    assert_eq!(rt;
+        open(&mut trial, 1, b"/z", CREATE, limits(1))?,
+        refused(Fault::TooManyOpen)
+    );
+    assert_eq!(rt;
+        open(&mut trial, 5, b"/x", CREATE, limits(1))?,
+        refused(Fault::NoSpace)
+    );
     assert_eq!(rt; unlink(&mut trial, 5, b"/0")?, DONE);
-    assert_eq!(rt; open(&mut trial, 5, b"/x", CREATE, limits(1))?, refused(Fault::NoSpace));
+    assert_eq!(rt;
+        open(&mut trial, 5, b"/x", CREATE, limits(1))?,
+        refused(Fault::NoSpace)
+    );
     assert_eq!(rt; close(&mut trial, 1, 0)?, DONE);
     assert_eq!(rt; trial.books.lowest_open(1), Some(1));
     assert_eq!(rt; open(&mut trial, 5, b"/x", CREATE, limits(1))?, CREATED);
     assert_eq!(rt; close(&mut trial, 1, 1)?, DONE);
-    assert_eq!(rt; open(&mut trial, 5, b"/y", CREATE, limits(1))?, refused(Fault::NoSpace));
+    assert_eq!(rt;
+        open(&mut trial, 5, b"/y", CREATE, limits(1))?,
+        refused(Fault::NoSpace)
+    );
     Ok(())
 }
 
@@ -341,10 +370,19 @@ fn numbers_out_of_all_bounds_are_refused(rt: HostRuntime) -> Result<(), Fail> {
     let mut buf = [0u8; 8];
     let far = u32::MAX;
     assert_eq!(rt; open(&mut trial, 1, b"/q", CREATE, limits(1))?, CREATED);
-    assert_eq!(rt; send(&mut trial, 1, far, b"a", 0)?, refused(Fault::BadDescriptor));
+    assert_eq!(rt;
+        send(&mut trial, 1, far, b"a", 0)?,
+        refused(Fault::BadDescriptor)
+    );
     assert_eq!(rt; send(&mut trial, 1, 0, b"a", far)?, refused(Fault::Invalid));
-    assert_eq!(rt; receive(&mut trial, 1, 0, &mut [])?, refused(Fault::MessageSize));
-    assert_eq!(rt; receive(&mut trial, 1, far, &mut buf)?, refused(Fault::BadDescriptor));
+    assert_eq!(rt;
+        receive(&mut trial, 1, 0, &mut [])?,
+        refused(Fault::MessageSize)
+    );
+    assert_eq!(rt;
+        receive(&mut trial, 1, far, &mut buf)?,
+        refused(Fault::BadDescriptor)
+    );
     assert_eq!(rt; close(&mut trial, 1, far)?, refused(Fault::BadDescriptor));
     assert_eq!(rt; trial.books.lowest_open(2), None);
     assert_eq!(rt; trial.books.waiting(far), None);
@@ -373,7 +411,10 @@ fn the_flag_of_a_descriptor_alone_can_be_set(rt: HostRuntime) -> Result<(), Fail
     };
     assert_eq!(rt; open(&mut trial, 1, b"/q", CREATE, limits(2))?, CREATED);
     assert_eq!(rt; getattr(&mut trial, 1, 0)?, Some(Reply::Attrs(before)));
-    assert_eq!(rt; setattr(&mut trial, 1, 0, wanted)?, Some(Reply::Attrs(before)));
+    assert_eq!(rt;
+        setattr(&mut trial, 1, 0, wanted)?,
+        Some(Reply::Attrs(before))
+    );
     assert_eq!(rt; getattr(&mut trial, 1, 0)?, Some(Reply::Attrs(behind)));
     assert_eq!(rt; receive(&mut trial, 1, 0, &mut buf)?, refused(Fault::Again));
     Ok(())

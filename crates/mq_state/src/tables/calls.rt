@@ -10,12 +10,9 @@ ghost use Rattle.mq_core.specs.declared.entries.Registration.{Registration};
 ghost use Rattle.mq_state.specs.Tables.{entry_queue, HasRoomToNotify, BringsOrder};
 ghost use Rattle.mq_state.specs.Kept.{IsKeptBy, HasEntryRoom};
 
-use crate::buffers;
-use crate::decided;
-use crate::notices;
 use crate::order::Order;
-use crate::queues;
 use crate::tables::Tables;
+use crate::{buffers, decided, notices, queues};
 use mq_core::entries::{Attr, Call, Entry, OpenFlags, Reply};
 use mq_core::faults::Fault;
 use mq_core::journals::Journal;
@@ -68,7 +65,15 @@ impl Tables {
     }
 
     // Appends the entry of a call that was given these bytes, with its answer.
-    fn record(&mut self, journal: &mut Journal, p: u32, call: Call, reply: Reply, given: &[u8], fresh: Option<Order>)
+    fn record(
+        &mut self,
+        journal: &mut Journal,
+        p: u32,
+        call: Call,
+        reply: Reply,
+        given: &[u8],
+        fresh: Option<Order>,
+    )
         requires kept { IsKeptBy journal.old self.old }
         requires process { (1 ≤ p) × (p ≤ self.old.n) }
         requires turn { IsTrue (may_call journal.old.records p call) }
@@ -82,7 +87,11 @@ impl Tables {
         ensures kept { IsKeptBy journal.new self.new }
         ensures n { self.new.n ≡ self.old.n }
     {
-        let entry = Entry { process: p, call, reply };
+        let entry = Entry {
+            process: p,
+            call,
+            reply,
+        };
         self.append(journal, entry, payload_of(call, reply, given), fresh);
     }
 
@@ -105,7 +114,13 @@ impl Tables {
     }
 
     // The order of the queue that an open creates, if it creates one, and a place for the queue.
-    fn fresh_order(&mut self, journal: &Journal, flags: OpenFlags, attr: Option<Attr>, reply: Reply) -> Result<Option<Order>, AllocError>
+    fn fresh_order(
+        &mut self,
+        journal: &Journal,
+        flags: OpenFlags,
+        attr: Option<Attr>,
+        reply: Reply,
+    ) -> Result<Option<Order>, AllocError>
         requires kept { IsKeptBy journal.now self.old }
         ensures kept { IsKeptBy journal.now self.new }
         ensures n { self.new.n ≡ self.old.n }
@@ -113,8 +128,14 @@ impl Tables {
         ensures brings { IfOk result (BringsOrder (Call.MqOpen flags attr) reply (vec_len self.new.queues) (vec_capacity self.new.queues)) }
     {
         match reply {
-            Reply::Opened { d: _, created: true } => {
-                let room = decided::slots_for(decided::attributes_given(Call::MqOpen { flags, attr }));
+            Reply::Opened {
+                d: _,
+                created: true,
+            } => {
+                let room = decided::slots_for(decided::attributes_given(Call::MqOpen {
+                    flags,
+                    attr,
+                }));
                 self.queues.reserve(1)?;
                 let order = Order::new(self.alloc, room)?;
                 Ok(Some(order))
@@ -124,7 +145,14 @@ impl Tables {
     }
 
     /// An open of a name (`mq_open`).
-    pub fn open(&mut self, journal: &mut Journal, p: u32, name: &[u8], flags: OpenFlags, attr: Option<Attr>) -> Reply
+    pub fn open(
+        &mut self,
+        journal: &mut Journal,
+        p: u32,
+        name: &[u8],
+        flags: OpenFlags,
+        attr: Option<Attr>,
+    ) -> Reply
         requires kept { IsKeptBy journal.old self.old }
         requires process { (1 ≤ p) × (p ≤ self.old.n) }
         requires no_wait { open_wait journal.old.records p ≡ None }
@@ -196,7 +224,14 @@ impl Tables {
             return Reply::Refused(Fault::NoMemory);
         }
         let reply = self.answer_attributes(journal, p, d);
-        self.record(journal, p, Call::MqSetattr { d, nonblock }, reply, &[], None);
+        self.record(
+            journal,
+            p,
+            Call::MqSetattr { d, nonblock },
+            reply,
+            &[],
+            None,
+        );
         reply
     }
 
@@ -289,7 +324,14 @@ impl Tables {
         }
         let len = bytes.len() as u64;
         let reply = self.answer_send(journal, p, d, prio, len);
-        self.record(journal, p, Call::MqSend { d, prio, len }, reply, bytes, None);
+        self.record(
+            journal,
+            p,
+            Call::MqSend { d, prio, len },
+            reply,
+            bytes,
+            None,
+        );
         reply
     }
 
@@ -351,6 +393,13 @@ impl Tables {
         ensures kept { IsKeptBy journal.new self.new }
         ensures n { self.new.n ≡ self.old.n }
     {
-        self.record(journal, p, Call::Collect, Reply::Collected { by }, &[], None);
+        self.record(
+            journal,
+            p,
+            Call::Collect,
+            Reply::Collected { by },
+            &[],
+            None,
+        );
     }
 }

@@ -26,7 +26,7 @@ note-requires-clause-room c =
     let e = c.args.entry in
     let q = entry_queue past e.process e.call c.args.payload.now in
     let room : HasRoomIn c.args.self.now.queues.items q (length past) e =
-      line-room past c.args.self.now.queues.items c.requires.kept.mirror.existing e.process e.call e.reply c.args.payload.now q (admitted_priority past e.reply) (entry-on past e.process e.call e.reply c.args.payload.now c.requires.next) (queued-free past e.process e.call e.reply c.args.payload.now c.requires.next) in
+    line-room past c.args.self.now.queues.items c.requires.kept.mirror.existing e.process e.call e.reply c.args.payload.now q (admitted_priority past e.reply) (entry-on past e.process e.call e.reply c.args.payload.now c.requires.next) (queued-free past e.process e.call e.reply c.args.payload.now c.requires.next) in
     subst (λ k. HasRoomIn c.args.self.now.queues.items k (length past) e) (sym c.entry_queue-q.ensures) room
 
 pub note-requires-clause-registered : goal.note-requires-clause-registered
@@ -55,20 +55,20 @@ returns-clause-kept c =
     let waits : waits_count after.owners.items ≡ waits_count (noted before.owners.items (length past) e.process e.call e.reply q) = ap waits_count owners in
     let pushed = c.push.ensures.entry_room in
     let mirror : TablesMirror (r ∷ past) before.n after.owners.items after.queues.items after.inboxes.items =
-      tables-keep past c.requires.kept.legal before.n before.owners.items after.owners.items before.queues.items after.queues.items before.inboxes.items after.inboxes.items c.requires.kept.mirror
-        e.process e.call e.reply payload (vec_len before.queues) (vec_capacity before.queues) c.args.fresh c.requires.next c.requires.at_most c.requires.brings
-        (line-room past before.queues.items c.requires.kept.mirror.existing e.process e.call e.reply payload q (admitted_priority past e.reply) (entry-on past e.process e.call e.reply payload c.requires.next) (queued-free past e.process e.call e.reply payload c.requires.next))
-        (record {
-          owners_are = owners;
-          queues_are = c.note.ensures.queues ∙ ap (λ k. with_fresh c.args.fresh (length past) (noted_queues after.owners.items (length past) e k (admitted_priority past e.reply) before.queues.items)) c.entry_queue-q.ensures;
-          inbox_count = c.note.ensures.count;
-          inboxes_are = λ k. c.note.ensures.inboxes k ∙ ap (λ j. noted_values e.process (registration_in before.queues.items j) e.reply k (notices_in before.inboxes.items k)) c.entry_queue-q.ensures
-        })
-        (ap length owners ∙ length-noted before.owners.items (length past) e.process e.call e.reply q) in
+    tables-keep past c.requires.kept.legal before.n before.owners.items after.owners.items before.queues.items after.queues.items before.inboxes.items after.inboxes.items c.requires.kept.mirror
+    e.process e.call e.reply payload (vec_len before.queues) (vec_capacity before.queues) c.args.fresh c.requires.next c.requires.at_most c.requires.brings
+    (line-room past before.queues.items c.requires.kept.mirror.existing e.process e.call e.reply payload q (admitted_priority past e.reply) (entry-on past e.process e.call e.reply payload c.requires.next) (queued-free past e.process e.call e.reply payload c.requires.next))
+    (record {
+      owners_are = owners;
+      queues_are = c.note.ensures.queues ∙ ap (λ k. with_fresh c.args.fresh (length past) (noted_queues after.owners.items (length past) e k (admitted_priority past e.reply) before.queues.items)) c.entry_queue-q.ensures;
+      inbox_count = c.note.ensures.count;
+      inboxes_are = λ k. c.note.ensures.inboxes k ∙ ap (λ j. noted_values e.process (registration_in before.queues.items j) e.reply k (notices_in before.inboxes.items k)) c.entry_queue-q.ensures;
+    })
+    (ap length owners ∙ length-noted before.owners.items (length past) e.process e.call e.reply q) in
     record {
       legal = subst Legal (sym c.push.ensures.records) (c.requires.kept.legal, c.requires.next);
       few = subst (λ (n : ℕ). n ≤ 32) (sym c.note.ensures.n) c.requires.kept.few;
       processes = subst (λ (xs : Past). AreAtMost after.n xs) (sym c.push.ensures.records) (subst (λ (n : ℕ). AreAtMost n (r ∷ past)) (sym c.note.ensures.n) (All-cons (λ (x : Record). x.entry.process ≤ before.n) r past c.requires.at_most c.requires.kept.processes));
       mirror = subst (λ (xs : Past). TablesMirror xs after.n after.owners.items after.queues.items after.inboxes.items) (sym c.push.ensures.records) (subst (λ (n : ℕ). TablesMirror (r ∷ past) n after.owners.items after.queues.items after.inboxes.items) (sym c.note.ensures.n) mirror);
-      room = omega (arith, waits, room, pushed)
+      room = omega (arith, waits, room, pushed);
     }
