@@ -419,3 +419,38 @@ fn the_flag_of_a_descriptor_alone_can_be_set(rt: HostRuntime) -> Result<(), Fail
     assert_eq!(rt; receive(&mut trial, 1, 0, &mut buf)?, refused(Fault::Again));
     Ok(())
 }
+
+#[test]
+fn the_oldest_notice_comes_first_and_a_queue_with_messages_gives_none(
+    rt: HostRuntime,
+) -> Result<(), Fail> {
+    let mut trial = make_trial(rt.alloc())?;
+    let second = Some(Reply::Opened {
+        d: 1,
+        created: true,
+    });
+    let second_again = Some(Reply::Opened {
+        d: 1,
+        created: false,
+    });
+    assert_eq!(rt; open(&mut trial, 1, b"/a", CREATE, limits(2))?, CREATED);
+    assert_eq!(rt; open(&mut trial, 1, b"/b", CREATE, limits(2))?, second);
+    assert_eq!(rt; notify(&mut trial, 1, 0, Some(1))?, DONE);
+    assert_eq!(rt; notify(&mut trial, 1, 1, Some(2))?, DONE);
+    assert_eq!(rt; open(&mut trial, 2, b"/a", OPEN, None)?, OPENED);
+    assert_eq!(rt; open(&mut trial, 2, b"/b", OPEN, None)?, second_again);
+    assert_eq!(rt;
+        send(&mut trial, 2, 1, b"x", 0)?,
+        Some(Reply::Queued { notified: Some(3) })
+    );
+    assert_eq!(rt;
+        send(&mut trial, 2, 0, b"y", 0)?,
+        Some(Reply::Queued { notified: Some(2) })
+    );
+    assert_eq!(rt; next_notice(&mut trial, 1)?, Some(Reply::Notice(Some(2))));
+    assert_eq!(rt; next_notice(&mut trial, 1)?, Some(Reply::Notice(Some(1))));
+    assert_eq!(rt; notify(&mut trial, 1, 0, Some(5))?, DONE);
+    assert_eq!(rt; send(&mut trial, 2, 0, b"z", 0)?, QUEUED);
+    assert_eq!(rt; notify(&mut trial, 2, 0, Some(6))?, refused(Fault::Busy));
+    Ok(())
+}
