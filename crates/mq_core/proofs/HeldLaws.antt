@@ -1,5 +1,7 @@
 -- What a legal journal's sends, receives and collects held, what its receives got, and what others leave.
-use Rattle.std.proofs.Common.{◌≡◌, ℕ, suc, ◌<◌, ◌==◌, Bool, true, false, not, List, [], ◌∷◌, ◌++◌, length, Option, Some, None, is_some, if◌then◌else◌, refl, sym, ◌∙◌, ap, arith}
+use Rattle.std.proofs.Common.{◌≡◌, ◌≢◌, ℕ, suc, ◌<◌, ◌==◌, Bool, true, false, not, List, [], ◌∷◌, ◌++◌, length, Option, Some, None, is_some, if◌then◌else◌, refl, sym, ◌∙◌, ap, arith, ne_eqb}
+use Rattle.std.specs.List.{All}
+use Rattle.std.proofs.lemmas.List.Elements.{All-head, All-tail}
 use Rattle.std.proofs.lemmas.Bool.{and_parts, not-true}
 use Rattle.mq_core.specs.Record.{Record, Past, first}
 use Rattle.mq_core.specs.Descriptors.{held, called_queue}
@@ -158,3 +160,13 @@ others-leave past p = record { wait = wait; answered = answered }
     answered [] e h = h
     answered (r ∷ more) e h = let x = other r more e in
         split (names_wait r.entry.reply (open_wait (more ++ past) p)) (λ t. rw (x.0, t) refl) (λ f. rw (x.0, f) (answered more x.1 h))
+
+-- the same, of records that are known by their processes one by one
+pub answered-stays : (p : ℕ) (more before : List Record) → All (λ r. r.entry.process ≢ p) more → is_answered before p ≡ true → is_answered (more ++ before) p ≡ true
+answered-stays p more before all h = (others-leave before p).answered more (of-others more all) h
+  where
+    of-others : (more : List Record) → All (λ r. r.entry.process ≢ p) more → are_of_others p more ≡ true
+    of-others [] all = refl
+    of-others (r ∷ more) all =
+        let other = All-head (λ (r : Record). r.entry.process ≢ p) r more all in
+        rw (ne_eqb r.entry.process p other, of-others more (All-tail (λ (r : Record). r.entry.process ≢ p) r more all)) refl

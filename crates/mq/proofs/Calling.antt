@@ -1,0 +1,126 @@
+-- What a call in one stay leaves.
+use Rattle.std.proofs.Common.{◌≡◌, ◌≢◌, ℕ, ◌==◌, Bool, true, false, List, [], ◌∷◌, ◌++◌, length, Option, Some, None, is_some, IsSome, refl, ap, sym, ◌∙◌, eq-eqb}
+use Rattle.std.specs.Option.{option_map, option_and_then, unwrap_or}
+use Rattle.mq_core.specs.Record.{Record, Past, record_at}
+use Rattle.mq_core.specs.Waits.{open_wait, is_wait}
+use Rattle.mq_core.specs.Answer.{Legal}
+use Rattle.mq_core.proofs.Places.{split}
+use Rattle.mq_core.specs.declared.entries.Call.{Call}
+use Rattle.mq_core.specs.declared.entries.Call.TheVariants.{Collect}
+use Rattle.mq_core.specs.declared.entries.Reply.{Reply}
+use Rattle.mq_core.specs.declared.entries.Reply.TheVariants.{Opened, Queued, Handed, Waits, Got, Collected, Attrs, Notice, Done, Refused}
+use Rattle.mq_state.specs.Kept.{Kept}
+use Rattle.mq_state.specs.Buffers.{waiting_call, waiting_room, room_of}
+use Rattle.fast_mutex.specs.Items.{LockId, Ticket, Grows, GrowsBy, items_of}
+use Rattle.mq.specs.Calls.{owner, recorded, made, is_no_memory, Calls, Came, IsFree, WaitsIn, wait_begun}
+use Rattle.mq.proofs.Others.{wait-grown, call-grown, room-grown}
+use Rattle.mq.proofs.Growing.{grows-on, own-made, all-made, own-recorded}
+
+module _ {old stay : Ticket Record} {system : LockId} {books : Kept} {p : ℕ} where
+  same-number : Came old system stay books p → stay.number ≡ p
+  same-number c = c.number ∙ sym c.process
+
+  -- who came in finds the open wait that it left
+  pub came-wait : Came old system stay books p → open_wait books.records p ≡ open_wait old.left old.number
+  came-wait c = rw (c.process) (wait-grown c.grows)
+
+  pub came-room : Came old system stay books p → waiting_room books.records p ≡ waiting_room old.left old.number
+  came-room c = rw (c.process) (room-grown c.grows)
+
+  pub came-call : Came old system stay books p → waiting_call books.records p ≡ waiting_call old.left old.number
+  came-call c = rw (c.process) (call-grown c.grows)
+
+  pub came-free : Came old system stay books p → IsFree old → open_wait books.records p ≡ None
+  came-free c free = came-wait c ∙ free
+
+  -- what a stay adds is its process's own
+  pub came-grows : {records : Past} (call : Call) (given : List ℕ) (reply : Reply) → Came old system stay books p → records ≡ made p call given reply ++ books.records → GrowsBy owner stay.number stay.left records
+  came-grows {records} call given reply c is = record {
+    behind = made p call given reply;
+    is = rw c.found is;
+    mine = rw (same-number c) (all-made p call given reply);
+  }
+
+  -- what a stay leaves that adds these records
+  pub came-calls : {records : Past} (own : ℕ → Past) → Came old system stay books p → old.lock ≡ system → records ≡ own p ++ books.records → items_of owner p (own p) ≡ own p → Legal records
+      → Calls old (record { lock = system; number = stay.number; left = records; told = false }) (own old.number)
+  came-calls {records} own c lock is mine legal = record {
+    lock = sym lock;
+    number = c.number;
+    legal = legal;
+    grows =
+      let added : Grows owner old.number books.records records (own old.number) = record { behind = own p; is = is; mine = rw (sym c.process) mine } in
+      grown added;
+  }
+    where
+      empty : (xs : Past) → xs ++ [] ≡ xs
+      empty [] = refl
+      empty (x ∷ xs) = ap (λ (l : Past). x ∷ l) (empty xs)
+
+      grown : Grows owner old.number books.records records (own old.number) → Grows owner old.number old.left records (own old.number)
+      grown added = rw (sym (empty (own old.number))) (grows-on c.grows added)
+
+  pub came-made : {records : Past} (call : Call) (given : List ℕ) (reply : Reply) → Came old system stay books p → old.lock ≡ system → records ≡ made p call given reply ++ books.records → Legal records
+      → Calls old (record { lock = system; number = stay.number; left = records; told = false }) (made old.number call given reply)
+  came-made call given reply c lock is legal = came-calls (λ q. made q call given reply) c lock is (own-made p call given reply) legal
+
+  -- a call that adds nothing of its process leaves the wait as it was
+  pub still-free : {records : Past} (call : Call) (given : List ℕ) (reply : Reply) → Came old system stay books p → IsFree old → records ≡ made p call given reply ++ books.records → is_wait reply ≡ false → open_wait records stay.number ≡ None
+  still-free call given reply c free is answered = rw (is, same-number c) (by (is_no_memory reply) refl)
+    where
+      by : (b : Bool) → is_no_memory reply ≡ b → open_wait (made p call given reply ++ books.records) p ≡ None
+      by true e = rw e (came-free c free)
+      by false e = rw (e, eq-eqb p p refl, answered) refl
+
+  -- where it waits, it waits in this call
+  pub now-waits : {records : Past} (call : Call) (given : List ℕ) → Came old system stay books p → records ≡ made p call given Waits ++ books.records
+      → WaitsIn (record { lock = system; number = stay.number; left = records; told = false }) call
+  now-waits call given c is =
+      let wait : open_wait (recorded p call given Waits ∷ books.records) p ≡ Some (length books.records) = rw (eq-eqb p p refl) refl in
+      let called : waiting_call (recorded p call given Waits ∷ books.records) p ≡ call = rw (wait, eq-eqb (length books.records) (length books.records) refl) refl in
+      record {
+        call = rw (is, same-number c) called;
+        room = rw (is, same-number c) (ap (λ (k : Call). option_map (λ (w : ℕ). room_of k) (open_wait (recorded p call given Waits ∷ books.records) p)) called ∙ ap (λ (o : Option ℕ). option_map (λ (w : ℕ). room_of call) o) wait);
+      }
+
+is-waits : (reply : Reply) → is_wait reply ≡ true → reply ≡ Waits
+is-waits Waits e = refl
+is-waits (Opened d c) e = absurd (cc)
+is-waits (Queued n) e = absurd (cc)
+is-waits (Handed w) e = absurd (cc)
+is-waits (Got m a n) e = absurd (cc)
+is-waits (Collected by) e = absurd (cc)
+is-waits (Attrs s) e = absurd (cc)
+is-waits (Notice v) e = absurd (cc)
+is-waits Done e = absurd (cc)
+is-waits (Refused f) e = absurd (cc)
+
+not-begun : (reply : Reply) (room : ℕ) → is_wait reply ≡ false → wait_begun reply room ≡ None
+not-begun Waits room e = absurd (cc)
+not-begun (Opened d c) room e = refl
+not-begun (Queued n) room e = refl
+not-begun (Handed w) room e = refl
+not-begun (Got m a n) room e = refl
+not-begun (Collected by) room e = refl
+not-begun (Attrs s) room e = refl
+not-begun (Notice v) room e = refl
+not-begun Done room e = refl
+not-begun (Refused f) room e = refl
+
+pub free-room : (past : Past) (p : ℕ) → open_wait past p ≡ None → waiting_room past p ≡ None
+free-room past p free = ap (λ (o : Option ℕ). option_map (λ (w : ℕ). room_of (waiting_call past p)) o) free
+
+module _ {old stay : Ticket Record} {system : LockId} {books : Kept} {p : ℕ} where
+  -- how long a buffer the process needs for its wait
+  pub room-begun : {records : Past} (call : Call) (given : List ℕ) (reply : Reply) → Came old system stay books p → IsFree old → records ≡ made p call given reply ++ books.records
+      → wait_begun reply (room_of call) ≡ waiting_room records stay.number
+  room-begun {records} call given reply c free is = split (is_wait reply)
+      (λ yes. let same = is-waits reply yes in
+        let waits = now-waits call given c (rw same at is) in
+        rw same (sym waits.room))
+      (λ other. not-begun reply (room_of call) other ∙ sym (free-room records stay.number (still-free call given reply c free is other)))
+
+  -- a call that does not wait leaves it as it was
+  pub room-kept : {records : Past} {waits : Option ℕ} (call : Call) (given : List ℕ) (reply : Reply) → Came old system stay books p → IsFree old → records ≡ made p call given reply ++ books.records → is_wait reply ≡ false
+      → waits ≡ waiting_room old.left old.number → waits ≡ waiting_room records stay.number
+  room-kept {records} call given reply c free is answered kept = kept ∙ free-room old.left old.number free ∙ sym (free-room records stay.number (still-free call given reply c free is answered))

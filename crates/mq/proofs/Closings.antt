@@ -1,0 +1,90 @@
+-- Closing the lowest descriptor again and again.
+use Rattle.std.proofs.Common.{◌≡◌, ◌≢◌, ℕ, zero, suc, ◌+◌, ◌<◌, ◌≤◌, ◌==◌, Bool, true, false, List, [], ◌∷◌, ◌++◌, map, Option, Some, None, is_some, refl, ap, sym, ◌∙◌, arith, eqb-true, eq-eqb}
+use Rattle.std.specs.List.{find}
+use Rattle.std.proofs.lemmas.Bool.{eqb-false}
+use Rattle.mq_core.specs.Record.{Record, Past}
+use Rattle.mq_core.specs.Descriptors.{held, lowest_held, numbers_from, descriptor_numbers}
+use Rattle.mq_core.specs.Waits.{open_wait}
+use Rattle.mq_core.specs.Answer.{answer, Appends}
+use Rattle.mq_core.proofs.Places.{split}
+use Rattle.mq_core.specs.declared.entries.Call.TheVariants.{MqClose}
+use Rattle.mq_core.specs.declared.entries.Reply.{Reply}
+use Rattle.mq_core.specs.declared.entries.Reply.TheVariants.{Done, Refused}
+use Rattle.mq_core.specs.declared.faults.Fault.TheVariants.{NoMemory, BadDescriptor}
+use Rattle.fast_mutex.specs.Items.{items_of}
+use Rattle.mq.specs.Calls.{owner, recorded, closes, AreLowest, Closing}
+
+-- a process holds no descriptor below d
+abbrev pub IsFrom : Past → ℕ → ℕ → Type 0
+IsFrom past p d = (e : ℕ) → lowest_held past p ≡ Some e → d ≤ e
+
+find-passes : (t : ℕ → Bool) (low n e : ℕ) → find t (numbers_from low n) ≡ Some e → (t e ≡ true) × (low ≤ e) × (e < low + n)
+find-passes t low zero e is = absurd (cc)
+find-passes t low (suc n) e is = split (t low)
+    (λ yes. let same : Some low ≡ Some e = rw yes at is in let here : low ≡ e = cc in (rw here at yes, omega arith, omega arith))
+    (λ no. let later : find t (numbers_from (low + 1) n) ≡ Some e = rw no at is in let x = find-passes t (low + 1) n e later in let above = x.1 in let below = x.2 in (x.0, omega (arith, above), omega (arith, below)))
+
+find-first : (t : ℕ → Bool) (low n d e : ℕ) → find t (numbers_from low n) ≡ Some d → t e ≡ true → low ≤ e → d ≤ e
+find-first t low zero d e is passes le = absurd (cc)
+find-first t low (suc n) d e is passes le = split (t low)
+    (λ yes. let same : Some low ≡ Some d = rw yes at is in let here : low ≡ d = cc in omega arith)
+    (λ no. let later : find t (numbers_from (low + 1) n) ≡ Some d = rw no at is in
+    split (low == e)
+    (λ here. let same : low ≡ e = eqb-true _ _ here in let clash : t low ≡ true = rw same passes in absurd (let bad : true ≡ false = sym clash ∙ no in cc))
+    (λ other. let ne : low ≡ e → ⊥ = eqb-false _ _ other in find-first t (low + 1) n d e later passes (omega (arith, le))))
+
+pub lowest-held : (past : Past) (p d : ℕ) → lowest_held past p ≡ Some d → (is_some (held past p d) ≡ true) × (d < 16)
+unfolding descriptor_numbers
+lowest-held past p d is = let x = find-passes (λ d. is_some (held past p d)) 0 16 d is in (x.0, x.2)
+
+lowest-first : (past : Past) (p d e : ℕ) → lowest_held past p ≡ Some d → is_some (held past p e) ≡ true → d ≤ e
+unfolding descriptor_numbers
+lowest-first past p d e is some = find-first (λ d. is_some (held past p d)) 0 16 d e is some (omega arith)
+
+-- none is lower than 0
+pub from-start : (past : Past) (p : ℕ) → IsFrom past p 0
+from-start past p e is = omega arith
+
+-- d is not the lowest
+pub from-next : (past : Past) (p d : ℕ) → IsFrom past p d → lowest_held past p ≢ Some d → IsFrom past p (d + 1)
+from-next past p d from other e is = let le = from e is in split (d == e)
+    (λ here. let same : d ≡ e = eqb-true _ _ here in absurd (other (rw same is)))
+    (λ differ. let ne : d ≡ e → ⊥ = eqb-false _ _ differ in omega (arith, le))
+
+-- d was the lowest, and is closed
+pub from-closed : (past : Past) (p d : ℕ) → lowest_held past p ≡ Some d → IsFrom (recorded p (MqClose d) [] Done ∷ past) p (d + 1)
+from-closed past p d was e is =
+    let x = lowest-held (recorded p (MqClose d) [] Done ∷ past) p e is in
+    split (d == e)
+    (λ here. let gone : held (recorded p (MqClose d) [] Done ∷ past) p e ≡ None = rw (eq-eqb p p refl, here) refl in
+    absurd (let bad : false ≡ true = rw gone at (x.0) in cc))
+    (λ differ. let same : held (recorded p (MqClose d) [] Done ∷ past) p e ≡ held past p e = rw (eq-eqb p p refl, differ) refl in
+    let still : is_some (held past p e) ≡ true = rw same at (x.0) in
+    let le = lowest-first past p d e was still in
+    let ne : d ≡ e → ⊥ = eqb-false _ _ differ in omega (arith, le))
+
+-- none of the 16 is held
+pub from-end : (past : Past) (p : ℕ) → IsFrom past p 16 → lowest_held past p ≡ None
+from-end past p from = by (lowest_held past p) refl
+  where
+    by : (o : Option ℕ) → lowest_held past p ≡ o → lowest_held past p ≡ None
+    by None is = is
+    by (Some d) is = let le = from d is in let lt = (lowest-held past p d is).1 in absurd (omega (arith, le, lt))
+
+-- the close of a held descriptor is done
+pub close-done : (past new : Past) (p d : ℕ) (reply : Reply) → lowest_held past p ≡ Some d → Appends past new p (MqClose d) [] reply → reply ≡ Done
+close-done past new p d reply lowest appends = let some = (lowest-held past p d lowest).0 in appends.answers ∙ rw some refl
+
+pub closing-more : {found now after : Past} {p d : ℕ} → Closing found now p → lowest_held now p ≡ Some d → after ≡ recorded p (MqClose d) [] Done ∷ now → Closing found after p
+closing-more {found} {now} {after} {p} {d} c lowest is = record {
+  ds = d ∷ c.ds;
+  is = is ∙ ap (λ (l : Past). recorded p (MqClose d) [] Done ∷ l) c.is;
+  lowest = (c.lowest, rw (sym c.is) lowest);
+}
+
+pub closed-free : (past : Past) (p d : ℕ) → open_wait (recorded p (MqClose d) [] Done ∷ past) p ≡ None
+closed-free past p d = rw (eq-eqb p p refl) refl
+
+pub own-closes : (p : ℕ) (ds : List ℕ) → items_of owner p (closes p ds) ≡ closes p ds
+own-closes p [] = refl
+own-closes p (d ∷ ds) = rw (eq-eqb p p refl, own-closes p ds) refl

@@ -1,0 +1,41 @@
+-- Journals that go on.
+use Rattle.std.proofs.Common.{◌≡◌, ◌≢◌, ℕ, ◌==◌, Bool, true, false, List, [], ◌∷◌, ◌++◌, map, length, Option, Some, None, is_some, refl, ap, sym, ◌∙◌, arith, append_assoc, eq-eqb}
+use Rattle.std.specs.List.{All, filter}
+use Rattle.std.proofs.lemmas.List.Elements.{filter-append, All-nil, All-cons}
+use Rattle.mq_core.specs.Record.{Record, Past}
+use Rattle.mq_core.specs.Waits.{open_wait, is_wait}
+use Rattle.mq_core.specs.Answer.{Legal}
+use Rattle.mq_core.proofs.Places.{split}
+use Rattle.mq_core.specs.declared.entries.Call.{Call}
+use Rattle.mq_core.specs.declared.entries.Reply.{Reply}
+use Rattle.mq_core.specs.declared.entries.Reply.TheVariants.{Waits}
+use Rattle.mq_state.specs.Kept.{Kept}
+use Rattle.fast_mutex.specs.Items.{LockId, Ticket, Grows, GrowsBy, items_of}
+use Rattle.mq.specs.Calls.{owner, recorded, made, is_no_memory, Calls, Came, ticket_of}
+use Rattle.mq.proofs.Others.{wait-grown}
+
+-- one stay behind another
+pub grows-on : {A : Type 0} {own : A → ℕ} {p : ℕ} {xs ys zs first second : List A} → Grows own p xs ys first → Grows own p ys zs second → Grows own p xs zs (second ++ first)
+grows-on {A} {own} {p} {xs} {ys} {zs} {first} {second} g h = record {
+  behind = h.behind ++ g.behind;
+  is = h.is ∙ (ap (λ (l : List A). h.behind ++ l) g.is ∙ sym (append_assoc h.behind g.behind xs));
+  mine = filter-append (λ x. own x == p) h.behind g.behind ∙ (ap (λ (l : List A). l ++ items_of own p g.behind) h.mine ∙ ap (λ (l : List A). second ++ l) g.mine);
+}
+
+-- the seat that a process gave away has its ticket
+pub ticket-taken : {A : Type 0} (f : A → Ticket Record) {inside taken : Option A} {seat : A} {t : Ticket Record} → taken ≡ inside → taken ≡ Some seat → ticket_of f inside ≡ t → f seat ≡ t
+ticket-taken f is some view = ap (ticket_of f) (sym some ∙ is) ∙ view
+
+pub own-recorded : (p : ℕ) (call : Call) (given : List ℕ) (reply : Reply) → items_of owner p (recorded p call given reply ∷ []) ≡ recorded p call given reply ∷ []
+own-recorded p call given reply = rw (eq-eqb p p refl) refl
+
+-- what a call adds is its process's own
+pub own-made : (p : ℕ) (call : Call) (given : List ℕ) (reply : Reply) → items_of owner p (made p call given reply) ≡ made p call given reply
+own-made p call given reply = split (is_no_memory reply)
+    (λ none. rw none refl)
+    (λ some. rw some (own-recorded p call given reply))
+
+pub all-made : (p : ℕ) (call : Call) (given : List ℕ) (reply : Reply) → All (λ x. owner x ≡ p) (made p call given reply)
+all-made p call given reply = split (is_no_memory reply)
+    (λ none. rw none (All-nil (λ x. owner x ≡ p)))
+    (λ some. rw some (All-cons (λ x. owner x ≡ p) (recorded p call given reply) [] refl (All-nil (λ x. owner x ≡ p))))

@@ -1,0 +1,6 @@
+pub mod Others
+pub mod Growing
+pub mod Seats
+pub mod Closings
+pub mod Replies
+pub mod Calling

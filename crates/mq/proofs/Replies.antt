@@ -1,0 +1,202 @@
+-- What a call on the books leaves, and which replies it is given.
+use Rattle.std.proofs.Common.{◌≡◌, ◌≢◌, ℕ, Bool, true, false, List, [], ◌∷◌, ◌++◌, Option, Some, None, is_some, refl, ap, sym, ◌∙◌, subst}
+use Rattle.mq_core.specs.Record.{Record, Past}
+use Rattle.mq_core.specs.Answer.{Appends, answer}
+use Rattle.mq_core.specs.Waits.{is_wait}
+use Rattle.mq_core.proofs.Places.{split}
+use Rattle.mq_core.proofs.Cases.{Says, answer_says, OpenReply, DoneReply, AttrsReply, SendSays, ReceiveSays}
+use Rattle.mq_core.specs.declared.entries.Description.{Description}
+use Rattle.mq_core.specs.declared.entries.Call.{Call}
+use Rattle.mq_core.specs.declared.entries.Call.TheVariants.{MqOpen, MqClose, MqUnlink, MqSend, MqReceive, MqGetattr, MqSetattr, MqNotify, NextNotice, Collect}
+use Rattle.mq_core.specs.declared.entries.Reply.{Reply}
+use Rattle.mq_core.specs.declared.entries.Reply.TheVariants.{Opened, Queued, Handed, Waits, Got, Collected, Attrs, Notice, Done, Refused}
+use Rattle.mq_core.specs.declared.faults.Fault.{Fault}
+use Rattle.mq_core.specs.declared.faults.Fault.TheVariants.{Again, BadDescriptor, Busy, Exists, Invalid, TooManyOpen, MessageSize, NameTooLong, NoEntry, NoSpace, NoMemory}
+use Rattle.mq.specs.Calls.{recorded, made, is_no_memory}
+use Rattle.mq.specs.Asked.{may_reply, is_opened, is_done, is_attributes, is_notice, is_sent, is_received, is_collected, is_plain, is_of_name}
+
+opened : (reply : Reply) → OpenReply reply → is_opened reply ≡ true
+opened (Opened d c) says = refl
+opened (Refused f) says = refl
+opened (Queued n) says = absurd says
+opened (Handed w) says = absurd says
+opened Waits says = absurd says
+opened (Got m a n) says = absurd says
+opened (Collected by) says = absurd says
+opened (Attrs s) says = absurd says
+opened (Notice v) says = absurd says
+opened Done says = absurd says
+
+done : (reply : Reply) → DoneReply reply → is_done reply ≡ true
+done Done says = refl
+done (Refused f) says = refl
+done (Opened d c) says = absurd says
+done (Queued n) says = absurd says
+done (Handed w) says = absurd says
+done Waits says = absurd says
+done (Got m a n) says = absurd says
+done (Collected by) says = absurd says
+done (Attrs s) says = absurd says
+done (Notice v) says = absurd says
+
+attributes : (reply : Reply) → AttrsReply reply → is_attributes reply ≡ true
+attributes (Attrs s) says = refl
+attributes (Refused f) says = refl
+attributes Done says = absurd says
+attributes (Opened d c) says = absurd says
+attributes (Queued n) says = absurd says
+attributes (Handed w) says = absurd says
+attributes Waits says = absurd says
+attributes (Got m a n) says = absurd says
+attributes (Collected by) says = absurd says
+attributes (Notice v) says = absurd says
+
+sent : (past : Past) (o : Option Description) (prio len : ℕ) (reply : Reply) → SendSays past o prio len reply → is_sent reply ≡ true
+sent past o prio len (Queued n) says = refl
+sent past o prio len (Handed w) says = refl
+sent past o prio len Waits says = refl
+sent past o prio len (Refused f) says = refl
+sent past o prio len (Opened d c) says = absurd says.3
+sent past o prio len (Got m a n) says = absurd says.3
+sent past o prio len (Collected by) says = absurd says.3
+sent past o prio len (Attrs s) says = absurd says.3
+sent past o prio len (Notice v) says = absurd says.3
+sent past o prio len Done says = absurd says.3
+
+received : (past : Past) (o : Option Description) (room : ℕ) (reply : Reply) → ReceiveSays past o room reply → is_received reply ≡ true
+received past o room (Got m a n) says = refl
+received past o room Waits says = refl
+received past o room (Refused f) says = refl
+received past o room (Queued n) says = absurd says.3
+received past o room (Handed w) says = absurd says.3
+received past o room (Opened d c) says = absurd says.3
+received past o room (Collected by) says = absurd says.3
+received past o room (Attrs s) says = absurd says.3
+received past o room (Notice v) says = absurd says.3
+received past o room Done says = absurd says.3
+
+-- an answer is one of the replies that the call may be given
+pub may-answer : (past : Past) (p : ℕ) (call : Call) (given : List ℕ) → may_reply call (answer past p call given) ≡ true
+may-answer past p (MqOpen flags attr) given = opened _ (answer_says past p (MqOpen flags attr) given)
+may-answer past p (MqClose d) given = done _ ((answer_says past p (MqClose d) given).0)
+may-answer past p MqUnlink given = done _ (answer_says past p MqUnlink given)
+may-answer past p (MqSend d prio len) given = sent past _ prio len _ (answer_says past p (MqSend d prio len) given)
+may-answer past p (MqReceive d room) given = received past _ room _ (answer_says past p (MqReceive d room) given)
+may-answer past p (MqGetattr d) given = attributes _ (answer_says past p (MqGetattr d) given)
+may-answer past p (MqSetattr d nonblock) given = attributes _ (answer_says past p (MqSetattr d nonblock) given)
+may-answer past p (MqNotify d value) given = done _ (answer_says past p (MqNotify d value) given)
+may-answer past p NextNotice given = refl
+may-answer past p Collect given = refl
+
+no-memory : (reply : Reply) → is_no_memory reply ≡ true → reply ≡ Refused NoMemory
+no-memory (Refused NoMemory) e = refl
+no-memory (Refused Again) e = absurd (cc)
+no-memory (Refused BadDescriptor) e = absurd (cc)
+no-memory (Refused Busy) e = absurd (cc)
+no-memory (Refused Exists) e = absurd (cc)
+no-memory (Refused Invalid) e = absurd (cc)
+no-memory (Refused TooManyOpen) e = absurd (cc)
+no-memory (Refused MessageSize) e = absurd (cc)
+no-memory (Refused NameTooLong) e = absurd (cc)
+no-memory (Refused NoEntry) e = absurd (cc)
+no-memory (Refused NoSpace) e = absurd (cc)
+no-memory (Opened d c) e = absurd (cc)
+no-memory (Queued n) e = absurd (cc)
+no-memory (Handed w) e = absurd (cc)
+no-memory Waits e = absurd (cc)
+no-memory (Got m a n) e = absurd (cc)
+no-memory (Collected by) e = absurd (cc)
+no-memory (Attrs s) e = absurd (cc)
+no-memory (Notice v) e = absurd (cc)
+no-memory Done e = absurd (cc)
+
+some-memory : (reply : Reply) → is_no_memory reply ≡ false → reply ≢ Refused NoMemory
+some-memory reply e same = let bad : is_no_memory reply ≡ true = rw same refl in let clash : true ≡ false = sym bad ∙ e in absurd (cc)
+
+-- what a call on the books leaves: its record, or nothing for want of memory
+pub asked : {old new : Past} {p : ℕ} {call : Call} {given : List ℕ} {reply : Reply}
+    → (reply ≢ Refused NoMemory → Appends old new p call given reply) → (reply ≡ Refused NoMemory → new ≡ old) → new ≡ made p call given reply ++ old
+asked {old} {new} {p} {call} {given} {reply} entry none = split (is_no_memory reply)
+    (λ want. rw want (none (no-memory reply want)))
+    (λ room. rw room ((entry (some-memory reply room)).records))
+
+-- and its reply is one that it may be given
+pub replied : {old new : Past} {p : ℕ} {call : Call} {given : List ℕ} {reply : Reply}
+    → (reply ≢ Refused NoMemory → Appends old new p call given reply) → may_reply call (Refused NoMemory) ≡ true → may_reply call reply ≡ true
+replied {old} {new} {p} {call} {given} {reply} entry refused = split (is_no_memory reply)
+    (λ want. rw (no-memory reply want) refused)
+    (λ room. rw ((entry (some-memory reply room)).answers) (may-answer old p call given))
+
+not-opened : (reply : Reply) → is_opened reply ≡ true → is_wait reply ≡ false
+not-opened Waits e = absurd (cc)
+not-opened (Opened d c) e = refl
+not-opened (Refused f) e = refl
+not-opened (Queued n) e = refl
+not-opened (Handed w) e = refl
+not-opened (Got m a n) e = refl
+not-opened (Collected by) e = refl
+not-opened (Attrs s) e = refl
+not-opened (Notice v) e = refl
+not-opened Done e = refl
+
+not-done : (reply : Reply) → is_done reply ≡ true → is_wait reply ≡ false
+not-done Waits e = absurd (cc)
+not-done (Opened d c) e = refl
+not-done (Refused f) e = refl
+not-done (Queued n) e = refl
+not-done (Handed w) e = refl
+not-done (Got m a n) e = refl
+not-done (Collected by) e = refl
+not-done (Attrs s) e = refl
+not-done (Notice v) e = refl
+not-done Done e = refl
+
+not-attributes : (reply : Reply) → is_attributes reply ≡ true → is_wait reply ≡ false
+not-attributes Waits e = absurd (cc)
+not-attributes (Opened d c) e = refl
+not-attributes (Refused f) e = refl
+not-attributes (Queued n) e = refl
+not-attributes (Handed w) e = refl
+not-attributes (Got m a n) e = refl
+not-attributes (Collected by) e = refl
+not-attributes (Attrs s) e = refl
+not-attributes (Notice v) e = refl
+not-attributes Done e = refl
+
+not-notice : (reply : Reply) → is_notice reply ≡ true → is_wait reply ≡ false
+not-notice Waits e = absurd (cc)
+not-notice (Opened d c) e = refl
+not-notice (Refused f) e = refl
+not-notice (Queued n) e = refl
+not-notice (Handed w) e = refl
+not-notice (Got m a n) e = refl
+not-notice (Collected by) e = refl
+not-notice (Attrs s) e = refl
+not-notice (Notice v) e = refl
+not-notice Done e = refl
+
+-- a call by numbers does not wait
+pub plain-answered : (call : Call) (reply : Reply) → is_plain call ≡ true → may_reply call reply ≡ true → is_wait reply ≡ false
+plain-answered (MqClose d) reply plain may = not-done reply may
+plain-answered (MqGetattr d) reply plain may = not-attributes reply may
+plain-answered (MqSetattr d nonblock) reply plain may = not-attributes reply may
+plain-answered (MqNotify d value) reply plain may = not-done reply may
+plain-answered NextNotice reply plain may = not-notice reply may
+plain-answered (MqOpen flags attr) reply plain may = absurd (cc)
+plain-answered MqUnlink reply plain may = absurd (cc)
+plain-answered (MqSend d prio len) reply plain may = absurd (cc)
+plain-answered (MqReceive d room) reply plain may = absurd (cc)
+plain-answered Collect reply plain may = absurd (cc)
+
+-- nor does one by a name
+pub named-answered : (call : Call) (reply : Reply) → is_of_name call ≡ true → may_reply call reply ≡ true → is_wait reply ≡ false
+named-answered (MqOpen flags attr) reply named may = not-opened reply may
+named-answered MqUnlink reply named may = not-done reply may
+named-answered (MqClose d) reply named may = absurd (cc)
+named-answered (MqGetattr d) reply named may = absurd (cc)
+named-answered (MqSetattr d nonblock) reply named may = absurd (cc)
+named-answered (MqNotify d value) reply named may = absurd (cc)
+named-answered NextNotice reply named may = absurd (cc)
+named-answered (MqSend d prio len) reply named may = absurd (cc)
+named-answered (MqReceive d room) reply named may = absurd (cc)
+named-answered Collect reply named may = absurd (cc)

@@ -1,0 +1,156 @@
+-- What a call of a process leaves behind. Lists of records are latest first, so that what came later stands in front.
+use Rattle.std.specs.Prelude.{ℕ, ◌≡◌, ◌≤◌, Bool, true, false, List, [], ◌∷◌, ◌++◌, length, map, Option, Some, None, Result, Ok, Err, ◌⊎◌, OnOk, IfErr, if◌then◌else◌}
+use Rattle.fast_mutex.specs.Items.{LockId, Ticket, Grows}
+use Rattle.mq_core.specs.Record.{Record, Past}
+use Rattle.mq_core.specs.Descriptors.{lowest_held}
+use Rattle.mq_core.specs.Waits.{open_wait, answered_by, is_answered}
+use Rattle.mq_core.specs.Answer.{Legal, payload_of}
+use Rattle.mq_core.specs.declared.entries.Received.{Received}
+use Rattle.mq_core.specs.declared.entries.Call.{Call}
+use Rattle.mq_core.specs.declared.entries.Call.TheVariants.{MqClose, MqSend, MqReceive, Collect}
+use Rattle.mq_core.specs.declared.entries.Reply.{Reply}
+use Rattle.mq_core.specs.declared.entries.Reply.TheVariants.{Opened, Queued, Handed, Waits, Got, Collected, Attrs, Notice, Done, Refused}
+use Rattle.mq_core.specs.declared.faults.Fault.{Fault}
+use Rattle.mq_core.specs.declared.faults.Fault.TheVariants.{Again, BadDescriptor, Busy, Exists, Invalid, TooManyOpen, MessageSize, NameTooLong, NoEntry, NoSpace, NoMemory}
+use Rattle.mq_state.specs.Buffers.{filled, with_front, message_at, received_at, collected, collected_into, waiting_call, waiting_room, room_of}
+use Rattle.mq_state.specs.Kept.{Kept}
+use Rattle.mq_state.specs.declared.collected.Collected.{Collected as Outcome}
+use Rattle.mq.specs.Says.{send_says, receive_says, start_receive_says}
+
+abbrev pub owner : Record → ℕ
+owner r = r.entry.process
+
+-- the record of a call that was given these bytes, a name or a message
+abbrev pub recorded : ℕ → Call → List ℕ → Reply → Record
+recorded p call given reply = record { entry = record { process = p; call = call; reply = reply }; payload = payload_of call reply given }
+
+abbrev pub is_no_memory : Reply → Bool
+is_no_memory (Refused NoMemory) = true
+is_no_memory _ = false
+
+-- what a call adds to the journal: its record, or nothing for want of memory
+abbrev pub made : ℕ → Call → List ℕ → Reply → Past
+made p call given reply = if is_no_memory reply then [] else recorded p call given reply ∷ []
+
+-- the process has no open wait
+abbrev pub IsFree : Ticket Record → Type 0
+IsFree t = open_wait t.left t.number ≡ None
+
+-- the process waits in this call
+pub record WaitsIn (t : Ticket Record) (waited : Call) : Type 0 where
+  pub call : waiting_call t.left t.number ≡ waited
+  pub room : waiting_room t.left t.number ≡ Some (room_of waited)
+
+-- how long a buffer the wait needs that a reply begins
+abbrev pub wait_begun : Reply → ℕ → Option ℕ
+wait_begun Waits room = Some room
+wait_begun _ room = None
+
+-- of one process and one lock: the journal now left is legal and begins with the one left before, and behind that the
+-- process's own records are just these
+pub record Calls (old new : Ticket Record) (own : Past) : Type 0 where
+  pub lock : new.lock ≡ old.lock
+  pub number : new.number ≡ old.number
+  pub legal : Legal new.left
+  pub grows : Grows owner old.number old.left new.left own
+
+-- a call in one stay: it left its record, or none for want of memory, and its result is what the reply in it says
+pub record OneCall {R : Type 0} (says : Reply → Option R) (old new : Ticket Record) (call : Call) (given : List ℕ) (result : R) : Type 0 where
+  pub reply : Reply
+  pub calls : Calls old new (made old.number call given reply)
+  pub says_so : says reply ≡ Some result
+
+-- a receive in one stay: `before` is what the buffer held, `after` what it holds
+pub record ReceiveCall {R : Type 0} (says : Past → Reply → Option R) (old new : Ticket Record) (d : ℕ) (before after : List ℕ) (result : R) : Type 0 where
+  pub reply : Reply
+  pub calls : Calls old new (made old.number (MqReceive d (length before)) [] reply)
+  pub says_so : says new.left reply ≡ Some result
+  pub buffer : after ≡ filled new.left reply before
+
+-- a collect that found the wait answered, by the entry at place `by` of the journal found: it left one record, and gives what
+-- the wait came to
+pub record Collects (old new : Ticket Record) (result : Outcome) (before after : List ℕ) : Type 0 where
+  pub found : Past
+  pub by : ℕ
+  pub added : new.left ≡ recorded old.number Collect [] (Collected by) ∷ found
+  pub answered : answered_by found old.number ≡ Some by
+  pub calls : Calls old new (recorded old.number Collect [] (Collected by) ∷ [])
+  pub value : collected found old.number ≡ Some result
+  pub buffer : after ≡ collected_into found old.number before
+
+-- a collect that found the wait not answered: it left nothing
+pub record StillWaits (old new : Ticket Record) : Type 0 where
+  pub calls : Calls old new []
+  pub wait : waiting_room new.left new.number ≡ waiting_room old.left old.number
+  pub call : waiting_call new.left new.number ≡ waiting_call old.left old.number
+  pub unanswered : is_answered new.left new.number ≡ false
+
+-- a call that waited left two records, the wait and then the collect, which names the entry that answered the wait
+pub record Waited (old new : Ticket Record) (call : Call) (given : List ℕ) (by : ℕ) : Type 0 where
+  pub calls : Calls old new (recorded old.number Collect [] (Collected by) ∷ recorded old.number call given Waits ∷ [])
+
+-- a send that waited, and was then accepted
+pub record WaitedSend (old new : Ticket Record) (call : Call) (given : List ℕ) (result : Result (Unit {0}) Fault) : Type 0 where
+  pub by : ℕ
+  pub waited : Waited old new call given by
+  pub is : result ≡ Ok tt
+
+-- a receive that waited, and was then given the message of the send that answered it
+pub record WaitedReceive (old new : Ticket Record) (d : ℕ) (before after : List ℕ) (result : Result Received Fault) : Type 0 where
+  pub by : ℕ
+  pub waited : Waited old new (MqReceive d (length before)) [] by
+  pub is : result ≡ Ok (received_at new.left by)
+  pub buffer : after ≡ with_front (message_at new.left by) before
+
+-- a send, in one stay or after a wait
+abbrev pub SendCall : Ticket Record → Ticket Record → ℕ → List ℕ → ℕ → Result (Unit {0}) Fault → Type 0
+SendCall old new d bytes prio result = OneCall send_says old new (MqSend d prio (length bytes)) bytes result ⊎ WaitedSend old new (MqSend d prio (length bytes)) bytes result
+
+-- a receive, in one stay or after a wait
+abbrev pub WholeReceive : Ticket Record → Ticket Record → ℕ → List ℕ → List ℕ → Result Received Fault → Type 0
+WholeReceive old new d before after result = ReceiveCall receive_says old new d before after result ⊎ WaitedReceive old new d before after result
+
+-- closes of these descriptors by process p, the latest first
+abbrev pub closes : ℕ → List ℕ → Past
+closes p ds = map (λ d. recorded p (MqClose d) [] Done) ds
+
+-- each of them was of the lowest descriptor that the process then held
+abbrev pub AreLowest : Past → ℕ → List ℕ → Type 0
+AreLowest found p [] = Unit {0}
+AreLowest found p (d ∷ ds) = AreLowest found p ds × (lowest_held (closes p ds ++ found) p ≡ Some d)
+
+-- from the journal found to the one left, process p closed descriptors, always its lowest
+pub record Closing (found after : Past) (p : ℕ) : Type 0 where
+  pub ds : List ℕ
+  pub is : after ≡ closes p ds ++ found
+  pub lowest : AreLowest found p ds
+
+-- an exit: it left closes alone. After Ok no descriptor is held, and it fails by want of memory alone
+pub record Exits (old new : Ticket Record) (result : Result (Unit {0}) Fault) : Type 0 where
+  pub found : Past
+  pub closing : Closing found new.left old.number
+  pub calls : Calls old new (closes old.number closing.ds)
+  pub ok : OnOk result (lowest_held new.left new.number ≡ None)
+  pub err : IfErr result (λ e. e ≡ NoMemory)
+
+-- inside the lock ----------------------------------------------------------------------------------------------------------
+
+-- what a process without its seat shows
+abbrev pub no_ticket : Ticket Record
+no_ticket = record { lock = record { table = record { words = 0; slots = 0; views_name = 0; atom = 0; block = 0; offset = 0; slot_names = [] }; count = 0; fixed = [] }; number = 0; left = []; told = false }
+
+-- what a process shows
+abbrev pub ticket_of : {A : Type 0} → (A → Ticket Record) → Option A → Ticket Record
+ticket_of f (Some seat) = f seat
+ticket_of f None = no_ticket
+
+-- a process with this ticket came in as p, for this stay, and found these books
+pub record Came (old : Ticket Record) (system : LockId) (stay : Ticket Record) (books : Kept) (p : ℕ) : Type 0 where
+  pub lock : stay.lock ≡ system
+  pub number : stay.number ≡ old.number
+  pub process : p ≡ old.number
+  pub some : 1 ≤ p
+  pub few : p ≤ books.n
+  pub n : books.n ≡ system.count
+  pub found : stay.left ≡ books.records
+  pub grows : Grows owner old.number old.left books.records []

@@ -1,0 +1,56 @@
+//! Calls on the books by their kind, and what their replies say.
+ghost use Rattle.std.specs.Prelude.{◌≡◌, ◌≤◌, ◌++◌, Bool, true, false, None, Some, []};
+ghost use Rattle.mq_core.specs.Answer.{answer};
+ghost use Rattle.mq_core.specs.Waits.{open_wait};
+ghost use Rattle.mq_core.specs.declared.entries.Call.{Call};
+ghost use Rattle.mq.specs.Calls.{made};
+ghost use Rattle.mq.specs.Asked.{is_plain, is_of_name, may_reply};
+ghost use Rattle.mq.specs.Says.{done_says, attributes_says};
+
+use mq_core::entries::{Call, Reply, Status};
+use mq_core::faults::Fault;
+use mq_core::names::Name;
+use mq_state::books::Books;
+
+/// Makes a call that needs no more than its numbers.
+pub(crate) fn ask(books: &mut Books, p: u32, call: Call) -> Reply
+    requires process { (1 ≤ p) × (p ≤ books.old.n) }
+    requires no_wait { open_wait books.old.records p ≡ None }
+    requires plain { is_plain call ≡ true }
+    ensures records { books.new.records ≡ made p call [] result ++ books.old.records }
+    ensures replies { may_reply call result ≡ true }
+    ensures processes { books.new.n ≡ books.old.n }
+{
+    match call {
+        Call::MqClose { d } => books.close(p, d),
+        Call::MqGetattr { d } => books.getattr(p, d),
+        Call::MqSetattr { d, nonblock } => {
+            let status = Status {
+                nonblock,
+                maxmsg: 0,
+                msgsize: 0,
+                curmsgs: 0,
+            };
+            books.setattr(p, d, status)
+        }
+        Call::MqNotify { d, value } => books.notify(p, d, value),
+        Call::NextNotice => books.next_notice(p),
+        _ => unreachable!(),
+    }
+}
+
+/// Makes a call that has a name.
+pub(crate) fn ask_by_name(books: &mut Books, p: u32, call: Call, name: &Name) -> Reply
+    requires process { (1 ≤ p) × (p ≤ books.old.n) }
+    requires no_wait { open_wait books.old.records p ≡ None }
+    requires by_name { is_of_name call ≡ true }
+    ensures records { books.new.records ≡ made p call name.now result ++ books.old.records }
+    ensures replies { may_reply call result ≡ true }
+    ensures processes { books.new.n ≡ books.old.n }
+{
+    match call {
+        Call::MqOpen { flags, attr } => books.open(p, name, flags, attr),
+        Call::MqUnlink => books.unlink(p, name),
+        _ => unreachable!(),
+    }
+}

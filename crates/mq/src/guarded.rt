@@ -1,0 +1,55 @@
+//! The state that the lock guards.
+ghost use Rattle.std.specs.Prelude.{◌∷◌, [], refl};
+
+use fast_mutex::Logged;
+use mq_core::entries::Entry;
+use mq_state::books::Books;
+use std::marker::Model;
+
+/// A record of the journal as contracts of the lock see it: an entry with its payload. It only gives those contracts their
+/// type; the queues keep their records in the journal and make no value of it.
+#[derive(Drop)]
+pub struct LoggedRecord {
+    entry: Entry,
+    payload: Vec<u8>,
+}
+
+impl Model for LoggedRecord {
+    ghost use Rattle.mq_core.specs.Record.{Record};
+
+    ghost Value = { Record };
+
+    ghost view = { λ r. record { entry = r.entry; payload = r.payload.items } };
+}
+
+/// The queues of one thread, guarded by a lock: its list is the journal, the latest record first, and its fixed part the
+/// number of processes.
+#[derive(Drop)]
+pub struct Guarded {
+    pub(crate) books: Books,
+}
+
+impl Logged for Guarded {
+    type Item = LoggedRecord;
+
+    ghost use Rattle.std.specs.Prelude.{◌∷◌, [], refl};
+    ghost use Rattle.mq_core.specs.Waits.{is_answered};
+    ghost use Rattle.mq.specs.Calls.{owner};
+    ghost use Rattle.mq_core.proofs.HeldLaws.{answered-stays};
+
+    ghost items = { λ s. s.books.records };
+
+    ghost fixed = { λ s. s.books.n ∷ [] };
+
+    ghost owner = { owner };
+
+    ghost is_answered = { λ p past. is_answered past p };
+
+    fn answered(&self, process: u32) -> bool {
+        self.books.answered(process)
+    }
+
+    ghost nobody = { λ p. refl };
+
+    ghost stays = { answered-stays };
+}

@@ -1,0 +1,60 @@
+//! The end of a process.
+ghost use Rattle.std.specs.Prelude.{◌≡◌, ◌≤◌, None, OnOk, IfErr};
+ghost use Rattle.mq_core.specs.Waits.{open_wait};
+ghost use Rattle.mq_core.specs.Descriptors.{lowest_held};
+ghost use Rattle.mq_core.specs.declared.faults.Fault.TheVariants.{NoMemory};
+ghost use Rattle.mq.specs.Calls.{Closing};
+
+use super::Process;
+use crate::guarded::Guarded;
+use crate::stays::{come, depart};
+use crate::system::Mq;
+use fast_mutex::Lock;
+use mq_core::entries::Reply;
+use mq_core::faults::Fault;
+use mq_state::books::Books;
+use std::sync::Wait;
+
+// The number of descriptors that a process may hold.
+const DESCRIPTORS: u32 = 16;
+
+// Closes all descriptors of process p in rising order, until a growth is refused.
+fn close_all(books: &mut Books, p: u32) -> Result<(), Fault>
+    requires process { (1 ≤ p) × (p ≤ books.old.n) }
+    requires no_wait { open_wait books.old.records p ≡ None }
+    ensures closing { Closing books.old.records books.new.records p }
+    ensures ok { OnOk result (lowest_held books.new.records p ≡ None) }
+    ensures err { IfErr result (λ e. e ≡ NoMemory) }
+    ensures free { open_wait books.new.records p ≡ None }
+    ensures processes { books.new.n ≡ books.old.n }
+{
+    'descriptors: for d in 0..DESCRIPTORS {
+        if books.lowest_open(p) == Some(d) {
+            match books.close(p, d) {
+                Reply::Done => {}
+                Reply::Refused(fault) => return Err(fault),
+                _ => unreachable!(),
+            }
+        }
+    }
+    Ok(())
+}
+
+impl<L: Lock<Guarded>> Process<L> {
+    ghost use Rattle.std.specs.Prelude.{◌≡◌};
+    ghost use Rattle.mq.specs.Calls.{IsFree, Exits};
+
+    /// Closes the descriptors of the process in rising order, in one stay, as the end of a process does. Refused with `NoMemory`
+    /// alone: then those closed so far stay closed, the others stand, and it may be called again.
+    pub fn exit<R: Wait>(&mut self, rt: &R, mq: &Mq<L>) -> Result<(), Fault>
+        requires made { self.old.lock ≡ mq.now }
+        requires free { IsFree self.old }
+        ensures call { Exits self.old self.new result }
+        ensures free { IsFree self.new }
+    {
+        let (process, inside, mut state) = come(rt, mq, &mut self.seat);
+        let done = close_all(&mut state.books, process);
+        depart(mq, &mut self.seat, inside, state);
+        done
+    }
+}

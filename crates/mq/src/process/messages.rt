@@ -1,0 +1,191 @@
+//! Sending and receiving, which may wait.
+ghost use Rattle.std.specs.Prelude.{◌≡◌, true, Some};
+ghost use Rattle.mq.specs.Asked.{is_received};
+ghost use Rattle.mq.specs.Says.{start_receive_says};
+ghost use Rattle.mq.specs.Calls.{wait_begun};
+
+use super::Process;
+use crate::guarded::Guarded;
+use crate::stays::{come, depart};
+use crate::system::Mq;
+use crossbeam_utils::Backoff;
+use fast_mutex::Lock;
+use mq_core::entries::{Received, Reply};
+use mq_core::faults::Fault;
+use mq_state::buffers::received;
+use mq_state::collected::Collected;
+use std::sync::Wait;
+
+impl<L: Lock<Guarded>> Process<L> {
+    ghost use Rattle.std.specs.Prelude.{◌≡◌, ◌≢◌, ◌≤◌, Bool, true, false, Some, None, IsSome, IfSome, IfNone, Ok, length, []};
+    ghost use Rattle.mq_core.specs.Answer.{Legal};
+    ghost use Rattle.mq_core.specs.declared.entries.Call.{Call};
+    ghost use Rattle.mq_state.specs.Buffers.{waiting_room};
+    ghost use Rattle.mq.specs.Says.{start_send_says, start_receive_says};
+    ghost use Rattle.mq.specs.Calls.{IsFree, OneCall, ReceiveCall, SendCall, WholeReceive, WaitsIn, Collects, StillWaits};
+
+    /// Sends a message without waiting for its admission: true where the queue or a waiting receive took it, false where the
+    /// process now has an open wait. Refused as [`Process::send`].
+    pub fn start_send<R: Wait>(
+        &mut self,
+        rt: &R,
+        mq: &Mq<L>,
+        d: u32,
+        bytes: &[u8],
+        prio: u32,
+    ) -> Result<bool, Fault>
+        requires made { self.old.lock ≡ mq.now }
+        requires free { IsFree self.old }
+        ensures call { OneCall start_send_says self.old self.new (Call.MqSend d prio (length bytes.now)) bytes.now result }
+        ensures waits { result ≡ Ok false → WaitsIn self.new (Call.MqSend d prio (length bytes.now)) }
+        ensures free { result ≢ Ok false → IsFree self.new }
+    {
+        let (process, inside, mut state) = come(rt, mq, &mut self.seat);
+        let reply = state.books.send(process, d, bytes, prio);
+        depart(mq, &mut self.seat, inside, state);
+        self.waits = wait_begun(reply, 0);
+        match reply {
+            Reply::Queued { .. } | Reply::Handed { .. } => Ok(true),
+            Reply::Waits => Ok(false),
+            Reply::Refused(fault) => Err(fault),
+            _ => unreachable!(),
+        }
+    }
+
+    /// Receives the oldest message of the highest priority into the front of the buffer, or begins to wait for one: `None`, and
+    /// the process then has an open wait. Refused as [`Process::receive`].
+    pub fn start_receive<R: Wait>(
+        &mut self,
+        rt: &R,
+        mq: &Mq<L>,
+        d: u32,
+        buf: &mut [u8],
+    ) -> Result<Option<Received>, Fault>
+        requires made { self.old.lock ≡ mq.now }
+        requires free { IsFree self.old }
+        ensures call { ReceiveCall start_receive_says self.old self.new d buf.old buf.new result }
+        ensures waits { result ≡ Ok None → WaitsIn self.new (Call.MqReceive d (length buf.old)) }
+        ensures free { result ≢ Ok None → IsFree self.new }
+    {
+        let (process, inside, mut state) = come(rt, mq, &mut self.seat);
+        let reply = state.books.receive(process, d, buf);
+        let got = message_got(&state, reply);
+        depart(mq, &mut self.seat, inside, state);
+        self.waits = wait_begun(reply, buf.len());
+        got
+    }
+
+    /// Ends the open wait, if it is answered, and gives what it came to: a message that was received lies in the front of the
+    /// buffer then. Takes no memory.
+    pub fn collect<R: Wait>(&mut self, rt: &R, mq: &Mq<L>, buf: &mut [u8]) -> Option<Collected>
+        requires made { self.old.lock ≡ mq.now }
+        requires wait { IsSome (waiting_room self.old.left self.old.number) }
+        requires room { IfSome (waiting_room self.old.left self.old.number) (λ room. room ≤ length buf.old) }
+        ensures none { IfNone result (StillWaits self.old self.new) }
+        ensures same { IfNone result (buf.new ≡ buf.old) }
+        ensures some { IfSome result (λ outcome. Collects self.old self.new outcome buf.old buf.new) }
+        ensures free { IfSome result (λ outcome. IsFree self.new) }
+    {
+        let (process, inside, mut state) = come(rt, mq, &mut self.seat);
+        let outcome = state.books.collect(process, buf);
+        depart(mq, &mut self.seat, inside, state);
+        match outcome {
+            Some(outcome) => {
+                self.waits = None;
+                Some(outcome)
+            }
+            None => None,
+        }
+    }
+
+    // Enters again and again until the wait is answered.
+    fn await_outcome<R: Wait>(&mut self, rt: &R, mq: &Mq<L>, buf: &mut [u8]) -> Collected
+        requires made { self.old.lock ≡ mq.now }
+        requires wait { IsSome (waiting_room self.old.left self.old.number) }
+        requires room { IfSome (waiting_room self.old.left self.old.number) (λ room. room ≤ length buf.old) }
+        requires legal { Legal self.old.left }
+        ensures some { Collects self.old self.new result buf.old buf.new }
+        ensures free { IsFree self.new }
+    {
+        let backoff = Backoff::new();
+        'tries: for _ in rt.forever() {
+            if let Some(outcome) = self.collect(rt, mq, buf) {
+                return outcome;
+            }
+            backoff.snooze();
+        }
+        unreachable!()
+    }
+
+    /// Sends a message of that priority (`mq_send`). Where the queue is full it waits until the message is admitted, unless the
+    /// descriptor does not block. Refused with `BadDescriptor`, `Invalid`, `MessageSize`, `Again` or `NoMemory`.
+    pub fn send<R: Wait>(
+        &mut self,
+        rt: &R,
+        mq: &Mq<L>,
+        d: u32,
+        bytes: &[u8],
+        prio: u32,
+    ) -> Result<(), Fault>
+        requires made { self.old.lock ≡ mq.now }
+        requires free { IsFree self.old }
+        ensures call { SendCall self.old self.new d bytes.now prio result }
+        ensures free { IsFree self.new }
+    {
+        match self.start_send(rt, mq, d, bytes, prio) {
+            Ok(true) => Ok(()),
+            Ok(false) => {
+                self.await_outcome(rt, mq, &mut []);
+                Ok(())
+            }
+            Err(fault) => Err(fault),
+        }
+    }
+
+    /// Receives the oldest message of the highest priority into the front of the buffer (`mq_receive`). Where there is none it
+    /// waits for one, unless the descriptor does not block. Refused with `BadDescriptor`, `MessageSize`, `Again` or `NoMemory`.
+    pub fn receive<R: Wait>(
+        &mut self,
+        rt: &R,
+        mq: &Mq<L>,
+        d: u32,
+        buf: &mut [u8],
+    ) -> Result<Received, Fault>
+        requires made { self.old.lock ≡ mq.now }
+        requires free { IsFree self.old }
+        ensures call { WholeReceive self.old self.new d buf.old buf.new result }
+        ensures free { IsFree self.new }
+    {
+        match self.start_receive(rt, mq, d, buf) {
+            Ok(Some(received)) => Ok(received),
+            Ok(None) => match self.await_outcome(rt, mq, buf) {
+                Collected::Got(received) => Ok(received),
+                Collected::Sent => unreachable!(),
+            },
+            Err(fault) => Err(fault),
+        }
+    }
+}
+
+// How long a buffer the wait needs that this reply begins.
+fn wait_begun(reply: Reply, room: usize) -> Option<usize>
+    ensures { result ≡ wait_begun reply room }
+{
+    match reply {
+        Reply::Waits => Some(room),
+        _ => None,
+    }
+}
+
+// What a receive with this reply gives.
+fn message_got(state: &Guarded, reply: Reply) -> Result<Option<Received>, Fault>
+    requires { is_received reply ≡ true }
+    ensures { start_receive_says state.now.books.records reply ≡ Some result }
+{
+    match reply {
+        Reply::Got { place, .. } => Ok(Some(received(state.books.journal(), place))),
+        Reply::Waits => Ok(None),
+        Reply::Refused(fault) => Err(fault),
+        _ => unreachable!(),
+    }
+}

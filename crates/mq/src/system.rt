@@ -1,0 +1,128 @@
+//! The queues that processes share, and their making and end.
+ghost use Rattle.std.specs.Prelude.{◌≡◌, ◌≤◌, ◌<◌, ◌⊎◌, ◌↔◌, [], map, length, Err, IfOk, IfErr, IsOk, vec_len, vec_capacity};
+ghost use Rattle.std.specs.List.{All};
+ghost use Rattle.fast_mutex.specs.Items.{Grows, tickets_from};
+ghost use Rattle.mq_core.specs.Answer.{Legal};
+ghost use Rattle.mq_core.specs.declared.faults.Fault.TheVariants.{Invalid, NoMemory};
+ghost use Rattle.mq.specs.Calls.{owner};
+
+use crate::guarded::Guarded;
+use crate::process::{Process, process_of, seat_of};
+use fast_mutex::{Lock, Missing};
+use mq_core::faults::Fault;
+use mq_core::journals::Journal;
+use mq_state::books::Books;
+use std::alloc::Global;
+use std::marker::Model;
+
+/// Message queues that processes share, over a lock. Contracts see which lock it is, with the number of processes.
+#[derive(Drop)]
+pub struct Mq<L: Lock<Guarded>> {
+    lock: L,
+    n: u32,
+    room: Vec<L::Seat>,
+}
+
+impl<L: Lock<Guarded>> Model for Mq<L> {
+    ghost use Rattle.std.specs.Prelude.{◌≡◌, ◌∷◌, [], ◌≤◌, vec_capacity};
+    ghost use Rattle.fast_mutex.specs.Items.{LockId};
+
+    ghost Value = { LockId };
+
+    ghost view = { λ q. L.id q.lock };
+
+    ghost invariant = { λ q. ((L.id q.lock).fixed ≡ (L.id q.lock).count ∷ []) × (q.room.items ≡ []) × (q.n ≡ (L.id q.lock).count) × (q.n ≤ vec_capacity q.room) };
+}
+
+impl<L: Lock<Guarded>> Mq<L> {
+    ghost use Rattle.std.specs.Prelude.{◌≡◌, ◌≤◌, ◌<◌, ◌⊎◌, ◌↔◌, ◌∷◌, [], map, length, Err, IfOk, IfErr, IsOk, vec_len, vec_capacity};
+    ghost use Rattle.std.specs.List.{All};
+    ghost use Rattle.fast_mutex.specs.Items.{Grows, tickets_from};
+    ghost use Rattle.mq_core.specs.Answer.{Legal};
+    ghost use Rattle.mq_core.specs.declared.faults.Fault.TheVariants.{Invalid, NoMemory};
+    ghost use Rattle.mq.specs.Calls.{owner};
+
+    /// The queues of n processes, none yet, and the processes 1 to n in order, each of which has left the empty journal.
+    /// `Invalid` where n is not from 1 to 32, else `NoMemory` where a growth was refused.
+    pub fn new(alloc: Global, n: u32) -> Result<(Mq<L>, Vec<Process<L>>), Fault>
+        ensures invalid { ((1 ≤ n) × (n ≤ 32)) ⊎ (result ≡ Err Invalid) }
+        ensures faults { IfErr result (λ e. (e ≡ NoMemory) ⊎ ((e ≡ Invalid) × ((n ≡ 0) ⊎ (32 < n)))) }
+        ensures count { IfOk result (λ r. r.0.count ≡ n) }
+        ensures processes { IfOk result (λ r. r.1.items ≡ tickets_from r.0 1 n) }
+    {
+        if n == 0 || n > 32 {
+            return Err(Fault::Invalid);
+        }
+        let Ok(room) = Vec::with_capacity(alloc, n as usize) else {
+            return Err(Fault::NoMemory);
+        };
+        let Ok(processes) = Vec::with_capacity(alloc, n as usize) else {
+            return Err(Fault::NoMemory);
+        };
+        let Ok(books) = Books::new(alloc, n) else {
+            return Err(Fault::NoMemory);
+        };
+        let Ok((lock, seats)) = L::new(alloc, n, Guarded { books }) else {
+            return Err(Fault::NoMemory);
+        };
+        Ok((Mq { lock, n, room }, processes_of(seats, processes)))
+    }
+
+    /// Ends the queues and gives their journal, where all n processes are there; else everything comes back as it was.
+    /// Takes no memory, and never waits. Open waits are allowed.
+    pub fn finish(self, processes: Vec<Process<L>>) -> Result<Journal, Missing<Mq<L>, Process<L>>>
+        requires { All (λ p. p.lock ≡ self) processes.items }
+        ensures all { (self.count ≤ length processes.items) ↔ IsOk result }
+        ensures legal { IfOk result (λ journal. Legal journal.records) }
+        ensures grows { IfOk result (λ journal. All (λ p. Grows owner p.number p.left journal.records []) processes.items) }
+        ensures back { IfErr result (λ m. (m.whole ≡ self) × (m.parts ≡ processes)) }
+    {
+        if processes.len() < self.n as usize {
+            return Err(Missing {
+                whole: self,
+                parts: processes,
+            });
+        }
+        match self.lock.finish(seats_of(processes, self.room)) {
+            Ok(state) => Ok(state.books.into_journal()),
+            Err(_) => unreachable!(),
+        }
+    }
+
+    pub(crate) fn lock(&self) -> &L
+        ensures id { L.id result.now ≡ self.now }
+        ensures fixed { self.now.fixed ≡ self.now.count ∷ [] }
+    {
+        &self.lock
+    }
+}
+
+// The processes of these seats, in their order.
+fn processes_of<L: Lock<Guarded>>(
+    seats: Vec<L::Seat>,
+    mut processes: Vec<Process<L>>,
+) -> Vec<Process<L>>
+    requires empty { processes.items ≡ [] }
+    requires room { vec_len seats ≤ vec_capacity processes }
+    requires new { All (λ s. (L.ticket s).left ≡ []) seats.items }
+    ensures items { result.items ≡ map L.ticket seats.items }
+    ensures len { vec_len result ≡ vec_len seats }
+{
+    'seats: for seat in seats {
+        processes.push(process_of(seat)).unwrap();
+    }
+    processes
+}
+
+// The seats of these processes, in their order.
+fn seats_of<L: Lock<Guarded>>(processes: Vec<Process<L>>, mut seats: Vec<L::Seat>) -> Vec<L::Seat>
+    requires empty { seats.items ≡ [] }
+    requires room { vec_len processes ≤ vec_capacity seats }
+    ensures items { map L.ticket result.items ≡ processes.items }
+    ensures len { vec_len result ≡ vec_len processes }
+{
+    'processes: for process in processes {
+        seats.push(seat_of(process)).unwrap();
+    }
+    seats
+}

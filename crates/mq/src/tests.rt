@@ -1,0 +1,1 @@
+//! The processes over each lock.
