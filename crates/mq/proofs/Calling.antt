@@ -1,5 +1,6 @@
 -- What a call in one stay leaves.
 use Rattle.std.proofs.Common.{◌≡◌, ◌≢◌, ℕ, ◌==◌, Bool, true, false, List, [], ◌∷◌, ◌++◌, length, Option, Some, None, is_some, IsSome, refl, ap, sym, ◌∙◌, eq-eqb}
+use Rattle.std.specs.List.{All}
 use Rattle.std.specs.Option.{option_map, option_and_then, unwrap_or}
 use Rattle.mq_core.specs.Record.{Record, Past, record_at}
 use Rattle.mq_core.specs.Waits.{open_wait, is_wait}
@@ -17,7 +18,7 @@ use Rattle.mq.proofs.Others.{wait-grown, call-grown, room-grown}
 use Rattle.mq.proofs.Growing.{grows-on, own-made, all-made, own-recorded}
 
 module _ {old stay : Ticket Record} {system : LockId} {books : Kept} {p : ℕ} where
-  same-number : Came old system stay books p → stay.number ≡ p
+  pub same-number : Came old system stay books p → stay.number ≡ p
   same-number c = c.number ∙ sym c.process
 
   -- who came in finds the open wait that it left
@@ -34,12 +35,15 @@ module _ {old stay : Ticket Record} {system : LockId} {books : Kept} {p : ℕ} w
   came-free c free = came-wait c ∙ free
 
   -- what a stay adds is its process's own
-  pub came-grows : {records : Past} (call : Call) (given : List ℕ) (reply : Reply) → Came old system stay books p → records ≡ made p call given reply ++ books.records → GrowsBy owner stay.number stay.left records
-  came-grows {records} call given reply c is = record {
-    behind = made p call given reply;
+  pub came-grows_by : {records : Past} (added : Past) → Came old system stay books p → records ≡ added ++ books.records → All (λ x. owner x ≡ p) added → GrowsBy owner stay.number stay.left records
+  came-grows_by {records} added c is mine = record {
+    behind = added;
     is = rw c.found is;
-    mine = rw (same-number c) (all-made p call given reply);
+    mine = rw (same-number c) mine;
   }
+
+  pub came-grows : {records : Past} (call : Call) (given : List ℕ) (reply : Reply) → Came old system stay books p → records ≡ made p call given reply ++ books.records → GrowsBy owner stay.number stay.left records
+  came-grows {records} call given reply c is = came-grows_by (made p call given reply) c is (all-made p call given reply)
 
   -- what a stay leaves that adds these records
   pub came-calls : {records : Past} (own : ℕ → Past) → Came old system stay books p → old.lock ≡ system → records ≡ own p ++ books.records → items_of owner p (own p) ≡ own p → Legal records

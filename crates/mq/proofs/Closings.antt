@@ -1,6 +1,8 @@
 -- Closing the lowest descriptor again and again.
-use Rattle.std.proofs.Common.{◌≡◌, ◌≢◌, ℕ, zero, suc, ◌+◌, ◌<◌, ◌≤◌, ◌==◌, Bool, true, false, List, [], ◌∷◌, ◌++◌, map, Option, Some, None, is_some, refl, ap, sym, ◌∙◌, arith, eqb-true, eq-eqb}
-use Rattle.std.specs.List.{find}
+use Rattle.std.proofs.Common.{◌≡◌, ◌≢◌, ℕ, zero, suc, ◌+◌, ◌<◌, ◌≤◌, ◌==◌, Bool, true, false, List, [], ◌∷◌, ◌++◌, map, Option, Some, None, is_some, refl, ap, sym, ◌∙◌, arith, eqb, eqb-true, eq-eqb}
+use Rattle.std.specs.List.{find, All}
+use Rattle.std.proofs.lemmas.List.Elements.{All-nil, All-cons}
+use Rattle.std.specs.Option.{option_eq}
 use Rattle.std.proofs.lemmas.Bool.{eqb-false}
 use Rattle.mq_core.specs.Record.{Record, Past}
 use Rattle.mq_core.specs.Descriptors.{held, lowest_held, numbers_from, descriptor_numbers}
@@ -10,9 +12,11 @@ use Rattle.mq_core.proofs.Places.{split}
 use Rattle.mq_core.specs.declared.entries.Call.TheVariants.{MqClose}
 use Rattle.mq_core.specs.declared.entries.Reply.{Reply}
 use Rattle.mq_core.specs.declared.entries.Reply.TheVariants.{Done, Refused}
+use Rattle.mq_core.specs.declared.faults.Fault.{Fault}
 use Rattle.mq_core.specs.declared.faults.Fault.TheVariants.{NoMemory, BadDescriptor}
 use Rattle.fast_mutex.specs.Items.{items_of}
-use Rattle.mq.specs.Calls.{owner, recorded, closes, AreLowest, Closing}
+use Rattle.mq.specs.Calls.{owner, recorded, closes, is_no_memory, AreLowest, Closing}
+use Rattle.mq.proofs.Replies.{no-memory, some-memory}
 
 -- a process holds no descriptor below d
 abbrev pub IsFrom : Past → ℕ → ℕ → Type 0
@@ -88,3 +92,24 @@ closed-free past p d = rw (eq-eqb p p refl) refl
 pub own-closes : (p : ℕ) (ds : List ℕ) → items_of owner p (closes p ds) ≡ closes p ds
 own-closes p [] = refl
 own-closes p (d ∷ ds) = rw (eq-eqb p p refl, own-closes p ds) refl
+
+pub all-closes : (p : ℕ) (ds : List ℕ) → All (λ x. owner x ≡ p) (closes p ds)
+all-closes p [] = All-nil (λ x. owner x ≡ p)
+all-closes p (d ∷ ds) = All-cons (λ x. owner x ≡ p) (recorded p (MqClose d) [] Done) (closes p ds) refl (all-closes p ds)
+
+-- the close of a held descriptor is refused for want of memory alone
+pub close-refused : (past new : Past) (p d : ℕ) (reply : Reply) (fault : Fault) → lowest_held past p ≡ Some d → reply ≡ Refused fault
+    → (reply ≢ Refused NoMemory → Appends past new p (MqClose d) [] reply) → (reply ≡ Refused NoMemory → new ≡ past) → (fault ≡ NoMemory) × (new ≡ past)
+close-refused past new p d reply fault lowest is entry none = split (is_no_memory reply)
+    (λ want. let same = no-memory reply want in let fault_is : Refused fault ≡ Refused NoMemory = sym is ∙ same in let f : fault ≡ NoMemory = cc in (f, none same))
+    (λ room. absurd (let done = close-done past new p d reply lowest (entry (some-memory reply room)) in let bad : Refused fault ≡ Done = sym is ∙ done in cc))
+
+pub lowest-is : (past : Past) (p d : ℕ) (o : Option ℕ) → o ≡ lowest_held past p → true ≡ option_eq eqb o (Some d) → lowest_held past p ≡ Some d
+lowest-is past p d None is same = absurd (cc)
+lowest-is past p d (Some e) is same = let here : e ≡ d = eqb-true e d (sym same) in sym is ∙ ap (λ (x : ℕ). Some x) here
+
+pub lowest-is_not : (past : Past) (p d : ℕ) (o : Option ℕ) → o ≡ lowest_held past p → false ≡ option_eq eqb o (Some d) → lowest_held past p ≢ Some d
+lowest-is_not past p d o is other lowest =
+    let found : o ≡ Some d = is ∙ lowest in
+    let clash : false ≡ true = (rw found at other) ∙ eq-eqb d d refl in
+    absurd (cc)

@@ -1,5 +1,5 @@
 -- Journals that go on.
-use Rattle.std.proofs.Common.{◌≡◌, ◌≢◌, ℕ, ◌==◌, Bool, true, false, List, [], ◌∷◌, ◌++◌, map, length, Option, Some, None, is_some, refl, ap, sym, ◌∙◌, arith, append_assoc, eq-eqb}
+use Rattle.std.proofs.Common.{◌≡◌, ◌≢◌, ℕ, ◌==◌, Bool, true, false, List, [], ◌∷◌, ◌++◌, map, length, Option, Some, None, is_some, refl, ap, sym, ◌∙◌, subst, arith, append_assoc, eq-eqb}
 use Rattle.std.specs.List.{All, filter}
 use Rattle.std.proofs.lemmas.List.Elements.{filter-append, All-nil, All-cons}
 use Rattle.mq_core.specs.Record.{Record, Past}
@@ -39,3 +39,11 @@ pub all-made : (p : ℕ) (call : Call) (given : List ℕ) (reply : Reply) → Al
 all-made p call given reply = split (is_no_memory reply)
     (λ none. rw none (All-nil (λ x. owner x ≡ p)))
     (λ some. rw some (All-cons (λ x. owner x ≡ p) (recorded p call given reply) [] refl (All-nil (λ x. owner x ≡ p))))
+
+pub calls-on : {old mid new : Ticket Record} {first : Past} (own : ℕ → Past) → Calls old mid first → Calls mid new (own mid.number) → Calls old new (own old.number ++ first)
+calls-on {old} {mid} {new} {first} own a b = record {
+  lock = b.lock ∙ a.lock;
+  number = b.number ∙ a.number;
+  legal = b.legal;
+  grows = grows-on a.grows (subst (λ (n : ℕ). Grows owner n mid.left new.left (own n)) a.number b.grows);
+}

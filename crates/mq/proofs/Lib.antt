@@ -4,3 +4,5 @@ pub mod Seats
 pub mod Closings
 pub mod Replies
 pub mod Calling
+pub mod Messages
+pub mod Collecting

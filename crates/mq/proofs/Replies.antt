@@ -1,5 +1,5 @@
 -- What a call on the books leaves, and which replies it is given.
-use Rattle.std.proofs.Common.{◌≡◌, ◌≢◌, ℕ, Bool, true, false, List, [], ◌∷◌, ◌++◌, Option, Some, None, is_some, refl, ap, sym, ◌∙◌, subst}
+use Rattle.std.proofs.Common.{◌≡◌, ◌≢◌, ℕ, Bool, true, false, List, [], ◌∷◌, ◌++◌, Option, Some, None, is_some, Result, Ok, Err, refl, ap, sym, ◌∙◌, subst}
 use Rattle.mq_core.specs.Record.{Record, Past}
 use Rattle.mq_core.specs.Answer.{Appends, answer}
 use Rattle.mq_core.specs.Waits.{is_wait}
@@ -12,6 +12,9 @@ use Rattle.mq_core.specs.declared.entries.Reply.{Reply}
 use Rattle.mq_core.specs.declared.entries.Reply.TheVariants.{Opened, Queued, Handed, Waits, Got, Collected, Attrs, Notice, Done, Refused}
 use Rattle.mq_core.specs.declared.faults.Fault.{Fault}
 use Rattle.mq_core.specs.declared.faults.Fault.TheVariants.{Again, BadDescriptor, Busy, Exists, Invalid, TooManyOpen, MessageSize, NameTooLong, NoEntry, NoSpace, NoMemory}
+use Rattle.mq_core.specs.declared.entries.Received.{Received}
+use Rattle.mq_state.specs.Buffers.{received_at}
+use Rattle.mq.specs.Says.{start_send_says, start_receive_says}
 use Rattle.mq.specs.Calls.{recorded, made, is_no_memory}
 use Rattle.mq.specs.Asked.{may_reply, is_opened, is_done, is_attributes, is_notice, is_sent, is_received, is_collected, is_plain, is_of_name}
 
@@ -88,7 +91,7 @@ may-answer past p (MqNotify d value) given = done _ (answer_says past p (MqNotif
 may-answer past p NextNotice given = refl
 may-answer past p Collect given = refl
 
-no-memory : (reply : Reply) → is_no_memory reply ≡ true → reply ≡ Refused NoMemory
+pub no-memory : (reply : Reply) → is_no_memory reply ≡ true → reply ≡ Refused NoMemory
 no-memory (Refused NoMemory) e = refl
 no-memory (Refused Again) e = absurd (cc)
 no-memory (Refused BadDescriptor) e = absurd (cc)
@@ -110,7 +113,7 @@ no-memory (Attrs s) e = absurd (cc)
 no-memory (Notice v) e = absurd (cc)
 no-memory Done e = absurd (cc)
 
-some-memory : (reply : Reply) → is_no_memory reply ≡ false → reply ≢ Refused NoMemory
+pub some-memory : (reply : Reply) → is_no_memory reply ≡ false → reply ≢ Refused NoMemory
 some-memory reply e same = let bad : is_no_memory reply ≡ true = rw same refl in let clash : true ≡ false = sym bad ∙ e in absurd (cc)
 
 -- what a call on the books leaves: its record, or nothing for want of memory
@@ -200,3 +203,53 @@ named-answered NextNotice reply named may = absurd (cc)
 named-answered (MqSend d prio len) reply named may = absurd (cc)
 named-answered (MqReceive d room) reply named may = absurd (cc)
 named-answered Collect reply named may = absurd (cc)
+
+-- a send waits where its result says so, and there alone
+pub send-waits : (reply : Reply) (result : Result Bool Fault) → start_send_says reply ≡ Some result → result ≡ Ok false → reply ≡ Waits
+send-waits Waits result says is = refl
+send-waits (Queued n) result says is = absurd (let bad : Some (Ok true) ≡ Some (Ok false) = says ∙ ap (λ (r : Result Bool Fault). Some r) is in cc)
+send-waits (Handed w) result says is = absurd (let bad : Some (Ok true) ≡ Some (Ok false) = says ∙ ap (λ (r : Result Bool Fault). Some r) is in cc)
+send-waits (Refused f) result says is = absurd (let bad : Some (Err f) ≡ Some (Ok false) = says ∙ ap (λ (r : Result Bool Fault). Some r) is in cc)
+send-waits (Opened d c) result says is = absurd (cc)
+send-waits (Got m a n) result says is = absurd (cc)
+send-waits (Collected by) result says is = absurd (cc)
+send-waits (Attrs s) result says is = absurd (cc)
+send-waits (Notice v) result says is = absurd (cc)
+send-waits Done result says is = absurd (cc)
+
+pub send-answered : (reply : Reply) (result : Result Bool Fault) → start_send_says reply ≡ Some result → result ≢ Ok false → is_wait reply ≡ false
+send-answered Waits result says other = absurd (other (let same : Ok false ≡ result = cc in sym same))
+send-answered (Queued n) result says other = refl
+send-answered (Handed w) result says other = refl
+send-answered (Refused f) result says other = refl
+send-answered (Opened d c) result says other = refl
+send-answered (Got m a n) result says other = refl
+send-answered (Collected by) result says other = refl
+send-answered (Attrs s) result says other = refl
+send-answered (Notice v) result says other = refl
+send-answered Done result says other = refl
+
+-- and a receive
+pub receive-waits : (past : Past) (reply : Reply) (result : Result (Option Received) Fault) → start_receive_says past reply ≡ Some result → result ≡ Ok None → reply ≡ Waits
+receive-waits past Waits result says is = refl
+receive-waits past (Got m a n) result says is = absurd (let bad : Some (Ok (Some (received_at past m))) ≡ Some (Ok None) = says ∙ ap (λ (r : Result (Option Received) Fault). Some r) is in cc)
+receive-waits past (Refused f) result says is = absurd (let bad : Some (Err f) ≡ Some (Ok None) = says ∙ ap (λ (r : Result (Option Received) Fault). Some r) is in cc)
+receive-waits past (Queued n) result says is = absurd (cc)
+receive-waits past (Handed w) result says is = absurd (cc)
+receive-waits past (Opened d c) result says is = absurd (cc)
+receive-waits past (Collected by) result says is = absurd (cc)
+receive-waits past (Attrs s) result says is = absurd (cc)
+receive-waits past (Notice v) result says is = absurd (cc)
+receive-waits past Done result says is = absurd (cc)
+
+pub receive-answered : (past : Past) (reply : Reply) (result : Result (Option Received) Fault) → start_receive_says past reply ≡ Some result → result ≢ Ok None → is_wait reply ≡ false
+receive-answered past Waits result says other = absurd (other (let same : Ok None ≡ result = cc in sym same))
+receive-answered past (Got m a n) result says other = refl
+receive-answered past (Refused f) result says other = refl
+receive-answered past (Queued n) result says other = refl
+receive-answered past (Handed w) result says other = refl
+receive-answered past (Opened d c) result says other = refl
+receive-answered past (Collected by) result says other = refl
+receive-answered past (Attrs s) result says other = refl
+receive-answered past (Notice v) result says other = refl
+receive-answered past Done result says other = refl

@@ -74,6 +74,7 @@ pub record Collects (old new : Ticket Record) (result : Outcome) (before after :
   pub by : ℕ
   pub added : new.left ≡ recorded old.number Collect [] (Collected by) ∷ found
   pub answered : answered_by found old.number ≡ Some by
+  pub call : waiting_call found old.number ≡ waiting_call old.left old.number
   pub calls : Calls old new (recorded old.number Collect [] (Collected by) ∷ [])
   pub value : collected found old.number ≡ Some result
   pub buffer : after ≡ collected_into found old.number before

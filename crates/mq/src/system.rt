@@ -72,12 +72,12 @@ impl<L: Lock<Guarded>> Mq<L> {
     /// Takes no memory, and never waits. Open waits are allowed.
     pub fn finish(self, processes: Vec<Process<L>>) -> Result<Journal, Missing<Mq<L>, Process<L>>>
         requires { All (λ p. p.lock ≡ self) processes.items }
-        ensures all { (self.count ≤ length processes.items) ↔ IsOk result }
+        ensures all { (vec_len processes ≡ self.count) ↔ IsOk result }
         ensures legal { IfOk result (λ journal. Legal journal.records) }
         ensures grows { IfOk result (λ journal. All (λ p. Grows owner p.number p.left journal.records []) processes.items) }
         ensures back { IfErr result (λ m. (m.whole ≡ self) × (m.parts ≡ processes)) }
     {
-        if processes.len() < self.n as usize {
+        if processes.len() != self.n as usize {
             return Err(Missing {
                 whole: self,
                 parts: processes,

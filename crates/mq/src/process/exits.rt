@@ -1,9 +1,11 @@
 //! The end of a process.
-ghost use Rattle.std.specs.Prelude.{◌≡◌, ◌≤◌, None, OnOk, IfErr};
+ghost use Rattle.std.specs.Prelude.{◌≡◌, ◌≤◌, ◌∷◌, [], Some, None, OnOk, IfOk, IfErr};
 ghost use Rattle.mq_core.specs.Waits.{open_wait};
 ghost use Rattle.mq_core.specs.Descriptors.{lowest_held};
 ghost use Rattle.mq_core.specs.declared.faults.Fault.TheVariants.{NoMemory};
-ghost use Rattle.mq.specs.Calls.{Closing};
+ghost use Rattle.mq_core.specs.declared.entries.Call.{Call};
+ghost use Rattle.mq_core.specs.declared.entries.Reply.{Reply};
+ghost use Rattle.mq.specs.Calls.{Closing, recorded};
 
 use super::Process;
 use crate::guarded::Guarded;
@@ -18,6 +20,22 @@ use std::sync::Wait;
 // The number of descriptors that a process may hold.
 const DESCRIPTORS: u32 = 16;
 
+// Closes the lowest descriptor of process p.
+fn close_lowest(books: &mut Books, p: u32, d: u32) -> Result<(), Fault>
+    requires process { (1 ≤ p) × (p ≤ books.old.n) }
+    requires no_wait { open_wait books.old.records p ≡ None }
+    requires lowest { lowest_held books.old.records p ≡ Some d }
+    ensures ok { IfOk result (λ _. books.new.records ≡ recorded p (Call.MqClose d) [] Reply.Done ∷ books.old.records) }
+    ensures err { IfErr result (λ e. (e ≡ NoMemory) × (books.new.records ≡ books.old.records)) }
+    ensures processes { books.new.n ≡ books.old.n }
+{
+    match books.close(p, d) {
+        Reply::Done => Ok(()),
+        Reply::Refused(fault) => Err(fault),
+        _ => unreachable!(),
+    }
+}
+
 // Closes all descriptors of process p in rising order, until a growth is refused.
 fn close_all(books: &mut Books, p: u32) -> Result<(), Fault>
     requires process { (1 ≤ p) × (p ≤ books.old.n) }
@@ -30,11 +48,7 @@ fn close_all(books: &mut Books, p: u32) -> Result<(), Fault>
 {
     'descriptors: for d in 0..DESCRIPTORS {
         if books.lowest_open(p) == Some(d) {
-            match books.close(p, d) {
-                Reply::Done => {}
-                Reply::Refused(fault) => return Err(fault),
-                _ => unreachable!(),
-            }
+            close_lowest(books, p, d)?;
         }
     }
     Ok(())

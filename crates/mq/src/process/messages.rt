@@ -1,7 +1,7 @@
 //! Sending and receiving, which may wait.
 ghost use Rattle.std.specs.Prelude.{◌≡◌, true, Some};
-ghost use Rattle.mq.specs.Asked.{is_received};
-ghost use Rattle.mq.specs.Says.{start_receive_says};
+ghost use Rattle.mq.specs.Asked.{is_sent, is_received};
+ghost use Rattle.mq.specs.Says.{start_send_says, start_receive_says};
 ghost use Rattle.mq.specs.Calls.{wait_begun};
 
 use super::Process;
@@ -44,12 +44,7 @@ impl<L: Lock<Guarded>> Process<L> {
         let reply = state.books.send(process, d, bytes, prio);
         depart(mq, &mut self.seat, inside, state);
         self.waits = wait_begun(reply, 0);
-        match reply {
-            Reply::Queued { .. } | Reply::Handed { .. } => Ok(true),
-            Reply::Waits => Ok(false),
-            Reply::Refused(fault) => Err(fault),
-            _ => unreachable!(),
-        }
+        accepted(reply)
     }
 
     /// Receives the oldest message of the highest priority into the front of the buffer, or begins to wait for one: `None`, and
@@ -67,11 +62,12 @@ impl<L: Lock<Guarded>> Process<L> {
         ensures waits { result ≡ Ok None → WaitsIn self.new (Call.MqReceive d (length buf.old)) }
         ensures free { result ≢ Ok None → IsFree self.new }
     {
+        let room = buf.len();
         let (process, inside, mut state) = come(rt, mq, &mut self.seat);
         let reply = state.books.receive(process, d, buf);
         let got = message_got(&state, reply);
         depart(mq, &mut self.seat, inside, state);
-        self.waits = wait_begun(reply, buf.len());
+        self.waits = wait_begun(reply, room);
         got
     }
 
@@ -174,6 +170,20 @@ fn wait_begun(reply: Reply, room: usize) -> Option<usize>
     match reply {
         Reply::Waits => Some(room),
         _ => None,
+    }
+}
+
+// What a send with this reply gives.
+fn accepted(reply: Reply) -> Result<bool, Fault>
+    requires { is_sent reply ≡ true }
+    ensures { start_send_says reply ≡ Some result }
+{
+    match reply {
+        Reply::Queued { .. } => Ok(true),
+        Reply::Handed { .. } => Ok(true),
+        Reply::Waits => Ok(false),
+        Reply::Refused(fault) => Err(fault),
+        _ => unreachable!(),
     }
 }
 

@@ -1,0 +1,150 @@
+-- What a collect leaves, and what a call leaves that waited.
+use Rattle.std.proofs.Common.{◌≡◌, ◌≤◌, ◌<◌, ◌↔◌, ℕ, ◌==◌, Bool, true, false, List, [], ◌∷◌, ◌++◌, length, Option, Some, None, is_some, IsSome, IfSome, Ok, inr, refl, ap, sym, ◌∙◌, subst, eq-eqb}
+use Rattle.std.specs.List.{All}
+use Rattle.std.specs.Option.{option_map}
+use Rattle.std.proofs.lemmas.List.Elements.{All-nil, All-cons}
+use Rattle.mq_core.specs.Record.{Record, Past}
+use Rattle.mq_core.specs.Waits.{open_wait, answered_by, is_answered}
+use Rattle.mq_core.specs.Answer.{Legal, Appends}
+use Rattle.mq_core.specs.declared.entries.Received.{Received}
+use Rattle.mq_core.specs.declared.entries.Call.{Call}
+use Rattle.mq_core.specs.declared.entries.Call.TheVariants.{MqSend, MqReceive, Collect}
+use Rattle.mq_core.specs.declared.entries.Reply.{Reply}
+use Rattle.mq_core.specs.declared.entries.Reply.TheVariants.{Waits, Collected}
+use Rattle.mq_state.specs.Kept.{Kept}
+use Rattle.mq_state.specs.Buffers.{waiting_call, waiting_room, room_of, collected, collected_by, collected_into, received_at, message_at, with_front}
+use Rattle.mq_state.specs.declared.collected.Collected.{Collected as Outcome}
+use Rattle.fast_mutex.specs.Items.{LockId, Ticket, Grows, GrowsBy}
+use Rattle.mq_state.specs.declared.collected.Collected.TheVariants.{Got as GotMessage}
+use Rattle.mq.specs.Says.{start_send_says, start_receive_says}
+use Rattle.mq.specs.Calls.{owner, recorded, Calls, Came, Collects, StillWaits, Waited, OneCall, ReceiveCall, SendCall, WholeReceive}
+use Rattle.mq.proofs.Replies.{send-waits, receive-waits}
+use Rattle.mq.proofs.Messages.{message-kept, received-kept}
+use Rattle.mq.proofs.Growing.{own-recorded, calls-on}
+use Rattle.mq.proofs.Calling.{came-wait, came-room, came-call, came-calls, came-grows_by, same-number, free-room}
+
+pub room-waits : (past : Past) (p : ℕ) → IsSome (waiting_room past p) → IsSome (open_wait past p)
+room-waits past p some = by (open_wait past p) refl
+  where
+    by : (o : Option ℕ) → open_wait past p ≡ o → IsSome (open_wait past p)
+    by (Some w) is = rw is refl
+    by None is = absurd (let none = free-room past p is in let bad : false ≡ true = rw none at some in cc)
+
+pub room-fits : (past : Past) (p len : ℕ) → IsSome (waiting_room past p) → IfSome (waiting_room past p) (λ room. room ≤ len) → room_of (waiting_call past p) ≤ len
+room-fits past p len some fits = by (open_wait past p) refl
+  where
+    by : (o : Option ℕ) → open_wait past p ≡ o → room_of (waiting_call past p) ≤ len
+    by None is = absurd (let none = free-room past p is in let bad : false ≡ true = rw none at some in cc)
+    by (Some w) is =
+        let room : waiting_room past p ≡ Some (room_of (waiting_call past p)) = ap (λ (o : Option ℕ). option_map (λ (w : ℕ). room_of (waiting_call past p)) o) is in
+        subst (λ (o : Option ℕ). IfSome o (λ room. room ≤ len)) room fits
+
+-- what a collect on the books adds
+pub record Adds (found new : Past) (p : ℕ) : Type 0 where
+  pub added : Past
+  pub is : new ≡ added ++ found
+  pub mine : All (λ x. owner x ≡ p) added
+
+pub collect-adds : (found new : Past) (p : ℕ) (result : Option Outcome) → (IsSome result ↔ IsSome (answered_by found p)) → IfSome (answered_by found p) (λ by. Appends found new p Collect [] (Collected by)) → (result ≡ None → new ≡ found) → Adds found new p
+collect-adds found new p result some entry none = by (answered_by found p) refl result refl
+  where
+    by : (o : Option ℕ) → answered_by found p ≡ o → (r : Option Outcome) → result ≡ r → Adds found new p
+    by o is None nothing = record { added = []; is = none nothing; mine = All-nil (λ x. owner x ≡ p) }
+    by (Some b) is (Some r) there =
+        let appends : Appends found new p Collect [] (Collected b) = subst (λ (o : Option ℕ). IfSome o (λ by. Appends found new p Collect [] (Collected by))) is entry in
+        record { added = recorded p Collect [] (Collected b) ∷ []; is = appends.records; mine = All-cons (λ x. owner x ≡ p) (recorded p Collect [] (Collected b)) [] refl (All-nil (λ x. owner x ≡ p)) }
+    by None is (Some r) there = absurd (let given : IsSome result = rw there refl in let yes = some.0 given in let bad : false ≡ true = rw is at yes in cc)
+
+-- where it gives something, the wait was answered
+pub record Answered (found new : Past) (p : ℕ) : Type 0 where
+  pub by : ℕ
+  pub answered : answered_by found p ≡ Some by
+  pub added : new ≡ recorded p Collect [] (Collected by) ∷ found
+
+pub collect-answered : (found new : Past) (p : ℕ) (result : Option Outcome) (value : Outcome) → (IsSome result ↔ IsSome (answered_by found p)) → IfSome (answered_by found p) (λ by. Appends found new p Collect [] (Collected by)) → result ≡ Some value → Answered found new p
+collect-answered found new p result value some entry there = by (answered_by found p) refl
+  where
+    by : (o : Option ℕ) → answered_by found p ≡ o → Answered found new p
+    by (Some b) is =
+        let appends : Appends found new p Collect [] (Collected b) = subst (λ (o : Option ℕ). IfSome o (λ by. Appends found new p Collect [] (Collected by))) is entry in
+        record { by = b; answered = is; added = appends.records }
+    by None is = absurd (let given : IsSome result = rw there refl in let yes = some.0 given in let bad : false ≡ true = rw is at yes in cc)
+
+-- where it gives nothing, the wait was not
+pub collect-unanswered : (found : Past) (p : ℕ) (result : Option Outcome) → (IsSome result ↔ IsSome (answered_by found p)) → result ≡ None → is_answered found p ≡ false
+collect-unanswered found p result some none = by (answered_by found p) refl
+  where
+    by : (o : Option ℕ) → answered_by found p ≡ o → is_answered found p ≡ false
+    by None is = rw is refl
+    by (Some b) is = absurd (let yes : IsSome (answered_by found p) = rw is refl in let given = some.1 yes in let bad : false ≡ true = rw none at given in cc)
+
+module _ {old stay : Ticket Record} {system : LockId} {books : Kept} {p : ℕ} where
+  pub came-collects : {records : Past} {result : Outcome} {before after : List ℕ} → Came old system stay books p → old.lock ≡ system → Answered books.records records p
+      → Some result ≡ collected books.records p → after ≡ collected_into books.records p before → Legal records
+      → Collects old (record { lock = system; number = stay.number; left = records; told = false }) result before after
+  came-collects {records} c lock a value buffer legal = record {
+    found = books.records;
+    by = a.by;
+    added = rw (sym c.process) a.added;
+    answered = rw (sym c.process) a.answered;
+    call = ap (λ (n : ℕ). waiting_call books.records n) (sym c.process) ∙ came-call c;
+    calls = came-calls (λ q. recorded q Collect [] (Collected a.by) ∷ []) c lock a.added (own-recorded p Collect [] (Collected a.by)) legal;
+    value = rw (sym c.process) (sym value);
+    buffer = rw (sym c.process) buffer;
+  }
+
+  pub came-still : {records : Past} → Came old system stay books p → old.lock ≡ system → records ≡ books.records → is_answered books.records p ≡ false → Legal records
+      → StillWaits old (record { lock = system; number = stay.number; left = records; told = false })
+  came-still {records} c lock same unanswered legal = record {
+    calls = came-calls (λ q. []) c lock same refl legal;
+    wait = rw (same, same-number c) (came-room c);
+    call = rw (same, same-number c) (came-call c);
+    unanswered = rw (same, same-number c) unanswered;
+  }
+
+pub collected-free : (found : Past) (p by : ℕ) → open_wait (recorded p Collect [] (Collected by) ∷ found) p ≡ None
+collected-free found p by = rw (eq-eqb p p refl) refl
+
+-- a collect after stays that added nothing
+pub collects-later : {old mid new : Ticket Record} {result : Outcome} {before after : List ℕ} → Calls old mid [] → waiting_call mid.left mid.number ≡ waiting_call old.left old.number → Collects mid new result before after → Collects old new result before after
+collects-later {old} {mid} {new} {result} {before} {after} first same c = record {
+  found = c.found;
+  by = c.by;
+  added = rw first.number at c.added;
+  answered = rw first.number at c.answered;
+  call = ap (λ (n : ℕ). waiting_call c.found n) (sym first.number) ∙ c.call ∙ same;
+  calls = calls-on (λ n. recorded n Collect [] (Collected c.by) ∷ []) first c.calls;
+  value = rw first.number at c.value;
+  buffer = rw first.number at c.buffer;
+}
+
+-- a wait and then its collect
+pub waited : {old mid new : Ticket Record} {result : Outcome} {before after : List ℕ} (call : Call) (given : List ℕ) → Calls old mid (recorded old.number call given Waits ∷ []) → (c : Collects mid new result before after) → Waited old new call given c.by
+waited call given first c = record { calls = calls-on (λ n. recorded n Collect [] (Collected c.by) ∷ []) first c.calls }
+
+-- a send waits where its start says so
+pub send-waited : {old mid new : Ticket Record} {outcome : Outcome} {before after : List ℕ} {d prio : ℕ} {bytes : List ℕ} → OneCall start_send_says old mid (MqSend d prio (length bytes)) bytes (Ok false) → Collects mid new outcome before after → SendCall old new d bytes prio (Ok tt)
+send-waited {old} {mid} {new} {outcome} {before} {after} {d} {prio} {bytes} start c =
+    let waits : start.reply ≡ Waits = send-waits start.reply (Ok false) start.says_so refl in
+    let first : Calls old mid (recorded old.number (MqSend d prio (length bytes)) bytes Waits ∷ []) = rw waits at start.calls in
+    inr (record { by = c.by; waited = waited (MqSend d prio (length bytes)) bytes first c; is = refl })
+
+-- and a receive: then the message is that of the send that answered it
+pub receive-waited : {old mid new : Ticket Record} {received : Received} {before between after : List ℕ} {d : ℕ} → ReceiveCall start_receive_says old mid d before between (Ok None)
+    → waiting_call mid.left mid.number ≡ MqReceive d (length before) → Collects mid new (GotMessage received) between after → WholeReceive old new d before after (Ok received)
+receive-waited {old} {mid} {new} {received} {before} {between} {after} {d} start called c =
+    let waits : start.reply ≡ Waits = receive-waits mid.left start.reply (Ok None) start.says_so refl in
+    let first : Calls old mid (recorded old.number (MqReceive d (length before)) [] Waits ∷ []) = rw waits at start.calls in
+    let call : waiting_call c.found mid.number ≡ MqReceive d (length before) = c.call ∙ called in
+    let value : Some (GotMessage (received_at c.found c.by)) ≡ Some (GotMessage received) = rw (call, c.answered) at c.value in
+    let same : received_at c.found c.by ≡ received = cc in
+    let untouched : between ≡ before = rw waits at start.buffer in
+    let filled_is : after ≡ with_front (message_at c.found c.by) between = rw (call, c.answered) at c.buffer in
+    let kept = received-kept c.found (recorded mid.number Collect [] (Collected c.by)) c.by refl refl in
+    let message = message-kept c.found (recorded mid.number Collect [] (Collected c.by)) c.by refl in
+    inr (record {
+      by = c.by;
+      waited = waited (MqReceive d (length before)) [] first c;
+      is = ap (λ (r : Received). Ok r) (rw c.added (sym same ∙ sym kept));
+      buffer = rw (c.added, message, sym untouched) filled_is;
+    })

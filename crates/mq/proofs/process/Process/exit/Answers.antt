@@ -1,0 +1,24 @@
+use Rattle.std.proofs.Common.{◌∙◌, sym}
+use Rattle.mq.specs.Calls.{closes}
+use Rattle.mq.proofs.Calling.{came-free, came-calls, came-grows_by, same-number}
+use Rattle.mq.proofs.Closings.{own-closes, all-closes}
+use Rattle.mq.proofs.process.Process.exit.Goals as goal
+
+pub close_all-done-requires-clause-no_wait : goal.close_all-done-requires-clause-no_wait
+close_all-done-requires-clause-no_wait g c = came-free (rw c.self.view_is at c.come-process.ensures) c.requires.free
+
+pub depart-requires-clause-grows : goal.depart-requires-clause-grows
+depart-requires-clause-grows g c =
+    came-grows_by (closes c.come-process.result.0 c.close_all-done.ensures.closing.ds) (rw c.self.view_is at c.come-process.ensures) c.close_all-done.ensures.closing.is (all-closes c.come-process.result.0 c.close_all-done.ensures.closing.ds)
+
+pub returns-clause-call : goal.returns-clause-call
+returns-clause-call g c =
+    let came = rw c.self.view_is at c.come-process.ensures in
+    let closing = c.close_all-done.ensures.closing in
+    rw c.depart.ensures.left (record {
+      found = c.come-process.result.2.books.records;
+      closing = record { ds = closing.ds; is = rw came.process at closing.is; lowest = rw came.process at closing.lowest };
+      calls = came-calls (λ q. closes q closing.ds) came c.requires.made closing.is (own-closes c.come-process.result.0 closing.ds) c.depart.ensures.legal;
+      ok = rw (same-number came) c.close_all-done.ensures.ok;
+      err = c.close_all-done.ensures.err;
+    })

@@ -1,0 +1,29 @@
+use Rattle.std.proofs.Common.{◌≡◌, ◌∙◌, None, arith}
+use Rattle.mq_core.specs.Waits.{open_wait}
+use Rattle.mq.proofs.Closings.{from-next, from-closed, from-end, closing-more, closed-free, lowest-is, lowest-is_not}
+use Rattle.mq.proofs.process.exits.close_all.Goals as goal
+use Rattle.mq.proofs.process.exits.close_all.Goals.{then-eq+in_ok-close_lowest, else-eq}
+
+pub close_lowest-requires-clause-lowest : goal.close_lowest-requires-clause-lowest
+close_lowest-requires-clause-lowest c = lowest-is c.descriptors.books.records c.args.p c.descriptors.d c.lowest_open.result c.lowest_open.ensures c.if-eq.ensures
+
+pub descriptors-preserved : goal.descriptors-preserved
+descriptors-preserved c = elim c.if-eq.branch [
+    then-eq+in_ok-close_lowest w ↦
+      let lowest = lowest-is c.descriptors.books.records c.args.p c.descriptors.d c.lowest_open.result c.lowest_open.ensures w.if-eq.ensures in
+      rw w.books-is (record {
+        n = w.close_lowest.ensures.processes ∙ c.descriptors.invariant.n;
+        free = rw w.in_ok-close_lowest.ensures.ok (closed-free c.descriptors.books.records c.args.p c.descriptors.d);
+        closing = closing-more c.descriptors.invariant.closing lowest w.in_ok-close_lowest.ensures.ok;
+        from = rw w.in_ok-close_lowest.ensures.ok (from-closed c.descriptors.books.records c.args.p c.descriptors.d lowest);
+      })
+  | else-eq w ↦
+      rw w.books-is (record {
+        n = c.descriptors.invariant.n;
+        free = c.descriptors.invariant.free;
+        closing = c.descriptors.invariant.closing;
+        from = from-next c.descriptors.books.records c.args.p c.descriptors.d c.descriptors.invariant.from (lowest-is_not c.descriptors.books.records c.args.p c.descriptors.d c.lowest_open.result c.lowest_open.ensures w.if-eq.ensures);
+      }) ]
+
+pub returns-clause-ok : goal.returns-clause-ok
+returns-clause-ok c = from-end c.descriptors.books.records c.args.p (λ e is. let le = c.descriptors.invariant.from e is in omega (arith, le, c.descriptors-test.false))
