@@ -1,16 +1,16 @@
 -- The tables of the empty journal.
-use Rattle.std.proofs.Common.{◌≡◌, ℕ, zero, suc, ◌+◌, ◌<◌, List, [], ◌∷◌, length, replicate, Option, Some, None, refl, sym, ◌∙◌, ap, arith}
+use Rattle.std.proofs.Common.{◌≡◌, ℕ, zero, suc, ◌+◌, List, [], length, replicate, Option, Some, None, refl, sym, ◌∙◌, ap, arith}
 use Rattle.std.specs.Prelude.{slice_get}
 use Rattle.std.specs.Option.{option_map, option_and_then, unwrap_or}
 use Rattle.std.proofs.lemmas.List.Folds.{sum_by-replicate}
-use Rattle.mq_core.specs.Owners.{held_in, wait_in, answer_in, waits_count, free_owner, slot_of, OwnersMirror}
+use Rattle.mq_core.specs.Owners.{held_in, wait_in, answer_in, waits_count, free_owner, slot_of}
 use Rattle.mq_core.specs.declared.entries.Description.{Description}
 use Rattle.mq_core.specs.declared.owners.OpenWait.{OpenWait}
 use Rattle.mq_core.specs.declared.owners.Owner.{Owner}
 use Rattle.mq_state.specs.QueueShown.{QueueShown}
 use Rattle.mq_state.specs.InboxShown.{InboxShown}
 use Rattle.mq_state.specs.Inboxes.{notices_in}
-use Rattle.mq_state.specs.Queues.{queue_in, QueuesMirror}
+use Rattle.mq_state.specs.Queues.{queue_in}
 use Rattle.mq_state.specs.Tables.{TablesMirror}
 
 none-there : (m d : ℕ) → unwrap_or (slice_get (replicate {A = Option Description} m None) d) None ≡ None
