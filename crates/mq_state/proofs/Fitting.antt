@@ -23,11 +23,13 @@ use Rattle.mq_core.proofs.Presence.{sent_to, present-admitted}
 use Rattle.mq_core.proofs.NamedWaits.{least-in}
 use Rattle.mq_core.proofs.Waiters.{open_wait-process}
 use Rattle.mq_core.proofs.Prefixes.{record_at-below}
+use Rattle.mq_core.proofs.PresentFew.{attributes-older}
+use Rattle.mq_core.proofs.SentMessages.{called-alive}
 use Rattle.mq_state.specs.Buffers.{message_at, Fits}
 use Rattle.mq_core.specs.declared.entries.Attr.{Attr}
 use Rattle.mq_core.specs.declared.entries.Description.{Description}
 use Rattle.mq_state.proofs.QueuesNoted.{sent_to-below}
-use Rattle.mq_state.proofs.QueuesKeep.{called-alive, alive-below, attributes-older}
+use Rattle.mq_state.proofs.QueuesKeep.{alive-below}
 
 -- a send to queue q that was not refused
 pub record IsSentTo (past : Past) (q m : ℕ) : Type 0 where

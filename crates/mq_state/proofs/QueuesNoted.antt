@@ -31,11 +31,13 @@ use Rattle.mq_core.proofs.Waiters.{in-filter}
 use Rattle.mq_core.proofs.Presence.{without-fewer, sent_to, admitted-to, present-admitted}
 use Rattle.mq_core.proofs.Alive.{is_needed, is_held-table, named-same, named-created, named-newest, named-unlinked, bound-named, alive-same_queues, alive-opened, alive-new, alive-closed, alive-unlinked}
 use Rattle.mq_core.proofs.Steps.{without}
+use Rattle.mq_core.proofs.PresentFew.{attributes-older}
+use Rattle.mq_core.proofs.SentMessages.{called-alive}
 use Rattle.mq_state.specs.SlotOrder.{without as without_place}
 use Rattle.mq_state.specs.QueueShown.{QueueShown}
 use Rattle.mq_state.specs.Queues.{queue_in, is_named_in, changed, without_queue, renewed, HasRoom, reregistered, may_free, noted_queues, fresh, slots_of, LineMirror, QueuesMirror}
 use Rattle.mq_state.proofs.QueueLines.{queue_in-changed, places-changed, queue_in-map, places-map, queue_in-place, inside-queue_in, queue_in-without, places-without, queue_in-push, places-push}
-use Rattle.mq_state.proofs.QueuesKeep.{rec, alive-below, in-reverse, line-alive, called-alive, attributes-older, EntryOn, registration-on, renewed-registration, renewed-place, int-room, total, renewed-total, line_after, presence, same-slots, slots_of-without, length-slots_of}
+use Rattle.mq_state.proofs.QueuesKeep.{rec, alive-below, in-reverse, line-alive, EntryOn, registration-on, renewed-registration, renewed-place, int-room, total, renewed-total, line_after, presence, same-slots, slots_of-without, length-slots_of}
 
 renewed-named : (here : ℕ) (call : Call) (reply : Reply) (prio : ℕ) (x : QueueShown) → unlinks call reply ≡ false → (renewed here call reply prio x).named ≡ x.named
 renewed-named here MqUnlink Done prio x e = absurd (let bad : true ≡ false = e in cc)

@@ -25,13 +25,14 @@ use Rattle.mq_core.proofs.OpenReplies.{opened-says}
 use Rattle.mq_core.proofs.OwnersKeep.{EntryQueue, noted-keeps}
 use Rattle.mq_core.proofs.Presence.{GotFacts}
 use Rattle.mq_core.proofs.NoticeSteps.{notices-same, notices-notified, notices-given}
+use Rattle.mq_core.proofs.SentMessages.{called-alive}
 use Rattle.mq_state.specs.Slots.{Slots}
 use Rattle.mq_state.specs.QueueShown.{QueueShown}
 use Rattle.mq_state.specs.InboxShown.{InboxShown}
 use Rattle.mq_state.specs.Inboxes.{notices_in}
 use Rattle.mq_state.specs.Queues.{registration_in, noted_queues, fresh, QueuesMirror}
 use Rattle.mq_state.specs.Tables.{TablesMirror, entry_queue, admitted_priority, IsFresh, BringsOrder, notified_values, noted_values, with_fresh}
-use Rattle.mq_state.proofs.QueuesKeep.{rec, DoneOn, GotOn, EntryOn, called-alive}
+use Rattle.mq_state.proofs.QueuesKeep.{rec, DoneOn, GotOn, EntryOn}
 use Rattle.mq_state.proofs.QueuesNoted.{HasRoomIn, noted-queues-keeps, noted-queues-creates}
 use Rattle.mq_state.proofs.Reading.{registration-read}
 
