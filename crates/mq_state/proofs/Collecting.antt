@@ -1,5 +1,5 @@
 -- The message that a collect gives fits its buffer.
-use Rattle.std.proofs.Common.{◌≡◌, ℕ, ◌≤◌, List, length, Option, Some, None, refl, ◌∙◌, sym, ap, subst, arith}
+use Rattle.std.proofs.Common.{◌≡◌, ℕ, ◌≤◌, Option, Some, None, refl, ◌∙◌, sym, ap, arith}
 use Rattle.std.specs.Option.{option_map, option_and_then, unwrap_or}
 use Rattle.mq_core.specs.Record.{Record, Past, record_at}
 use Rattle.mq_core.specs.Waits.{open_wait, answered_by}
@@ -7,7 +7,7 @@ use Rattle.mq_core.specs.Answer.{Legal}
 use Rattle.mq_core.specs.declared.entries.Call.{Call}
 use Rattle.mq_core.specs.declared.entries.Call.TheVariants.{MqOpen, MqClose, MqUnlink, MqSend, MqReceive, MqGetattr, MqSetattr, MqNotify, NextNotice, Collect}
 use Rattle.mq_core.proofs.Waiters.{open_wait-process}
-use Rattle.mq_state.specs.Buffers.{message_at, waiting_call, room_of, FitsOutcome}
+use Rattle.mq_state.specs.Buffers.{waiting_call, room_of, FitsOutcome}
 use Rattle.mq_state.proofs.Fitting.{handed-fits}
 use Rattle.mq_state.proofs.WaitsNoted.{answered-waits}
 

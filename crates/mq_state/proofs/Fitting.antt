@@ -1,15 +1,14 @@
 -- A message that was accepted fits the buffers of its queue.
-use Rattle.std.proofs.Common.{◌≡◌, ◌≢◌, ℕ, suc, ◌+◌, ◌<◌, ◌≤◌, ◌==◌, Bool, true, false, ◌&&◌, ◌||◌, not, List, [], ◌∷◌, length, Option, Some, None, is_some, if◌then◌else◌, refl, sym, ◌∙◌, ap, subst, arith, eqb-true, eq-eqb, ne_eqb, ◌⊎◌, inl, inr}
+use Rattle.std.proofs.Common.{◌≡◌, ℕ, ◌<◌, ◌≤◌, ◌==◌, true, false, ◌&&◌, ◌||◌, not, List, [], ◌∷◌, length, Option, Some, None, if◌then◌else◌, refl, sym, ◌∙◌, ap, subst, arith, eqb-true, eq-eqb, ne_eqb}
 use Rattle.std.specs.Prelude.{ℤ, int_lt, pos, negsuc}
-use Rattle.std.specs.List.{find}
-use Rattle.std.specs.Option.{option_map, option_and_then, unwrap_or}
-use Rattle.std.proofs.lemmas.Bool.{eqb-false, and_parts}
+use Rattle.std.specs.Option.{option_map, unwrap_or}
+use Rattle.std.proofs.lemmas.Bool.{and_parts}
 use Rattle.std.proofs.lemmas.Bool.Decides.{nat_tests}
 use Rattle.mq_core.specs.Record.{Record, Past, record_at}
 use Rattle.mq_core.specs.Names.{attributes}
 use Rattle.mq_core.specs.Descriptors.{held, called_queue, is_place, is_on}
-use Rattle.mq_core.specs.Messages.{is_in, is_send, is_receive, with_place, if_in, queues, admits, blocks_send, blocks_receive, blocked_sends, blocked_receives, waiting_sends, waiting_receives, admitted_waits, handed_waits, entered, admitted, present, best, least}
-use Rattle.mq_core.specs.Waits.{is_wait, open_wait, named_wait, names_wait, answered_by}
+use Rattle.mq_core.specs.Messages.{is_in, is_send, is_receive, with_place, if_in, queues, admits, blocks_send, blocks_receive, blocked_sends, blocked_receives, waiting_sends, waiting_receives, admitted_waits, handed_waits, entered, admitted, present}
+use Rattle.mq_core.specs.Waits.{open_wait, names_wait, answered_by}
 use Rattle.mq_core.specs.Answer.{Legal, IsLegalNext, answer, is_refused, is_payload}
 use Rattle.mq_core.specs.declared.entries.Call.{Call}
 use Rattle.mq_core.specs.declared.entries.Call.TheVariants.{MqOpen, MqClose, MqUnlink, MqSend, MqReceive, MqGetattr, MqSetattr, MqNotify, NextNotice, Collect}
@@ -19,16 +18,18 @@ use Rattle.mq_core.proofs.Places.{split, clash, find-in, is_in-filter}
 use Rattle.mq_core.proofs.Cases.{Says, answer_says}
 use Rattle.mq_core.proofs.LegalReplies.{legal_says}
 use Rattle.mq_core.proofs.Frames.{record_at-older}
-use Rattle.mq_core.proofs.Steps.{blocked_sends-below, admitted-below, if_in-inside}
+use Rattle.mq_core.proofs.Steps.{if_in-inside}
 use Rattle.mq_core.proofs.Presence.{sent_to, present-admitted}
 use Rattle.mq_core.proofs.NamedWaits.{least-in}
 use Rattle.mq_core.proofs.Waiters.{open_wait-process}
 use Rattle.mq_core.proofs.Prefixes.{record_at-below}
+use Rattle.mq_core.proofs.PresentFew.{attributes-older}
+use Rattle.mq_core.proofs.SentMessages.{called-alive}
 use Rattle.mq_state.specs.Buffers.{message_at, Fits}
 use Rattle.mq_core.specs.declared.entries.Attr.{Attr}
 use Rattle.mq_core.specs.declared.entries.Description.{Description}
 use Rattle.mq_state.proofs.QueuesNoted.{sent_to-below}
-use Rattle.mq_state.proofs.QueuesKeep.{called-alive, alive-below, attributes-older}
+use Rattle.mq_state.proofs.QueuesKeep.{alive-below}
 
 -- a send to queue q that was not refused
 pub record IsSentTo (past : Past) (q m : ℕ) : Type 0 where

@@ -1,12 +1,12 @@
 -- The table of inboxes, line by line.
-use Rattle.std.proofs.Common.{◌≡◌, ℕ, zero, suc, ◌+◌, ◌<◌, ◌≤◌, ◌==◌, Bool, true, false, List, [], ◌∷◌, ◌++◌, length, drop, Option, Some, None, if◌then◌else◌, set, get_or, refl, sym, ◌∙◌, ap, subst, arith, eqb-true, All}
+use Rattle.std.proofs.Common.{◌≡◌, ℕ, zero, suc, ◌+◌, ◌<◌, ◌≤◌, ◌==◌, Bool, true, false, List, [], ◌∷◌, ◌++◌, length, Some, if◌then◌else◌, set, get_or, refl, ◌∙◌, ap, arith, eqb-true, eq-eqb}
 use Rattle.std.specs.Prelude.{slice_get, OnOk, Result, Ok, Err}
 use Rattle.std.specs.Option.{option_map, unwrap_or}
 use Rattle.std.proofs.lemmas.Bool.Decides.{nat_tests}
 use Rattle.std.proofs.lemmas.Option.{slice_get-get_or}
 use Rattle.mq_core.proofs.Places.{split}
 use Rattle.mq_state.specs.InboxShown.{InboxShown}
-use Rattle.mq_state.specs.Inboxes.{notices_in, HasNoticeRoom}
+use Rattle.mq_state.specs.Inboxes.{notices_in, room_in}
 
 slice_get-set : (xs : List InboxShown) (p k : ℕ) (y : InboxShown) → p < length xs → slice_get (set xs p y) k ≡ (if p == k then Some y else slice_get xs k)
 slice_get-set [] p k y lt = absurd (omega arith)
@@ -33,18 +33,48 @@ values-set f xs p y d lt is k = notices_in-set xs p k y lt ∙ split (p == k)
 pub values-same : (xs : List InboxShown) (p : ℕ) (y d : InboxShown) → p < length xs → y.values ≡ (get_or xs p d).values → (k : ℕ) → notices_in (set xs p y) k ≡ notices_in xs k
 values-same xs p y d lt is k = values-set (λ v. v) xs p y d lt is k ∙ split (p == k) (λ t. rw t refl) (λ n. rw n refl)
 
-pub room-of : (xs : List InboxShown) (p : ℕ) (d : InboxShown) → p < length xs → HasNoticeRoom xs p → 0 < (get_or xs p d).room
-unfolding HasNoticeRoom
-room-of xs p d lt has = has (get_or xs p d) (slice_get-get_or xs p d lt)
+-- room ------------------------------------------------------------------------------------------------------------------
 
-pub room-set : (xs : List InboxShown) (p : ℕ) (y : InboxShown) → p < length xs → 0 < y.room → HasNoticeRoom (set xs p y) p
-unfolding HasNoticeRoom
-room-set xs p y lt room x e =
-    let here : Some y ≡ Some x = sym (slice_get-set xs p p y lt ∙ self p y) ∙ e in
-    let same : y ≡ x = cc in rw (← same) room
+room_in-set : (xs : List InboxShown) (p k : ℕ) (y : InboxShown) → p < length xs → room_in (set xs p y) k ≡ (if p == k then y.room else room_in xs k)
+unfolding room_in
+room_in-set xs p k y lt = ap (λ o. unwrap_or (option_map (λ (b : InboxShown). b.room) o) 0) (slice_get-set xs p k y lt) ∙ split (p == k) (λ t. rw t refl) (λ n. rw n refl)
+
+pub line-room : (xs : List InboxShown) (p : ℕ) (d : InboxShown) → p < length xs → (get_or xs p d).room ≡ room_in xs p
+unfolding room_in
+line-room xs p d lt = rw (slice_get-get_or xs p d lt) refl
+
+-- who has room has an inbox
+pub room-inside : (xs : List InboxShown) (p : ℕ) → 0 < room_in xs p → p < length xs
+unfolding room_in
+room-inside [] p lt = absurd (omega (arith, lt))
+room-inside (x ∷ xs) zero lt = omega arith
+room-inside (x ∷ xs) (suc p) lt = let rest = room-inside xs p lt in omega (arith, rest)
+
+-- the line of process p with so much less room, at most
+pub room-set : (xs : List InboxShown) (p : ℕ) (y d : InboxShown) (less : ℕ) → p < length xs → (get_or xs p d).room ≤ y.room + less → (k : ℕ) → room_in xs k ≤ room_in (set xs p y) k + (if p == k then less else 0)
+room-set xs p y d less lt le k = split (p == k)
+    (λ t. let same : p ≡ k = eqb-true _ _ t in
+    let here : (get_or xs p d).room ≡ room_in xs k = line-room xs p d lt ∙ ap (room_in xs) same in
+    let now : room_in (set xs p y) k ≡ y.room = room_in-set xs p k y lt ∙ when t in
+    rw (t, now) (omega (arith, here, le)))
+    (λ n. let now : room_in (set xs p y) k ≡ room_in xs k = room_in-set xs p k y lt ∙ unless n in rw (n, now) (omega arith))
   where
-    self : (p : ℕ) (y : InboxShown) → (if p == p then Some y else slice_get xs p) ≡ Some y
-    self p y = let t : (p == p) ≡ true = grind (arith, nat_tests) in rw t refl
+    when : (p == k) ≡ true → (if p == k then y.room else room_in xs k) ≡ y.room
+    when t = rw t refl
+
+    unless : (p == k) ≡ false → (if p == k then y.room else room_in xs k) ≡ room_in xs k
+    unless n = rw n refl
+
+pub room-kept : (xs : List InboxShown) (p : ℕ) (y d : InboxShown) → p < length xs → (get_or xs p d).room ≤ y.room → (k : ℕ) → room_in xs k ≤ room_in (set xs p y) k
+room-kept xs p y d lt le k = let e = room-set xs p y d 0 lt (omega (arith, le)) k in split (p == k)
+    (λ t. let f : room_in xs k ≤ room_in (set xs p y) k + 0 = rw t at e in omega (arith, f))
+    (λ n. let f : room_in xs k ≤ room_in (set xs p y) k + 0 = rw n at e in omega (arith, f))
+
+pub room-made : (xs : List InboxShown) (p : ℕ) (y : InboxShown) (more : ℕ) → p < length xs → more ≤ y.room → more ≤ room_in (set xs p y) p
+room-made xs p y more lt le = let e = room_in-set xs p p y lt ∙ self (p == p) (eq-eqb p p refl) in omega (arith, e, le)
+  where
+    self : (b : Bool) → b ≡ true → (if b then y.room else room_in xs p) ≡ y.room
+    self b t = rw t refl
 
 pub none-in : (p : ℕ) → notices_in [] p ≡ []
 unfolding notices_in

@@ -4,6 +4,7 @@ pub mod QueuesKeep
 pub mod QueuesNoted
 pub mod Reading
 pub mod InboxLines
+pub mod NoticeRoom
 pub mod TablesKeep
 pub mod WaitsNoted
 pub mod Starting

@@ -1,8 +1,8 @@
 -- The table of queues, line by line.
-use Rattle.std.proofs.Common.{◌≡◌, ℕ, zero, suc, ◌+◌, ◌<◌, ◌==◌, Bool, true, false, List, [], ◌∷◌, ◌++◌, length, map, Option, Some, None, if◌then◌else◌, set, get_or, take, drop, refl, sym, ◌∙◌, ap, arith, eqb-true, eq-eqb, cond, not, ◌-◌, ◌≤◌, ◌⊎◌, inl, inr}
+use Rattle.std.proofs.Common.{◌≡◌, ℕ, zero, suc, ◌+◌, ◌<◌, ◌==◌, Bool, true, false, List, [], ◌∷◌, ◌++◌, length, map, Option, Some, None, if◌then◌else◌, set, get_or, take, drop, refl, sym, ◌∙◌, ap, arith, eqb-true, eq-eqb, not, ◌⊎◌, inl, inr}
 use Rattle.std.specs.List.{find, filter, position, position_from}
 use Rattle.mq_core.specs.Messages.{is_in}
-use Rattle.std.specs.Option.{option_map, unwrap_or}
+use Rattle.std.specs.Option.{option_map}
 use Rattle.std.proofs.lemmas.List.Quantifiers.{position-Some}
 use Rattle.std.proofs.lemmas.Iterator.Adapters.{position_from-zero}
 use Rattle.mq_core.proofs.Places.{split, clash}

@@ -1,39 +1,32 @@
 -- The table of queues stays that of the journal, where it notes each entry.
-use Rattle.std.proofs.Common.{◌≡◌, ◌≢◌, ℕ, suc, ◌+◌, ◌-◌, ◌<◌, ◌≤◌, ◌==◌, Bool, true, false, ◌&&◌, ◌||◌, not, List, [], ◌∷◌, ◌++◌, length, map, reverse, Option, Some, None, is_some, if◌then◌else◌, refl, sym, ◌∙◌, ap, subst, arith, eqb-true, eq-eqb, ne_eqb, ◌⊎◌, inl, inr}
+use Rattle.std.proofs.Common.{◌≡◌, ◌≢◌, ℕ, suc, ◌+◌, ◌<◌, ◌≤◌, ◌==◌, Bool, true, false, ◌||◌, not, List, [], ◌∷◌, ◌++◌, length, reverse, Option, Some, None, if◌then◌else◌, refl, sym, ◌∙◌, ap, arith, eqb-true, eq-eqb, ne_eqb}
 use Rattle.std.specs.Prelude.{ℤ, int_le, pos, negsuc}
-use Rattle.std.specs.List.{filter, find}
-use Rattle.std.specs.Option.{option_map, option_and_then, unwrap_or}
-use Rattle.std.proofs.lemmas.Bool.{eqb-false, false_from_ne_true}
+use Rattle.std.proofs.lemmas.Bool.{eqb-false}
 use Rattle.std.proofs.lemmas.Bool.Decides.{nat_tests}
 use Rattle.std.proofs.lemmas.Grind.{common_steps}
-use Rattle.mq_core.specs.Record.{Record, Past, record_at}
-use Rattle.mq_core.specs.Names.{creates, unlinks, bound_queue, attributes, attributes_given, default_attributes}
-use Rattle.mq_core.specs.Descriptors.{held, held_after, alive, created, is_named, is_held, is_place, is_on, called_queue, descriptor_of, opened_queue}
-use Rattle.mq_core.specs.Messages.{is_in, is_send, with_place, present, taken, admitted, priority, priority_given, waiting_sends, blocked_sends, admitted_waits, least, best}
-use Rattle.mq_core.specs.Notices.{registered, registration_after, registration_of, registration_by, only_if, ends, unless, or_else}
-use Rattle.mq_core.specs.Answer.{Legal, IsLegalNext}
-use Rattle.mq_core.specs.Owners.{OwnersMirror, is_held_in}
+use Rattle.mq_core.specs.Record.{Record, Past}
+use Rattle.mq_core.specs.Names.{bound_queue}
+use Rattle.mq_core.specs.Descriptors.{alive, created, is_named, is_held, called_queue, opened_queue}
+use Rattle.mq_core.specs.Messages.{is_in, present, priority, priority_given, waiting_sends, blocked_sends, admitted_waits, least}
+use Rattle.mq_core.specs.Notices.{registration_after}
+use Rattle.mq_core.specs.Answer.{Legal}
 use Rattle.mq_core.specs.declared.entries.Entry.{Entry}
 use Rattle.mq_core.specs.declared.entries.Registration.{Registration}
-use Rattle.mq_core.specs.declared.entries.Description.{Description}
 use Rattle.mq_core.specs.declared.entries.Call.{Call}
 use Rattle.mq_core.specs.declared.entries.Call.TheVariants.{MqOpen, MqClose, MqUnlink, MqSend, MqReceive, MqGetattr, MqSetattr, MqNotify, NextNotice, Collect}
 use Rattle.mq_core.specs.declared.entries.Reply.{Reply}
-use Rattle.mq_core.specs.declared.entries.Reply.TheVariants.{Opened, Queued, Handed, Waits, Got, Collected, Attrs, Notice, Done, Refused}
-use Rattle.mq_core.specs.declared.owners.Owner.{Owner}
-use Rattle.mq_core.proofs.Places.{split, clash, is_in-filter, find-in}
+use Rattle.mq_core.specs.declared.entries.Reply.TheVariants.{Opened, Queued, Handed, Waits, Got, Done}
+use Rattle.mq_core.proofs.Places.{split, is_in-filter}
 use Rattle.mq_core.proofs.Cases.{Says}
-use Rattle.mq_core.proofs.LegalReplies.{legal_says, got_says}
-use Rattle.mq_core.proofs.Frames.{record_at-older, created-below}
-use Rattle.mq_core.proofs.HeldQueues.{held-alive}
+use Rattle.mq_core.proofs.Frames.{created-below}
 use Rattle.mq_core.proofs.NamedWaits.{least-in}
 use Rattle.mq_core.proofs.Steps.{Below, blocked_sends-below, without, present-queued, present-queued_elsewhere}
-use Rattle.mq_core.proofs.Presence.{GotFacts, present-got_here, present-got_elsewhere, present-handed, priority-older, present-below, present-admitted, admitted-to, sent_to}
+use Rattle.mq_core.proofs.Presence.{GotFacts, present-got_here, present-got_elsewhere, present-handed, priority-older, present-below}
 use Rattle.mq_state.specs.declared.order.Slot.{Slot}
 use Rattle.mq_state.specs.SlotOrder.{without as without_place}
 use Rattle.mq_state.specs.QueueShown.{QueueShown}
-use Rattle.mq_state.specs.Queues.{queue_in, is_named_in, changed, without_queue, with_slot, without_slot, unnamed, admitting, renewed, renewed_done, HasRoom, HasRoomFor, reregistered, frees, may_free, released, noted_queues, fresh, slot_of, slots_of, LineMirror, QueuesMirror}
-use Rattle.mq_state.proofs.QueueLines.{queue_in-changed, places-changed, queue_in-map, places-map, queue_in-place, queue_in-inside, inside-queue_in, queue_in-without, places-without, queue_in-push, places-push}
+use Rattle.mq_state.specs.Queues.{queue_in, with_slot, without_slot, renewed, HasRoom, reregistered, slot_of, slots_of, QueuesMirror}
+use Rattle.mq_state.proofs.QueueLines.{queue_in-inside, inside-queue_in}
 
 abbrev pub rec : ℕ → Call → Reply → List ℕ → Record
 rec p call reply payload = record { entry = record { process = p; call = call; reply = reply }; payload = payload }
@@ -67,18 +60,6 @@ line-alive past queues m q x e = sym (in-reverse (alive past) q) ∙ ap (λ xs. 
 pub alive-line : (past : Past) (queues : List QueueShown) → QueuesMirror past queues → (q : ℕ) → is_in (alive past) q ≡ true → (x : QueueShown) × (queue_in queues q ≡ Some x)
 alive-line past queues m q h = inside-queue_in queues q (ap (λ xs. is_in xs q) m.places ∙ in-reverse (alive past) q ∙ h)
 
--- the queue that a call is made on exists
-pub called-alive : (past : Past) → Legal past → (p : ℕ) (call : Call) (q : ℕ) → called_queue past p call ≡ Some q → is_in (alive past) q ≡ true
-called-alive past legal p call q e = by (descriptor_of call) refl e
-  where
-    held-case : (d : ℕ) (o : Option Description) → held past p d ≡ o → option_map (λ h. h.queue) o ≡ Some q → is_in (alive past) q ≡ true
-    held-case d None is e = absurd (cc)
-    held-case d (Some h) is e = let same : h.queue ≡ q = cc in rw (← same) (held-alive past legal p d h is)
-
-    by : (o : Option ℕ) → descriptor_of call ≡ o → option_map (λ h. h.queue) (option_and_then (held past p) o) ≡ Some q → is_in (alive past) q ≡ true
-    by None is e = absurd (cc)
-    by (Some d) is e = held-case d (held past p d) refl e
-
 -- slots ------------------------------------------------------------------------------------------------------------------
 
 slots_of-older : (past : Past) (r : Record) (xs : List ℕ) → Below (length past) xs → slots_of (r ∷ past) xs ≡ slots_of past xs
@@ -105,9 +86,6 @@ length-without m (s ∷ xs) = let rest = length-without m xs in split (s.place =
 pub length-slots_of : (past : Past) (xs : List ℕ) → length (slots_of past xs) ≡ length xs
 length-slots_of past [] = refl
 length-slots_of past (x ∷ xs) = ap suc (length-slots_of past xs)
-
-pub attributes-older : (past : Past) (r : Record) (k : ℕ) → k < length past → attributes (r ∷ past) k ≡ attributes past k
-attributes-older past r k lt = ap (λ o. unwrap_or (option_map (λ (x : Record). attributes_given x.entry.call) o) default_attributes) (record_at-older past r k lt)
 
 -- the entry --------------------------------------------------------------------------------------------------------------
 

@@ -1,19 +1,18 @@
 -- The table of queues is that of the journal behind each entry.
-use Rattle.std.proofs.Common.{◌≡◌, ◌≢◌, ℕ, suc, ◌+◌, ◌-◌, ◌<◌, ◌≤◌, ◌==◌, Bool, true, false, ◌&&◌, ◌||◌, not, List, [], ◌∷◌, ◌++◌, length, map, reverse, Option, Some, None, is_some, if◌then◌else◌, refl, sym, ◌∙◌, ap, subst, arith, eqb-true, eq-eqb, ne_eqb, ◌⊎◌, inl, inr}
-use Rattle.std.specs.Prelude.{ℤ, int_le, pos}
-use Rattle.std.specs.List.{filter, find}
-use Rattle.std.specs.Option.{option_map, option_and_then, unwrap_or}
-use Rattle.std.proofs.lemmas.Bool.{eqb-false, false_from_ne_true}
+use Rattle.std.proofs.Common.{◌≡◌, ◌≢◌, ℕ, ◌+◌, ◌-◌, ◌<◌, ◌≤◌, ◌==◌, Bool, true, false, ◌&&◌, ◌||◌, not, List, [], ◌∷◌, ◌++◌, length, map, reverse, Option, Some, None, is_some, if◌then◌else◌, refl, sym, ◌∙◌, ap, subst, arith, eqb-true, eq-eqb, ne_eqb, ◌⊎◌, inl, inr}
+use Rattle.std.specs.Prelude.{int_le, pos}
+use Rattle.std.specs.List.{filter}
+use Rattle.std.specs.Option.{option_map}
+use Rattle.std.proofs.lemmas.Bool.{eqb-false}
 use Rattle.std.proofs.lemmas.Grind.{common_steps}
-use Rattle.mq_core.specs.Record.{Record, Past, record_at}
-use Rattle.mq_core.specs.Names.{creates, unlinks, bound_queue, attributes, attributes_given, is_unlink}
-use Rattle.mq_core.specs.Descriptors.{held, created, held_after, after_setattr, with_nonblock, alive, is_named, is_held, is_place, is_on, called_queue, opened_queue}
+use Rattle.mq_core.specs.Record.{Record, Past}
+use Rattle.mq_core.specs.Names.{creates, unlinks, bound_queue, attributes, attributes_given}
+use Rattle.mq_core.specs.Descriptors.{held, created, after_setattr, with_nonblock, alive, is_named, is_held, is_place, is_on, called_queue, opened_queue}
 use Rattle.mq_core.specs.Messages.{is_in, present, is_full}
-use Rattle.mq_core.specs.Notices.{registered, registration_after, only_if, registration_of, ends, unless, or_else}
-use Rattle.mq_core.specs.Answer.{Legal, IsLegalNext, answer}
+use Rattle.mq_core.specs.Notices.{registered, registration_after, only_if, registration_of, or_else}
+use Rattle.mq_core.specs.Answer.{Legal, IsLegalNext}
 use Rattle.mq_core.specs.Owners.{OwnersMirror, is_held_in}
 use Rattle.mq_core.specs.declared.entries.Attr.{Attr}
-use Rattle.mq_core.specs.declared.entries.Status.{Status}
 use Rattle.mq_core.specs.declared.entries.OpenFlags.{OpenFlags}
 use Rattle.mq_core.specs.declared.entries.Entry.{Entry}
 use Rattle.mq_core.specs.declared.entries.Registration.{Registration}
@@ -23,21 +22,22 @@ use Rattle.mq_core.specs.declared.entries.Call.TheVariants.{MqOpen, MqClose, MqU
 use Rattle.mq_core.specs.declared.entries.Reply.{Reply}
 use Rattle.mq_core.specs.declared.entries.Reply.TheVariants.{Opened, Queued, Handed, Waits, Got, Collected, Attrs, Notice, Done, Refused}
 use Rattle.mq_core.specs.declared.owners.Owner.{Owner}
-use Rattle.mq_core.proofs.Places.{split, clash}
+use Rattle.mq_core.proofs.Places.{split}
 use Rattle.mq_core.proofs.Cases.{Says}
 use Rattle.mq_core.proofs.LegalReplies.{legal_says}
 use Rattle.mq_core.proofs.OpenReplies.{OpenedFacts, opened-says}
 use Rattle.mq_core.proofs.HeldQueues.{bound-created}
 use Rattle.mq_core.proofs.Waiters.{in-filter}
-use Rattle.mq_core.proofs.Presence.{GotFacts, without-fewer, sent_to, admitted-to, present-admitted}
-use Rattle.mq_core.proofs.Alive.{is_needed, is_held-table, named-same, named-created, named-newest, named-unlinked, bound-named, needed-alive, none-of, alive-same_queues, alive-opened, alive-new, alive-closed, alive-unlinked}
-use Rattle.mq_state.specs.declared.order.Slot.{Slot}
+use Rattle.mq_core.proofs.Presence.{without-fewer, sent_to, admitted-to, present-admitted}
+use Rattle.mq_core.proofs.Alive.{is_needed, is_held-table, named-same, named-created, named-newest, named-unlinked, bound-named, alive-same_queues, alive-opened, alive-new, alive-closed, alive-unlinked}
 use Rattle.mq_core.proofs.Steps.{without}
+use Rattle.mq_core.proofs.PresentFew.{attributes-older}
+use Rattle.mq_core.proofs.SentMessages.{called-alive}
 use Rattle.mq_state.specs.SlotOrder.{without as without_place}
 use Rattle.mq_state.specs.QueueShown.{QueueShown}
-use Rattle.mq_state.specs.Queues.{queue_in, is_named_in, changed, without_queue, renewed, renewed_done, HasRoom, HasRoomFor, without_slot, reregistered, frees, may_free, released, noted_queues, fresh, slots_of, LineMirror, QueuesMirror}
-use Rattle.mq_state.proofs.QueueLines.{queue_in-changed, places-changed, queue_in-map, places-map, queue_in-place, queue_in-inside, inside-queue_in, queue_in-without, places-without, queue_in-push, places-push}
-use Rattle.mq_state.proofs.QueuesKeep.{rec, alive-below, in-reverse, line-alive, alive-line, called-alive, attributes-older, DoneOn, GotOn, EntryOn, registration-on, renewed-registration, renewed-place, int-room, total, renewed-total, line_after, Presence, presence, same-slots, slots_of-without, length-slots_of}
+use Rattle.mq_state.specs.Queues.{queue_in, is_named_in, changed, without_queue, renewed, HasRoom, reregistered, may_free, noted_queues, fresh, slots_of, LineMirror, QueuesMirror}
+use Rattle.mq_state.proofs.QueueLines.{queue_in-changed, places-changed, queue_in-map, places-map, queue_in-place, inside-queue_in, queue_in-without, places-without, queue_in-push, places-push}
+use Rattle.mq_state.proofs.QueuesKeep.{rec, alive-below, in-reverse, line-alive, EntryOn, registration-on, renewed-registration, renewed-place, int-room, total, renewed-total, line_after, presence, same-slots, slots_of-without, length-slots_of}
 
 renewed-named : (here : ℕ) (call : Call) (reply : Reply) (prio : ℕ) (x : QueueShown) → unlinks call reply ≡ false → (renewed here call reply prio x).named ≡ x.named
 renewed-named here MqUnlink Done prio x e = absurd (let bad : true ≡ false = e in cc)

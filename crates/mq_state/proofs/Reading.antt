@@ -1,37 +1,32 @@
 -- What is read off the tables is what the definitions say.
-use Rattle.std.proofs.Common.{◌≡◌, ◌≢◌, ℕ, suc, ◌+◌, ◌<◌, ◌≤◌, ◌==◌, Bool, true, false, ◌&&◌, ◌||◌, not, List, [], ◌∷◌, ◌++◌, length, map, reverse, Option, Some, None, is_some, is_none, if◌then◌else◌, refl, sym, ◌∙◌, ap, subst, arith, eqb-true, eq-eqb, ne_eqb, IfSome}
+use Rattle.std.proofs.Common.{◌≡◌, ℕ, suc, ◌==◌, Bool, true, false, ◌&&◌, ◌||◌, not, List, [], ◌∷◌, ◌++◌, length, map, reverse, Option, Some, None, is_some, is_none, refl, sym, ◌∙◌, ap, arith, eqb-true, eq-eqb}
 use Rattle.std.specs.Prelude.{pos, int_le, int_lt, nat_le}
 use Rattle.std.specs.List.{filter, find, list_all}
 use Rattle.std.specs.Str.{bytes_eq}
-use Rattle.std.specs.Option.{option_map, option_and_then, unwrap_or}
-use Rattle.std.proofs.lemmas.Bool.{eqb-false, and_parts, false_from_ne_true}
+use Rattle.std.specs.Option.{option_map}
+use Rattle.std.proofs.lemmas.Bool.{and_parts, false_from_ne_true}
 use Rattle.std.proofs.lemmas.Slice.Eq.{bytes_eq-Decides}
 use Rattle.std.proofs.lemmas.Grind.{common_steps}
-use Rattle.mq_core.specs.Record.{Record, Past}
+use Rattle.mq_core.specs.Record.{Past}
 use Rattle.mq_core.specs.Names.{creates, bound_queue, attributes, name_of}
-use Rattle.mq_core.specs.Descriptors.{held, lowest_free, lowest_held, alive, created, is_named, descriptor_numbers}
-use Rattle.mq_core.specs.Messages.{is_in, present, best, goes_first, priority, least, is_full}
-use Rattle.mq_core.specs.Notices.{registered, registered_place, notices}
-use Rattle.mq_core.specs.Answer.{Legal, answer_open, answer_send, answer_receive}
-use Rattle.mq_core.specs.Owners.{held_in, free_number_in, lowest_held_in, pending_in, IsFirstWait, OwnersMirror, waiting}
+use Rattle.mq_core.specs.Descriptors.{lowest_free, lowest_held, alive, created, is_named, descriptor_numbers}
+use Rattle.mq_core.specs.Messages.{is_in, present, best, goes_first, least, is_full}
+use Rattle.mq_core.specs.Notices.{registered, registered_place}
+use Rattle.mq_core.specs.Answer.{answer_open, answer_send, answer_receive}
+use Rattle.mq_core.specs.Owners.{free_number_in, lowest_held_in, OwnersMirror, waiting}
 use Rattle.mq_core.specs.declared.owners.Owner.{Owner}
 use Rattle.mq_core.specs.declared.entries.Attr.{Attr}
 use Rattle.mq_core.specs.declared.entries.OpenFlags.{OpenFlags}
 use Rattle.mq_core.specs.declared.entries.Status.{Status}
 use Rattle.mq_core.specs.declared.entries.Description.{Description}
-use Rattle.mq_core.specs.declared.entries.Registration.{Registration}
 use Rattle.mq_core.proofs.Places.{split, clash, is_in-filter}
 use Rattle.mq_core.proofs.Frames.{created-below}
 use Rattle.mq_core.proofs.Best.{find-test}
-use Rattle.mq_core.proofs.HeldQueues.{held-alive}
 use Rattle.mq_core.proofs.Alive.{bound-name, named-bound, bound-named}
-use Rattle.mq_core.proofs.Pending.{least-pending, no-pending}
 use Rattle.mq_state.specs.declared.order.Slot.{Slot}
 use Rattle.mq_state.specs.SlotOrder.{best_slot, goes_first as slot_first}
 use Rattle.mq_state.specs.QueueShown.{QueueShown}
-use Rattle.mq_state.specs.InboxShown.{InboxShown}
-use Rattle.mq_state.specs.Queues.{queue_in, slots_in, registration_in, is_named_in, bound_in, slot_of, slots_of, LineMirror, QueuesMirror}
-use Rattle.mq_state.specs.Tables.{TablesMirror}
+use Rattle.mq_state.specs.Queues.{queue_in, slots_in, registration_in, bound_in, slot_of, slots_of, QueuesMirror}
 use Rattle.mq_state.specs.Decided.{decided_open, decided_send, decided_receive, status_of}
 use Rattle.mq_state.proofs.QueueLines.{queue_in-place}
 use Rattle.mq_state.proofs.QueuesKeep.{alive-line, length-slots_of, in-append, in-reverse, reverse-cons}

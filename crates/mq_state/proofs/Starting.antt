@@ -1,16 +1,17 @@
 -- The tables of the empty journal.
-use Rattle.std.proofs.Common.{◌≡◌, ℕ, zero, suc, ◌+◌, ◌<◌, List, [], ◌∷◌, length, replicate, Option, Some, None, refl, sym, ◌∙◌, ap, arith}
+use Rattle.std.proofs.Common.{◌≡◌, ℕ, zero, suc, ◌+◌, List, [], length, replicate, Option, Some, None, refl, sym, ◌∙◌, ap, arith}
 use Rattle.std.specs.Prelude.{slice_get}
 use Rattle.std.specs.Option.{option_map, option_and_then, unwrap_or}
+use Rattle.std.proofs.lemmas.List.{length-replicate}
 use Rattle.std.proofs.lemmas.List.Folds.{sum_by-replicate}
-use Rattle.mq_core.specs.Owners.{held_in, wait_in, answer_in, waits_count, free_owner, slot_of, OwnersMirror}
+use Rattle.mq_core.specs.Owners.{held_in, wait_in, answer_in, waits_count, free_owner, slot_of}
 use Rattle.mq_core.specs.declared.entries.Description.{Description}
 use Rattle.mq_core.specs.declared.owners.OpenWait.{OpenWait}
 use Rattle.mq_core.specs.declared.owners.Owner.{Owner}
 use Rattle.mq_state.specs.QueueShown.{QueueShown}
 use Rattle.mq_state.specs.InboxShown.{InboxShown}
 use Rattle.mq_state.specs.Inboxes.{notices_in}
-use Rattle.mq_state.specs.Queues.{queue_in, QueuesMirror}
+use Rattle.mq_state.specs.Queues.{queue_in}
 use Rattle.mq_state.specs.Tables.{TablesMirror}
 
 none-there : (m d : ℕ) → unwrap_or (slice_get (replicate {A = Option Description} m None) d) None ≡ None
@@ -43,10 +44,6 @@ slots-free (suc m) (suc p) o e = slots-free m p o e
 no-queue : (q : ℕ) (x : QueueShown) → queue_in [] q ≡ Some x → None ≡ Some x
 unfolding queue_in
 no-queue q x e = e
-
-length-replicate : {X : Type 0} (m : ℕ) (x : X) → length (replicate m x) ≡ m
-length-replicate zero x = refl
-length-replicate (suc m) x = ap suc (length-replicate m x)
 
 pub mirrors-new : (n : ℕ) (owners : List Owner) (inboxes : List InboxShown) → owners ≡ replicate (n + 1) free_owner → length inboxes ≡ n + 1 → ((k : ℕ) → notices_in inboxes k ≡ []) → TablesMirror [] n owners [] inboxes
 mirrors-new n owners inboxes is count none = record {

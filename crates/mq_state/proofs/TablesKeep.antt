@@ -1,21 +1,16 @@
 -- The tables stay those of the journal, where they note an entry.
-use Rattle.std.proofs.Common.{◌≡◌, ◌≢◌, ℕ, suc, ◌+◌, ◌<◌, ◌≤◌, ◌==◌, Bool, true, false, ◌&&◌, ◌||◌, not, List, [], ◌∷◌, ◌++◌, length, drop, Option, Some, None, is_some, if◌then◌else◌, refl, sym, ◌∙◌, ap, subst, arith, eqb-true, eq-eqb, ne_eqb, All}
-use Rattle.std.specs.Prelude.{int_le, int_lt, pos, nat_le, slice_get}
-use Rattle.std.specs.Option.{option_map, option_and_then, unwrap_or}
-use Rattle.std.proofs.lemmas.Bool.{eqb-false}
-use Rattle.mq_core.specs.Record.{Record, Past, record_at}
-use Rattle.mq_core.specs.Names.{creates, bound_queue, attributes, attributes_given}
+use Rattle.std.proofs.Common.{◌≡◌, ℕ, ◌≤◌, ◌==◌, Bool, true, false, ◌&&◌, not, List, [], ◌∷◌, ◌++◌, length, drop, Option, Some, None, is_some, if◌then◌else◌, refl, sym, ◌∙◌, ap, subst, arith}
+use Rattle.std.specs.Option.{option_map, unwrap_or}
+use Rattle.mq_core.specs.Record.{Past}
+use Rattle.mq_core.specs.Names.{creates, bound_queue}
 use Rattle.mq_core.specs.Descriptors.{held, called_queue, opened_queue, alive}
-use Rattle.mq_core.specs.Messages.{is_in, present, is_full, best, least, waiting_sends, priority}
+use Rattle.mq_core.specs.Messages.{is_in, present, is_full, priority}
 use Rattle.mq_core.specs.Notices.{registered, registered_place, notified, gives_notice, notices}
-use Rattle.mq_core.specs.Waits.{open_wait}
-use Rattle.mq_core.specs.Answer.{Legal, IsLegalNext, answer, is_of}
+use Rattle.mq_core.specs.Answer.{Legal, IsLegalNext, answer}
 use Rattle.mq_core.specs.Owners.{OwnersMirror}
-use Rattle.mq_core.specs.OwnersNoted.{noted, FitsSlots}
-use Rattle.mq_core.specs.declared.faults.Fault.TheVariants.{BadDescriptor, Busy, Invalid, NoEntry}
+use Rattle.mq_core.specs.OwnersNoted.{noted}
+use Rattle.mq_core.specs.declared.faults.Fault.TheVariants.{BadDescriptor, NoEntry}
 use Rattle.mq_core.specs.declared.owners.Owner.{Owner}
-use Rattle.mq_core.specs.declared.entries.Attr.{Attr}
-use Rattle.mq_core.specs.declared.entries.OpenFlags.{OpenFlags}
 use Rattle.mq_core.specs.declared.entries.Entry.{Entry}
 use Rattle.mq_core.specs.declared.entries.Registration.{Registration}
 use Rattle.mq_core.specs.declared.entries.Description.{Description}
@@ -23,21 +18,22 @@ use Rattle.mq_core.specs.declared.entries.Call.{Call}
 use Rattle.mq_core.specs.declared.entries.Call.TheVariants.{MqOpen, MqClose, MqUnlink, MqSend, MqReceive, MqGetattr, MqSetattr, MqNotify, NextNotice, Collect}
 use Rattle.mq_core.specs.declared.entries.Reply.{Reply}
 use Rattle.mq_core.specs.declared.entries.Reply.TheVariants.{Opened, Queued, Handed, Waits, Got, Collected, Attrs, Notice, Done, Refused}
-use Rattle.mq_core.proofs.Places.{split, clash, find-in}
+use Rattle.mq_core.proofs.Places.{find-in}
 use Rattle.mq_core.proofs.Cases.{Says}
 use Rattle.mq_core.proofs.LegalReplies.{legal_says}
-use Rattle.mq_core.proofs.OpenReplies.{opened-says, OpenedFacts}
-use Rattle.mq_core.proofs.OwnersKeep.{EntryQueue, noted-keeps, noted-fits}
+use Rattle.mq_core.proofs.OpenReplies.{opened-says}
+use Rattle.mq_core.proofs.OwnersKeep.{EntryQueue, noted-keeps}
 use Rattle.mq_core.proofs.Presence.{GotFacts}
-use Rattle.mq_core.proofs.NoticeSteps.{IsMadeBy, registered-made, notices-same, notices-notified, notices-given}
+use Rattle.mq_core.proofs.NoticeSteps.{notices-same, notices-notified, notices-given}
+use Rattle.mq_core.proofs.SentMessages.{called-alive}
 use Rattle.mq_state.specs.Slots.{Slots}
 use Rattle.mq_state.specs.QueueShown.{QueueShown}
 use Rattle.mq_state.specs.InboxShown.{InboxShown}
 use Rattle.mq_state.specs.Inboxes.{notices_in}
 use Rattle.mq_state.specs.Queues.{registration_in, noted_queues, fresh, QueuesMirror}
-use Rattle.mq_state.specs.Tables.{TablesMirror, AreAtMost, entry_queue, admitted_priority, IsFresh, BringsOrder, notified_values, noted_values, with_fresh}
-use Rattle.mq_state.proofs.QueuesKeep.{rec, DoneOn, GotOn, EntryOn, called-alive}
-use Rattle.mq_state.proofs.QueuesNoted.{HasRoomIn, noted-queues-keeps, noted-queues-creates, line-room}
+use Rattle.mq_state.specs.Tables.{TablesMirror, entry_queue, admitted_priority, IsFresh, BringsOrder, notified_values, noted_values, with_fresh}
+use Rattle.mq_state.proofs.QueuesKeep.{rec, DoneOn, GotOn, EntryOn}
+use Rattle.mq_state.proofs.QueuesNoted.{HasRoomIn, noted-queues-keeps, noted-queues-creates}
 use Rattle.mq_state.proofs.Reading.{registration-read}
 
 -- the entry's queue ------------------------------------------------------------------------------------------------------
@@ -158,10 +154,10 @@ entry-queue past p call (Refused f) payload q prio on = tt
 -- notices ----------------------------------------------------------------------------------------------------------------
 
 -- the registration that a reply notifies stands on the entry's queue
-record IsNotified (past : Past) (q k : ℕ) : Type 0 where
-  registration : Registration
-  stands : registered past q ≡ Some registration
-  place : registration.place ≡ k
+pub record IsNotified (past : Past) (q k : ℕ) : Type 0 where
+  pub registration : Registration
+  pub stands : registered past q ≡ Some registration
+  pub place : registration.place ≡ k
 
 notified-of : (past : Past) (q k : ℕ) → registered_place past q ≡ Some k → IsNotified past q k
 notified-of past q k e = by (registered past q) refl e
@@ -174,7 +170,7 @@ chosen : (b : Bool) (o : Option ℕ) (k : ℕ) → Some k ≡ (if b then o else 
 chosen true o k e = sym e
 chosen false o k e = absurd (cc)
 
-queued-notified : (past : Past) (p : ℕ) (call : Call) (k : ℕ) (payload : List ℕ) → Says past p call (Queued (Some k)) → IsNotified past (entry_queue past p call payload) k
+pub queued-notified : (past : Past) (p : ℕ) (call : Call) (k : ℕ) (payload : List ℕ) → Says past p call (Queued (Some k)) → IsNotified past (entry_queue past p call payload) k
 queued-notified past p (MqSend d prio len) k payload says =
     let at : unwrap_or (option_map (λ h. h.queue) (held past p d)) (length past) ≡ says.0.queue = rw says.1 refl in
     subst (λ q. IsNotified past q k) (sym at) (notified-of past says.0.queue k (chosen (length (present past says.0.queue) == 0) (registered_place past says.0.queue) k says.3.2))
@@ -188,7 +184,7 @@ queued-notified past p (MqNotify d value) k payload says = absurd says
 queued-notified past p NextNotice k payload says = absurd (cc)
 queued-notified past p Collect k payload says = absurd (cc)
 
-got-notified : (past : Past) (p : ℕ) (call : Call) (m : ℕ) (a : Option ℕ) (k : ℕ) (payload : List ℕ) → Says past p call (Got m a (Some k)) → IsNotified past (entry_queue past p call payload) k
+pub got-notified : (past : Past) (p : ℕ) (call : Call) (m : ℕ) (a : Option ℕ) (k : ℕ) (payload : List ℕ) → Says past p call (Got m a (Some k)) → IsNotified past (entry_queue past p call payload) k
 got-notified past p (MqReceive d room) m a k payload says =
     let at : unwrap_or (option_map (λ h. h.queue) (held past p d)) (length past) ≡ says.0.queue = rw says.1 refl in
     subst (λ q. IsNotified past q k) (sym at) (notified-of past says.0.queue k (chosen (is_some a && length (present past says.0.queue) == 1) (registered_place past says.0.queue) k says.3.2))
@@ -235,7 +231,7 @@ notices-keep past legal p call Done payload next o same k = brings-nothing o Don
 notices-keep past legal p call (Refused f) payload next o same k = brings-nothing o (Refused f) k (notices past k) refl ∙ sym (notices-same past (rec p call (Refused f) payload) k refl refl)
 
 -- a reply that notifies was made on a queue that exists
-notifies-alive : (past : Past) → Legal past → (p : ℕ) (call : Call) (reply : Reply) (payload : List ℕ) → IsLegalNext past (rec p call reply payload) → is_some (notified reply) ≡ true → is_in (alive past) (entry_queue past p call payload) ≡ true
+pub notifies-alive : (past : Past) → Legal past → (p : ℕ) (call : Call) (reply : Reply) (payload : List ℕ) → IsLegalNext past (rec p call reply payload) → is_some (notified reply) ≡ true → is_in (alive past) (entry_queue past p call payload) ≡ true
 notifies-alive past legal p call (Queued n) payload next e = called-alive past legal p call (entry_queue past p call payload) (queued-on past p call n payload (legal_says past (rec p call (Queued n) payload) next))
 notifies-alive past legal p call (Got m a n) payload next e = by call (legal_says past (rec p call (Got m a n) payload) next)
   where

@@ -1,33 +1,23 @@
 -- How many processes wait behind an entry, and that the tables keep their sizes.
-use Rattle.std.proofs.Common.{◌≡◌, ℕ, suc, ◌+◌, ◌<◌, ◌≤◌, Bool, true, false, List, length, Option, Some, None, refl, sym, ◌∙◌, ap, arith, if◌then◌else◌, All, [], ◌∷◌, subst, ◌==◌}
-use Rattle.std.specs.Prelude.{IsTrue, nat_le, slice_get}
-use Rattle.std.specs.Option.{option_map, option_and_then, unwrap_or}
-use Rattle.mq_core.specs.Record.{Record, Past, record_at}
+use Rattle.std.proofs.Common.{◌≡◌, ℕ, ◌+◌, ◌<◌, ◌≤◌, true, false, List, length, Option, Some, None, refl, sym, ◌∙◌, ap, arith}
+use Rattle.std.specs.Prelude.{IsTrue}
+use Rattle.std.specs.Option.{option_map, option_and_then}
+use Rattle.mq_core.specs.Record.{Past}
 use Rattle.mq_core.specs.Messages.{is_send}
 use Rattle.mq_core.specs.Waits.{open_wait, answered_by}
-use Rattle.mq_core.specs.Answer.{Legal, IsLegalNext, answer, may_call, is_payload, payload_of, is_refused}
-use Rattle.mq_core.specs.Notices.{registered}
+use Rattle.mq_core.specs.Answer.{may_call}
 use Rattle.mq_core.specs.Owners.{wait_in, with_wait, waiter_in, waits_count, OwnersMirror}
 use Rattle.mq_core.specs.OwnersNoted.{noted, noted_open, noted_done, noted_attributes, with_answer_at}
 use Rattle.mq_core.specs.declared.owners.OpenWait.{OpenWait}
 use Rattle.mq_core.specs.declared.owners.Owner.{Owner}
-use Rattle.mq_core.specs.declared.entries.Entry.{Entry}
-use Rattle.mq_core.specs.declared.entries.Registration.{Registration}
 use Rattle.mq_core.specs.declared.entries.Call.{Call}
 use Rattle.mq_core.specs.declared.entries.Call.TheVariants.{MqOpen, MqClose, MqUnlink, MqSend, MqReceive, MqGetattr, MqSetattr, MqNotify, NextNotice, Collect}
 use Rattle.mq_core.specs.declared.entries.Reply.{Reply}
 use Rattle.mq_core.specs.declared.entries.Reply.TheVariants.{Opened, Queued, Handed, Waits, Got, Collected, Attrs, Notice, Done, Refused}
-use Rattle.std.proofs.lemmas.List.Elements.{All-head, All-tail}
-use Rattle.mq_core.proofs.Places.{split}
 use Rattle.mq_core.proofs.Frames.{answered_by-none}
 use Rattle.mq_core.proofs.Cases.{Says}
 use Rattle.mq_core.proofs.OwnersKeep.{turn-none}
 use Rattle.mq_core.proofs.OwnerLines.{length-with_slot, length-with_wait, length-with_answer, waits_count-with_slot, waits_count-with_wait, waits_count-with_answer, waits_count-no_wait, no-wait}
-use Rattle.mq_core.proofs.NoticeSteps.{IsMadeBy, registered-made}
-use Rattle.mq_state.specs.QueueShown.{QueueShown}
-use Rattle.mq_state.specs.InboxShown.{InboxShown}
-use Rattle.mq_state.specs.Queues.{queue_in, registration_in, QueuesMirror}
-use Rattle.mq_state.specs.Tables.{TablesMirror, AreAtMost, entry_queue}
 use Rattle.mq_state.specs.Kept.{HasEntryRoom}
 
 answer-at-length : (owners : List Owner) (o : Option ℕ) (here : ℕ) → length (with_answer_at owners o here) ≡ length owners
@@ -125,27 +115,3 @@ waits-noted past owners m p call (Got k a n) q room says turn lt has = let e = a
 waits-noted past owners m p call (Queued n) q room says turn lt has = has
 waits-noted past owners m p call (Notice v) q room says turn lt has = has
 waits-noted past owners m p call (Refused f) q room says turn lt has = has
-
--- who is registered has a line and an inbox
-all-at : (n : ℕ) (past : Past) → AreAtMost n past → (k : ℕ) (r : Record) → record_at past k ≡ Some r → r.entry.process ≤ n
-all-at n [] all k r e = absurd (cc)
-all-at n (s ∷ past) all k r e = split (k == length past)
-    (λ t. let here : Some s ≡ Some r = rw t at e in let same : s ≡ r = cc in ap-le same (All-head (λ (r : Record). r.entry.process ≤ n) s past all))
-    (λ f. all-at n past (All-tail (λ (r : Record). r.entry.process ≤ n) s past all) k r (rw f at e))
-  where
-    ap-le : s ≡ r → s.entry.process ≤ n → r.entry.process ≤ n
-    ap-le same le = subst (λ (x : Record). x.entry.process ≤ n) same le
-
-pub registered-inside : (past : Past) (n : ℕ) (owners : List Owner) (queues : List QueueShown) (inboxes : List InboxShown) → TablesMirror past n owners queues inboxes → AreAtMost n past → (q : ℕ) (r : Registration) → registration_in queues q ≡ Some r → r.process < length inboxes
-unfolding registration_in
-registered-inside past n owners queues inboxes m all q r e = by (queue_in queues q) refl e
-  where
-    by : (o : Option QueueShown) → queue_in queues q ≡ o → option_and_then (λ x. x.registration) o ≡ Some r → r.process < length inboxes
-    by None is e = absurd (cc)
-    by (Some x) is e =
-        let stands : registered past x.place ≡ Some r = sym ((m.existing.lines q x is).registration) ∙ e in
-        let made = registered-made past x.place r stands in
-        let le : made.record_.entry.process ≤ n = all-at n past all r.place made.record_ made.at in
-        let same = made.process in
-        let count = m.inbox_count in
-        omega (arith, le, same, count)

@@ -1,7 +1,7 @@
 -- What a receive and a collect put into their buffer.
 use Rattle.std.specs.Prelude.{ℕ, ◌≤◌, List, [], ◌++◌, drop, length, Option, Some, None}
 use Rattle.std.specs.Option.{option_map, option_and_then, unwrap_or}
-use Rattle.mq_core.specs.Record.{Record, Past, record_at}
+use Rattle.mq_core.specs.Record.{Past, record_at}
 use Rattle.mq_core.specs.Messages.{priority}
 use Rattle.mq_core.specs.Waits.{open_wait, answered_by}
 use Rattle.mq_core.specs.declared.entries.Received.{Received}

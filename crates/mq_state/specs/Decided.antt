@@ -1,5 +1,5 @@
 -- The answers of the definitions, over what the tables say. It defines nothing new: each equals the answer of the same call.
-use Rattle.std.specs.Prelude.{ℕ, pos, length, Bool, true, false, ◌&&◌, not, ◌==◌, nat_le, Option, Some, None, is_some, is_none, if◌then◌else◌}
+use Rattle.std.specs.Prelude.{ℕ, pos, length, Bool, ◌&&◌, not, nat_le, Option, Some, None, is_some, is_none, if◌then◌else◌}
 use Rattle.std.specs.Option.{unwrap_or}
 use Rattle.mq_core.specs.Names.{are_within_limits, attributes}
 use Rattle.mq_core.specs.Record.{Past}
@@ -14,6 +14,7 @@ use Rattle.mq_core.specs.declared.entries.OpenFlags.{OpenFlags}
 use Rattle.mq_core.specs.declared.faults.Fault.TheVariants.{Again, BadDescriptor, Busy, Exists, Invalid, TooManyOpen, MessageSize, NoEntry, NoSpace}
 use Rattle.mq_core.specs.declared.entries.Reply.{Reply}
 use Rattle.mq_core.specs.declared.entries.Reply.TheVariants.{Opened, Queued, Handed, Waits, Got, Done, Refused}
+use Rattle.mq_state.specs.Queues.{is_registered_by}
 
 -- an open: whether its name is bound, the lowest free descriptor, and whether there are as many queues as may be
 abbrev pub decided_open : OpenFlags → Option Attr → Bool → Option ℕ → Bool → Reply
@@ -50,10 +51,6 @@ decided_receive access nonblock short found wait only registered =
     if is_write_only access then Refused BadDescriptor
     else (if short then Refused MessageSize
     else decided_found nonblock found wait only registered)
-
-abbrev pub is_registered_by : ℕ → Option Registration → Bool
-is_registered_by p None = false
-is_registered_by p (Some n) = n.process == p
 
 -- a notify on a descriptor, by the registration that stands on its queue
 abbrev pub decided_notify : ℕ → Option Registration → Option ℕ → Reply

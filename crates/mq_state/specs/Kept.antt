@@ -4,7 +4,7 @@ use Rattle.mq_core.specs.Answer.{Legal}
 use Rattle.mq_core.specs.Owners.{waits_count}
 use Rattle.mq_core.specs.declared.entries.Reply.{Reply}
 use Rattle.mq_core.specs.declared.entries.Reply.TheVariants.{Waits, Collected}
-use Rattle.mq_state.specs.Tables.{TablesMirror, AreAtMost}
+use Rattle.mq_state.specs.Tables.{TablesMirror, AreAtMost, HasNoticeRoom}
 use Rattle.mq_state.specs.declared.tables.Tables.{Tables}
 
 -- what a `Books` shows: its records, the latest first, and how many processes it has
@@ -12,14 +12,15 @@ pub record Kept : Type 0 where
   pub records : Past
   pub n : ℕ
 
--- the journal is legal and has entries of the first n processes alone, the tables are those of the journal, and it keeps
--- room for the collect entry of each open wait
+-- the journal is legal and has entries of the first n processes alone, the tables are those of the journal, and there is
+-- room for the collect entry of each open wait and for the notice of each registration
 pub record IsKeptBy (j : Shown) (t : Tables) : Type 0 where
   pub legal : Legal j.records
   pub few : t.n ≤ 32
   pub processes : AreAtMost t.n j.records
   pub mirror : TablesMirror j.records t.n t.owners.items t.queues.items t.inboxes.items
   pub room : waits_count t.owners.items ≤ j.entry_room
+  pub notice_room : HasNoticeRoom t.queues.items t.inboxes.items
 
 -- room for the entry, for the collect entry of each open wait, and for that of a wait that the entry begins. The collect
 -- entry itself stands in the room that was kept for it

@@ -1,7 +1,7 @@
 -- What the table of queues says of each, and what it becomes behind one more entry. It defines nothing new: where a table
 -- mirrors a journal, each word here is the definition of the same name over the journal.
-use Rattle.std.specs.Prelude.{ℕ, ◌≡◌, ◌<◌, ◌≤◌, ◌+◌, ◌-◌, Bool, true, false, ◌&&◌, ◌||◌, not, ◌==◌, List, [], ◌∷◌, ◌++◌, length, Option, Some, None, if◌then◌else◌, map, int_le, pos, reverse}
-use Rattle.std.specs.List.{find, filter}
+use Rattle.std.specs.Prelude.{ℕ, ◌≡◌, ◌<◌, ◌+◌, ◌-◌, Bool, true, false, ◌&&◌, ◌||◌, not, ◌==◌, List, [], ◌∷◌, length, Option, Some, None, if◌then◌else◌, map, int_le, pos, reverse}
+use Rattle.std.specs.List.{find, filter, count_by}
 use Rattle.std.specs.Str.{bytes_eq}
 use Rattle.std.specs.Option.{option_map, option_and_then, unwrap_or}
 use Rattle.mq_core.specs.Record.{Past}
@@ -18,7 +18,7 @@ use Rattle.mq_core.specs.declared.entries.Call.TheVariants.{MqClose, MqUnlink}
 use Rattle.mq_core.specs.declared.entries.Reply.{Reply}
 use Rattle.mq_core.specs.declared.entries.Reply.TheVariants.{Queued, Got, Done}
 use Rattle.mq_state.specs.declared.order.Slot.{Slot}
-use Rattle.mq_state.specs.SlotOrder.{without, best_slot}
+use Rattle.mq_state.specs.SlotOrder.{without}
 use Rattle.mq_state.specs.QueueShown.{QueueShown}
 
 unfoldable pub queue_in : List QueueShown → ℕ → Option QueueShown
@@ -29,6 +29,14 @@ slots_in queues q = unwrap_or (option_map (λ x. x.slots) (queue_in queues q)) [
 
 unfoldable pub registration_in : List QueueShown → ℕ → Option Registration
 registration_in queues q = option_and_then (λ x. x.registration) (queue_in queues q)
+
+abbrev pub is_registered_by : ℕ → Option Registration → Bool
+is_registered_by p None = false
+is_registered_by p (Some n) = n.process == p
+
+-- how many queues process p is registered on
+unfoldable pub registrations_in : List QueueShown → ℕ → ℕ
+registrations_in queues p = count_by (λ x. is_registered_by p x.registration) queues
 
 unfoldable pub is_named_in : List QueueShown → ℕ → Bool
 is_named_in queues q = unwrap_or (option_map (λ x. x.named) (queue_in queues q)) false

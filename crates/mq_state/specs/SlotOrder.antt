@@ -1,5 +1,5 @@
 -- Which message of a queue is received next.
-use Rattle.std.specs.Prelude.{ℕ, Bool, ◌&&◌, ◌||◌, not, ◌==◌, nat_lt, nat_le, List, [], ◌∷◌, Option, filter}
+use Rattle.std.specs.Prelude.{ℕ, Bool, ◌&&◌, ◌||◌, not, ◌==◌, nat_lt, nat_le, List, Option, filter}
 use Rattle.std.specs.List.{find, list_all}
 use Rattle.mq_state.specs.declared.order.Slot.{Slot}
 

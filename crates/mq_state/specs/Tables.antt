@@ -6,18 +6,18 @@ use Rattle.mq_core.specs.Descriptors.{called_queue}
 use Rattle.mq_core.specs.Messages.{priority}
 use Rattle.mq_core.specs.declared.entries.Registration.{Registration}
 use Rattle.mq_core.specs.declared.entries.Call.{Call}
-use Rattle.mq_core.specs.declared.entries.Call.TheVariants.{MqOpen, MqUnlink}
+use Rattle.mq_core.specs.declared.entries.Call.TheVariants.{MqOpen, MqUnlink, MqNotify}
 use Rattle.mq_core.specs.declared.entries.Reply.{Reply}
-use Rattle.mq_core.specs.declared.entries.Reply.TheVariants.{Got}
-use Rattle.mq_core.specs.Record.{Record, Past}
+use Rattle.mq_core.specs.declared.entries.Reply.TheVariants.{Got, Done}
+use Rattle.mq_core.specs.Record.{Past}
 use Rattle.mq_core.specs.Notices.{notices, notified, gives_notice}
 use Rattle.mq_core.specs.Owners.{OwnersMirror}
 use Rattle.mq_core.specs.declared.owners.Owner.{Owner}
 use Rattle.mq_state.specs.QueueShown.{QueueShown}
 use Rattle.mq_state.specs.InboxShown.{InboxShown}
-use Rattle.mq_state.specs.Queues.{QueuesMirror, registration_in, fresh}
+use Rattle.mq_state.specs.Queues.{QueuesMirror, registrations_in, fresh}
 use Rattle.mq_state.specs.Slots.{Slots}
-use Rattle.mq_state.specs.Inboxes.{notices_in, HasNoticeRoom}
+use Rattle.mq_state.specs.Inboxes.{notices_in, room_in}
 
 -- the processes of all entries are at most n
 abbrev pub AreAtMost : ℕ → Past → Type 0
@@ -54,9 +54,20 @@ abbrev pub BringsOrder : Call → Reply → ℕ → ℕ → Option Slots → Typ
 BringsOrder call reply queues capacity None = creates call reply ≡ false
 BringsOrder call reply queues capacity (Some o) = (creates call reply ≡ true) × IsFresh call queues capacity o
 
--- the registration of the entry's queue has room for its notice, where the entry notifies it
-abbrev pub HasRoomToNotify : List QueueShown → List InboxShown → ℕ → Reply → Type 0
-HasRoomToNotify queues inboxes q reply = (n : Registration) → registration_in queues q ≡ Some n → is_some (notified reply) ≡ true → HasNoticeRoom inboxes n.process
+-- each process has room for the notices of all its registrations
+abbrev pub HasNoticeRoom : List QueueShown → List InboxShown → Type 0
+HasNoticeRoom queues inboxes = (p : ℕ) → registrations_in queues p ≤ room_in inboxes p
+
+-- there is room for the notice of the registration that a call makes: for as many as there are queues, since at most one
+-- registration stands on each
+abbrev pub HasRoomToRegister : List QueueShown → List InboxShown → ℕ → Call → Reply → Type 0
+HasRoomToRegister queues inboxes p (MqNotify d (Some v)) reply = reply ≡ Done → length queues ≤ room_in inboxes p
+HasRoomToRegister queues inboxes p call reply = Unit {0}
+
+-- how many notices an entry brings process p: one where it notifies a registration of the process
+abbrev pub notices_brought : Option Registration → Reply → ℕ → ℕ
+notices_brought None reply p = 0
+notices_brought (Some n) reply p = if is_some (notified reply) && n.process == p then 1 else 0
 
 -- the notices of process p behind an entry: the registration of the entry's queue brings one, where the entry notifies it
 abbrev pub notified_values : Option Registration → Reply → ℕ → List ℕ → List ℕ

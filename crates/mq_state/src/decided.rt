@@ -2,7 +2,8 @@
 ghost use Rattle.std.specs.Prelude.{◌≡◌, ◌<◌, ◌^◌, pos, int_lt, int_le, Some, None, true};
 ghost use Rattle.mq_core.specs.Names.{are_within_limits, attributes_given, attributes};
 ghost use Rattle.mq_core.specs.Answer.{is_read_only, is_write_only};
-ghost use Rattle.mq_state.specs.Decided.{decided_open, decided_accepted, decided_send, decided_found, decided_receive, is_registered_by, decided_notify};
+ghost use Rattle.mq_state.specs.Decided.{decided_open, decided_accepted, decided_send, decided_found, decided_receive, decided_notify};
+ghost use Rattle.mq_state.specs.Queues.{is_registered_by};
 
 use mq_core::entries::{Access, Attr, Call, OpenFlags, Registration, Reply, Status};
 use mq_core::faults::Fault;

@@ -1,6 +1,6 @@
 //! The notices that each process has not yet taken.
 ghost use Rattle.std.specs.Prelude.{◌≡◌, ◌<◌, ◌≤◌, ◌++◌, ◌∷◌, [], length, IfOk, OnOk, OnErr, drop, slice_get, Some, None, ◌+◌, ◌-◌, ℕ, ◌==◌, if◌then◌else◌};
-ghost use Rattle.mq_state.specs.Inboxes.{notices_in, HasNoticeRoom};
+ghost use Rattle.mq_state.specs.Inboxes.{notices_in, room_in};
 
 use std::alloc::{AllocError, Global};
 use std::collections::VecDeque;
@@ -35,6 +35,7 @@ impl Inbox {
     /// Makes room for that many more notices.
     pub fn reserve(&mut self, more: usize) -> Result<(), AllocError>
         ensures values { self.new.values ≡ self.old.values }
+        ensures room { self.old.room ≤ self.new.room }
         ensures ok { OnOk result (more ≤ self.new.room) }
     {
         self.values.reserve(more)
@@ -43,14 +44,16 @@ impl Inbox {
     /// Adds a notice behind the others, in room that is there.
     pub fn push(&mut self, value: u64)
         requires { 0 < self.old.room }
-        ensures { self.new.values ≡ self.old.values ++ value ∷ [] }
+        ensures values { self.new.values ≡ self.old.values ++ value ∷ [] }
+        ensures room { self.new.room + 1 ≡ self.old.room }
     {
         self.values.push_back_reserved(value);
     }
 
     /// Takes the oldest notice out.
     pub fn pop(&mut self)
-        ensures { self.new.values ≡ drop 1 self.old.values }
+        ensures values { self.new.values ≡ drop 1 self.old.values }
+        ensures room { self.old.room ≤ self.new.room }
     {
         let _ = self.values.pop_front();
     }
@@ -81,11 +84,11 @@ pub fn first(inboxes: &[Inbox], p: u32) -> Option<u64>
     }
 }
 
-// Process p's inbox has a notice more, in room that is there.
+/// Process p's inbox has a notice more, in room that is there.
 pub fn push(inboxes: &mut [Inbox], p: u32, value: u64)
-    requires process { p < length inboxes.old }
-    requires room { HasNoticeRoom inboxes.old p }
-    ensures { (k : ℕ) → notices_in inboxes.new k ≡ (if p == k then notices_in inboxes.old k ++ value ∷ [] else notices_in inboxes.old k) }
+    requires { 0 < room_in inboxes.old p }
+    ensures notices { (k : ℕ) → notices_in inboxes.new k ≡ (if p == k then notices_in inboxes.old k ++ value ∷ [] else notices_in inboxes.old k) }
+    ensures room { (k : ℕ) → room_in inboxes.old k ≤ room_in inboxes.new k + (if p == k then 1 else 0) }
 {
     inboxes[p as usize].push(value);
 }
@@ -93,17 +96,18 @@ pub fn push(inboxes: &mut [Inbox], p: u32, value: u64)
 /// The oldest notice of process p is taken.
 pub fn take(inboxes: &mut [Inbox], p: u32)
     requires { p < length inboxes.old }
-    ensures { (k : ℕ) → notices_in inboxes.new k ≡ (if p == k then drop 1 (notices_in inboxes.old k) else notices_in inboxes.old k) }
+    ensures notices { (k : ℕ) → notices_in inboxes.new k ≡ (if p == k then drop 1 (notices_in inboxes.old k) else notices_in inboxes.old k) }
+    ensures room { (k : ℕ) → room_in inboxes.old k ≤ room_in inboxes.new k }
 {
     inboxes[p as usize].pop();
 }
 
-/// Makes room for that many more notices of process p, at least one.
+/// Makes room for that many more notices of process p.
 pub fn make_room(inboxes: &mut [Inbox], p: u32, more: usize) -> Result<(), AllocError>
-    requires process { p < length inboxes.old }
-    requires more { 0 < more }
+    requires { p < length inboxes.old }
     ensures same { (k : ℕ) → notices_in inboxes.new k ≡ notices_in inboxes.old k }
-    ensures room { OnOk result (HasNoticeRoom inboxes.new p) }
+    ensures room { (k : ℕ) → room_in inboxes.old k ≤ room_in inboxes.new k }
+    ensures ok { OnOk result (more ≤ room_in inboxes.new p) }
 {
     inboxes[p as usize].reserve(more)
 }

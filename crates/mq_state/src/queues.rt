@@ -324,20 +324,3 @@ pub fn add(queues: &mut Vec<Queue>, here: u64, order: Order)
 {
     queues.push_reserved(Queue::new(here, order));
 }
-
-/// How many queues process p is registered on.
-pub fn registrations_of(queues: &[Queue], p: u32) -> usize
-    ensures { result ≤ length queues.now }
-{
-    queues
-        .iter()
-        .filter(|x| is_registered_by(x.registration(), p))
-        .count()
-}
-
-fn is_registered_by(registration: Option<Registration>, p: u32) -> bool {
-    match registration {
-        None => false,
-        Some(n) => n.process == p,
-    }
-}

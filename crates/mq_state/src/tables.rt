@@ -39,12 +39,12 @@ pub struct Tables {
 }
 
 impl Tables {
-    ghost use Rattle.mq_state.specs.Tables.{TablesMirror};
+    ghost use Rattle.mq_state.specs.Tables.{TablesMirror, HasNoticeRoom};
 
     /// The tables of n processes that have nothing, with no queue.
     pub fn new(alloc: Global, n: u32) -> Result<Tables, AllocError>
         requires { n ≤ 32 }
-        ensures { IfOk result (λ t. (t.n ≡ n) × TablesMirror [] t.n t.owners.items t.queues.items t.inboxes.items × (waits_count t.owners.items ≡ 0)) }
+        ensures { IfOk result (λ t. (t.n ≡ n) × TablesMirror [] t.n t.owners.items t.queues.items t.inboxes.items × (waits_count t.owners.items ≡ 0) × HasNoticeRoom t.queues.items t.inboxes.items) }
     {
         let count = n as usize + 1;
         let owners = free_owners(alloc, count)?;
@@ -313,20 +313,20 @@ impl Tables {
     ghost use Rattle.std.specs.Prelude.{vec_len, vec_capacity};
     ghost use Rattle.mq_core.specs.OwnersNoted.{noted, FitsSlots};
     ghost use Rattle.mq_state.specs.Queues.{queue_in, reregistered, noted_queues, registration_in, HasRoom};
-    ghost use Rattle.mq_state.specs.Inboxes.{notices_in, HasNoticeRoom};
+    ghost use Rattle.mq_state.specs.Inboxes.{notices_in, room_in};
     ghost use Rattle.mq_state.specs.QueueShown.{QueueShown};
-    ghost use Rattle.mq_state.specs.Tables.{BringsOrder, HasRoomToNotify, noted_values, notified_values, with_fresh};
+    ghost use Rattle.mq_state.specs.Tables.{BringsOrder, notices_brought, noted_values, notified_values, with_fresh};
 
     // Notes in the inboxes what an entry made on queue q brings and takes.
     fn note_notices(&mut self, entry: Entry, q: u64)
         requires process { entry.process < length self.old.inboxes.items }
-        requires registered { (n : Registration) → registration_in self.old.queues.items q ≡ Some n → n.process < length self.old.inboxes.items }
-        requires notice { HasRoomToNotify self.old.queues.items self.old.inboxes.items q entry.reply }
+        requires room { (n : Registration) → registration_in self.old.queues.items q ≡ Some n → 0 < room_in self.old.inboxes.items n.process }
         ensures owners { self.new.owners.items ≡ self.old.owners.items }
         ensures queues { self.new.queues ≡ self.old.queues }
         ensures n { self.new.n ≡ self.old.n }
         ensures count { length self.new.inboxes.items ≡ length self.old.inboxes.items }
         ensures inboxes { (k : ℕ) → notices_in self.new.inboxes.items k ≡ noted_values entry.process (registration_in self.old.queues.items q) entry.reply k (notices_in self.old.inboxes.items k) }
+        ensures notice_room { (k : ℕ) → room_in self.old.inboxes.items k ≤ room_in self.new.inboxes.items k + notices_brought (registration_in self.old.queues.items q) entry.reply k }
     {
         if registrations::notified(entry.reply).is_some() {
             if let Some(n) = queues::registration(&self.queues, q) {
@@ -343,14 +343,14 @@ impl Tables {
         requires process { (entry.process < length self.old.owners.items) × (entry.process < length self.old.inboxes.items) }
         requires numbers { FitsSlots entry.call entry.reply }
         requires room { (x : QueueShown) → queue_in (map (reregistered q (length journal.now.records) entry) self.old.queues.items) q ≡ Some x → HasRoom entry.reply x }
-        requires registered { (n : Registration) → registration_in self.old.queues.items q ≡ Some n → n.process < length self.old.inboxes.items }
-        requires notice { HasRoomToNotify self.old.queues.items self.old.inboxes.items q entry.reply }
+        requires notice_room { (n : Registration) → registration_in self.old.queues.items q ≡ Some n → 0 < room_in self.old.inboxes.items n.process }
         requires brings { BringsOrder entry.call entry.reply (vec_len self.old.queues) (vec_capacity self.old.queues) fresh }
         ensures n { self.new.n ≡ self.old.n }
         ensures owners { self.new.owners.items ≡ noted self.old.owners.items (length journal.now.records) entry.process entry.call entry.reply q }
         ensures queues { self.new.queues.items ≡ with_fresh fresh (length journal.now.records) (noted_queues self.new.owners.items (length journal.now.records) entry q (admitted_priority journal.now.records entry.reply) self.old.queues.items) }
         ensures count { length self.new.inboxes.items ≡ length self.old.inboxes.items }
         ensures inboxes { (k : ℕ) → notices_in self.new.inboxes.items k ≡ noted_values entry.process (registration_in self.old.queues.items q) entry.reply k (notices_in self.old.inboxes.items k) }
+        ensures notice_room { (k : ℕ) → room_in self.old.inboxes.items k ≤ room_in self.new.inboxes.items k + notices_brought (registration_in self.old.queues.items q) entry.reply k }
     {
         let here = journal.len();
         let prio = admitted_priority(journal, entry.reply);

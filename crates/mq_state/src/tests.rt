@@ -1,4 +1,5 @@
 //! Calls that wait and what they come to, notices, the most queues and descriptors, and calls with numbers out of all bounds.
+//! Each test passes, too, where any one growth is refused: a refused call changes no journal, and is made once more.
 ghost use Rattle.std.specs.Prelude.{◌≡◌, ◌≤◌, IsTrue, None};
 ghost use Rattle.mq_core.specs.Waits.{open_wait};
 
@@ -77,7 +78,10 @@ impl Model for Trial {
 }
 
 fn make_trial(alloc: Global) -> Result<Trial, AllocError> {
-    let books = Books::new(alloc, 5)?;
+    let books = match Books::new(alloc, 5) {
+        Ok(books) => books,
+        Err(_) => Books::new(alloc, 5)?,
+    };
     Ok(Trial { books })
 }
 
@@ -88,12 +92,21 @@ fn may_call(books: &Books, p: u32) -> bool
     books.waiting(p).is_none()
 }
 
-// A reply, where no growth was refused.
-fn said(reply: Reply) -> Result<Option<Reply>, AllocError> {
-    match reply {
-        Reply::Refused(Fault::NoMemory) => Err(AllocError),
-        reply => Ok(Some(reply)),
-    }
+// The reply to a call, which is made once more where a growth was refused. Nothing where the refused call has an entry.
+macro_rules! reply_to {
+    ($trial:expr, $call:expr) => {{
+        let before = $trial.books.journal().len();
+        match $call {
+            Reply::Refused(Fault::NoMemory) => {
+                if $trial.books.journal().len() == before {
+                    Some($call)
+                } else {
+                    None
+                }
+            }
+            reply => Some(reply),
+        }
+    }};
 }
 
 // The calls below come to nothing where process p may not call.
@@ -104,96 +117,88 @@ fn open(
     name: &[u8],
     flags: OpenFlags,
     attr: Option<Attr>,
-) -> Result<Option<Reply>, AllocError>
+) -> Option<Reply>
     requires process { (1 ≤ p) × (p ≤ 5) }
 {
     match Name::read(name) {
-        Ok(name) if may_call(&trial.books, p) => said(trial.books.open(p, &name, flags, attr)),
-        _ => Ok(None),
+        Ok(name) if may_call(&trial.books, p) => reply_to!(
+            trial,
+            trial.books.open(p, &name, flags, attr)
+        ),
+        _ => None,
     }
 }
 
-fn unlink(trial: &mut Trial, p: u32, name: &[u8]) -> Result<Option<Reply>, AllocError>
+fn unlink(trial: &mut Trial, p: u32, name: &[u8]) -> Option<Reply>
     requires process { (1 ≤ p) × (p ≤ 5) }
 {
     match Name::read(name) {
-        Ok(name) if may_call(&trial.books, p) => said(trial.books.unlink(p, &name)),
-        _ => Ok(None),
+        Ok(name) if may_call(&trial.books, p) => reply_to!(trial, trial.books.unlink(p, &name)),
+        _ => None,
     }
 }
 
-fn close(trial: &mut Trial, p: u32, d: u32) -> Result<Option<Reply>, AllocError>
+fn close(trial: &mut Trial, p: u32, d: u32) -> Option<Reply>
     requires process { (1 ≤ p) × (p ≤ 5) }
 {
     if !may_call(&trial.books, p) {
-        return Ok(None);
+        return None;
     }
-    said(trial.books.close(p, d))
+    reply_to!(trial, trial.books.close(p, d))
 }
 
-fn send(
-    trial: &mut Trial,
-    p: u32,
-    d: u32,
-    bytes: &[u8],
-    prio: u32,
-) -> Result<Option<Reply>, AllocError>
+fn send(trial: &mut Trial, p: u32, d: u32, bytes: &[u8], prio: u32) -> Option<Reply>
     requires process { (1 ≤ p) × (p ≤ 5) }
 {
     if !may_call(&trial.books, p) {
-        return Ok(None);
+        return None;
     }
-    said(trial.books.send(p, d, bytes, prio))
+    reply_to!(trial, trial.books.send(p, d, bytes, prio))
 }
 
-fn receive(trial: &mut Trial, p: u32, d: u32, buf: &mut [u8]) -> Result<Option<Reply>, AllocError>
+fn receive(trial: &mut Trial, p: u32, d: u32, buf: &mut [u8]) -> Option<Reply>
     requires process { (1 ≤ p) × (p ≤ 5) }
 {
     if !may_call(&trial.books, p) {
-        return Ok(None);
+        return None;
     }
-    said(trial.books.receive(p, d, buf))
+    reply_to!(trial, trial.books.receive(p, d, buf))
 }
 
-fn notify(
-    trial: &mut Trial,
-    p: u32,
-    d: u32,
-    value: Option<u64>,
-) -> Result<Option<Reply>, AllocError>
+fn notify(trial: &mut Trial, p: u32, d: u32, value: Option<u64>) -> Option<Reply>
     requires process { (1 ≤ p) × (p ≤ 5) }
 {
     if !may_call(&trial.books, p) {
-        return Ok(None);
+        return None;
     }
-    said(trial.books.notify(p, d, value))
+    reply_to!(trial, trial.books.notify(p, d, value))
 }
 
-fn next_notice(trial: &mut Trial, p: u32) -> Result<Option<Reply>, AllocError>
+fn next_notice(trial: &mut Trial, p: u32) -> Option<Reply>
     requires process { (1 ≤ p) × (p ≤ 5) }
 {
     if !may_call(&trial.books, p) {
-        return Ok(None);
+        return None;
     }
-    said(trial.books.next_notice(p))
+    reply_to!(trial, trial.books.next_notice(p))
 }
 
-fn getattr(trial: &mut Trial, p: u32, d: u32) -> Result<Option<Reply>, AllocError>
+fn getattr(trial: &mut Trial, p: u32, d: u32) -> Option<Reply>
     requires process { (1 ≤ p) × (p ≤ 5) }
 {
     if !may_call(&trial.books, p) {
-        return Ok(None);
+        return None;
     }
-    said(trial.books.getattr(p, d))
+    reply_to!(trial, trial.books.getattr(p, d))
 }
 
-fn setattr(trial: &mut Trial, p: u32, d: u32, new: Status) -> Result<Option<Reply>, AllocError>
+fn setattr(trial: &mut Trial, p: u32, d: u32, new: Status) -> Option<Reply>
     requires process { (1 ≤ p) × (p ≤ 5) }
 {
     if !may_call(&trial.books, p) {
-        return Ok(None);
+        return None;
     }
-    said(trial.books.setattr(p, d, new))
+    reply_to!(trial, trial.books.setattr(p, d, new))
 }
 
 // What the wait of process p came to. Nothing, too, where it has none, or the buffer is too small.
@@ -212,32 +217,32 @@ fn messages_are_handed_over_and_admitted_in_the_order_of_the_waits(
 ) -> Result<(), Fail> {
     let mut trial = make_trial(rt.alloc())?;
     let mut buf = [0u8; 8];
-    assert_eq!(rt; open(&mut trial, 1, b"/q", CREATE, limits(1))?, CREATED);
-    assert_eq!(rt; open(&mut trial, 2, b"/q", OPEN, None)?, OPENED);
-    assert_eq!(rt; open(&mut trial, 3, b"/q", OPEN, None)?, OPENED);
-    assert_eq!(rt; receive(&mut trial, 1, 0, &mut buf)?, WAITS);
+    assert_eq!(rt; open(&mut trial, 1, b"/q", CREATE, limits(1)), CREATED);
+    assert_eq!(rt; open(&mut trial, 2, b"/q", OPEN, None), OPENED);
+    assert_eq!(rt; open(&mut trial, 3, b"/q", OPEN, None), OPENED);
+    assert_eq!(rt; receive(&mut trial, 1, 0, &mut buf), WAITS);
     assert_eq!(rt; trial.books.waiting(1), Some(8));
     assert_eq!(rt;
-        send(&mut trial, 2, 0, b"x", 3)?,
+        send(&mut trial, 2, 0, b"x", 3),
         Some(Reply::Handed { wait: 3 })
     );
     assert_eq!(rt; collect(&mut trial, 1, &mut buf), received(3));
     assert_eq!(rt; buf[0], b'x');
-    assert_eq!(rt; send(&mut trial, 2, 0, b"a", 1)?, QUEUED);
-    assert_eq!(rt; send(&mut trial, 3, 0, b"b", 9)?, WAITS);
+    assert_eq!(rt; send(&mut trial, 2, 0, b"a", 1), QUEUED);
+    assert_eq!(rt; send(&mut trial, 3, 0, b"b", 9), WAITS);
     assert_eq!(rt; trial.books.waiting(3), Some(0));
-    assert_eq!(rt; send(&mut trial, 1, 0, b"c", 12)?, WAITS);
+    assert_eq!(rt; send(&mut trial, 1, 0, b"c", 12), WAITS);
     assert_eq!(rt; collect(&mut trial, 3, &mut buf), None);
-    assert_eq!(rt; receive(&mut trial, 2, 0, &mut buf)?, got(6, Some(7), None));
+    assert_eq!(rt; receive(&mut trial, 2, 0, &mut buf), got(6, Some(7), None));
     assert_eq!(rt; buf[0], b'a');
     assert!(rt; trial.books.answered(3));
     assert!(rt; !trial.books.answered(1));
-    assert_eq!(rt; receive(&mut trial, 2, 0, &mut buf)?, got(7, Some(8), None));
+    assert_eq!(rt; receive(&mut trial, 2, 0, &mut buf), got(7, Some(8), None));
     assert_eq!(rt; buf[0], b'b');
     assert_eq!(rt; collect(&mut trial, 3, &mut buf), Some(Collected::Sent));
     assert_eq!(rt; collect(&mut trial, 1, &mut buf), Some(Collected::Sent));
     assert_eq!(rt; trial.books.waiting(1), None);
-    assert_eq!(rt; receive(&mut trial, 2, 0, &mut buf)?, got(8, None, None));
+    assert_eq!(rt; receive(&mut trial, 2, 0, &mut buf), got(8, None, None));
     assert_eq!(rt; buf[0], b'c');
     let journal = trial.books.into_journal();
     assert_eq!(rt; journal.len(), 14);
@@ -260,34 +265,34 @@ fn no_notice_is_given_while_a_receive_waits(rt: HostRuntime) -> Result<(), Fail>
     };
     let mut trial = make_trial(rt.alloc())?;
     let mut buf = [0u8; 8];
-    assert_eq!(rt; open(&mut trial, 1, b"/q", CREATE, limits(2))?, CREATED);
-    assert_eq!(rt; open(&mut trial, 2, b"/q", read, None)?, OPENED);
-    assert_eq!(rt; open(&mut trial, 3, b"/q", write, None)?, OPENED);
-    assert_eq!(rt; notify(&mut trial, 3, 0, Some(7))?, DONE);
-    assert_eq!(rt; receive(&mut trial, 1, 0, &mut buf)?, WAITS);
-    assert_eq!(rt; receive(&mut trial, 2, 0, &mut buf)?, WAITS);
+    assert_eq!(rt; open(&mut trial, 1, b"/q", CREATE, limits(2)), CREATED);
+    assert_eq!(rt; open(&mut trial, 2, b"/q", read, None), OPENED);
+    assert_eq!(rt; open(&mut trial, 3, b"/q", write, None), OPENED);
+    assert_eq!(rt; notify(&mut trial, 3, 0, Some(7)), DONE);
+    assert_eq!(rt; receive(&mut trial, 1, 0, &mut buf), WAITS);
+    assert_eq!(rt; receive(&mut trial, 2, 0, &mut buf), WAITS);
     assert_eq!(rt;
-        send(&mut trial, 3, 0, b"a", 0)?,
+        send(&mut trial, 3, 0, b"a", 0),
         Some(Reply::Handed { wait: 4 })
     );
     assert!(rt; trial.books.answered(1));
     assert!(rt; !trial.books.answered(2));
     assert_eq!(rt; collect(&mut trial, 2, &mut buf), None);
     assert_eq!(rt;
-        send(&mut trial, 3, 0, b"b", 0)?,
+        send(&mut trial, 3, 0, b"b", 0),
         Some(Reply::Handed { wait: 5 })
     );
     assert_eq!(rt; collect(&mut trial, 2, &mut buf), received(0));
     assert_eq!(rt; buf[0], b'b');
     assert_eq!(rt; collect(&mut trial, 1, &mut buf), received(0));
     assert_eq!(rt; buf[0], b'a');
-    assert_eq!(rt; next_notice(&mut trial, 3)?, Some(Reply::Notice(None)));
+    assert_eq!(rt; next_notice(&mut trial, 3), Some(Reply::Notice(None)));
     assert_eq!(rt;
-        send(&mut trial, 3, 0, b"c", 0)?,
+        send(&mut trial, 3, 0, b"c", 0),
         Some(Reply::Queued { notified: Some(3) })
     );
-    assert_eq!(rt; next_notice(&mut trial, 3)?, Some(Reply::Notice(Some(7))));
-    assert_eq!(rt; next_notice(&mut trial, 3)?, Some(Reply::Notice(None)));
+    assert_eq!(rt; next_notice(&mut trial, 3), Some(Reply::Notice(Some(7))));
+    assert_eq!(rt; next_notice(&mut trial, 3), Some(Reply::Notice(None)));
     let replies = [Reply::Collected { by: 7 }, Reply::Collected { by: 6 }];
     for (place, reply) in [8, 9].into_iter().zip(replies) {
         assert_eq!(rt;
@@ -302,13 +307,13 @@ fn no_notice_is_given_while_a_receive_waits(rt: HostRuntime) -> Result<(), Fail>
 fn an_admission_to_an_emptied_queue_gives_a_notice(rt: HostRuntime) -> Result<(), Fail> {
     let mut trial = make_trial(rt.alloc())?;
     let mut buf = [0u8; 8];
-    assert_eq!(rt; open(&mut trial, 1, b"/q", CREATE, limits(1))?, CREATED);
-    assert_eq!(rt; open(&mut trial, 2, b"/q", OPEN, None)?, OPENED);
-    assert_eq!(rt; send(&mut trial, 2, 0, b"a", 1)?, QUEUED);
-    assert_eq!(rt; notify(&mut trial, 1, 0, Some(9))?, DONE);
-    assert_eq!(rt; send(&mut trial, 2, 0, b"b", 2)?, WAITS);
+    assert_eq!(rt; open(&mut trial, 1, b"/q", CREATE, limits(1)), CREATED);
+    assert_eq!(rt; open(&mut trial, 2, b"/q", OPEN, None), OPENED);
+    assert_eq!(rt; send(&mut trial, 2, 0, b"a", 1), QUEUED);
+    assert_eq!(rt; notify(&mut trial, 1, 0, Some(9)), DONE);
+    assert_eq!(rt; send(&mut trial, 2, 0, b"b", 2), WAITS);
     assert_eq!(rt;
-        receive(&mut trial, 1, 0, &mut buf)?,
+        receive(&mut trial, 1, 0, &mut buf),
         got(2, Some(4), Some(3))
     );
     assert_eq!(rt; buf[0], b'a');
@@ -317,8 +322,8 @@ fn an_admission_to_an_emptied_queue_gives_a_notice(rt: HostRuntime) -> Result<()
         trial.books.journal().entry(6).map(|e| e.reply),
         Some(Reply::Collected { by: 5 })
     );
-    assert_eq!(rt; next_notice(&mut trial, 1)?, Some(Reply::Notice(Some(9))));
-    assert_eq!(rt; receive(&mut trial, 1, 0, &mut buf)?, got(4, None, None));
+    assert_eq!(rt; next_notice(&mut trial, 1), Some(Reply::Notice(Some(9))));
+    assert_eq!(rt; receive(&mut trial, 1, 0, &mut buf), got(4, None, None));
     assert_eq!(rt; buf[0], b'b');
     Ok(())
 }
@@ -330,35 +335,34 @@ fn at_most_64_queues_exist_and_an_open_one_exists_without_its_name(
     let mut trial = make_trial(rt.alloc())?;
     for p in 1..=4u32 {
         for d in 0..16u32 {
-            let mut name = String::new(rt.alloc());
-            write!(name, "/{}", (p - 1) * 16 + d)?;
-            let reply = open(&mut trial, p, name.as_bytes(), CREATE, limits(1))?;
+            let name = [b'/', b'0' + p as u8, b'a' + d as u8];
+            let reply = open(&mut trial, p, &name, CREATE, limits(1));
             assert_eq!(rt; reply, Some(Reply::Opened { d, created: true }));
         }
     }
     assert_eq!(rt;
-        open(&mut trial, 1, b"/0", OPEN, None)?,
+        open(&mut trial, 1, b"/1a", OPEN, None),
         refused(Fault::TooManyOpen)
     );
     assert_eq!(rt;
-        open(&mut trial, 1, b"/z", CREATE, limits(1))?,
+        open(&mut trial, 1, b"/z", CREATE, limits(1)),
         refused(Fault::TooManyOpen)
     );
     assert_eq!(rt;
-        open(&mut trial, 5, b"/x", CREATE, limits(1))?,
+        open(&mut trial, 5, b"/x", CREATE, limits(1)),
         refused(Fault::NoSpace)
     );
-    assert_eq!(rt; unlink(&mut trial, 5, b"/0")?, DONE);
+    assert_eq!(rt; unlink(&mut trial, 5, b"/1a"), DONE);
     assert_eq!(rt;
-        open(&mut trial, 5, b"/x", CREATE, limits(1))?,
+        open(&mut trial, 5, b"/x", CREATE, limits(1)),
         refused(Fault::NoSpace)
     );
-    assert_eq!(rt; close(&mut trial, 1, 0)?, DONE);
+    assert_eq!(rt; close(&mut trial, 1, 0), DONE);
     assert_eq!(rt; trial.books.lowest_open(1), Some(1));
-    assert_eq!(rt; open(&mut trial, 5, b"/x", CREATE, limits(1))?, CREATED);
-    assert_eq!(rt; close(&mut trial, 1, 1)?, DONE);
+    assert_eq!(rt; open(&mut trial, 5, b"/x", CREATE, limits(1)), CREATED);
+    assert_eq!(rt; close(&mut trial, 1, 1), DONE);
     assert_eq!(rt;
-        open(&mut trial, 5, b"/y", CREATE, limits(1))?,
+        open(&mut trial, 5, b"/y", CREATE, limits(1)),
         refused(Fault::NoSpace)
     );
     Ok(())
@@ -369,21 +373,21 @@ fn numbers_out_of_all_bounds_are_refused(rt: HostRuntime) -> Result<(), Fail> {
     let mut trial = make_trial(rt.alloc())?;
     let mut buf = [0u8; 8];
     let far = u32::MAX;
-    assert_eq!(rt; open(&mut trial, 1, b"/q", CREATE, limits(1))?, CREATED);
+    assert_eq!(rt; open(&mut trial, 1, b"/q", CREATE, limits(1)), CREATED);
     assert_eq!(rt;
-        send(&mut trial, 1, far, b"a", 0)?,
+        send(&mut trial, 1, far, b"a", 0),
         refused(Fault::BadDescriptor)
     );
-    assert_eq!(rt; send(&mut trial, 1, 0, b"a", far)?, refused(Fault::Invalid));
+    assert_eq!(rt; send(&mut trial, 1, 0, b"a", far), refused(Fault::Invalid));
     assert_eq!(rt;
-        receive(&mut trial, 1, 0, &mut [])?,
+        receive(&mut trial, 1, 0, &mut []),
         refused(Fault::MessageSize)
     );
     assert_eq!(rt;
-        receive(&mut trial, 1, far, &mut buf)?,
+        receive(&mut trial, 1, far, &mut buf),
         refused(Fault::BadDescriptor)
     );
-    assert_eq!(rt; close(&mut trial, 1, far)?, refused(Fault::BadDescriptor));
+    assert_eq!(rt; close(&mut trial, 1, far), refused(Fault::BadDescriptor));
     assert_eq!(rt; trial.books.lowest_open(2), None);
     assert_eq!(rt; trial.books.waiting(far), None);
     Ok(())
@@ -409,14 +413,14 @@ fn the_flag_of_a_descriptor_alone_can_be_set(rt: HostRuntime) -> Result<(), Fail
         nonblock: true,
         ..before
     };
-    assert_eq!(rt; open(&mut trial, 1, b"/q", CREATE, limits(2))?, CREATED);
-    assert_eq!(rt; getattr(&mut trial, 1, 0)?, Some(Reply::Attrs(before)));
+    assert_eq!(rt; open(&mut trial, 1, b"/q", CREATE, limits(2)), CREATED);
+    assert_eq!(rt; getattr(&mut trial, 1, 0), Some(Reply::Attrs(before)));
     assert_eq!(rt;
-        setattr(&mut trial, 1, 0, wanted)?,
+        setattr(&mut trial, 1, 0, wanted),
         Some(Reply::Attrs(before))
     );
-    assert_eq!(rt; getattr(&mut trial, 1, 0)?, Some(Reply::Attrs(behind)));
-    assert_eq!(rt; receive(&mut trial, 1, 0, &mut buf)?, refused(Fault::Again));
+    assert_eq!(rt; getattr(&mut trial, 1, 0), Some(Reply::Attrs(behind)));
+    assert_eq!(rt; receive(&mut trial, 1, 0, &mut buf), refused(Fault::Again));
     Ok(())
 }
 
@@ -433,24 +437,24 @@ fn the_oldest_notice_comes_first_and_a_queue_with_messages_gives_none(
         d: 1,
         created: false,
     });
-    assert_eq!(rt; open(&mut trial, 1, b"/a", CREATE, limits(2))?, CREATED);
-    assert_eq!(rt; open(&mut trial, 1, b"/b", CREATE, limits(2))?, second);
-    assert_eq!(rt; notify(&mut trial, 1, 0, Some(1))?, DONE);
-    assert_eq!(rt; notify(&mut trial, 1, 1, Some(2))?, DONE);
-    assert_eq!(rt; open(&mut trial, 2, b"/a", OPEN, None)?, OPENED);
-    assert_eq!(rt; open(&mut trial, 2, b"/b", OPEN, None)?, second_again);
+    assert_eq!(rt; open(&mut trial, 1, b"/a", CREATE, limits(2)), CREATED);
+    assert_eq!(rt; open(&mut trial, 1, b"/b", CREATE, limits(2)), second);
+    assert_eq!(rt; notify(&mut trial, 1, 0, Some(1)), DONE);
+    assert_eq!(rt; notify(&mut trial, 1, 1, Some(2)), DONE);
+    assert_eq!(rt; open(&mut trial, 2, b"/a", OPEN, None), OPENED);
+    assert_eq!(rt; open(&mut trial, 2, b"/b", OPEN, None), second_again);
     assert_eq!(rt;
-        send(&mut trial, 2, 1, b"x", 0)?,
+        send(&mut trial, 2, 1, b"x", 0),
         Some(Reply::Queued { notified: Some(3) })
     );
     assert_eq!(rt;
-        send(&mut trial, 2, 0, b"y", 0)?,
+        send(&mut trial, 2, 0, b"y", 0),
         Some(Reply::Queued { notified: Some(2) })
     );
-    assert_eq!(rt; next_notice(&mut trial, 1)?, Some(Reply::Notice(Some(2))));
-    assert_eq!(rt; next_notice(&mut trial, 1)?, Some(Reply::Notice(Some(1))));
-    assert_eq!(rt; notify(&mut trial, 1, 0, Some(5))?, DONE);
-    assert_eq!(rt; send(&mut trial, 2, 0, b"z", 0)?, QUEUED);
-    assert_eq!(rt; notify(&mut trial, 2, 0, Some(6))?, refused(Fault::Busy));
+    assert_eq!(rt; next_notice(&mut trial, 1), Some(Reply::Notice(Some(2))));
+    assert_eq!(rt; next_notice(&mut trial, 1), Some(Reply::Notice(Some(1))));
+    assert_eq!(rt; notify(&mut trial, 1, 0, Some(5)), DONE);
+    assert_eq!(rt; send(&mut trial, 2, 0, b"z", 0), QUEUED);
+    assert_eq!(rt; notify(&mut trial, 2, 0, Some(6)), refused(Fault::Busy));
     Ok(())
 }

@@ -6,13 +6,12 @@ ghost use Rattle.mq_core.specs.Answer.{Appends, answer, may_call, is_payload, pa
 ghost use Rattle.std.specs.Option.{option_map};
 ghost use Rattle.mq_core.specs.Owners.{waits_count, answer_in, wait_in, lowest_held_in};
 ghost use Rattle.mq_state.specs.Buffers.{filled};
-ghost use Rattle.mq_core.specs.declared.entries.Registration.{Registration};
-ghost use Rattle.mq_state.specs.Tables.{entry_queue, HasRoomToNotify, BringsOrder};
+ghost use Rattle.mq_state.specs.Tables.{entry_queue, HasRoomToRegister, BringsOrder};
 ghost use Rattle.mq_state.specs.Kept.{IsKeptBy, HasEntryRoom};
 
 use crate::order::Order;
 use crate::tables::Tables;
-use crate::{buffers, decided, notices, queues};
+use crate::{buffers, decided, notices};
 use mq_core::entries::{Attr, Call, Entry, OpenFlags, Reply};
 use mq_core::faults::Fault;
 use mq_core::journals::Journal;
@@ -35,9 +34,6 @@ fn payload_of(call: Call, reply: Reply, given: &[u8]) -> &[u8]
 }
 
 impl Tables {
-    ghost use Rattle.mq_state.specs.Queues.{registration_in};
-    ghost use Rattle.mq_state.specs.Inboxes.{HasNoticeRoom, notices_in};
-
     /// How many processes have an open wait.
     pub fn open_waits(&self) -> usize
         ensures count { result ≡ waits_count self.now.owners.items }
@@ -51,7 +47,7 @@ impl Tables {
         requires kept { IsKeptBy journal.old self.old }
         requires next { IsLegalNext journal.old.records (record { entry = entry; payload = payload.now }) }
         requires at_most { entry.process ≤ self.old.n }
-        requires notice { HasRoomToNotify self.old.queues.items self.old.inboxes.items (entry_queue journal.old.records entry.process entry.call payload.now) entry.reply }
+        requires registration { HasRoomToRegister self.old.queues.items self.old.inboxes.items entry.process entry.call entry.reply }
         requires brings { BringsOrder entry.call entry.reply (vec_len self.old.queues) (vec_capacity self.old.queues) fresh }
         requires bytes { length payload.now ≤ journal.old.byte_room }
         requires entries { HasEntryRoom entry.reply (waits_count self.old.owners.items) journal.old.entry_room }
@@ -79,7 +75,7 @@ impl Tables {
         requires turn { IsTrue (may_call journal.old.records p call) }
         requires answers { reply ≡ answer journal.old.records p call given.now }
         requires payload { IsTrue (is_payload call reply (payload_of call reply given.now)) }
-        requires notice { HasRoomToNotify self.old.queues.items self.old.inboxes.items (entry_queue journal.old.records p call given.now) reply }
+        requires registration { HasRoomToRegister self.old.queues.items self.old.inboxes.items p call reply }
         requires brings { BringsOrder call reply (vec_len self.old.queues) (vec_capacity self.old.queues) fresh }
         requires bytes { length given.now ≤ journal.old.byte_room }
         requires entries { HasEntryRoom reply (waits_count self.old.owners.items) journal.old.entry_room }
@@ -235,19 +231,30 @@ impl Tables {
         reply
     }
 
-    // Makes room for the notices of all registrations of process p, and of one more, where a call makes a registration.
-    fn make_inbox_room(&mut self, journal: &Journal, p: u32, reply: Reply) -> Result<(), AllocError>
+    // Makes room for the notice of the registration that a call of process p makes: for one from each queue, since at most
+    // one registration stands on each.
+    fn make_notice_room(
+        &mut self,
+        journal: &Journal,
+        p: u32,
+        call: Call,
+        reply: Reply,
+    ) -> Result<(), AllocError>
         requires kept { IsKeptBy journal.now self.old }
         requires process { p ≤ self.old.n }
         ensures kept { IsKeptBy journal.now self.new }
         ensures n { self.new.n ≡ self.old.n }
         ensures waits { waits_count self.new.owners.items ≡ waits_count self.old.owners.items }
+        ensures room { OnOk result (HasRoomToRegister self.new.queues.items self.new.inboxes.items p call reply) }
     {
-        match reply {
-            Reply::Done => {
-                let standing = queues::registrations_of(&self.queues, p);
-                notices::make_room(&mut self.inboxes, p, standing.saturating_add(1))
-            }
+        match (call, reply) {
+            (
+                Call::MqNotify {
+                    d: _,
+                    value: Some(_),
+                },
+                Reply::Done,
+            ) => notices::make_room(&mut self.inboxes, p, self.queues.len()),
             _ => Ok(()),
         }
     }
@@ -265,11 +272,12 @@ impl Tables {
         if journal.reserve(self.open_waits() + 1, 0).is_err() {
             return Reply::Refused(Fault::NoMemory);
         }
+        let call = Call::MqNotify { d, value };
         let reply = self.answer_notify(journal, p, d, value);
-        if value.is_some() && self.make_inbox_room(journal, p, reply).is_err() {
+        if self.make_notice_room(journal, p, call, reply).is_err() {
             return Reply::Refused(Fault::NoMemory);
         }
-        self.record(journal, p, Call::MqNotify { d, value }, reply, &[], None);
+        self.record(journal, p, call, reply, &[], None);
         reply
     }
 
@@ -291,20 +299,6 @@ impl Tables {
         reply
     }
 
-    // Room for the notice of the registration that stands on queue q. It is there since the registration was made.
-    fn make_notice_room(&mut self, journal: &Journal, q: u64) -> Result<(), AllocError>
-        requires kept { IsKeptBy journal.now self.old }
-        ensures kept { IsKeptBy journal.now self.new }
-        ensures n { self.new.n ≡ self.old.n }
-        ensures waits { waits_count self.new.owners.items ≡ waits_count self.old.owners.items }
-        ensures room { OnOk result ((n : Registration) → registration_in self.new.queues.items q ≡ Some n → HasNoticeRoom self.new.inboxes.items n.process) }
-    {
-        match queues::registration(&self.queues, q) {
-            None => Ok(()),
-            Some(n) => notices::make_room(&mut self.inboxes, n.process, 1),
-        }
-    }
-
     /// A send of a message (`mq_send`).
     pub fn send(&mut self, journal: &mut Journal, p: u32, d: u32, bytes: &[u8], prio: u32) -> Reply
         requires kept { IsKeptBy journal.old self.old }
@@ -316,10 +310,6 @@ impl Tables {
         ensures n { self.new.n ≡ self.old.n }
     {
         if journal.reserve(self.open_waits() + 2, bytes.len()).is_err() {
-            return Reply::Refused(Fault::NoMemory);
-        }
-        let q = self.descriptor_queue(journal, p, d);
-        if self.make_notice_room(journal, q).is_err() {
             return Reply::Refused(Fault::NoMemory);
         }
         let len = bytes.len() as u64;
@@ -347,10 +337,6 @@ impl Tables {
         ensures n { self.new.n ≡ self.old.n }
     {
         if journal.reserve(self.open_waits() + 2, 0).is_err() {
-            return Reply::Refused(Fault::NoMemory);
-        }
-        let q = self.descriptor_queue(journal, p, d);
-        if self.make_notice_room(journal, q).is_err() {
             return Reply::Refused(Fault::NoMemory);
         }
         let room = buf.len() as u64;

@@ -1,4 +1,4 @@
-use Rattle.std.proofs.Common.{◌≡◌, ◌∙◌, ◌∷◌, ap, length, [], length-append, arith}
+use Rattle.std.proofs.Common.{◌∙◌, ◌∷◌, ap, length, [], length-append, arith}
 use Rattle.mq_state.specs.Inboxes.{notices_in}
 use Rattle.mq_state.proofs.InboxLines.{none-in, none-push}
 use Rattle.mq_state.proofs.notices.empty.Goals as goal

@@ -1,6 +1,4 @@
-use Rattle.std.proofs.Common.{◌≡◌, ◌∙◌, sym, ap, map, take, drop, ◌++◌, set, get_or, ◌<◌, length, arith}
 use Rattle.mq_state.specs.Queues.{reregistered}
-use Rattle.mq_state.specs.QueueShown.{QueueShown}
 use Rattle.mq_state.proofs.QueueLines.{map-untouched, loop-kept}
 use Rattle.mq_state.proofs.queues.note_registrations.Goals as goal
 

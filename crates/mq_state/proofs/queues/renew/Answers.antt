@@ -1,7 +1,5 @@
-use Rattle.std.proofs.Common.{◌≡◌, ◌∙◌, sym, ap, subst, Option, Some, refl}
-use Rattle.std.proofs.lemmas.List.Quantifiers.{position-Some}
-use Rattle.mq_state.specs.Queues.{queue_in, HasRoom, renewed}
-use Rattle.mq_state.specs.QueueShown.{QueueShown}
+use Rattle.std.proofs.Common.{◌∙◌, sym, ap}
+use Rattle.mq_state.specs.Queues.{renewed}
 use Rattle.mq_state.proofs.QueueLines.{queue_in-Some, changed-at, changed-None}
 use Rattle.mq_state.proofs.queues.renew.Goals as goal
 

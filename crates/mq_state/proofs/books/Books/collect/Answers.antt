@@ -1,4 +1,4 @@
-use Rattle.std.proofs.Common.{◌≡◌, ◌≤◌, ◌∙◌, sym, ap, subst, length, Some}
+use Rattle.std.proofs.Common.{◌≡◌, ◌≤◌, ◌∙◌, sym, subst, length, Some}
 use Rattle.mq_state.specs.Buffers.{waiting_call, room_of, FitsOutcome}
 use Rattle.mq_core.specs.Waits.{answered_by}
 use Rattle.mq_state.proofs.Collecting.{collect-fits}

@@ -1,8 +1,8 @@
-use Rattle.std.proofs.Common.{◌≡◌, ◌∙◌, sym, ap, reverse, take, length, arith, ◌≤◌, refl}
+use Rattle.std.proofs.Common.{◌≡◌, ◌∙◌, ap, reverse, take, arith}
 use Rattle.std.proofs.lemmas.List.{take_all}
 use Rattle.mq_core.specs.OnePass.{best_of}
 use Rattle.mq_state.specs.Slots.{Slots}
-use Rattle.mq_state.specs.SlotOrder.{goes_first, best_slot}
+use Rattle.mq_state.specs.SlotOrder.{goes_first}
 use Rattle.mq_state.proofs.Slotted.{best_of-slots}
 use Rattle.mq_state.proofs.order.Order.best.Goals as goal
 

@@ -1,4 +1,4 @@
-use Rattle.std.proofs.Common.{◌≡◌, ◌≤◌, ◌+◌, ◌-◌, ◌∙◌, sym, ap, reverse, length, arith, refl, vec_len, vec_capacity}
+use Rattle.std.proofs.Common.{◌≡◌, ◌≤◌, ◌-◌, ◌∙◌, sym, ap, reverse, length, arith, vec_len, vec_capacity}
 use Rattle.mq_state.specs.Slots.{Slots}
 use Rattle.mq_state.specs.SlotOrder.{without}
 use Rattle.mq_state.proofs.Slotted.{filter-reverse, length-reverse, length-without}

@@ -1,4 +1,4 @@
-use Rattle.std.proofs.Common.{◌≡◌, ◌∙◌, sym, ap, is_some, length, vec_len, arith}
+use Rattle.std.proofs.Common.{◌≡◌, ◌∙◌, ap, is_some, length, arith}
 use Rattle.std.specs.Prelude.{nat_le}
 use Rattle.mq_core.specs.Owners.{free_number_in}
 use Rattle.mq_state.specs.Queues.{bound_in}

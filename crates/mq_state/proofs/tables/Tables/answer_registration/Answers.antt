@@ -1,4 +1,4 @@
-use Rattle.std.proofs.Common.{◌≡◌, ◌∙◌, ap}
+use Rattle.std.proofs.Common.{◌∙◌, ap}
 use Rattle.mq_state.specs.Queues.{registration_in}
 use Rattle.mq_state.specs.Decided.{decided_notify}
 use Rattle.mq_state.proofs.Reading.{registration-read}

@@ -1,4 +1,4 @@
-use Rattle.std.proofs.Common.{◌≡◌, ◌∙◌, sym, ap}
+use Rattle.std.proofs.Common.{◌∙◌, sym, ap}
 use Rattle.mq_core.specs.Owners.{held_in}
 use Rattle.mq_core.proofs.HeldQueues.{held-alive}
 use Rattle.mq_state.proofs.tables.Tables.answer_send.Goals as goal

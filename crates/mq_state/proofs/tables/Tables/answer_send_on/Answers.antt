@@ -1,4 +1,4 @@
-use Rattle.std.proofs.Common.{◌≡◌, ◌∙◌, ap, length}
+use Rattle.std.proofs.Common.{◌∙◌, ap, length}
 use Rattle.mq_state.specs.Queues.{slots_in}
 use Rattle.mq_state.proofs.Reading.{send-is}
 use Rattle.mq_state.proofs.tables.Tables.answer_send_on.Goals as goal

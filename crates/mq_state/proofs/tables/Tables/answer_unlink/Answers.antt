@@ -1,4 +1,4 @@
-use Rattle.std.proofs.Common.{◌≡◌, ◌∙◌, sym, ap, is_some, if◌then◌else◌}
+use Rattle.std.proofs.Common.{◌∙◌, sym, ap, is_some, if◌then◌else◌}
 use Rattle.mq_core.specs.declared.faults.Fault.TheVariants.{NoEntry}
 use Rattle.mq_core.specs.declared.entries.Reply.TheVariants.{Done, Refused}
 use Rattle.mq_state.specs.Queues.{bound_in}

@@ -1,20 +1,19 @@
-use Rattle.std.proofs.Common.{◌≡◌, ◌∙◌, ◌+◌, ◌<◌, ◌≤◌, ◌∷◌, ℕ, List, All, length, sym, ap, subst, arith, vec_len, vec_capacity}
+use Rattle.std.proofs.Common.{◌≡◌, ◌∙◌, ◌+◌, ◌≤◌, ◌∷◌, ℕ, List, length, sym, ap, subst, arith, vec_len, vec_capacity}
 use Rattle.std.proofs.lemmas.List.Elements.{All-cons}
 use Rattle.mq_core.specs.Record.{Record, Past}
 use Rattle.mq_core.specs.Answer.{Legal}
 use Rattle.mq_core.specs.Owners.{waits_count}
-use Rattle.mq_core.specs.OwnersNoted.{FitsSlots, noted}
-use Rattle.mq_core.specs.declared.entries.Reply.{Reply}
-use Rattle.mq_core.specs.declared.owners.Owner.{Owner}
+use Rattle.mq_core.specs.OwnersNoted.{noted}
 use Rattle.mq_core.proofs.LegalReplies.{legal_says}
 use Rattle.mq_core.proofs.OwnersKeep.{noted-fits}
-use Rattle.mq_state.specs.Kept.{IsKeptBy}
-use Rattle.mq_state.specs.Tables.{TablesMirror, AreAtMost, entry_queue, admitted_priority, noted_values, with_fresh}
-use Rattle.mq_state.specs.Inboxes.{notices_in}
+use Rattle.mq_state.specs.Tables.{TablesMirror, AreAtMost, entry_queue, admitted_priority, noted_values, with_fresh, notices_brought, HasNoticeRoom}
+use Rattle.mq_state.specs.Inboxes.{notices_in, room_in}
+use Rattle.mq_state.specs.QueueShown.{QueueShown}
 use Rattle.mq_state.specs.Queues.{noted_queues, registration_in}
 use Rattle.mq_state.proofs.QueuesNoted.{HasRoomIn, line-room}
-use Rattle.mq_state.proofs.TablesKeep.{entry-on, queued-free, tables-keep, IsNotedBy}
-use Rattle.mq_state.proofs.WaitsNoted.{length-noted, waits-noted, registered-inside}
+use Rattle.mq_state.proofs.TablesKeep.{entry-on, queued-free, tables-keep}
+use Rattle.mq_state.proofs.WaitsNoted.{length-noted, waits-noted}
+use Rattle.mq_state.proofs.NoticeRoom.{notice-room-keeps, room-to-notify}
 use Rattle.mq_state.proofs.tables.Tables.append.Goals as goal
 
 pub note-requires-clause-numbers : goal.note-requires-clause-numbers
@@ -29,8 +28,8 @@ note-requires-clause-room c =
     line-room past c.args.self.now.queues.items c.requires.kept.mirror.existing e.process e.call e.reply c.args.payload.now q (admitted_priority past e.reply) (entry-on past e.process e.call e.reply c.args.payload.now c.requires.next) (queued-free past e.process e.call e.reply c.args.payload.now c.requires.next) in
     subst (λ k. HasRoomIn c.args.self.now.queues.items k (length past) e) (sym c.entry_queue-q.ensures) room
 
-pub note-requires-clause-registered : goal.note-requires-clause-registered
-note-requires-clause-registered c = λ n is. registered-inside c.args.journal.now.records c.args.self.now.n c.args.self.now.owners.items c.args.self.now.queues.items c.args.self.now.inboxes.items c.requires.kept.mirror c.requires.kept.processes c.entry_queue-q.result n is
+pub note-requires-clause-notice_room : goal.note-requires-clause-notice_room
+note-requires-clause-notice_room c = λ n is. room-to-notify c.args.self.now.queues.items c.args.self.now.inboxes.items c.requires.kept.notice_room c.entry_queue-q.result n is
 
 pub push-requires-clause-entry_room : goal.push-requires-clause-entry_room
 push-requires-clause-entry_room c =
@@ -52,6 +51,8 @@ returns-clause-kept c =
     let count = c.requires.kept.mirror.owner_count in
     let owners : after.owners.items ≡ noted before.owners.items (length past) e.process e.call e.reply q = c.note.ensures.owners ∙ ap (noted before.owners.items (length past) e.process e.call e.reply) c.entry_queue-q.ensures in
     let room = waits-noted past before.owners.items c.requires.kept.mirror.lines e.process e.call e.reply q c.args.journal.now.entry_room (legal_says past r c.requires.next) c.requires.next.turn (let le = c.requires.at_most in omega (arith, le, count)) c.requires.entries in
+    let queues : after.queues.items ≡ with_fresh c.args.fresh (length past) (noted_queues after.owners.items (length past) e q (admitted_priority past e.reply) before.queues.items) =
+    c.note.ensures.queues ∙ ap (λ k. with_fresh c.args.fresh (length past) (noted_queues after.owners.items (length past) e k (admitted_priority past e.reply) before.queues.items)) c.entry_queue-q.ensures in
     let waits : waits_count after.owners.items ≡ waits_count (noted before.owners.items (length past) e.process e.call e.reply q) = ap waits_count owners in
     let pushed = c.push.ensures.entry_room in
     let mirror : TablesMirror (r ∷ past) before.n after.owners.items after.queues.items after.inboxes.items =
@@ -60,7 +61,7 @@ returns-clause-kept c =
     (line-room past before.queues.items c.requires.kept.mirror.existing e.process e.call e.reply payload q (admitted_priority past e.reply) (entry-on past e.process e.call e.reply payload c.requires.next) (queued-free past e.process e.call e.reply payload c.requires.next))
     (record {
       owners_are = owners;
-      queues_are = c.note.ensures.queues ∙ ap (λ k. with_fresh c.args.fresh (length past) (noted_queues after.owners.items (length past) e k (admitted_priority past e.reply) before.queues.items)) c.entry_queue-q.ensures;
+      queues_are = queues;
       inbox_count = c.note.ensures.count;
       inboxes_are = λ k. c.note.ensures.inboxes k ∙ ap (λ j. noted_values e.process (registration_in before.queues.items j) e.reply k (notices_in before.inboxes.items k)) c.entry_queue-q.ensures;
     })
@@ -71,4 +72,8 @@ returns-clause-kept c =
       processes = subst (λ (xs : Past). AreAtMost after.n xs) (sym c.push.ensures.records) (subst (λ (n : ℕ). AreAtMost n (r ∷ past)) (sym c.note.ensures.n) (All-cons (λ (x : Record). x.entry.process ≤ before.n) r past c.requires.at_most c.requires.kept.processes));
       mirror = subst (λ (xs : Past). TablesMirror xs after.n after.owners.items after.queues.items after.inboxes.items) (sym c.push.ensures.records) (subst (λ (n : ℕ). TablesMirror (r ∷ past) n after.owners.items after.queues.items after.inboxes.items) (sym c.note.ensures.n) mirror);
       room = omega (arith, waits, room, pushed);
+      notice_room = subst (λ (xs : List QueueShown). HasNoticeRoom xs after.inboxes.items) (sym queues)
+          (notice-room-keeps past c.requires.kept.legal before.queues.items c.requires.kept.mirror.existing e.process e.call e.reply payload c.requires.next before.inboxes.items after.inboxes.items c.requires.kept.notice_room
+          (λ k. subst (λ j. room_in before.inboxes.items k ≤ room_in after.inboxes.items k + notices_brought (registration_in before.queues.items j) e.reply k) c.entry_queue-q.ensures (c.note.ensures.notice_room k))
+          c.requires.registration c.args.fresh after.owners.items (admitted_priority past e.reply));
     }

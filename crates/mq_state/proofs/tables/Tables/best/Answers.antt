@@ -1,6 +1,5 @@
-use Rattle.std.proofs.Common.{◌≡◌, ◌∙◌, sym, ap, Option, Some}
+use Rattle.std.proofs.Common.{◌∙◌, sym, ap}
 use Rattle.std.specs.Option.{option_map}
-use Rattle.mq_core.specs.Messages.{best}
 use Rattle.mq_state.specs.declared.order.Slot.{Slot}
 use Rattle.mq_state.specs.SlotOrder.{best_slot}
 use Rattle.mq_state.specs.Queues.{slots_in}

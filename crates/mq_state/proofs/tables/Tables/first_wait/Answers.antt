@@ -1,4 +1,4 @@
-use Rattle.std.proofs.Common.{◌≡◌, ◌∙◌, sym, ap, subst, List, refl}
+use Rattle.std.proofs.Common.{◌∙◌, sym, ap, subst, List, refl}
 use Rattle.mq_core.specs.Owners.{IsFirstWait, pending_in}
 use Rattle.mq_core.specs.declared.owners.Owner.{Owner}
 use Rattle.mq_core.proofs.Pending.{least-pending, no-pending}

@@ -1,4 +1,4 @@
-use Rattle.std.proofs.Common.{◌≡◌, ◌∙◌, sym, ap, length}
+use Rattle.std.proofs.Common.{◌∙◌, sym, ap, length}
 use Rattle.std.specs.Option.{unwrap_or}
 use Rattle.mq_state.specs.Queues.{bound_in}
 use Rattle.mq_state.proofs.Reading.{bound-read}

@@ -1,0 +1,254 @@
+-- Behind each entry there is room for the notice of each registration.
+use Rattle.std.proofs.Common.{◌≡◌, ◌≢◌, ℕ, ◌+◌, ◌<◌, ◌≤◌, ◌==◌, Bool, true, false, ◌&&◌, not, List, [], ◌∷◌, length, map, cond, Option, Some, None, is_some, if◌then◌else◌, refl, sym, ◌∙◌, ap, subst, arith, eqb-true, eq-eqb, ne_eqb, ◌||◌}
+use Rattle.std.proofs.lemmas.List.{length-map}
+use Rattle.std.specs.List.{filter}
+use Rattle.std.proofs.lemmas.List.Sums.{sum_by-cons, sum_by_push, count_by-le-length}
+use Rattle.mq_core.specs.Record.{Past}
+use Rattle.mq_core.specs.Notices.{registration_of, registration_after, only_if, or_else, unless, ends, notified}
+use Rattle.mq_core.specs.Answer.{Legal, IsLegalNext}
+use Rattle.mq_core.specs.declared.owners.Owner.{Owner}
+use Rattle.mq_core.specs.declared.entries.Entry.{Entry}
+use Rattle.mq_core.specs.declared.entries.Registration.{Registration}
+use Rattle.mq_core.specs.declared.entries.Call.{Call}
+use Rattle.mq_core.specs.declared.entries.Call.TheVariants.{MqOpen, MqClose, MqUnlink, MqSend, MqReceive, MqGetattr, MqSetattr, MqNotify, NextNotice, Collect}
+use Rattle.mq_core.specs.declared.entries.Reply.{Reply}
+use Rattle.mq_core.specs.declared.entries.Reply.TheVariants.{Opened, Queued, Handed, Waits, Got, Collected, Attrs, Notice, Done, Refused}
+use Rattle.mq_core.proofs.Places.{split}
+use Rattle.mq_core.proofs.LegalReplies.{legal_says}
+use Rattle.mq_core.proofs.NoticeSteps.{made-of}
+use Rattle.std.proofs.lemmas.Bool.{eqb-false}
+use Rattle.mq_state.specs.Slots.{Slots}
+use Rattle.mq_state.specs.QueueShown.{QueueShown}
+use Rattle.mq_state.specs.InboxShown.{InboxShown}
+use Rattle.mq_state.specs.Inboxes.{room_in}
+use Rattle.mq_state.specs.Queues.{queue_in, registration_in, registrations_in, is_registered_by, changed, without_queue, reregistered, renewed, released, may_free, noted_queues, fresh, is_named_in, QueuesMirror}
+use Rattle.mq_core.specs.Owners.{is_held_in}
+use Rattle.mq_state.specs.Tables.{HasNoticeRoom, HasRoomToRegister, entry_queue, notices_brought, with_fresh}
+use Rattle.mq_state.proofs.QueuesKeep.{rec, renewed-registration}
+use Rattle.mq_state.proofs.Reading.{registration-read}
+use Rattle.mq_state.proofs.TablesKeep.{IsNotified, queued-notified, got-notified, notifies-alive}
+
+abbrev one_if : Bool → ℕ
+one_if b = cond b 1 0
+
+registrations-cons : (x : QueueShown) (queues : List QueueShown) (p : ℕ) → registrations_in (x ∷ queues) p ≡ one_if (is_registered_by p x.registration) + registrations_in queues p
+unfolding registrations_in
+registrations-cons x queues p = sum_by-cons (λ (y : QueueShown). one_if (is_registered_by p y.registration)) x queues
+
+pub registrations-none : (p : ℕ) → registrations_in [] p ≡ 0
+unfolding registrations_in
+registrations-none p = refl
+
+few : (queues : List QueueShown) (p : ℕ) → registrations_in queues p ≤ length queues
+unfolding registrations_in
+few queues p = count_by-le-length (λ (y : QueueShown). is_registered_by p y.registration) queues
+
+-- a queue with a registration counts for its process
+pub registered-counts : (queues : List QueueShown) (q : ℕ) (n : Registration) → registration_in queues q ≡ Some n → 0 < registrations_in queues n.process
+unfolding registration_in queue_in
+registered-counts [] q n e = absurd (cc)
+registered-counts (x ∷ queues) q n e = split (x.place == q)
+    (λ t. let here : x.registration ≡ Some n = rw t at e in
+    let mine : one_if (is_registered_by n.process x.registration) ≡ 1 = rw (here, eq-eqb n.process n.process refl) refl in
+    let c = registrations-cons x queues n.process in omega (arith, c, mine))
+    (λ f. let rest = registered-counts queues q n (rw f at e) in let c = registrations-cons x queues n.process in omega (arith, c, rest))
+
+-- one registration behind an entry -----------------------------------------------------------------------------------------
+
+unless-fewer : (ended : Registration → Bool) (o : Option Registration) (p : ℕ) → one_if (is_registered_by p (unless ended o)) ≤ one_if (is_registered_by p o)
+unless-fewer ended None p = omega arith
+unless-fewer ended (Some n) p = split (ended n) (λ t. rw t (omega arith)) (λ f. rw f (omega arith))
+
+-- the entry makes no registration of process p
+abbrev MakesNone : ℕ → Entry → ℕ → Type 0
+MakesNone here e p = (n : Registration) → registration_of here e.process e.call e.reply ≡ Some n → n.process ≢ p
+
+after-fewer : (on : Bool) (here : ℕ) (e : Entry) (before : Option Registration) (p : ℕ) → MakesNone here e p → one_if (is_registered_by p (registration_after on here e before)) ≤ one_if (is_registered_by p before)
+after-fewer on here e before p none = by (registration_of here e.process e.call e.reply) none
+  where
+    by : (o : Option Registration) → ((n : Registration) → o ≡ Some n → n.process ≢ p) → one_if (is_registered_by p (or_else (only_if on o) (unless (ends on e) before))) ≤ one_if (is_registered_by p before)
+    by None none = unless-fewer (ends on e) before p
+    by (Some n) none = split on
+        (λ t. rw t (let other : (n.process == p) ≡ false = ne_eqb n.process p (none n refl) in rw other (omega arith)))
+        (λ f. rw f (unless-fewer (ends false e) before p))
+
+-- all registrations behind an entry ----------------------------------------------------------------------------------------
+
+map-fewer : (q here : ℕ) (e : Entry) (queues : List QueueShown) (p : ℕ) → MakesNone here e p → registrations_in (map (reregistered q here e) queues) p ≤ registrations_in queues p
+map-fewer q here e [] p none = let z = registrations-none p in omega arith
+map-fewer q here e (x ∷ queues) p none =
+    let one = after-fewer (q == x.place) here e x.registration p none in
+    let rest = map-fewer q here e queues p none in
+    omega (arith, one, rest, registrations-cons x queues p, registrations-cons (reregistered q here e x) (map (reregistered q here e) queues) p)
+
+-- a notified registration ends
+map-notified : (q here : ℕ) (e : Entry) (queues : List QueueShown) (n : Registration) → ((p : ℕ) → MakesNone here e p) → registration_in queues q ≡ Some n → notified e.reply ≡ Some n.place → registrations_in (map (reregistered q here e) queues) n.process + 1 ≤ registrations_in queues n.process
+unfolding registration_in queue_in
+map-notified q here e [] n none stands is = absurd (cc)
+map-notified q here e (x ∷ queues) n none stands is = split (x.place == q)
+    (λ t. let there : x.registration ≡ Some n = rw t at stands in
+    let before : one_if (is_registered_by n.process x.registration) ≡ 1 = rw (there, eq-eqb n.process n.process refl) refl in
+    let ended : ends (q == x.place) e n ≡ true = rw (is, eq-eqb n.place n.place refl) refl in
+    let over : unless (ends (q == x.place) e) x.registration ≡ None = rw (there, ended) refl in
+    let after : registration_after (q == x.place) here e x.registration ≡ None = made (q == x.place) (unless (ends (q == x.place) e) x.registration) over in
+    let none_left : one_if (is_registered_by n.process (registration_after (q == x.place) here e x.registration)) ≡ 0 = ap (λ o. one_if (is_registered_by n.process o)) after in
+    let rest = map-fewer q here e queues n.process (none n.process) in
+    omega (arith, before, none_left, rest, registrations-cons x queues n.process, registrations-cons (reregistered q here e x) (map (reregistered q here e) queues) n.process))
+    (λ f. let rest = map-notified q here e queues n none (rw f at stands) is in
+    let one = after-fewer (q == x.place) here e x.registration n.process (none n.process) in
+    omega (arith, one, rest, registrations-cons x queues n.process, registrations-cons (reregistered q here e x) (map (reregistered q here e) queues) n.process))
+  where
+    made : (on : Bool) (o : Option Registration) → o ≡ None → or_else (only_if on (registration_of here e.process e.call e.reply)) o ≡ None
+    made on o over = by (registration_of here e.process e.call e.reply) (λ m at. none m.process m at refl)
+      where
+        by : (r : Option Registration) → ((m : Registration) → r ≡ Some m → ⊥) → or_else (only_if on r) o ≡ None
+        by None none = over
+        by (Some m) none = absurd (none m refl)
+
+registrations-changed : (f : QueueShown → QueueShown) (queues : List QueueShown) (q p : ℕ) → ((x : QueueShown) → (f x).registration ≡ x.registration) → registrations_in (changed f queues q) p ≡ registrations_in queues p
+registrations-changed f [] q p same = refl
+registrations-changed f (x ∷ queues) q p same = split (x.place == q)
+    (λ t. rw t (registrations-cons (f x) queues p ∙ ap (λ o. one_if (is_registered_by p o) + registrations_in queues p) (same x) ∙ sym (registrations-cons x queues p)))
+    (λ n. rw n (registrations-cons x (changed f queues q) p ∙ ap (λ m. one_if (is_registered_by p x.registration) + m) (registrations-changed f queues q p same) ∙ sym (registrations-cons x queues p)))
+
+registrations-without : (queues : List QueueShown) (q p : ℕ) → registrations_in (without_queue queues q) p ≤ registrations_in queues p
+unfolding without_queue
+registrations-without [] q p = let z = registrations-none p in omega arith
+registrations-without (x ∷ queues) q p =
+    let rest : registrations_in (filter (λ y. not (y.place == q)) queues) p ≤ registrations_in queues p = registrations-without queues q p in
+    let c = registrations-cons x queues p in
+    split (x.place == q)
+    (λ t. rw t (omega (arith, c, rest)))
+    (λ n. rw n (let d = registrations-cons x (filter (λ y. not (y.place == q)) queues) p in omega (arith, c, d, rest)))
+
+registrations-released : (owners : List Owner) (freed : Bool) (queues : List QueueShown) (q p : ℕ) → registrations_in (released owners freed queues q) p ≤ registrations_in queues p
+registrations-released owners freed queues q p = split (freed && not (is_named_in queues q || is_held_in owners q))
+    (λ t. rw t (registrations-without queues q p))
+    (λ n. rw n (omega arith))
+
+registrations-fresh : (brought : Option Slots) (here : ℕ) (queues : List QueueShown) (p : ℕ) → registrations_in (with_fresh brought here queues) p ≡ registrations_in queues p
+unfolding registrations_in
+registrations-fresh None here queues p = refl
+registrations-fresh (Some o) here queues p = let e = sum_by_push (λ (y : QueueShown). one_if (is_registered_by p y.registration)) queues (fresh here o.room) in omega (arith, e)
+
+-- but for the registrations that the entry makes and ends no process has more
+noted-fewer : (brought : Option Slots) (owners : List Owner) (here : ℕ) (e : Entry) (q prio : ℕ) (queues : List QueueShown) (p : ℕ) → registrations_in (with_fresh brought here (noted_queues owners here e q prio queues)) p ≤ registrations_in (map (reregistered q here e) queues) p
+noted-fewer brought owners here e q prio queues p =
+    let lines : List QueueShown = map (reregistered q here e) queues in
+    let a = registrations-fresh brought here (noted_queues owners here e q prio queues) p in
+    let b = registrations-released owners (may_free e.call e.reply) (changed (renewed here e.call e.reply prio) lines q) q p in
+    let c = registrations-changed (renewed here e.call e.reply prio) lines q p (λ x. renewed-registration here e.call e.reply prio x) in
+    omega (arith, a, b, c)
+
+-- there is room behind each entry ------------------------------------------------------------------------------------------
+
+brings-none : (o : Option Registration) (reply : Reply) (p : ℕ) → notified reply ≡ None → notices_brought o reply p ≡ 0
+brings-none None reply p e = refl
+brings-none (Some n) reply p e = rw e refl
+
+brings-one : (n : Registration) (reply : Reply) (p j : ℕ) → notified reply ≡ Some j → notices_brought (Some n) reply p ≡ (if n.process == p then 1 else 0)
+brings-one n reply p j e = rw e refl
+
+-- what a process keeps of its room, where the entry brings notices to the registered process
+abbrev KeepsRoom : List QueueShown → List InboxShown → List InboxShown → ℕ → Reply → Type 0
+KeepsRoom queues inboxes after q reply = (p : ℕ) → room_in inboxes p ≤ room_in after p + notices_brought (registration_in queues q) reply p
+
+-- behind an entry that notifies nobody, and makes no registration of process p
+quiet-room : (here : ℕ) (e : Entry) (queues : List QueueShown) (inboxes after : List InboxShown) (q : ℕ) → HasNoticeRoom queues inboxes → KeepsRoom queues inboxes after q e.reply → notified e.reply ≡ None → (p : ℕ) → MakesNone here e p →
+    registrations_in (map (reregistered q here e) queues) p ≤ room_in after p
+quiet-room here e queues inboxes after q has kept is p none =
+    let fewer = map-fewer q here e queues p none in
+    let brought = brings-none (registration_in queues q) e.reply p is in
+    omega (arith, fewer, has p, kept p, brought)
+
+notified-room : (here : ℕ) (e : Entry) (queues : List QueueShown) (inboxes after : List InboxShown) (q : ℕ) → HasNoticeRoom queues inboxes → KeepsRoom queues inboxes after q e.reply → ((p : ℕ) → MakesNone here e p) → (n : Registration) → registration_in queues q ≡ Some n → notified e.reply ≡ Some n.place → (p : ℕ) →
+    registrations_in (map (reregistered q here e) queues) p ≤ room_in after p
+notified-room here e queues inboxes after q has kept none n stands is p =
+    let brought : notices_brought (registration_in queues q) e.reply p ≡ (if n.process == p then 1 else 0) = ap (λ o. notices_brought o e.reply p) stands ∙ brings-one n e.reply p n.place is in
+    split (n.process == p)
+    (λ t. let same : n.process ≡ p = eqb-true _ _ t in
+    let ended : registrations_in (map (reregistered q here e) queues) p + 1 ≤ registrations_in queues p = subst (λ k. registrations_in (map (reregistered q here e) queues) k + 1 ≤ registrations_in queues k) same (map-notified q here e queues n none stands is) in
+    let one : notices_brought (registration_in queues q) e.reply p ≡ 1 = rw t at brought in
+    omega (arith, ended, has p, kept p, one))
+    (λ f. let zero : notices_brought (registration_in queues q) e.reply p ≡ 0 = rw f at brought in
+    let fewer = map-fewer q here e queues p (none p) in
+    omega (arith, fewer, has p, kept p, zero))
+
+registered-room : (past : Past) (p d v : ℕ) (queues : List QueueShown) (inboxes after : List InboxShown) (q : ℕ) → HasNoticeRoom queues inboxes → KeepsRoom queues inboxes after q Done → length queues ≤ room_in inboxes p → (k : ℕ) →
+    registrations_in (map (reregistered q (length past) (record { process = p; call = MqNotify d (Some v); reply = Done })) queues) k ≤ room_in after k
+registered-room past p d v queues inboxes after q has kept room k =
+    let e : Entry = record { process = p; call = MqNotify d (Some v); reply = Done } in
+    split (p == k)
+    (λ t. let same : p ≡ k = eqb-true _ _ t in
+    let all = few (map (reregistered q (length past) e) queues) k in
+    let long : length (map (reregistered q (length past) e) queues) ≡ length queues = length-map queues (reregistered q (length past) e) in
+    let here : room_in inboxes p ≡ room_in inboxes k = ap (room_in inboxes) same in
+    let brought = brings-none (registration_in queues q) Done k refl in
+    omega (arith, all, long, room, here, kept k, brought))
+    (λ f. quiet-room (length past) e queues inboxes after q has kept refl k (λ n made same. let by = (made-of p (length past) (MqNotify d (Some v)) Done n made).1 in eqb-false _ _ f (sym by ∙ same)))
+
+-- a call that is done, and makes no registration
+makes-none : (here p : ℕ) (call : Call) → ((d v : ℕ) → call ≢ MqNotify d (Some v)) → (k : ℕ) → MakesNone here (record { process = p; call = call; reply = Done }) k
+makes-none here p (MqNotify d (Some v)) other k n e = absurd (other d v refl)
+makes-none here p (MqNotify d None) other k n e = absurd (cc)
+makes-none here p (MqOpen flags attr) other k n e = absurd (cc)
+makes-none here p (MqClose d) other k n e = absurd (cc)
+makes-none here p MqUnlink other k n e = absurd (cc)
+makes-none here p (MqSend d prio len) other k n e = absurd (cc)
+makes-none here p (MqReceive d room) other k n e = absurd (cc)
+makes-none here p (MqGetattr d) other k n e = absurd (cc)
+makes-none here p (MqSetattr d nonblock) other k n e = absurd (cc)
+makes-none here p NextNotice other k n e = absurd (cc)
+makes-none here p Collect other k n e = absurd (cc)
+
+done-room : (past : Past) (p : ℕ) (call : Call) (queues : List QueueShown) (inboxes after : List InboxShown) (q : ℕ) → HasNoticeRoom queues inboxes → KeepsRoom queues inboxes after q Done → HasRoomToRegister queues inboxes p call Done → (k : ℕ) →
+    registrations_in (map (reregistered q (length past) (record { process = p; call = call; reply = Done })) queues) k ≤ room_in after k
+done-room past p (MqNotify d (Some v)) queues inboxes after q has kept room k = registered-room past p d v queues inboxes after q has kept (room refl) k
+done-room past p call queues inboxes after q has kept room k = quiet-room (length past) (record { process = p; call = call; reply = Done }) queues inboxes after q has kept refl k (makes-none (length past) p call (λ d v e. cc) k)
+
+lines-room : (past : Past) → Legal past → (queues : List QueueShown) → QueuesMirror past queues → (p : ℕ) (call : Call) (reply : Reply) (payload : List ℕ) → IsLegalNext past (rec p call reply payload) → (inboxes after : List InboxShown) →
+    HasNoticeRoom queues inboxes → KeepsRoom queues inboxes after (entry_queue past p call payload) reply → HasRoomToRegister queues inboxes p call reply → (k : ℕ) →
+    registrations_in (map (reregistered (entry_queue past p call payload) (length past) (record { process = p; call = call; reply = reply })) queues) k ≤ room_in after k
+lines-room past legal queues m p call reply payload next inboxes after has kept room k = by reply next kept room
+  where
+    q : ℕ
+    q = entry_queue past p call payload
+
+    notified-by : (reply : Reply) → IsLegalNext past (rec p call reply payload) → KeepsRoom queues inboxes after q reply → (j : ℕ) → notified reply ≡ Some j → ((n : Registration) → registration_of (length past) p call reply ≢ Some n) → IsNotified past q j →
+        registrations_in (map (reregistered q (length past) (record { process = p; call = call; reply = reply })) queues) k ≤ room_in after k
+    notified-by reply next kept j is none x =
+        let stands : registration_in queues q ≡ Some x.registration = registration-read past queues m q (notifies-alive past legal p call reply payload next (ap is_some is)) ∙ x.stands in
+        notified-room (length past) (record { process = p; call = call; reply = reply }) queues inboxes after q has kept (λ i n made same. none n made) x.registration stands (is ∙ ap Some (sym x.place)) k
+
+    quiet : (reply : Reply) → KeepsRoom queues inboxes after q reply → notified reply ≡ None → ((n : Registration) → registration_of (length past) p call reply ≢ Some n) →
+        registrations_in (map (reregistered q (length past) (record { process = p; call = call; reply = reply })) queues) k ≤ room_in after k
+    quiet reply kept is none = quiet-room (length past) (record { process = p; call = call; reply = reply }) queues inboxes after q has kept is k (λ n made same. none n made)
+
+    by : (reply : Reply) → IsLegalNext past (rec p call reply payload) → KeepsRoom queues inboxes after q reply → HasRoomToRegister queues inboxes p call reply →
+        registrations_in (map (reregistered q (length past) (record { process = p; call = call; reply = reply })) queues) k ≤ room_in after k
+    by (Queued (Some j)) next kept room = notified-by (Queued (Some j)) next kept j refl (λ n e. cc) (queued-notified past p call j payload (legal_says past (rec p call (Queued (Some j)) payload) next))
+    by (Queued None) next kept room = quiet (Queued None) kept refl (λ n e. cc)
+    by (Got i a (Some j)) next kept room = notified-by (Got i a (Some j)) next kept j refl (λ n e. cc) (got-notified past p call i a j payload (legal_says past (rec p call (Got i a (Some j)) payload) next))
+    by (Got i a None) next kept room = quiet (Got i a None) kept refl (λ n e. cc)
+    by Done next kept room = done-room past p call queues inboxes after q has kept room k
+    by (Opened d c) next kept room = quiet (Opened d c) kept refl (λ n e. cc)
+    by (Handed w) next kept room = quiet (Handed w) kept refl (λ n e. cc)
+    by Waits next kept room = quiet Waits kept refl (λ n e. cc)
+    by (Collected b) next kept room = quiet (Collected b) kept refl (λ n e. cc)
+    by (Attrs s) next kept room = quiet (Attrs s) kept refl (λ n e. cc)
+    by (Notice v) next kept room = quiet (Notice v) kept refl (λ n e. cc)
+    by (Refused f) next kept room = quiet (Refused f) kept refl (λ n e. cc)
+
+-- the tables behind an entry have room for the notice of each registration, where there was room for the one that it makes
+pub notice-room-keeps : (past : Past) → Legal past → (queues : List QueueShown) → QueuesMirror past queues → (p : ℕ) (call : Call) (reply : Reply) (payload : List ℕ) → IsLegalNext past (rec p call reply payload) → (inboxes after : List InboxShown) →
+    HasNoticeRoom queues inboxes → KeepsRoom queues inboxes after (entry_queue past p call payload) reply → HasRoomToRegister queues inboxes p call reply →
+    (brought : Option Slots) (owners : List Owner) (prio : ℕ) →
+    HasNoticeRoom (with_fresh brought (length past) (noted_queues owners (length past) (record { process = p; call = call; reply = reply }) (entry_queue past p call payload) prio queues)) after
+notice-room-keeps past legal queues m p call reply payload next inboxes after has kept room brought owners prio k =
+    let lines = lines-room past legal queues m p call reply payload next inboxes after has kept room k in
+    let fewer = noted-fewer brought owners (length past) (record { process = p; call = call; reply = reply }) (entry_queue past p call payload) prio queues k in
+    omega (arith, lines, fewer)
+
+-- a registration has room for its notice
+pub room-to-notify : (queues : List QueueShown) (inboxes : List InboxShown) → HasNoticeRoom queues inboxes → (q : ℕ) (n : Registration) → registration_in queues q ≡ Some n → 0 < room_in inboxes n.process
+room-to-notify queues inboxes has q n stands = let counts = registered-counts queues q n stands in omega (arith, counts, has n.process)
