@@ -53,8 +53,8 @@ module _ {old stay : Ticket Record} {system : LockId} {books : Kept} {p : ℕ} w
     number = c.number;
     legal = legal;
     grows =
-      let added : Grows owner old.number books.records records (own old.number) = record { behind = own p; is = is; mine = rw (sym c.process) mine } in
-      grown added;
+        let added : Grows owner old.number books.records records (own old.number) = record { behind = own p; is = is; mine = rw (sym c.process) mine } in
+        grown added;
   }
     where
       empty : (xs : Past) → xs ++ [] ≡ xs
@@ -120,8 +120,8 @@ module _ {old stay : Ticket Record} {system : LockId} {books : Kept} {p : ℕ} w
       → wait_begun reply (room_of call) ≡ waiting_room records stay.number
   room-begun {records} call given reply c free is = split (is_wait reply)
       (λ yes. let same = is-waits reply yes in
-        let waits = now-waits call given c (rw same at is) in
-        rw same (sym waits.room))
+      let waits = now-waits call given c (rw same at is) in
+      rw same (sym waits.room))
       (λ other. not-begun reply (room_of call) other ∙ sym (free-room records stay.number (still-free call given reply c free is other)))
 
   -- a call that does not wait leaves it as it was

@@ -59,7 +59,6 @@ pub(crate) fn seat_of<L: Lock<Guarded>>(process: Process<L>) -> L::Seat
     process.seat.unwrap()
 }
 
-
 impl<L: Lock<Guarded>> Process<L> {
     ghost use Rattle.std.specs.Prelude.{◌≡◌, ◌≢◌, ◌≤◌, Bool, true, false, Some, None, IsSome, IfSome, IfNone, OnSome, Ok, length, [], is_some};
     ghost use Rattle.mq_core.specs.Waits.{open_wait};
@@ -83,7 +82,8 @@ impl<L: Lock<Guarded>> Process<L> {
     /// `None` where the process has no open wait, else the length of the buffer of the receive that waits, or 0 for a send.
     /// Asks the process's own value alone.
     pub fn waiting(&self) -> Option<usize>
-        ensures { result ≡ waiting_room self.now.left self.now.number }
+        ensures room { result ≡ waiting_room self.now.left self.now.number }
+        ensures free { result ≡ None → IsFree self.now }
     {
         self.waits
     }

@@ -14,24 +14,33 @@ use mq_core::journals::Journal;
 use mq_state::books::Books;
 use std::alloc::Global;
 use std::marker::Model;
+use std::sync::Mutex;
+
+// Room for the seats of all processes, for `Mq::finish`, which takes no memory.
+#[derive(Drop)]
+struct Room<T> {
+    seats: Vec<T>,
+    ghost shape: { (seats.items ≡ []) × (32 ≤ vec_capacity seats) },
+}
 
 /// Message queues that processes share, over a lock. Contracts see which lock it is, with the number of processes.
 #[derive(Drop)]
 pub struct Mq<L: Lock<Guarded>> {
     lock: L,
     n: u32,
-    room: Vec<L::Seat>,
+    // Nothing ever locks it: threads share an `Mq`, and seats go from thread to thread but are not shared.
+    room: Mutex<Room<L::Seat>>,
 }
 
 impl<L: Lock<Guarded>> Model for Mq<L> {
-    ghost use Rattle.std.specs.Prelude.{◌≡◌, ◌∷◌, [], ◌≤◌, vec_capacity};
+    ghost use Rattle.std.specs.Prelude.{◌≡◌, ◌∷◌, [], ◌≤◌};
     ghost use Rattle.fast_mutex.specs.Items.{LockId};
 
     ghost Value = { LockId };
 
     ghost view = { λ q. L.id q.lock };
 
-    ghost invariant = { λ q. ((L.id q.lock).fixed ≡ (L.id q.lock).count ∷ []) × (q.room.items ≡ []) × (q.n ≡ (L.id q.lock).count) × (q.n ≤ vec_capacity q.room) };
+    ghost invariant = { λ q. ((L.id q.lock).fixed ≡ (L.id q.lock).count ∷ []) × (q.n ≡ (L.id q.lock).count) × (q.n ≤ 32) };
 }
 
 impl<L: Lock<Guarded>> Mq<L> {
@@ -53,9 +62,10 @@ impl<L: Lock<Guarded>> Mq<L> {
         if n == 0 || n > 32 {
             return Err(Fault::Invalid);
         }
-        let Ok(room) = Vec::with_capacity(alloc, n as usize) else {
+        let Ok(seats) = Vec::with_capacity(alloc, 32) else {
             return Err(Fault::NoMemory);
         };
+        let room = Mutex::new(Room { seats });
         let Ok(processes) = Vec::with_capacity(alloc, n as usize) else {
             return Err(Fault::NoMemory);
         };
@@ -83,7 +93,10 @@ impl<L: Lock<Guarded>> Mq<L> {
                 parts: processes,
             });
         }
-        match self.lock.finish(seats_of(processes, self.room)) {
+        match self
+            .lock
+            .finish(seats_of(processes, self.room.into_inner().seats))
+        {
             Ok(state) => Ok(state.books.into_journal()),
             Err(_) => unreachable!(),
         }

@@ -14,7 +14,7 @@ pub collect-outcome-requires-clause-room : goal.collect-outcome-requires-clause-
 collect-outcome-requires-clause-room g c =
     let came = rw c.self.view_is at c.come-process.ensures in
     room-fits c.come-process.result.2.books.records c.come-process.result.0 (length c.args.buf.now) (rw (came-room came) c.requires.wait)
-      (subst (λ (o : Option ℕ). IfSome o (λ room. room ≤ length c.args.buf.now)) (sym (came-room came)) c.requires.room)
+    (subst (λ (o : Option ℕ). IfSome o (λ room. room ≤ length c.args.buf.now)) (sym (came-room came)) c.requires.room)
 
 pub depart-requires-clause-grows : goal.depart-requires-clause-grows
 depart-requires-clause-grows g c =

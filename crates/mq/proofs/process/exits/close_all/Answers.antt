@@ -9,7 +9,7 @@ close_lowest-requires-clause-lowest c = lowest-is c.descriptors.books.records c.
 
 pub descriptors-preserved : goal.descriptors-preserved
 descriptors-preserved c = elim c.if-eq.branch [
-    then-eq+in_ok-close_lowest w ↦
+  | then-eq+in_ok-close_lowest w ↦
       let lowest = lowest-is c.descriptors.books.records c.args.p c.descriptors.d c.lowest_open.result c.lowest_open.ensures w.if-eq.ensures in
       rw w.books-is (record {
         n = w.close_lowest.ensures.processes ∙ c.descriptors.invariant.n;
@@ -23,7 +23,8 @@ descriptors-preserved c = elim c.if-eq.branch [
         free = c.descriptors.invariant.free;
         closing = c.descriptors.invariant.closing;
         from = from-next c.descriptors.books.records c.args.p c.descriptors.d c.descriptors.invariant.from (lowest-is_not c.descriptors.books.records c.args.p c.descriptors.d c.lowest_open.result c.lowest_open.ensures w.if-eq.ensures);
-      }) ]
+      })
+]
 
 pub returns-clause-ok : goal.returns-clause-ok
 returns-clause-ok c = from-end c.descriptors.books.records c.args.p (λ e is. let le = c.descriptors.invariant.from e is in omega (arith, le, c.descriptors-test.false))
