@@ -147,10 +147,7 @@ where
 }
 
 // Writes that the history is ok, where the checker accepts it; else nothing, and gives the first place that is not legal.
-fn write_last_line<W: Write>(
-    output: &mut W,
-    journal: &Journal,
-) -> Result<Result<(), u64>, RunFault>
+fn write_last_line<W: Write>(output: &mut W, journal: &Journal) -> Result<Result<(), u64>, RunFault>
     ensures fault { IfErr result IsLate }
     ensures checked { IfOk result (λ verdict. IsOk verdict ↔ Legal journal.now.records) }
     ensures written { IfOk result (λ verdict. OnOk verdict (Appends (W.contents output.old) (W.contents output.new) last_line)) }

@@ -450,7 +450,13 @@ fn comments_and_spaces_count_for_nothing(rt: HostRuntime) -> Result<(), Fail> {
     let script =
         "# a comment\n\n   # another\n  processes   01 \n\n--\n 1  getattr  0 \n   \n1 exit";
     let mut output = Vec::new(rt.alloc());
-    let outcome = run_script::<Lamport, _, _, _, _>(&rt, rt.alloc(), &mut script.as_bytes(), &mut output, &Plain);
+    let outcome = run_script::<Lamport, _, _, _, _>(
+        &rt,
+        rt.alloc(),
+        &mut script.as_bytes(),
+        &mut output,
+        &Plain,
+    );
     assert_eq!(rt; outcome, Ok(()));
     assert!(rt; output.as_slice() == "1 EBADF\n1 ok\nhistory ok\n".as_bytes());
     Ok(())
@@ -467,7 +473,13 @@ fn names_have_at_most_255_bytes_behind_the_slash(rt: HostRuntime) -> Result<(), 
     script.extend_from_slice(b" bc\n1 unlink /")?;
     add_letters(&mut script, 256)?;
     let mut output = Vec::new(alloc);
-    let outcome = run_script::<Lamport, _, _, _, _>(&rt, alloc, &mut script.as_slice(), &mut output, &Plain);
+    let outcome = run_script::<Lamport, _, _, _, _>(
+        &rt,
+        alloc,
+        &mut script.as_slice(),
+        &mut output,
+        &Plain,
+    );
     assert_eq!(rt; outcome, Ok(()));
     let replies =
         "1 EINVAL\n1 EINVAL\n1 EINVAL\n1 fd 0\n1 ENAMETOOLONG\n1 ENAMETOOLONG\nhistory ok\n";
@@ -498,7 +510,13 @@ fn a_message_may_hold_any_byte_but_a_space_and_a_feed(rt: HostRuntime) -> Result
     script.extend_from_slice(b"\n1 recv 0 300\n")?;
     replies.extend_from_slice(b"\nhistory ok\n")?;
     let mut output = Vec::new(alloc);
-    let outcome = run_script::<Lamport, _, _, _, _>(&rt, alloc, &mut script.as_slice(), &mut output, &Plain);
+    let outcome = run_script::<Lamport, _, _, _, _>(
+        &rt,
+        alloc,
+        &mut script.as_slice(),
+        &mut output,
+        &Plain,
+    );
     assert_eq!(rt; outcome, Ok(()));
     assert!(rt; output.as_slice() == replies.as_slice());
     Ok(())
@@ -532,7 +550,13 @@ fn the_first_line_at_fault_is_named(rt: HostRuntime) -> Result<(), Fail> {
     ];
     for (script, line) in scripts {
         let mut output = Vec::new(rt.alloc());
-        let outcome = run_script::<Lamport, _, _, _, _>(&rt, rt.alloc(), &mut script.as_bytes(), &mut output, &Plain);
+        let outcome = run_script::<Lamport, _, _, _, _>(
+            &rt,
+            rt.alloc(),
+            &mut script.as_bytes(),
+            &mut output,
+            &Plain,
+        );
         assert_eq!(rt; outcome, Err(RunFault::BadCall(line)), "{script}");
         assert!(rt; output.is_empty(), "{script}");
     }
@@ -547,7 +571,13 @@ fn each_prefix_runs_or_is_at_fault_in_its_last_line(rt: HostRuntime) -> Result<(
             let mut prefix = &bytes[..end];
             let mut output = Vec::new(rt.alloc());
             let last = last_line(prefix);
-            let outcome = run_script::<Lamport, _, _, _, _>(&rt, rt.alloc(), &mut prefix, &mut output, &Plain);
+            let outcome = run_script::<Lamport, _, _, _, _>(
+                &rt,
+                rt.alloc(),
+                &mut prefix,
+                &mut output,
+                &Plain,
+            );
             if outcome == Ok(()) {
                 assert!(rt; output.as_slice().ends_with(b"history ok\n"), "at {end}");
             } else {
@@ -579,11 +609,23 @@ fn a_script_has_at_most_1_048_576_bytes(rt: HostRuntime) -> Result<(), Fail> {
         script.push(b'#')?;
     }
     let mut output = Vec::new(alloc);
-    let outcome = run_script::<Lamport, _, _, _, _>(&rt, alloc, &mut script.as_slice(), &mut output, &Plain);
+    let outcome = run_script::<Lamport, _, _, _, _>(
+        &rt,
+        alloc,
+        &mut script.as_slice(),
+        &mut output,
+        &Plain,
+    );
     assert_eq!(rt; outcome, Ok(()));
     assert!(rt; output.as_slice() == "history ok\n".as_bytes());
     script.push(b'\n')?;
-    let outcome = run_script::<Lamport, _, _, _, _>(&rt, alloc, &mut script.as_slice(), &mut output, &Plain);
+    let outcome = run_script::<Lamport, _, _, _, _>(
+        &rt,
+        alloc,
+        &mut script.as_slice(),
+        &mut output,
+        &Plain,
+    );
     assert_eq!(rt; outcome, Err(RunFault::BadCall(2)));
     Ok(())
 }
@@ -600,11 +642,23 @@ fn a_script_has_at_most_1_000_call_lines(rt: HostRuntime) -> Result<(), Fail> {
     }
     replies.extend_from_slice(b"history ok\n")?;
     let mut output = Vec::new(alloc);
-    let outcome = run_script::<Lamport, _, _, _, _>(&rt, alloc, &mut script.as_slice(), &mut output, &Plain);
+    let outcome = run_script::<Lamport, _, _, _, _>(
+        &rt,
+        alloc,
+        &mut script.as_slice(),
+        &mut output,
+        &Plain,
+    );
     assert_eq!(rt; outcome, Ok(()));
     assert!(rt; output.as_slice() == replies.as_slice());
     script.extend_from_slice(b"1 getattr 0\n")?;
-    let outcome = run_script::<Lamport, _, _, _, _>(&rt, alloc, &mut script.as_slice(), &mut output, &Plain);
+    let outcome = run_script::<Lamport, _, _, _, _>(
+        &rt,
+        alloc,
+        &mut script.as_slice(),
+        &mut output,
+        &Plain,
+    );
     assert_eq!(rt; outcome, Err(RunFault::BadCall(1002)));
     Ok(())
 }
@@ -644,7 +698,13 @@ fn a_read_that_fails_ends_the_run(rt: HostRuntime) -> Result<(), Fail> {
             reads: 0,
             fails_at,
         };
-        let outcome = run_script::<Lamport, _, _, _, _>(&rt, rt.alloc(), &mut input, &mut output, &Plain);
+        let outcome = run_script::<Lamport, _, _, _, _>(
+            &rt,
+            rt.alloc(),
+            &mut input,
+            &mut output,
+            &Plain,
+        );
         if fails_at <= bytes.len() + 1 {
             assert_eq!(rt; outcome, Err(RunFault::Input), "at {fails_at}");
             assert!(rt; output.is_empty());
@@ -688,7 +748,13 @@ fn reading_stops_with_the_first_byte_past_the_limit(rt: HostRuntime) -> Result<(
         },
         reads: 0,
     };
-    let outcome = run_script::<Lamport, _, _, _, _>(&rt, rt.alloc(), &mut input, &mut output, &Plain);
+    let outcome = run_script::<Lamport, _, _, _, _>(
+        &rt,
+        rt.alloc(),
+        &mut input,
+        &mut output,
+        &Plain,
+    );
     assert_eq!(rt; outcome, Err(RunFault::BadCall(2)));
     assert_eq!(rt; input.reads, 1_048_577);
     Ok(())
@@ -730,7 +796,13 @@ fn a_write_that_fails_ends_the_run(rt: HostRuntime) -> Result<(), Fail> {
                     room,
                     fails,
                 };
-                let outcome = run_script::<Lamport, _, _, _, _>(&rt, rt.alloc(), &mut script.as_bytes(), &mut output, &Plain);
+                let outcome = run_script::<Lamport, _, _, _, _>(
+                    &rt,
+                    rt.alloc(),
+                    &mut script.as_bytes(),
+                    &mut output,
+                    &Plain,
+                );
                 let wanted = if room < replies.len() {
                     Err(RunFault::Output)
                 } else {

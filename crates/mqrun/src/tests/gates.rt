@@ -1,6 +1,6 @@
 // Gates at which the processes of a phase meet.
 use super::Lamport;
-use crate::gate::{Gate, Plain};
+use crate::gate::Gate;
 use crate::run::run_script;
 use crossbeam_utils::Backoff;
 use std::sync::atomic::{AtomicU64, Ordering};
@@ -15,7 +15,7 @@ struct Meeting {
 }
 
 // A meeting at which each looks for the other so many times.
-fn meeting(looks: u32) -> Meeting {
+fn new_meeting(looks: u32) -> Meeting {
     Meeting {
         come: [AtomicU64::new(0), AtomicU64::new(0)],
         looks,
@@ -40,7 +40,7 @@ impl Gate for Meeting {
 
 #[test]
 fn the_processes_of_a_phase_meet(rt: HostRuntime) -> Result<(), Fail> {
-    let gate = meeting(1_000_000);
+    let gate = new_meeting(1_000_000);
     let script = "processes 2\n1 getattr 0\n2 getattr 0\n";
     let mut output = Vec::new(rt.alloc());
     let outcome = run_script::<Lamport, _, _, _, _>(
@@ -59,7 +59,7 @@ fn the_processes_of_a_phase_meet(rt: HostRuntime) -> Result<(), Fail> {
 // Two phases let process 2 come only when process 1 is through, as a runner without threads would.
 #[test]
 fn processes_that_run_one_after_another_miss_each_other(rt: HostRuntime) -> Result<(), Fail> {
-    let gate = meeting(1000);
+    let gate = new_meeting(1000);
     let script = "processes 2\n1 getattr 0\n--\n2 getattr 0\n";
     let mut output = Vec::new(rt.alloc());
     let outcome = run_script::<Lamport, _, _, _, _>(
@@ -111,10 +111,4 @@ fn each_call_meets_the_gate_once_with_its_line(rt: HostRuntime) -> Result<(), Fa
     assert_eq!(rt; gate.calls.load(Ordering::SeqCst), 3);
     assert_eq!(rt; gate.lines.load(Ordering::SeqCst), 4 + 6 + 7);
     Ok(())
-}
-
-// The plain gate changes nothing.
-#[test]
-fn the_plain_gate_does_nothing(_rt: HostRuntime) {
-    Plain.before(1, 1);
 }
