@@ -1,8 +1,9 @@
 pub mod Buffers
 pub mod KnownBytes
 pub mod Lines
+pub mod Lists
 pub mod Numbers
-pub mod Phases
 pub mod ScriptLines
-pub mod Turns
+pub mod Taking
 pub mod WordCounts
+pub mod Working

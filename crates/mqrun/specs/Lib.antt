@@ -1,5 +1,8 @@
+pub mod Buffer
 pub mod Grammar
+pub mod Members
 pub mod Output
+pub mod Phase
 pub mod Phases
 pub mod Replies
 pub mod RunFault

@@ -32,10 +32,14 @@ abbrev pub message_received : Outcome → List ℕ → List ℕ
 message_received (Got received) buffer = take received.len buffer
 message_received outcome buffer = []
 
+-- the length of the message that was received
+abbrev pub message_len : Outcome → ℕ
+message_len (Got received) = received.len
+message_len outcome = 0
+
 -- the message that was received lies in the buffer
 abbrev pub HasMessage : Outcome → ℕ → Type 0
-HasMessage (Got received) room = received.len ≤ room
-HasMessage outcome room = Unit {0}
+HasMessage outcome room = message_len outcome ≤ room
 
 -- the line of a reply
 abbrev pub reply_line : ℕ → Outcome → List ℕ → List ℕ

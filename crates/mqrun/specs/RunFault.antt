@@ -20,7 +20,7 @@ exit_status NoMemory = 4
 
 -- a fault that comes behind the reading
 abbrev pub IsLate : RunFault → Type 0
-IsLate (BadCall line) = Unit {0}
+IsLate (BadCall line) = ⊥
 IsLate Input = ⊥
 IsLate Output = Unit {0}
 IsLate NoMemory = Unit {0}

@@ -1,117 +1,123 @@
--- What the calls of a script leave.
-use Rattle.std.specs.Prelude.{◌≡◌, ◌≢◌, ◌==◌, ◌++◌, ℕ, zero, suc, List, [], ◌∷◌, codes, filter, length, replicate, IsFalse, IsTrue, Option, Some, None}
-use Rattle.mq_core.specs.Answer.{Appends}
+-- What the calls of a script leave. A process shows its ticket: its lock, its number, and the journal that it last left.
+use Rattle.std.specs.Prelude.{◌≡◌, ◌==◌, ◌++◌, ℕ, List, [], ◌∷◌, codes, filter, IsFalse, IsTrue, Option, Result, Ok, Err}
+use Rattle.std.specs.List.{All}
+use Rattle.std.specs.Io.KnownBytes as known
+use Rattle.fast_mutex.specs.Items.{LockId, Ticket, Grows, tickets_from}
+use Rattle.mq.specs.Calls.{IsFree, Exits, OneCall, SendCall, WholeReceive, owner}
+use Rattle.mq.specs.Says.{attributes_says, done_says, notice_says, open_says}
+use Rattle.mq_core.specs.Answer.{Legal}
 use Rattle.mq_core.specs.Name.{has_name_form, is_name, is_short}
-use Rattle.mq_core.specs.Record.{Past}
-use Rattle.mq_core.specs.Waits.{open_wait}
+use Rattle.mq_core.specs.Record.{Past, Record}
 use Rattle.mq_core.specs.declared.entries.Call.{Call}
-use Rattle.mq_core.specs.declared.entries.Call.TheVariants.{MqOpen, MqClose, MqUnlink, MqSend, MqReceive, MqGetattr, MqSetattr, MqNotify, NextNotice}
+use Rattle.mq_core.specs.declared.entries.Call.TheVariants.{MqOpen, MqClose, MqUnlink, MqGetattr, MqSetattr, MqNotify, NextNotice}
 use Rattle.mq_core.specs.declared.entries.Reply.{Reply}
-use Rattle.mq_core.specs.declared.entries.Reply.TheVariants as replies
-use Rattle.mq_core.specs.declared.faults.Fault.TheVariants.{Invalid, NameTooLong, NoMemory}
-use Rattle.mq_state.specs.Buffers.{filled, received_at}
+use Rattle.mq_core.specs.declared.faults.Fault.{Fault}
+use Rattle.mq_core.specs.declared.faults.Fault.TheVariants.{Invalid, NameTooLong}
+use Rattle.mqrun.specs.Buffer.{buffer_given}
 use Rattle.mqrun.specs.Grammar.{Word}
+use Rattle.mqrun.specs.Replies.{reply_line}
+use Rattle.mqrun.specs.Script.{Whole}
 use Rattle.mqrun.specs.declared.command.Command.{Command}
 use Rattle.mqrun.specs.declared.command.Command.TheVariants as command
 use Rattle.mqrun.specs.declared.line.ScriptCall.{ScriptCall}
-use Rattle.mqrun.specs.Replies.{reply_line}
-use Rattle.mqrun.specs.Script.{Whole}
-use Rattle.std.specs.Io.KnownBytes as known
 use Rattle.mqrun.specs.declared.reply.Outcome.{Outcome}
 use Rattle.mqrun.specs.declared.reply.Outcome.TheVariants as outcomes
+use Rattle.mqrun.specs.declared.turns.Answer.{Answer}
 
--- no process has an open wait
-abbrev pub NobodyWaits : Past → Type 0
-NobodyWaits past = (p : ℕ) → open_wait past p ≡ None
+-- the same process, of the same lock; the journal that it left may have grown
+pub record IsSameProcess (old new : Ticket Record) : Type 0 where
+  pub lock : new.lock ≡ old.lock
+  pub number : new.number ≡ old.number
 
--- what is printed of a reply that gives no message. A call that waits has come to nothing yet
-abbrev pub outcome_of : Reply → Option Outcome
-outcome_of (replies.Opened d created) = Some (outcomes.Opened d)
-outcome_of (replies.Queued notified) = Some outcomes.Done
-outcome_of (replies.Handed wait) = Some outcomes.Done
-outcome_of replies.Done = Some outcomes.Done
-outcome_of (replies.Attrs status) = Some (outcomes.Attrs status)
-outcome_of (replies.Notice value) = Some (outcomes.Notice value)
-outcome_of (replies.Refused fault) = Some (outcomes.Refused fault)
-outcome_of _ = None
+-- the process was made with this system, and has no open wait
+pub record IsReady (mq : LockId) (process : Ticket Record) : Type 0 where
+  pub made : process.lock ≡ mq
+  pub free : IsFree process
 
--- a call was made, and this is printed of its reply: one record was added, or for want of memory none
-pub record Makes (old new : Past) (p : ℕ) (call : Call) (given : List ℕ) (result : Option Outcome) : Type 0 where
-  pub reply : Reply
-  pub added : reply ≢ replies.Refused NoMemory → Appends old new p call given reply
-  pub unchanged : reply ≡ replies.Refused NoMemory → new ≡ old
-  pub outcome : result ≡ outcome_of reply
+-- what is printed of what a call returned
+abbrev pub outcome_by : {A : Type 0} → (A → Outcome) → Result A Fault → Outcome
+outcome_by shows (Ok value) = shows value
+outcome_by shows (Err fault) = outcomes.Refused fault
 
--- what is printed of the reply to a receive, where these are the records behind it
-abbrev pub printed : Past → Reply → Option Outcome
-printed past (replies.Got place admitted notified) = Some (outcomes.Got (received_at past place))
-printed past reply = outcome_of reply
-
--- a receive was made, the message got lies in the front of the buffer, and this is printed of its reply
-pub record Receives (old new : Past) (p d : ℕ) (before behind : List ℕ) (result : Option Outcome) : Type 0 where
-  pub reply : Reply
-  pub added : reply ≢ replies.Refused NoMemory → Appends old new p (MqReceive d (length before)) [] reply
-  pub unchanged : reply ≡ replies.Refused NoMemory → new ≡ old
-  pub buffer : behind ≡ filled old reply before
-  pub outcome : result ≡ printed new reply
+-- a call was made, and this is printed of what it returned
+pub record Shows {A : Type 0} (shows : A → Outcome) (Called : Result A Fault → Type 0) (came : Outcome) : Type 0 where
+  pub result : Result A Fault
+  pub called : Called result
+  pub outcome : came ≡ outcome_by shows result
 
 -- a call on a name was made, or the name was refused before it
-pub record MakesNamed (old new : Past) (p : ℕ) (call : Call) (name : List ℕ) (result : Option Outcome) : Type 0 where
-  pub made : IsTrue (is_name name) → Makes old new p call name result
-  pub too_long : IsTrue (has_name_form name) → IsFalse (is_short name) → (new ≡ old) × (result ≡ Some (outcomes.Refused NameTooLong))
-  pub invalid : IsFalse (has_name_form name) → (new ≡ old) × (result ≡ Some (outcomes.Refused Invalid))
+pub record MakesNamed {A : Type 0} (says : Reply → Option (Result A Fault)) (shows : A → Outcome) (call : Call) (name : List ℕ) (old new : Ticket Record) (came : Outcome) : Type 0 where
+  pub made : IsTrue (is_name name) → Shows shows (OneCall says old new call name) came
+  pub too_long : IsTrue (has_name_form name) → IsFalse (is_short name) → (new ≡ old) × (came ≡ outcomes.Refused NameTooLong)
+  pub invalid : IsFalse (has_name_form name) → (new ≡ old) × (came ≡ outcomes.Refused Invalid)
 
--- the command of process p was carried out; the buffer is changed by a receive alone. What an exit closes is not said here
-abbrev pub Performs : ℕ → Command Word → List ℕ → List ℕ → Past → Past → Option Outcome → Type 0
-Performs p (command.Open name flags attr) before behind old new result = MakesNamed old new p (MqOpen flags attr) name result
-Performs p (command.Close d) before behind old new result = Makes old new p (MqClose d) [] result
-Performs p (command.Unlink name) before behind old new result = MakesNamed old new p MqUnlink name result
-Performs p (command.Send d prio message) before behind old new result = Makes old new p (MqSend d prio (length message)) message result
-Performs p (command.Receive d room) before behind old new result = Receives old new p d before behind result
-Performs p (command.Getattr d) before behind old new result = Makes old new p (MqGetattr d) [] result
-Performs p (command.Setattr d nonblock) before behind old new result = Makes old new p (MqSetattr d nonblock) [] result
-Performs p (command.Notify d value) before behind old new result = Makes old new p (MqNotify d value) [] result
-Performs p command.Notice before behind old new result = Makes old new p NextNotice [] result
-Performs p command.Exit before behind old new result = Unit {0}
+-- the process carried out the command, and this is printed of it. `before` is what the buffer held, `behind` what it holds
+abbrev pub Performs : Command Word → List ℕ → List ℕ → Ticket Record → Ticket Record → Outcome → Type 0
+Performs (command.Open name flags attr) before behind old new came = MakesNamed open_says outcomes.Opened (MqOpen flags attr) name old new came
+Performs (command.Close d) before behind old new came = Shows (λ _. outcomes.Done) (OneCall done_says old new (MqClose d) []) came
+Performs (command.Unlink name) before behind old new came = MakesNamed done_says (λ _. outcomes.Done) MqUnlink name old new came
+Performs (command.Send d prio message) before behind old new came = Shows (λ _. outcomes.Done) (SendCall old new d message prio) came
+Performs (command.Receive d room) before behind old new came = Shows outcomes.Got (WholeReceive old new d before behind) came
+Performs (command.Getattr d) before behind old new came = Shows outcomes.Attrs (OneCall attributes_says old new (MqGetattr d) []) came
+Performs (command.Setattr d nonblock) before behind old new came = Shows outcomes.Attrs (OneCall attributes_says old new (MqSetattr d nonblock) []) came
+Performs (command.Notify d value) before behind old new came = Shows (λ _. outcomes.Done) (OneCall done_says old new (MqNotify d value) []) came
+Performs command.Notice before behind old new came = Shows outcomes.Notice (OneCall notice_says old new NextNotice []) came
+Performs command.Exit before behind old new came = Shows (λ _. outcomes.Done) (Exits old new) came
 
--- the buffer that a call is given: that of a receive, and else none
-abbrev pub buffer_given : Command Word → List ℕ
-buffer_given (command.Receive d room) = replicate room 0
-buffer_given other = []
+-- a process made these calls one behind the other, and this is what they came to
+abbrev pub RunsCalls : List (ScriptCall Word) → List Answer → Ticket Record → Ticket Record → Type 0
+RunsCalls [] [] old new = new ≡ old
+RunsCalls [] (answer ∷ answers) old new = ⊥
+RunsCalls (call ∷ calls) [] old new = ⊥
+RunsCalls (call ∷ calls) (answer ∷ answers) old new =
+    (mid : Ticket Record)
+    × Performs call.command (buffer_given call.command) answer.buffer.items old mid answer.outcome
+    × RunsCalls calls answers mid new
 
--- a call of a script was carried out, and the line of its reply is behind the text
-pub record RunsCall (call : ScriptCall Word) (old new : Past) (before behind : List ℕ) : Type 0 where
-  pub buffer : List ℕ
-  pub came : Outcome
-  pub performed : Performs call.process call.command (buffer_given call.command) buffer old new (Some came)
-  pub line : behind ≡ before ++ reply_line call.process came buffer
+-- the calls of process p
+abbrev pub calls_of : ℕ → List (ScriptCall Word) → List (ScriptCall Word)
+calls_of p calls = filter (λ call. call.process == p) calls
 
--- calls were carried out one behind the other
-abbrev pub RunsCalls : List (ScriptCall Word) → Past → Past → List ℕ → List ℕ → Type 0
-RunsCalls [] old new before behind = (new ≡ old) × (behind ≡ before)
-RunsCalls (call ∷ calls) old new before behind =
-    (mid : Past) × (text : List ℕ) × RunsCall call old mid before text × RunsCalls calls mid new text behind
+-- the lines of a process's replies
+abbrev pub reply_lines : ℕ → List Answer → List ℕ
+reply_lines p [] = []
+reply_lines p (answer ∷ answers) = reply_line p answer.outcome answer.buffer.items ++ reply_lines p answers
 
--- the calls of processes 1 to p, each in its turn
-abbrev pub in_turn : ℕ → List (ScriptCall Word) → List (ScriptCall Word)
-in_turn zero calls = []
-in_turn (suc p) calls = in_turn p calls ++ filter (λ call. call.process == suc p) calls
-
--- a phase was run: its calls in turn, and the lines of their replies are behind the text
-pub record RunsPhase (processes : ℕ) (calls : List (ScriptCall Word)) (old new : Past) (before behind : List ℕ) : Type 0 where
-  pub replies : List ℕ
-  pub calls_ran : RunsCalls (in_turn processes calls) old new [] replies
-  pub written : behind ≡ before ++ replies
+-- a phase was run: each process made its calls in their order. The text has the replies of the first process, then of the next,
+-- and so on. In which order calls of different processes came is not said
+abbrev pub RunsPhase : List (ScriptCall Word) → List (Ticket Record) → List (Ticket Record) → List ℕ → Type 0
+RunsPhase calls [] [] text = text ≡ []
+RunsPhase calls [] (new ∷ after) text = ⊥
+RunsPhase calls (old ∷ before) [] text = ⊥
+RunsPhase calls (old ∷ before) (new ∷ after) text =
+    (answers : List Answer) × (rest : List ℕ)
+    × RunsCalls (calls_of old.number calls) answers old new
+    × IsSameProcess old new
+    × RunsPhase calls before after rest
+    × (text ≡ reply_lines old.number answers ++ rest)
 
 -- phases were run one behind the other
-abbrev pub RunsPhases : ℕ → List (List (ScriptCall Word)) → Past → Past → List ℕ → List ℕ → Type 0
-RunsPhases processes [] old new before behind = (new ≡ old) × (behind ≡ before)
-RunsPhases processes (calls ∷ phases) old new before behind =
-    (mid : Past) × (text : List ℕ) × RunsPhase processes calls old mid before text × RunsPhases processes phases mid new text behind
+abbrev pub RunsPhases : List (List (ScriptCall Word)) → List (Ticket Record) → List (Ticket Record) → List ℕ → Type 0
+RunsPhases [] before after text = (after ≡ before) × (text ≡ [])
+RunsPhases (calls ∷ phases) before after text =
+    (between : List (Ticket Record)) × (first : List ℕ) × (rest : List ℕ)
+    × RunsPhase calls before between first
+    × RunsPhases phases between after rest
+    × (text ≡ first ++ rest)
 
--- a script was run whole: known bytes have grown by the replies to its phases, and the line that ends a whole run
+-- the line that ends a whole run
+abbrev pub last_line : List ℕ
+last_line = codes "history ok" ++ 10 ∷ []
+
+-- A script was run whole. Its processes, of one system, began with the empty journal and ran the phases, and known bytes have
+-- grown by the replies and the last line. There is one legal journal, which begins with what each process last left and has no
+-- further record of it: so of each process it has just the records that its calls left
 pub record RunsScript (script : Whole) (old new : Option (List ℕ)) : Type 0 where
-  pub records : Past
+  pub system : LockId
+  pub processes : List (Ticket Record)
   pub replies : List ℕ
-  pub ran : RunsPhases script.processes script.phases [] records [] replies
-  pub written : known.Appends old new (replies ++ (codes "history ok" ++ 10 ∷ []))
+  pub ran : RunsPhases script.phases (tickets_from system 1 script.processes) processes replies
+  pub journal : Past
+  pub legal : Legal journal
+  pub grows : All (λ process. Grows owner process.number process.left journal []) processes
+  pub written : known.Appends old new (replies ++ last_line)

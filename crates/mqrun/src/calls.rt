@@ -1,230 +1,155 @@
-// The calls of commands, on the queues of one thread.
-ghost use Rattle.std.specs.Prelude.{◌≡◌, ◌≤◌, [], ℕ, IfSome, OnSome, length};
-ghost use Rattle.mq_core.specs.Messages.{priority_given};
-ghost use Rattle.mq_state.specs.Buffers.{received_at};
+// The calls of commands, made by a process.
+ghost use Rattle.std.specs.Prelude.{◌≡◌, ℕ, [], length};
+ghost use Rattle.mq.specs.Calls.{IsFree, Exits, SendCall, WholeReceive};
+ghost use Rattle.mq.specs.Says.{attributes_says, done_says, notice_says, open_says};
+ghost use Rattle.mq_core.specs.declared.entries.Call.{Call};
 ghost use Rattle.mqrun.specs.Grammar.{said};
 ghost use Rattle.mqrun.specs.Replies.{HasMessage};
-ghost use Rattle.mqrun.specs.Runs.{Makes, MakesNamed, NobodyWaits, Performs, Receives, outcome_of};
+ghost use Rattle.mqrun.specs.Runs.{IsSameProcess, MakesNamed, Performs, Shows, outcome_by};
+ghost use Rattle.mqrun.specs.declared.reply.Outcome.TheVariants as outcomes;
 
 use crate::command::Command;
 use crate::reply::Outcome;
-use mq_core::entries::{Attr, Call, OpenFlags, Received, Reply, Status};
+use fast_mutex::Lock;
+use mq::{Guarded, Mq, Process};
+use mq_core::entries::{Attr, OpenFlags, Status};
 use mq_core::faults::Fault;
-use mq_core::journals::Journal;
 use mq_core::names::Name;
-use mq_state::books::Books;
+use std::sync::Wait;
 
-/// How many descriptors a process holds at most.
-const MOST_DESCRIPTORS: u32 = 16;
-
-/// Makes the call of a command. It comes to nothing where the call waits.
-pub fn perform(
-    books: &mut Books,
-    process: u32,
+/// Makes the call of a command, which may block. A message that is received is put into the front of the buffer.
+pub fn perform<L: Lock<Guarded>, R: Wait>(
+    rt: &R,
+    mq: &Mq<L>,
+    process: &mut Process<L>,
     command: &Command<&[u8]>,
     buffer: &mut [u8],
-) -> Option<Outcome>
-    requires process { (1 ≤ process) × (process ≤ books.old.n) }
-    requires nobody_waits { NobodyWaits books.old.records }
-    ensures processes { books.new.n ≡ books.old.n }
-    ensures nobody_waits { OnSome result (NobodyWaits books.new.records) }
-    ensures message { IfSome result (λ outcome. HasMessage outcome (length buffer.old)) }
-    ensures performed { Performs process (said command.now) buffer.old buffer.new books.old.records books.new.records result }
+) -> Outcome
+    requires made { process.old.lock ≡ mq.now }
+    requires free { IsFree process.old }
+    ensures free { IsFree process.new }
+    ensures same { IsSameProcess process.old process.new }
+    ensures message { HasMessage result (length buffer.old) }
+    ensures performed { Performs (said command.now) buffer.old buffer.new process.old process.new result }
 {
     match *command {
-        Command::Open { name, flags, attr } => open(books, process, name, flags, attr),
-        Command::Close { d } => close(books, process, d),
-        Command::Unlink { name } => unlink(books, process, name),
-        Command::Send { d, prio, message } => send(books, process, d, prio, message),
-        Command::Receive { d, room: _ } => receive(books, process, d, buffer),
-        Command::Getattr { d } => getattr(books, process, d),
-        Command::Setattr { d, nonblock } => setattr(books, process, d, nonblock),
-        Command::Notify { d, value } => notify(books, process, d, value),
-        Command::Notice => notice(books, process),
-        Command::Exit => Some(exit(books, process)),
+        Command::Open { name, flags, attr } => open(rt, mq, process, name, flags, attr),
+        Command::Close { d } => done(process.close(rt, mq, d)),
+        Command::Unlink { name } => unlink(rt, mq, process, name),
+        Command::Send { d, prio, message } => done(process.send(rt, mq, d, message, prio)),
+        Command::Receive { d, room: _ } => receive(rt, mq, process, d, buffer),
+        Command::Getattr { d } => attributes(process.getattr(rt, mq, d)),
+        Command::Setattr { d, nonblock } => attributes(process.setattr(rt, mq, d, flag(nonblock))),
+        Command::Notify { d, value } => done(process.notify(rt, mq, d, value)),
+        Command::Notice => notice(process.next_notice(rt, mq)),
+        Command::Exit => done(process.exit(rt, mq)),
     }
 }
 
-fn open(
-    books: &mut Books,
-    process: u32,
+fn open<L: Lock<Guarded>, R: Wait>(
+    rt: &R,
+    mq: &Mq<L>,
+    process: &mut Process<L>,
     name: &[u8],
     flags: OpenFlags,
     attr: Option<Attr>,
-) -> Option<Outcome>
-    requires process { (1 ≤ process) × (process ≤ books.old.n) }
-    requires nobody_waits { NobodyWaits books.old.records }
-    ensures processes { books.new.n ≡ books.old.n }
-    ensures nobody_waits { OnSome result (NobodyWaits books.new.records) }
-    ensures message { IfSome result (λ outcome. (room : ℕ) → HasMessage outcome room) }
-    ensures made { MakesNamed books.old.records books.new.records process (Call.MqOpen flags attr) name.now result }
+) -> Outcome
+    requires made { process.old.lock ≡ mq.now }
+    requires free { IsFree process.old }
+    ensures free { IsFree process.new }
+    ensures same { IsSameProcess process.old process.new }
+    ensures message { (room : ℕ) → HasMessage result room }
+    ensures made { MakesNamed open_says outcomes.Opened (Call.MqOpen flags attr) name.now process.old process.new result }
 {
     match Name::read(name) {
-        Ok(name) => outcome_of(books.open(process, &name, flags, attr)),
-        Err(fault) => Some(Outcome::Refused(fault)),
+        Ok(name) => opened(process.open(rt, mq, &name, flags, attr)),
+        Err(fault) => Outcome::Refused(fault),
     }
 }
 
-fn close(books: &mut Books, process: u32, d: u32) -> Option<Outcome>
-    requires process { (1 ≤ process) × (process ≤ books.old.n) }
-    requires nobody_waits { NobodyWaits books.old.records }
-    ensures processes { books.new.n ≡ books.old.n }
-    ensures nobody_waits { OnSome result (NobodyWaits books.new.records) }
-    ensures message { IfSome result (λ outcome. (room : ℕ) → HasMessage outcome room) }
-    ensures made { Makes books.old.records books.new.records process (Call.MqClose d) [] result }
-{
-    outcome_of(books.close(process, d))
-}
-
-fn unlink(books: &mut Books, process: u32, name: &[u8]) -> Option<Outcome>
-    requires process { (1 ≤ process) × (process ≤ books.old.n) }
-    requires nobody_waits { NobodyWaits books.old.records }
-    ensures processes { books.new.n ≡ books.old.n }
-    ensures nobody_waits { OnSome result (NobodyWaits books.new.records) }
-    ensures message { IfSome result (λ outcome. (room : ℕ) → HasMessage outcome room) }
-    ensures made { MakesNamed books.old.records books.new.records process Call.MqUnlink name.now result }
+fn unlink<L: Lock<Guarded>, R: Wait>(
+    rt: &R,
+    mq: &Mq<L>,
+    process: &mut Process<L>,
+    name: &[u8],
+) -> Outcome
+    requires made { process.old.lock ≡ mq.now }
+    requires free { IsFree process.old }
+    ensures free { IsFree process.new }
+    ensures same { IsSameProcess process.old process.new }
+    ensures message { (room : ℕ) → HasMessage result room }
+    ensures made { MakesNamed done_says (λ _. outcomes.Done) Call.MqUnlink name.now process.old process.new result }
 {
     match Name::read(name) {
-        Ok(name) => outcome_of(books.unlink(process, &name)),
-        Err(fault) => Some(Outcome::Refused(fault)),
+        Ok(name) => done(process.unlink(rt, mq, &name)),
+        Err(fault) => Outcome::Refused(fault),
     }
 }
 
-fn send(books: &mut Books, process: u32, d: u32, prio: u32, message: &[u8]) -> Option<Outcome>
-    requires process { (1 ≤ process) × (process ≤ books.old.n) }
-    requires nobody_waits { NobodyWaits books.old.records }
-    ensures processes { books.new.n ≡ books.old.n }
-    ensures nobody_waits { OnSome result (NobodyWaits books.new.records) }
-    ensures message { IfSome result (λ outcome. (room : ℕ) → HasMessage outcome room) }
-    ensures made { Makes books.old.records books.new.records process (Call.MqSend d prio (length message.now)) message.now result }
+fn receive<L: Lock<Guarded>, R: Wait>(
+    rt: &R,
+    mq: &Mq<L>,
+    process: &mut Process<L>,
+    d: u32,
+    buffer: &mut [u8],
+) -> Outcome
+    requires made { process.old.lock ≡ mq.now }
+    requires free { IsFree process.old }
+    ensures free { IsFree process.new }
+    ensures same { IsSameProcess process.old process.new }
+    ensures message { HasMessage result (length buffer.old) }
+    ensures made { Shows outcomes.Got (WholeReceive process.old process.new d buffer.old buffer.new) result }
 {
-    outcome_of(books.send(process, d, message, prio))
-}
-
-fn receive(books: &mut Books, process: u32, d: u32, buffer: &mut [u8]) -> Option<Outcome>
-    requires process { (1 ≤ process) × (process ≤ books.old.n) }
-    requires nobody_waits { NobodyWaits books.old.records }
-    ensures processes { books.new.n ≡ books.old.n }
-    ensures nobody_waits { OnSome result (NobodyWaits books.new.records) }
-    ensures message { IfSome result (λ outcome. HasMessage outcome (length buffer.old)) }
-    ensures made { Receives books.old.records books.new.records process d buffer.old buffer.new result }
-{
-    match books.receive(process, d, buffer) {
-        Reply::Got {
-            place,
-            admitted: _,
-            notified: _,
-        } => Some(Outcome::Got(received(books.journal(), place))),
-        reply => outcome_of(reply),
+    match process.receive(rt, mq, d, buffer) {
+        Ok(received) => Outcome::Got(received),
+        Err(fault) => Outcome::Refused(fault),
     }
 }
 
-fn getattr(books: &mut Books, process: u32, d: u32) -> Option<Outcome>
-    requires process { (1 ≤ process) × (process ≤ books.old.n) }
-    requires nobody_waits { NobodyWaits books.old.records }
-    ensures processes { books.new.n ≡ books.old.n }
-    ensures nobody_waits { OnSome result (NobodyWaits books.new.records) }
-    ensures message { IfSome result (λ outcome. (room : ℕ) → HasMessage outcome room) }
-    ensures made { Makes books.old.records books.new.records process (Call.MqGetattr d) [] result }
+// A setattr sets the flag alone.
+fn flag(nonblock: bool) -> Status
+    ensures { result.nonblock ≡ nonblock }
 {
-    outcome_of(books.getattr(process, d))
-}
-
-fn setattr(books: &mut Books, process: u32, d: u32, nonblock: bool) -> Option<Outcome>
-    requires process { (1 ≤ process) × (process ≤ books.old.n) }
-    requires nobody_waits { NobodyWaits books.old.records }
-    ensures processes { books.new.n ≡ books.old.n }
-    ensures nobody_waits { OnSome result (NobodyWaits books.new.records) }
-    ensures message { IfSome result (λ outcome. (room : ℕ) → HasMessage outcome room) }
-    ensures made { Makes books.old.records books.new.records process (Call.MqSetattr d nonblock) [] result }
-{
-    // The flag alone is set.
-    let status = Status {
+    Status {
         nonblock,
         maxmsg: 0,
         msgsize: 0,
         curmsgs: 0,
-    };
-    outcome_of(books.setattr(process, d, status))
-}
-
-fn notify(books: &mut Books, process: u32, d: u32, value: Option<u64>) -> Option<Outcome>
-    requires process { (1 ≤ process) × (process ≤ books.old.n) }
-    requires nobody_waits { NobodyWaits books.old.records }
-    ensures processes { books.new.n ≡ books.old.n }
-    ensures nobody_waits { OnSome result (NobodyWaits books.new.records) }
-    ensures message { IfSome result (λ outcome. (room : ℕ) → HasMessage outcome room) }
-    ensures made { Makes books.old.records books.new.records process (Call.MqNotify d value) [] result }
-{
-    outcome_of(books.notify(process, d, value))
-}
-
-fn notice(books: &mut Books, process: u32) -> Option<Outcome>
-    requires process { (1 ≤ process) × (process ≤ books.old.n) }
-    requires nobody_waits { NobodyWaits books.old.records }
-    ensures processes { books.new.n ≡ books.old.n }
-    ensures nobody_waits { OnSome result (NobodyWaits books.new.records) }
-    ensures message { IfSome result (λ outcome. (room : ℕ) → HasMessage outcome room) }
-    ensures made { Makes books.old.records books.new.records process Call.NextNotice [] result }
-{
-    outcome_of(books.next_notice(process))
-}
-
-// Closes all descriptors of a process, the lowest first, up to the first want of memory.
-fn exit(books: &mut Books, process: u32) -> Outcome
-    requires process { (1 ≤ process) × (process ≤ books.old.n) }
-    requires nobody_waits { NobodyWaits books.old.records }
-    ensures processes { books.new.n ≡ books.old.n }
-    ensures nobody_waits { NobodyWaits books.new.records }
-    ensures message { (room : ℕ) → HasMessage result room }
-{
-    for _ in 0..MOST_DESCRIPTORS {
-        let Some(d) = books.lowest_open(process) else {
-            break;
-        };
-        if let Reply::Refused(Fault::NoMemory) = books.close(process, d) {
-            return Outcome::Refused(Fault::NoMemory);
-        }
-    }
-    Outcome::Done
-}
-
-// What is printed of a reply that gives no message. A call that waits has come to nothing yet.
-fn outcome_of(reply: Reply) -> Option<Outcome>
-    ensures { result ≡ outcome_of reply }
-{
-    match reply {
-        Reply::Opened { d, created: _ } => Some(Outcome::Opened(d)),
-        Reply::Queued { notified: _ } | Reply::Handed { wait: _ } | Reply::Done => {
-            Some(Outcome::Done)
-        }
-        Reply::Attrs(status) => Some(Outcome::Attrs(status)),
-        Reply::Notice(value) => Some(Outcome::Notice(value)),
-        Reply::Refused(fault) => Some(Outcome::Refused(fault)),
-        _ => None,
     }
 }
 
-// The length and the priority of the message that was sent at a place.
-fn received(journal: &Journal, place: u64) -> Received
-    ensures { result ≡ received_at journal.now.records place }
+fn opened(returned: Result<u32, Fault>) -> Outcome
+    ensures { result ≡ outcome_by outcomes.Opened returned }
 {
-    let len = match journal.payload(place) {
-        Some(message) => message.len(),
-        None => 0,
-    };
-    let prio = match journal.entry(place) {
-        Some(entry) => priority_given(entry.call),
-        None => 0,
-    };
-    Received { len, prio }
+    match returned {
+        Ok(d) => Outcome::Opened(d),
+        Err(fault) => Outcome::Refused(fault),
+    }
 }
 
-fn priority_given(call: Call) -> u32
-    ensures { result ≡ priority_given call }
+fn done(returned: Result<(), Fault>) -> Outcome
+    ensures { result ≡ outcome_by (λ _. outcomes.Done) returned }
 {
-    match call {
-        Call::MqSend { d: _, prio, len: _ } => prio,
-        _ => 0,
+    match returned {
+        Ok(()) => Outcome::Done,
+        Err(fault) => Outcome::Refused(fault),
+    }
+}
+
+fn attributes(returned: Result<Status, Fault>) -> Outcome
+    ensures { result ≡ outcome_by outcomes.Attrs returned }
+{
+    match returned {
+        Ok(status) => Outcome::Attrs(status),
+        Err(fault) => Outcome::Refused(fault),
+    }
+}
+
+fn notice(returned: Result<Option<u64>, Fault>) -> Outcome
+    ensures { result ≡ outcome_by outcomes.Notice returned }
+{
+    match returned {
+        Ok(value) => Outcome::Notice(value),
+        Err(fault) => Outcome::Refused(fault),
     }
 }

@@ -14,7 +14,7 @@ const MOST_READS: u32 = 2_000_000;
 const CHUNK: usize = 4096;
 
 /// The bytes of the input, up to the first that is one too many. `RunFault::Input`: a read failed, whatever its error (an
-/// interrupted one too, which is not tried again), or the limit of read calls was reached.
+/// interrupted one too, which is not tried again). The limit of read calls is never reached: each read but the last gives a byte.
 pub fn read_all<R: Read>(alloc: Global, input: &mut R) -> Result<Vec<u8>, RunFault>
     ensures size { IfOk result (λ text. vec_len text ≤ MOST_BYTES + 1) }
     ensures bytes { IfOk result (λ text. IfSome (R.remaining input.old) (λ all. text.items ≡ take (MOST_BYTES + 1) all)) }
@@ -22,7 +22,7 @@ pub fn read_all<R: Read>(alloc: Global, input: &mut R) -> Result<Vec<u8>, RunFau
 {
     let mut text = Vec::new(alloc);
     let mut chunk = [0u8; CHUNK];
-    for _ in 0..MOST_READS {
+    for read in 0..MOST_READS {
         let room = (MOST_BYTES + 1 - text.len()).min(CHUNK);
         let count = input.read(&mut chunk[..room]).map_err(|_| RunFault::Input)?;
         text.extend_from_slice(&chunk[..count])?;
@@ -30,5 +30,5 @@ pub fn read_all<R: Read>(alloc: Global, input: &mut R) -> Result<Vec<u8>, RunFau
             return Ok(text);
         }
     }
-    Err(RunFault::Input)
+    unreachable!()
 }

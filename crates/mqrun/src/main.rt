@@ -3,7 +3,9 @@
 
 mod calls;
 mod command;
+mod deal;
 mod fault;
+mod gate;
 mod input;
 mod line;
 mod output;
@@ -13,14 +15,27 @@ mod run;
 mod script;
 #[cfg(test)]
 mod tests;
+mod text;
+mod turns;
 mod words;
 
+use fast_mutex::FastMutex;
+use gate::Plain;
+use mq::Guarded;
+use run::run_script;
 use std::io;
 use std::process::ExitCode;
 
 fn main(rt: HostRuntime) -> ExitCode {
     let (mut input, mut output) = (rt.reader(), io::writer(&rt));
-    match run::run_script(rt.alloc(), &mut input, &mut output) {
+    let outcome = run_script::<FastMutex<Guarded>, _, _, _, _>(
+        &rt,
+        rt.alloc(),
+        &mut input,
+        &mut output,
+        &Plain,
+    );
+    match outcome {
         Ok(()) => ExitCode::SUCCESS,
         Err(fault) => {
             // Nothing is left to do where this line cannot be written.

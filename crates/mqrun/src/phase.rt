@@ -1,65 +1,128 @@
-// A phase in one thread: each process in turn makes its calls.
-ghost use Rattle.std.specs.Prelude.{◌≡◌, ◌≤◌, [], IfErr, IfOk, OnOk};
-ghost use Rattle.mqrun.specs.RunFault.{IsLate};
-ghost use Rattle.mqrun.specs.Runs.{NobodyWaits, RunsCall, RunsCalls, in_turn};
-ghost use Rattle.mqrun.specs.Script.{said_call, said_calls};
+// A phase: each process that has calls makes them in a thread of its own.
+ghost use Rattle.std.specs.Prelude.{◌≡◌, IfOk, vec_len};
+ghost use Rattle.mq.specs.Calls.{IsFree};
+ghost use Rattle.mqrun.specs.Members.{AllHaveShares};
+ghost use Rattle.mqrun.specs.Phase.{AllWorkOff, AreReady, WorksOff};
+ghost use Rattle.mqrun.specs.Grammar.{said};
+ghost use Rattle.mqrun.specs.Buffer.{buffer_given};
+ghost use Rattle.mqrun.specs.Runs.{IsReady, IsSameProcess, Performs};
 
 use crate::calls::perform;
-use crate::command::Command;
-use crate::fault::RunFault;
-use crate::line::ScriptCall;
-use crate::reply::push_reply;
-use mq_state::books::Books;
-use std::alloc::Global;
+use crate::gate::Gate;
+use crate::turns::{Answer, Share, Turn, Worked};
+use fast_mutex::Lock;
+use mq::{Guarded, Mq, Process};
+use std::alloc::{AllocError, Global};
+use std::snapshot::Snapshot;
+use std::sync::Wait;
+use std::thread;
+use std::thread::{Promise, PromisedHandle, Threads};
 
-/// Makes the calls of a phase, those of process 1 first, and gives the lines of their replies. `RunFault::BadCall`: the call of
-/// that line would wait, which nobody could end.
-pub fn run_phase(
-    alloc: Global,
-    books: &mut Books,
-    processes: u32,
-    calls: &[ScriptCall<&[u8]>],
-) -> Result<Vec<u8>, RunFault>
-    requires processes { (processes ≡ books.old.n) × (processes ≤ 32) }
-    requires nobody_waits { NobodyWaits books.old.records }
-    ensures processes { books.new.n ≡ books.old.n }
-    ensures nobody_waits { OnOk result (NobodyWaits books.new.records) }
-    ensures fault { IfErr result IsLate }
-    ensures runs { IfOk result (λ text. RunsCalls (in_turn processes (said_calls calls.now)) books.old.records books.new.records [] text.items) }
-{
-    let mut text = Vec::new(alloc);
-    for process in 1..processes + 1 {
-        for call in calls {
-            if call.process == process {
-                run_call(alloc, books, call, &mut text)?;
-            }
-        }
-    }
-    Ok(text)
+// A thread gives back the process of its share, which has made its calls and has no open wait.
+#[derive(Drop)]
+pub struct Works<'s, L: Lock<Guarded>>(Snapshot<Share<'s, Process<L>>>);
+
+impl<'s, L: Lock<Guarded>> Promise<Worked<Process<L>>> for Works<'s, L> {
+    ghost kept_by = { λ p worked. WorksOff p.0.value worked };
 }
 
-// Makes a call, and adds the line of its reply.
-fn run_call(
+/// A process in a phase that has begun: without calls, or in its thread.
+#[derive(Drop)]
+enum Member<'s, L: Lock<Guarded>> {
+    Idle(Worked<Process<L>>),
+    Busy(PromisedHandle<Worked<Process<L>>, Works<'s, L>>),
+}
+
+/// Runs a phase, and joins all its threads. An error: memory or a thread was refused. Those threads that were started have then
+/// run to their end.
+pub fn run_phase<'s, L: Lock<Guarded> + Sync, R: Threads + Wait + Sync, G: Gate + Sync>(
+    rt: &'s R,
     alloc: Global,
-    books: &mut Books,
-    call: &ScriptCall<&[u8]>,
-    text: &mut Vec<u8>,
-) -> Result<(), RunFault>
-    requires process { (1 ≤ call.now.process) × (call.now.process ≤ books.old.n) }
-    requires nobody_waits { NobodyWaits books.old.records }
-    ensures processes { books.new.n ≡ books.old.n }
-    ensures nobody_waits { OnOk result (NobodyWaits books.new.records) }
-    ensures fault { IfErr result IsLate }
-    ensures runs { OnOk result (RunsCall (said_call call.now) books.old.records books.new.records text.old.items text.new.items) }
+    mq: &'s Mq<L>,
+    gate: &'s G,
+    shares: Vec<Share<'s, Process<L>>>,
+) -> Result<Vec<Worked<Process<L>>>, AllocError>
+where
+    L::Seat: Send,
+    requires { AreReady mq.now shares.items }
+    ensures { IfOk result (λ workers. AllWorkOff shares.entry.items workers.items) }
 {
-    let room = match call.command {
-        Command::Receive { d: _, room } => room,
-        _ => 0,
-    };
-    let mut buffer = vec![in alloc; 0; room]?;
-    let Some(outcome) = perform(books, call.process, &call.command, buffer.as_mut_slice()) else {
-        return Err(RunFault::BadCall(call.line));
-    };
-    push_reply(alloc, text, call.process, &outcome, buffer.as_slice())?;
-    Ok(())
+    let mut workers = Vec::with_capacity(alloc, shares.len())?;
+    let members = thread::scope(
+        thread::scope_env(),
+        rt,
+        |scope| -> Result<Vec<Member<L>>, AllocError>
+            requires { AreReady mq.now shares.items }
+            ensures { IfOk result (λ members. AllHaveShares shares.entry.items members.items) }
+        {
+            let mut members = Vec::with_capacity(alloc, shares.len())?;
+            for share in shares {
+                let member = if share.turns.len() == 0 {
+                    Member::Idle(idle(share))
+                } else {
+                    let promise = Works(Snapshot::of(&share));
+                    Member::Busy(scope.spawn_with(promise, move || work(rt, mq, gate, share))?)
+                };
+                members.push(member)?;
+            }
+            Ok(members)
+        },
+    )?;
+    for member in members {
+        workers.push(match member {
+            Member::Idle(worked) => worked,
+            Member::Busy(handle) => handle.join(rt),
+        })?;
+    }
+    Ok(workers)
+}
+
+// A process without calls.
+fn idle<L: Lock<Guarded>>(share: Share<'_, Process<L>>) -> Worked<Process<L>>
+    requires free { IsFree share.process }
+    requires none { vec_len share.turns ≡ 0 }
+    ensures { WorksOff share.entry result }
+{
+    Worked {
+        process: share.process,
+        answers: share.answers,
+    }
+}
+
+// Makes the calls of a share in their order.
+fn work<L: Lock<Guarded>, R: Wait, G: Gate>(
+    rt: &R,
+    mq: &Mq<L>,
+    gate: &G,
+    share: Share<'_, Process<L>>,
+) -> Worked<Process<L>>
+    requires { IsReady mq.now share.process }
+    ensures { WorksOff share.entry result }
+{
+    let Share {
+        mut process,
+        turns,
+        mut answers,
+    } = share;
+    for turn in turns {
+        gate.before(process.number(), turn.call.line);
+        answers.push_reserved(answer(rt, mq, &mut process, turn));
+    }
+    Worked { process, answers }
+}
+
+fn answer<L: Lock<Guarded>, R: Wait>(
+    rt: &R,
+    mq: &Mq<L>,
+    process: &mut Process<L>,
+    turn: Turn<'_>,
+) -> Answer
+    requires { IsReady mq.now process.old }
+    ensures free { IsFree process.new }
+    ensures same { IsSameProcess process.old process.new }
+    ensures performed { Performs (said turn.entry.call.command) (buffer_given (said turn.entry.call.command)) result.buffer.items process.old process.new result.outcome }
+{
+    let Turn { call, mut buffer } = turn;
+    let outcome = perform(rt, mq, process, &call.command, buffer.as_mut_slice());
+    Answer { outcome, buffer }
 }

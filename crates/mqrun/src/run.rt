@@ -1,28 +1,50 @@
 // A script, from its bytes to the bytes of its replies.
-ghost use Rattle.std.specs.Prelude.{◌≡◌, ◌≤◌, ◌+◌, ℕ, List, IfErr, IsErrOf, OnOk, Some, Ok, Err, take};
+ghost use Rattle.std.specs.Prelude.{◌≡◌, ◌≤◌, ◌+◌, ◌↔◌, ℕ, List, IfErr, IfOk, IsErr, IsErrOf, IsOk, OnOk, Some, Ok, Err, length, take, vec_len};
+ghost use Rattle.std.specs.Io.KnownBytes.{Appends};
+ghost use Rattle.std.specs.List.{All};
+ghost use Rattle.mq_core.specs.Answer.{Legal};
 ghost use Rattle.mqrun.specs.RunFault.{IsLate, StopsAt};
-ghost use Rattle.mqrun.specs.Runs.{RunsScript};
-ghost use Rattle.mqrun.specs.Script.{Whole, said_script, script_written};
+ghost use Rattle.mqrun.specs.Runs.{IsReady, RunsPhase, RunsPhases, RunsScript, last_line};
+ghost use Rattle.mqrun.specs.Script.{Whole, said_calls, said_phases, said_script, script_written};
 ghost use Rattle.mqrun.specs.declared.fault.RunFault.TheVariants.{Input};
 
+use crate::deal::{processes_of, shares_of};
 use crate::fault::RunFault;
+use crate::gate::Gate;
 use crate::input::{MOST_BYTES, read_all};
+use crate::line::ScriptCall;
 use crate::output::write_bytes;
 use crate::phase::run_phase;
 use crate::script::{Script, read_script};
+use crate::text::text_of;
+use fast_mutex::Lock;
+use mq::{Guarded, Mq, Process};
 use mq_core::checker::check_history;
-use mq_state::books::Books;
+use mq_core::journals::Journal;
 use std::alloc::Global;
 use std::io::{Read, Write};
+use std::sync::Wait;
+use std::thread::Threads;
 
-/// Reads a script, checks it whole, makes its calls and writes their replies, phase by phase. `RunFault::BadCall`: a line of
-/// the script is at fault, or its call would wait for ever. `RunFault::Input`, `RunFault::Output`: a read or a write failed.
-/// `RunFault::NoMemory`: a growth was refused outside a call.
-pub fn run_script<R: Read, W: Write>(
+/// Reads a script, checks it whole, makes its calls over the lock `L` and writes their replies, phase by phase. In a phase each
+/// process that has calls makes them in a thread of its own, and meets the gate before each.
+/// `RunFault::BadCall`: a line of the script is at fault. `RunFault::Input`, `RunFault::Output`: a read or a write failed.
+/// `RunFault::NoMemory`: a growth outside a call, or a thread, was refused; nothing of that phase is written.
+/// A script in which a call waits and is never answered does not end.
+pub fn run_script<L, S, R, W, G>(
+    rt: &S,
     alloc: Global,
     input: &mut R,
     output: &mut W,
+    gate: &G,
 ) -> Result<(), RunFault>
+where
+    L: Lock<Guarded> + Sync,
+    L::Seat: Send,
+    S: Threads + Wait + Sync,
+    R: Read,
+    W: Write,
+    G: Gate + Sync,
     ensures input { IsErrOf result Input → W.contents output.new ≡ W.contents output.old }
     ensures bad_call { (all : List ℕ) (line : ℕ) → R.remaining input.old ≡ Some all →
         script_written (take (MOST_BYTES + 1) all) ≡ Err line →
@@ -33,21 +55,107 @@ pub fn run_script<R: Read, W: Write>(
 {
     let text = read_all(alloc, input)?;
     let script = read_script(alloc, text.as_slice())?;
-    run_phases(alloc, &script, output)
+    run_phases::<L, S, W, G>(rt, alloc, &script, output, gate)
 }
 
 // Makes the calls of a script, and writes the replies of each phase behind it.
-fn run_phases<W: Write>(alloc: Global, script: &Script<'_>, output: &mut W) -> Result<(), RunFault>
+fn run_phases<L, S, W, G>(
+    rt: &S,
+    alloc: Global,
+    script: &Script<'_>,
+    output: &mut W,
+    gate: &G,
+) -> Result<(), RunFault>
+where
+    L: Lock<Guarded> + Sync,
+    L::Seat: Send,
+    S: Threads + Wait + Sync,
+    W: Write,
+    G: Gate + Sync,
     requires { (1 ≤ script.now.processes) × (script.now.processes ≤ 32) }
     ensures fault { IfErr result IsLate }
     ensures done { OnOk result (RunsScript (said_script script.now) (W.contents output.old) (W.contents output.new)) }
 {
-    let mut books = Books::new(alloc, script.processes)?;
-    for calls in &script.phases {
-        let text = run_phase(alloc, &mut books, script.processes, calls.as_slice())?;
-        write_bytes(output, text.as_slice())?;
-    }
+    let Ok((mq, processes)) = Mq::<L>::new(alloc, script.processes) else {
+        return Err(RunFault::NoMemory);
+    };
+    let phases = script.phases.as_slice();
+    let processes = run_written_phases(rt, alloc, &mq, output, gate, processes, phases)?;
+    let Ok(journal) = mq.finish(processes) else {
+        unreachable!()
+    };
     // The journal of the queues is legal, so the checker accepts it.
-    check_history(books.journal()).unwrap();
-    write_bytes(output, b"history ok\n")
+    write_last_line(output, &journal)?.unwrap();
+    Ok(())
+}
+
+// Runs phases one behind the other and writes the replies of each.
+fn run_written_phases<'s, L, S, W, G>(
+    rt: &'s S,
+    alloc: Global,
+    mq: &'s Mq<L>,
+    output: &mut W,
+    gate: &'s G,
+    mut processes: Vec<Process<L>>,
+    phases: &'s [Vec<ScriptCall<&'s [u8]>>],
+) -> Result<Vec<Process<L>>, RunFault>
+where
+    L: Lock<Guarded> + Sync,
+    L::Seat: Send,
+    S: Threads + Wait + Sync,
+    W: Write,
+    G: Gate + Sync,
+    requires { All (IsReady mq.now) processes.items }
+    ensures fault { IfErr result IsLate }
+    ensures ready { IfOk result (λ after. All (IsReady mq.now) after.items) }
+    ensures count { IfOk result (λ after. vec_len after ≡ vec_len processes) }
+    ensures ran { IfOk result (λ after. (replies : List ℕ) × RunsPhases (said_phases phases.now) processes.items after.items replies × Appends (W.contents output.old) (W.contents output.new) replies) }
+{
+    for calls in phases {
+        processes = run_written(rt, alloc, mq, output, gate, processes, calls.as_slice())?;
+    }
+    Ok(processes)
+}
+
+// Runs a phase and writes its replies.
+fn run_written<'s, L, S, W, G>(
+    rt: &'s S,
+    alloc: Global,
+    mq: &'s Mq<L>,
+    output: &mut W,
+    gate: &'s G,
+    processes: Vec<Process<L>>,
+    calls: &[ScriptCall<&'s [u8]>],
+) -> Result<Vec<Process<L>>, RunFault>
+where
+    L: Lock<Guarded> + Sync,
+    L::Seat: Send,
+    S: Threads + Wait + Sync,
+    W: Write,
+    G: Gate + Sync,
+    requires { All (IsReady mq.now) processes.items }
+    ensures fault { IfErr result IsLate }
+    ensures ready { IfOk result (λ after. All (IsReady mq.now) after.items) }
+    ensures count { IfOk result (λ after. vec_len after ≡ vec_len processes) }
+    ensures ran { IfOk result (λ after. (text : List ℕ) × RunsPhase (said_calls calls.now) processes.items after.items text × Appends (W.contents output.old) (W.contents output.new) text) }
+{
+    let shares = shares_of(alloc, processes, calls)?;
+    let workers = run_phase(rt, alloc, mq, gate, shares)?;
+    let text = text_of(alloc, workers.as_slice())?;
+    write_bytes(output, text.as_slice())?;
+    Ok(processes_of(alloc, workers)?)
+}
+
+// Writes that the history is ok, where the checker accepts it; else nothing, and gives the first place that is not legal.
+fn write_last_line<W: Write>(output: &mut W, journal: &Journal) -> Result<Result<(), u64>, RunFault>
+    ensures fault { IfErr result IsLate }
+    ensures checked { IfOk result (λ verdict. IsOk verdict ↔ Legal journal.now.records) }
+    ensures written { IfOk result (λ verdict. OnOk verdict (Appends (W.contents output.old) (W.contents output.new) last_line)) }
+    ensures silent { IfOk result (λ verdict. IsErr verdict → W.contents output.new ≡ W.contents output.old) }
+{
+    let verdict = check_history(journal);
+    if verdict.is_ok() {
+        write_bytes(output, b"history ok\n")?;
+    }
+    Ok(verdict)
 }

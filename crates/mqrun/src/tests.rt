@@ -1,10 +1,20 @@
 // Scripts with the replies that they must have, readers and writers that fail, and the limits of a script.
 use crate::fault::RunFault;
+use crate::gate::Plain;
 use crate::run::run_script;
-use std::alloc::AllocError;
+use fast_mutex::{FastMutex, Lock, WordLock};
+use mq::Guarded;
+use std::alloc::{AllocError, Global};
 use std::io;
 use std::io::{Error, ErrorKind, Read, Write};
+use std::sync::Wait;
 use std::test::Fail;
+use std::thread::Threads;
+
+mod gates;
+
+// The lock of the program.
+type Lamport = FastMutex<Guarded>;
 
 // A script, and its replies.
 #[derive(Clone, Copy)]
@@ -325,30 +335,112 @@ const ZERO_BYTE: Run = Run {
              history ok\n",
 };
 
+// A receive that waits for the other process's send, in both directions.
+const BLOCKED_RECEIVES: Run = Run {
+    script: "processes 2\n\
+             1 open /a bc 1 8\n\
+             1 open /b bc 1 8\n\
+             --\n\
+             2 open /a b\n\
+             2 open /b b\n\
+             --\n\
+             1 recv 0 8\n\
+             1 send 1 0 y\n\
+             2 send 0 0 x\n\
+             2 recv 1 8\n",
+    replies: "1 fd 0\n\
+             1 fd 1\n\
+             2 fd 0\n\
+             2 fd 1\n\
+             1 got 0 1 x\n\
+             1 ok\n\
+             2 ok\n\
+             2 got 0 1 y\n\
+             history ok\n",
+};
+
+// A send that waits until the other process has received.
+const BLOCKED_SEND: Run = Run {
+    script: "processes 2\n\
+             1 open /q bc 1 8\n\
+             1 send 0 0 a\n\
+             --\n\
+             2 open /q b\n\
+             --\n\
+             1 send 0 9 b\n\
+             1 send 0 9 c\n\
+             2 recv 0 8\n\
+             2 recv 0 8\n\
+             2 recv 0 8\n",
+    replies: "1 fd 0\n\
+             1 ok\n\
+             2 fd 0\n\
+             1 ok\n\
+             1 ok\n\
+             2 got 0 1 a\n\
+             2 got 9 1 b\n\
+             2 got 9 1 c\n\
+             history ok\n",
+};
+
+const RUNS: [Run; 16] = [
+    NO_CALL,
+    EQUAL_PRIORITIES,
+    PRIORITIES,
+    SIZES,
+    FLAGS,
+    ACCESS,
+    UNLINKED,
+    ATTRIBUTES,
+    EXITS,
+    NOTICES,
+    NONBLOCKING,
+    TWO_PROCESSES,
+    LEADING_ZEROS,
+    SIGNED_ZERO,
+    ZERO_BYTE,
+    BLOCKED_RECEIVES,
+];
+
+// The replies to a script over a lock.
+fn replies_over<L, R>(rt: &R, alloc: Global, script: &str) -> Result<Vec<u8>, RunFault>
+where
+    L: Lock<Guarded> + Sync,
+    L::Seat: Send,
+    R: Threads + Wait + Sync,
+{
+    let mut output = Vec::new(alloc);
+    run_script::<L, _, _, _, _>(rt, alloc, &mut script.as_bytes(), &mut output, &Plain)?;
+    Ok(output)
+}
+
 #[test]
-fn scripts_have_their_replies(rt: HostRuntime) -> Result<(), Fail> {
-    let runs = [
-        NO_CALL,
-        EQUAL_PRIORITIES,
-        PRIORITIES,
-        SIZES,
-        FLAGS,
-        ACCESS,
-        UNLINKED,
-        ATTRIBUTES,
-        EXITS,
-        NOTICES,
-        NONBLOCKING,
-        TWO_PROCESSES,
-        LEADING_ZEROS,
-        SIGNED_ZERO,
-        ZERO_BYTE,
-    ];
-    for Run { script, replies } in runs {
-        let mut output = Vec::new(rt.alloc());
-        let outcome = run_script(rt.alloc(), &mut script.as_bytes(), &mut output);
-        assert_eq!(rt; outcome, Ok(()), "{script}");
+fn scripts_have_their_replies_over_lamports_lock(rt: HostRuntime) -> Result<(), Fail> {
+    for Run { script, replies } in RUNS {
+        let output = replies_over::<Lamport, _>(&rt, rt.alloc(), script)?;
         assert!(rt; output.as_slice() == replies.as_bytes(), "{script}");
+    }
+    Ok(())
+}
+
+#[test]
+fn scripts_have_their_replies_over_the_lock_of_one_word(rt: HostRuntime) -> Result<(), Fail> {
+    for Run { script, replies } in RUNS {
+        let output = replies_over::<WordLock<Guarded>, _>(&rt, rt.alloc(), script)?;
+        assert!(rt; output.as_slice() == replies.as_bytes(), "{script}");
+    }
+    Ok(())
+}
+
+#[test]
+fn blocked_calls_have_the_same_replies_each_time(rt: HostRuntime) -> Result<(), Fail> {
+    for _ in 0..20 {
+        for Run { script, replies } in [BLOCKED_RECEIVES, BLOCKED_SEND] {
+            let lamport = replies_over::<Lamport, _>(&rt, rt.alloc(), script)?;
+            assert!(rt; lamport.as_slice() == replies.as_bytes(), "{script}");
+            let word = replies_over::<WordLock<Guarded>, _>(&rt, rt.alloc(), script)?;
+            assert!(rt; word.as_slice() == replies.as_bytes(), "{script}");
+        }
     }
     Ok(())
 }
@@ -358,7 +450,13 @@ fn comments_and_spaces_count_for_nothing(rt: HostRuntime) -> Result<(), Fail> {
     let script =
         "# a comment\n\n   # another\n  processes   01 \n\n--\n 1  getattr  0 \n   \n1 exit";
     let mut output = Vec::new(rt.alloc());
-    let outcome = run_script(rt.alloc(), &mut script.as_bytes(), &mut output);
+    let outcome = run_script::<Lamport, _, _, _, _>(
+        &rt,
+        rt.alloc(),
+        &mut script.as_bytes(),
+        &mut output,
+        &Plain,
+    );
     assert_eq!(rt; outcome, Ok(()));
     assert!(rt; output.as_slice() == "1 EBADF\n1 ok\nhistory ok\n".as_bytes());
     Ok(())
@@ -375,7 +473,13 @@ fn names_have_at_most_255_bytes_behind_the_slash(rt: HostRuntime) -> Result<(), 
     script.extend_from_slice(b" bc\n1 unlink /")?;
     add_letters(&mut script, 256)?;
     let mut output = Vec::new(alloc);
-    let outcome = run_script(alloc, &mut script.as_slice(), &mut output);
+    let outcome = run_script::<Lamport, _, _, _, _>(
+        &rt,
+        alloc,
+        &mut script.as_slice(),
+        &mut output,
+        &Plain,
+    );
     assert_eq!(rt; outcome, Ok(()));
     let replies =
         "1 EINVAL\n1 EINVAL\n1 EINVAL\n1 fd 0\n1 ENAMETOOLONG\n1 ENAMETOOLONG\nhistory ok\n";
@@ -406,7 +510,13 @@ fn a_message_may_hold_any_byte_but_a_space_and_a_feed(rt: HostRuntime) -> Result
     script.extend_from_slice(b"\n1 recv 0 300\n")?;
     replies.extend_from_slice(b"\nhistory ok\n")?;
     let mut output = Vec::new(alloc);
-    let outcome = run_script(alloc, &mut script.as_slice(), &mut output);
+    let outcome = run_script::<Lamport, _, _, _, _>(
+        &rt,
+        alloc,
+        &mut script.as_slice(),
+        &mut output,
+        &Plain,
+    );
     assert_eq!(rt; outcome, Ok(()));
     assert!(rt; output.as_slice() == replies.as_slice());
     Ok(())
@@ -440,20 +550,16 @@ fn the_first_line_at_fault_is_named(rt: HostRuntime) -> Result<(), Fail> {
     ];
     for (script, line) in scripts {
         let mut output = Vec::new(rt.alloc());
-        let outcome = run_script(rt.alloc(), &mut script.as_bytes(), &mut output);
+        let outcome = run_script::<Lamport, _, _, _, _>(
+            &rt,
+            rt.alloc(),
+            &mut script.as_bytes(),
+            &mut output,
+            &Plain,
+        );
         assert_eq!(rt; outcome, Err(RunFault::BadCall(line)), "{script}");
         assert!(rt; output.is_empty(), "{script}");
     }
-    Ok(())
-}
-
-#[test]
-fn a_call_that_waits_ends_the_run_behind_the_phases_before(rt: HostRuntime) -> Result<(), Fail> {
-    let script = "processes 1\n1 open /q bc 1 8\n--\n1 getattr 0\n1 recv 0 8\n";
-    let mut output = Vec::new(rt.alloc());
-    let outcome = run_script(rt.alloc(), &mut script.as_bytes(), &mut output);
-    assert_eq!(rt; outcome, Err(RunFault::BadCall(5)));
-    assert!(rt; output.as_slice() == "1 fd 0\n".as_bytes());
     Ok(())
 }
 
@@ -465,7 +571,13 @@ fn each_prefix_runs_or_is_at_fault_in_its_last_line(rt: HostRuntime) -> Result<(
             let mut prefix = &bytes[..end];
             let mut output = Vec::new(rt.alloc());
             let last = last_line(prefix);
-            let outcome = run_script(rt.alloc(), &mut prefix, &mut output);
+            let outcome = run_script::<Lamport, _, _, _, _>(
+                &rt,
+                rt.alloc(),
+                &mut prefix,
+                &mut output,
+                &Plain,
+            );
             if outcome == Ok(()) {
                 assert!(rt; output.as_slice().ends_with(b"history ok\n"), "at {end}");
             } else {
@@ -497,11 +609,23 @@ fn a_script_has_at_most_1_048_576_bytes(rt: HostRuntime) -> Result<(), Fail> {
         script.push(b'#')?;
     }
     let mut output = Vec::new(alloc);
-    let outcome = run_script(alloc, &mut script.as_slice(), &mut output);
+    let outcome = run_script::<Lamport, _, _, _, _>(
+        &rt,
+        alloc,
+        &mut script.as_slice(),
+        &mut output,
+        &Plain,
+    );
     assert_eq!(rt; outcome, Ok(()));
     assert!(rt; output.as_slice() == "history ok\n".as_bytes());
     script.push(b'\n')?;
-    let outcome = run_script(alloc, &mut script.as_slice(), &mut output);
+    let outcome = run_script::<Lamport, _, _, _, _>(
+        &rt,
+        alloc,
+        &mut script.as_slice(),
+        &mut output,
+        &Plain,
+    );
     assert_eq!(rt; outcome, Err(RunFault::BadCall(2)));
     Ok(())
 }
@@ -518,11 +642,23 @@ fn a_script_has_at_most_1_000_call_lines(rt: HostRuntime) -> Result<(), Fail> {
     }
     replies.extend_from_slice(b"history ok\n")?;
     let mut output = Vec::new(alloc);
-    let outcome = run_script(alloc, &mut script.as_slice(), &mut output);
+    let outcome = run_script::<Lamport, _, _, _, _>(
+        &rt,
+        alloc,
+        &mut script.as_slice(),
+        &mut output,
+        &Plain,
+    );
     assert_eq!(rt; outcome, Ok(()));
     assert!(rt; output.as_slice() == replies.as_slice());
     script.extend_from_slice(b"1 getattr 0\n")?;
-    let outcome = run_script(alloc, &mut script.as_slice(), &mut output);
+    let outcome = run_script::<Lamport, _, _, _, _>(
+        &rt,
+        alloc,
+        &mut script.as_slice(),
+        &mut output,
+        &Plain,
+    );
     assert_eq!(rt; outcome, Err(RunFault::BadCall(1002)));
     Ok(())
 }
@@ -562,7 +698,13 @@ fn a_read_that_fails_ends_the_run(rt: HostRuntime) -> Result<(), Fail> {
             reads: 0,
             fails_at,
         };
-        let outcome = run_script(rt.alloc(), &mut input, &mut output);
+        let outcome = run_script::<Lamport, _, _, _, _>(
+            &rt,
+            rt.alloc(),
+            &mut input,
+            &mut output,
+            &Plain,
+        );
         if fails_at <= bytes.len() + 1 {
             assert_eq!(rt; outcome, Err(RunFault::Input), "at {fails_at}");
             assert!(rt; output.is_empty());
@@ -606,7 +748,13 @@ fn reading_stops_with_the_first_byte_past_the_limit(rt: HostRuntime) -> Result<(
         },
         reads: 0,
     };
-    let outcome = run_script(rt.alloc(), &mut input, &mut output);
+    let outcome = run_script::<Lamport, _, _, _, _>(
+        &rt,
+        rt.alloc(),
+        &mut input,
+        &mut output,
+        &Plain,
+    );
     assert_eq!(rt; outcome, Err(RunFault::BadCall(2)));
     assert_eq!(rt; input.reads, 1_048_577);
     Ok(())
@@ -648,7 +796,13 @@ fn a_write_that_fails_ends_the_run(rt: HostRuntime) -> Result<(), Fail> {
                     room,
                     fails,
                 };
-                let outcome = run_script(rt.alloc(), &mut script.as_bytes(), &mut output);
+                let outcome = run_script::<Lamport, _, _, _, _>(
+                    &rt,
+                    rt.alloc(),
+                    &mut script.as_bytes(),
+                    &mut output,
+                    &Plain,
+                );
                 let wanted = if room < replies.len() {
                     Err(RunFault::Output)
                 } else {

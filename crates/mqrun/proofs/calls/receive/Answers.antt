@@ -1,11 +1,9 @@
-use Rattle.std.proofs.Common.{rules, ◌≡◌, length}
+use Rattle.std.proofs.Common.{rules, ◌≡◌, length, Ok}
+use Rattle.mq.specs.Calls.{WholeReceive}
 use Rattle.mqrun.proofs.Buffers.{message-fits}
 use Rattle.mqrun.proofs.calls.receive.Goals as goal
 
-pub returns-in-Got-clause-message : goal.returns-in-Got-clause-message
-returns-in-Got-clause-message c =
-    let got = c.in-Got in let received = c.receive.new in
-    let ensures = got.ensures in
-    let same : length received.buf ≡ length c.args.buffer.now = search rules in
-    let fits = message-fits c.args.books.now.records received.self.records c.args.process c.args.d got.place got.admitted got.notified c.args.buffer.now received.buf (ensures.entry (λ e. cc)) ensures.buffer same in
-    rw (c.received.ensures, c.journal.ensures.value) fits
+pub returns-in-Ok-clause-message : goal.returns-in-Ok-clause-message
+returns-in-Ok-clause-message g c =
+    let same : length c.receive.new.buf ≡ length c.args.buffer.now = search rules in
+    message-fits c.args.process.now c.receive.new.self c.args.d c.args.buffer.now c.receive.new.buf c.in-Ok.received c.in-Ok.ensures.call same

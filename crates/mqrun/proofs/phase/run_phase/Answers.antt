@@ -1,39 +1,49 @@
-use Rattle.std.proofs.Common.{rules, ◌≡◌, ◌-◌, take}
-use Rattle.std.proofs.lemmas.List.{take_all}
-use Rattle.mqrun.specs.Runs.{in_turn}
-use Rattle.mqrun.specs.Script.{said_calls}
-use Rattle.mqrun.proofs.Turns.{ran-other, ran-taken, ran-turn}
-use Rattle.mqrun.proofs.phase.run_phase.Goals.{then-call-process+in_ok-run_call, else-call-process}
+use denote.Exit.{unseen}
+use denote.Param.Send.{Quiet-if, sendable}
+use mir.Syntax.{of_param}
+use Rattle.std.proofs.Common.{rules, arith, ◌≡◌, ◌++◌, ◌∷◌, [], sym}
+use Rattle.std.proofs.lemmas.Grind.{common_steps}
+use Rattle.std.specs.Vec.Iter.{into_iter_items}
+use Rattle.fast_mutex.specs.Items.{Ticket}
+use Rattle.mq_core.specs.Record.{Record}
+use Rattle.mqrun.specs.Members.{HasShare}
+use Rattle.mqrun.specs.Phase.{WorksOff}
+use Rattle.mqrun.specs.declared.turns.Share.{Share}
+use Rattle.mqrun.proofs.Taking.{none-left}
+use Rattle.mqrun.proofs.Working.{AllOff-all, AllOff-push}
+use Rattle.mqrun.proofs.phase.run_phase.Goals.{in-Idle, in-Busy}
 use Rattle.mqrun.proofs.phase.run_phase.Goals as goal
 
-pub loop-call-preserved : goal.loop-call-preserved
-loop-call-preserved c =
-    let was = c.loop-call.invariant in
-    let before = in_turn (c.loop-process.process - 1) (said_calls c.args.calls.now) in
-    elim c.if-call-process.branch [
-      | then-call-process+in_ok-run_call w ↦
-          let ensures = w.in_ok-run_call.ensures in
-          let ran = ran-taken before c.loop-process.process c.args.calls.now c.loop-call.call-index _ _ _ _ _ _ c.loop-call-test.true w.if-call-process.true was.ran ensures.runs in
-          record {
-            processes = search rules;
-            nobody_waits = rw w.books-is ensures.nobody_waits;
-            ran = rw (w.books-is, w.text-is) ran;
-          }
-      | else-call-process w ↦
-          let ran = ran-other before c.loop-process.process c.args.calls.now c.loop-call.call-index _ _ _ _ c.loop-call-test.true w.if-call-process.false was.ran in
-          record {
-            processes = search rules;
-            nobody_waits = rw w.books-is was.nobody_waits;
-            ran = rw (w.books-is, w.text-is) ran;
-          }
-    ]
-
-pub loop-process-preserved : goal.loop-process-preserved
-loop-process-preserved c =
-    let was = c.loop-call.invariant in
-    let all : take c.loop-call.call-index c.args.calls.now ≡ c.args.calls.now = take_all _ _ c.loop-call-test.false in
+pub loop-member-preserved : goal.loop-member-preserved
+loop-member-preserved g c =
+    let was = c.loop-member.invariant in let worked = c.match-member.push in let member = c.in-Some.member in
+    let gives : (share : Share (Ticket Record)) → HasShare share member → WorksOff share worked =
+    elim c.match-member.branch [
+      | in-Idle w ↦ (λ share has. let h = rw w.in-Idle.is at has in rw w.push-is h)
+      | in-Busy w ↦ (λ share has. let h = rw w.in-Busy.is at has in rw (w.push-is, sym h) w.join.ensures)
+    ] in
+    let items : c.push.new.self.items ≡ c.loop-member.workers.items ++ worked ∷ [] = grind rules in
     record {
-      processes = was.processes;
-      nobody_waits = was.nobody_waits;
-      ran = ran-turn c.loop-process.process c.args.calls.now _ _ _ _ c.loop-process.auto.process all was.ran;
+      left = grind (arith, common_steps);
+      off = rw items (AllOff-push c.args.shares.items c.loop-member.workers.items member (into_iter_items c.next.new.self) worked (rw c.in-Some.ensures.steps.0 at was.off) gives);
+    }
+
+pub returns : goal.returns
+returns g c =
+    let was = c.loop-member.invariant in
+    AllOff-all c.args.shares.items c.loop-member.workers.items (into_iter_items c.loop-member.member-iterator) was.off
+    (none-left (into_iter_items c.loop-member.member-iterator) (grind (arith, common_steps)))
+
+pub scoped-requires : goal.scoped-requires
+scoped-requires g c =
+    let b = c.type_bounds in let send = b.send-L-Seat in record {
+      at = λ a. (
+        c.requires,
+        (
+          record { owned = send.owned; leaving = λ k. Quiet-if (k (of_param 3)) unseen unseen (λ x w. tt) (λ x w. tt) },
+          search (sendable, b.sync-L),
+          search (sendable, b.sync-R),
+          search (sendable, b.sync-G),
+        ),
+      );
     }

@@ -1,33 +1,44 @@
-use Rattle.std.proofs.Common.{◌≡◌, ◌<◌, ◌++◌, ◌∙◌, ap, refl, sym, length, get_or, Vec, Global, Bor}
-use Rattle.mqrun.specs.Grammar.{Word}
-use Rattle.mqrun.specs.Script.{said_calls}
-use Rattle.mqrun.specs.Runs.{RunsPhase}
-use Rattle.mqrun.specs.declared.line.ScriptCall.{ScriptCall}
+use Rattle.std.proofs.Common.{arith, rules, ◌≡◌, ◌∙◌, All, ap, length, sym, vec_len}
+use Rattle.std.proofs.lemmas.Grind.{common_steps}
+use Rattle.std.proofs.lemmas.List.Elements.{All-same, All-weaker}
+use Rattle.fast_mutex.specs.Items.{tickets_from}
+use Rattle.mqrun.specs.Runs.{IsReady, RunsPhases, last_line}
+use Rattle.mqrun.specs.Script.{said_phases}
 use Rattle.mqrun.proofs.KnownBytes.{Appends-then}
-use Rattle.mqrun.proofs.Phases.{ran-more}
+use Rattle.mqrun.proofs.Working.{new-count, new-ready}
 use Rattle.mqrun.proofs.run.run_phases.Goals as goal
 
-pub loop-calls-preserved : goal.loop-calls-preserved
-loop-calls-preserved g c =
-    let was = c.loop-calls.invariant in
-    let wrote = c.in_ok-write_bytes.ensures.whole in
-    let n = c.args.script.now.processes in
-    let phases = c.args.script.now.phases.items in
-    let i = c.loop-calls.calls-index in
-    let replies = was.written.0 in
-    let text = c.as_slice-in-loop-calls.result.now in
-    let low : i < length phases = rw c.deref-calls-items.ensures.value at c.loop-calls-test.true in
-    let item : c.calls-item.result ≡ get_or phases i c.calls-item.result = rw c.deref-calls-items.ensures.value at c.calls-item.is in
-    let calls = c.as_slice.ensures.value ∙ ap (λ (v : Vec (ScriptCall (Bor Word)) Global). v.items) item in
-    let phase : RunsPhase n (said_calls (get_or phases i c.calls-item.result).items) c.loop-calls.books.records c.run_phase.new.books.records replies (replies ++ text) =
-    record { replies = text; calls_ran = rw (sym calls) (rw c.as_slice-in-loop-calls.ensures.value c.in_ok-text.ensures.runs); written = refl } in
-    let processes = c.in_ok-text.ensures.processes ∙ was.processes in
+pub run_written_phases-requires-after_bounds : goal.run_written_phases-requires-after_bounds
+run_written_phases-requires-after_bounds g c κs within =
+    let mq = c.in-Ok.mq in let n = c.args.script.now.processes in
+    All-same (IsReady mq) c.in-Ok.processes.items (tickets_from mq 1 n) c.in-Ok.ensures.processes (new-ready mq n)
+
+pub finish-requires : goal.finish-requires
+finish-requires g c =
+    let mq = c.in-Ok.mq in
+    All-weaker (IsReady mq) (λ p. p.lock ≡ mq) (λ p ready. ready.made) c.in_ok-processes.processes.items c.in_ok-processes.ensures.ready
+
+pub unreachable-requires : goal.unreachable-requires
+unreachable-requires g c =
+    let mq = c.in-Ok.mq in let n = c.args.script.now.processes in
+    let made : length c.in-Ok.processes.items ≡ n = ap length c.in-Ok.ensures.processes ∙ new-count mq 1 n in
+    let first : vec_len c.in-Ok.processes ≡ n = grind (arith, common_steps) in
+    let count : vec_len c.in_ok-processes.processes ≡ mq.count = c.in_ok-processes.ensures.count ∙ (first ∙ sym c.in-Ok.ensures.count) in
+    let ok = c.in_default-finish.ensures.all.0 count in search rules
+
+pub returns-clause-done : goal.returns-clause-done
+returns-clause-done g c =
+    let mq = c.in-Ok.mq in let n = c.args.script.now.processes in let after = c.in_ok-processes.processes.items in
+    let ran = c.in_ok-processes.ensures.ran in let journal = c.in-Ok-finish.journal in
+    let phases : RunsPhases (said_phases c.args.script.now.phases.items) (tickets_from mq 1 n) after ran.0 = rw (c.as_slice-phases.ensures.value, c.in-Ok.ensures.processes) at ran.1 in
+    let last = rw c.unwrap.ensures at c.in_ok-write_last_line.ensures.written in
     record {
-      processes = processes;
-      nobody_waits = c.in_ok-text.ensures.nobody_waits;
-      written = (
-        replies ++ text,
-        Appends-then _ _ _ replies text was.written.1 wrote,
-        ran-more n phases i c.calls-item.result c.loop-calls.books.records c.run_phase.new.books.records replies (replies ++ text) low was.written.2 phase,
-      );
+      system = mq;
+      processes = after;
+      replies = ran.0;
+      ran = phases;
+      journal = journal.records;
+      legal = c.in-Ok-finish.ensures.legal;
+      grows = c.in-Ok-finish.ensures.grows;
+      written = Appends-then _ _ _ ran.0 last_line ran.2 last;
     }

@@ -1,0 +1,25 @@
+use Rattle.std.proofs.Common.{◌≡◌, ◌++◌, ◌∙◌, ap, get_or, Vec, Global, Bor}
+use Rattle.mqrun.specs.Grammar.{Word}
+use Rattle.mqrun.specs.Runs.{RunsPhase}
+use Rattle.mqrun.specs.Script.{said_calls}
+use Rattle.mqrun.specs.declared.line.ScriptCall.{ScriptCall}
+use Rattle.mqrun.proofs.KnownBytes.{Appends-then}
+use Rattle.mqrun.proofs.Working.{phases-more}
+use Rattle.mqrun.proofs.run.run_written_phases.Goals as goal
+
+pub loop-calls-preserved : goal.loop-calls-preserved
+loop-calls-preserved g c =
+    let was = c.loop-calls.invariant in let now = c.in_ok-processes.ensures in
+    let phases = c.args.phases.now in let i = c.loop-calls.calls-index in let d = c.calls-item.result in
+    let item : d ≡ get_or phases i d = c.calls-item.is in
+    let calls : c.as_slice.result.now ≡ (get_or phases i d).items = c.as_slice.ensures.value ∙ ap (λ (v : Vec (ScriptCall (Bor Word)) Global). v.items) item in
+    let last : RunsPhase (said_calls (get_or phases i d).items) c.loop-calls.processes.items c.in_ok-processes.processes.items now.ran.0 = rw calls at now.ran.1 in
+    record {
+      ready = now.ready;
+      count = now.count ∙ was.count;
+      ran = (
+        was.ran.0 ++ now.ran.0,
+        phases-more phases i d _ _ _ was.ran.0 now.ran.0 c.loop-calls-test.true was.ran.1 last,
+        Appends-then _ _ _ was.ran.0 now.ran.0 was.ran.2 now.ran.2,
+      );
+    }
