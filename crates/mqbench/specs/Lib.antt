@@ -1,0 +1,5 @@
+pub mod BenchFault
+pub mod Grammar
+pub mod Output
+pub mod Ready
+pub mod Usage
