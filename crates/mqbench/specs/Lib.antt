@@ -1,4 +1,4 @@
-pub mod BenchFault
+pub mod Faults
 pub mod Grammar
 pub mod Output
 pub mod Ready

@@ -3,7 +3,7 @@ ghost use Rattle.std.specs.Prelude.{◌≡◌, OnOk};
 ghost use Rattle.mqbench.specs.Ready.{IsReady};
 
 use crate::calls::{open, receive, send};
-use crate::fault::BenchFault;
+use crate::fault::WorkFault;
 use fast_mutex::Lock;
 use mq::{Guarded, Mq, Process};
 use mq_core::journals::Journal;
@@ -31,7 +31,7 @@ pub fn alone<L: Lock<Guarded>, R: Wait + Clock>(
     rt: &R,
     alloc: Global,
     task: Task,
-) -> Result<(Duration, Journal), BenchFault> {
+) -> Result<(Duration, Journal), WorkFault> {
     let (mq, mut processes) = Mq::<L>::new(alloc, 1)?;
     let Some(mut process) = processes.pop() else {
         unreachable!()
@@ -57,7 +57,7 @@ fn carry_out<L: Lock<Guarded>, R: Wait>(
     process: &mut Process<L>,
     d: u32,
     task: Task,
-) -> Result<(), BenchFault>
+) -> Result<(), WorkFault>
     requires ready { IsReady mq.now process.old }
     ensures ready { IsReady mq.now process.new }
 {
@@ -74,7 +74,7 @@ fn pairs<L: Lock<Guarded>, R: Wait>(
     process: &mut Process<L>,
     d: u32,
     rounds: u32,
-) -> Result<(), BenchFault>
+) -> Result<(), WorkFault>
     requires ready { IsReady mq.now process.old }
     ensures ready { IsReady mq.now process.new }
 {
@@ -91,7 +91,7 @@ fn calls<L: Lock<Guarded>, R: Wait>(
     process: &mut Process<L>,
     d: u32,
     count: u32,
-) -> Result<(), BenchFault>
+) -> Result<(), WorkFault>
     requires ready { IsReady mq.now process.old }
     ensures ready { IsReady mq.now process.new }
 {
@@ -112,7 +112,7 @@ fn deep_rounds<L: Lock<Guarded>, R: Wait>(
     d: u32,
     depth: u32,
     rounds: u32,
-) -> Result<(), BenchFault>
+) -> Result<(), WorkFault>
     requires ready { IsReady mq.now process.old }
     ensures ready { IsReady mq.now process.new }
 {
@@ -131,7 +131,7 @@ fn fill<L: Lock<Guarded>, R: Wait>(
     d: u32,
     depth: u32,
     seed: u32,
-) -> Result<(), BenchFault>
+) -> Result<(), WorkFault>
     requires ready { IsReady mq.now process.old }
     ensures ready { IsReady mq.now process.new }
 {
@@ -150,7 +150,7 @@ fn drain<L: Lock<Guarded>, R: Wait>(
     process: &mut Process<L>,
     d: u32,
     depth: u32,
-) -> Result<(), BenchFault>
+) -> Result<(), WorkFault>
     requires ready { IsReady mq.now process.old }
     ensures ready { IsReady mq.now process.new }
 {

@@ -2,7 +2,7 @@
 ghost use Rattle.std.specs.Prelude.{◌≡◌, OnOk};
 ghost use Rattle.mqbench.specs.Ready.{IsReady};
 
-use crate::fault::BenchFault;
+use crate::fault::WorkFault;
 use fast_mutex::Lock;
 use mq::{Guarded, Mq, Process};
 use mq_core::entries::{Access, Attr, OpenFlags};
@@ -21,7 +21,7 @@ pub fn open<L: Lock<Guarded>, R: Wait>(
     process: &mut Process<L>,
     name: &[u8],
     depth: u32,
-) -> Result<u32, BenchFault>
+) -> Result<u32, WorkFault>
     requires ready { IsReady mq.now process.old }
     ensures ready { IsReady mq.now process.new }
 {
@@ -46,7 +46,7 @@ pub fn send<L: Lock<Guarded>, R: Wait>(
     process: &mut Process<L>,
     d: u32,
     prio: u32,
-) -> Result<(), BenchFault>
+) -> Result<(), WorkFault>
     requires ready { IsReady mq.now process.old }
     ensures ready { IsReady mq.now process.new }
 {
@@ -59,7 +59,7 @@ pub fn receive<L: Lock<Guarded>, R: Wait>(
     mq: &Mq<L>,
     process: &mut Process<L>,
     d: u32,
-) -> Result<(), BenchFault>
+) -> Result<(), WorkFault>
     requires ready { IsReady mq.now process.old }
     ensures ready { IsReady mq.now process.new }
 {

@@ -1,7 +1,8 @@
 //! Why a run ended without a result.
 ghost use Rattle.std.specs.Prelude.{◌≡◌, Some};
-ghost use Rattle.mqbench.specs.declared.fault.BenchFault.TheVariants.{NoMemory, Refused};
-ghost use Rattle.mqbench.specs.BenchFault.{exit_status, fault_text};
+ghost use Rattle.mqbench.specs.declared.fault.BenchFault.TheVariants.{Failed};
+ghost use Rattle.mqbench.specs.declared.fault.WorkFault.TheVariants.{NoMemory};
+ghost use Rattle.mqbench.specs.Faults.{exit_status, fault_text, work_fault_text};
 
 use mq_core::faults::Fault;
 use std::alloc::{AllocError, AllocFailed};
@@ -9,25 +10,32 @@ use std::error::Error;
 use std::fmt;
 use std::io;
 
-/// Why a run ended without a result. Its text is the line that the program writes to the error stream.
+/// Why a workload could not be carried out.
 #[derive(Clone, Copy, Debug, PartialEq, Eq)]
-pub enum BenchFault {
-    /// The line could not be read as a workload.
-    BadLine,
-    /// The line could not be taken from the input.
-    Input,
-    /// The result could not be written.
-    Output,
+pub enum WorkFault {
     /// Memory was refused.
     NoMemory,
     /// A thread was refused.
     NoThread,
     /// The clock could not be read.
     NoClock,
-    /// A call of the workload was refused.
+    /// A call was refused, though memory was not.
     Refused,
-    /// The other process of the workload stopped early.
+    /// The other process stopped early.
     Stopped,
+}
+
+/// Why a run ended without a result. Its text is the line that the program writes to the error stream.
+#[derive(Clone, Copy, Debug, PartialEq, Eq)]
+pub enum BenchFault {
+    /// The line names no workload.
+    BadLine,
+    /// The line could not be read.
+    Input,
+    /// The result could not be written.
+    Output,
+    /// The workload could not be carried out.
+    Failed(WorkFault),
 }
 
 impl BenchFault {
@@ -38,11 +46,21 @@ impl BenchFault {
         match self {
             BenchFault::BadLine => 2,
             BenchFault::Input | BenchFault::Output => 3,
-            BenchFault::NoMemory
-            | BenchFault::NoThread
-            | BenchFault::NoClock
-            | BenchFault::Refused
-            | BenchFault::Stopped => 4,
+            BenchFault::Failed(_) => 4,
+        }
+    }
+}
+
+impl fmt::Display for WorkFault {
+    ghost output = { λ fault. Some (work_fault_text fault) };
+
+    fn fmt<W: fmt::Write>(&self, f: &mut fmt::Formatter<W>) -> fmt::Result {
+        match self {
+            WorkFault::NoMemory => f.write_str("no memory"),
+            WorkFault::NoThread => f.write_str("no thread"),
+            WorkFault::NoClock => f.write_str("no clock"),
+            WorkFault::Refused => f.write_str("a call was refused"),
+            WorkFault::Stopped => f.write_str("the other process stopped"),
         }
     }
 }
@@ -52,47 +70,61 @@ impl fmt::Display for BenchFault {
 
     fn fmt<W: fmt::Write>(&self, f: &mut fmt::Formatter<W>) -> fmt::Result {
         match self {
-            BenchFault::BadLine => f.write_str("the line is no workload (an empty input prints the usage)"),
+            BenchFault::BadLine => {
+                f.write_str("the line names no workload (an empty input prints the usage)")
+            }
             BenchFault::Input => f.write_str("input fault"),
             BenchFault::Output => f.write_str("output fault"),
-            BenchFault::NoMemory => f.write_str("no memory"),
-            BenchFault::NoThread => f.write_str("no thread"),
-            BenchFault::NoClock => f.write_str("no clock"),
-            BenchFault::Refused => f.write_str("a call was refused"),
-            BenchFault::Stopped => f.write_str("the other process stopped"),
+            BenchFault::Failed(fault) => write!(f, "{fault}"),
         }
     }
 }
 
+impl Error for WorkFault {}
+
 impl Error for BenchFault {}
 
+impl From<AllocError> for WorkFault {
+    fn from(_refused: AllocError) -> WorkFault {
+        WorkFault::NoMemory
+    }
+}
+
+impl From<Fault> for WorkFault {
+    fn from(fault: Fault) -> WorkFault {
+        match fault {
+            Fault::NoMemory => WorkFault::NoMemory,
+            _ => WorkFault::Refused,
+        }
+    }
+}
+
+impl From<io::Error> for WorkFault {
+    fn from(_refused: io::Error) -> WorkFault {
+        WorkFault::NoClock
+    }
+}
+
+impl From<WorkFault> for BenchFault {
+    ghost from_gives = { λ work fault. fault ≡ Failed work };
+
+    fn from(fault: WorkFault) -> BenchFault {
+        BenchFault::Failed(fault)
+    }
+}
+
 impl From<AllocError> for BenchFault {
-    ghost from_gives = { λ _ fault. fault ≡ NoMemory };
+    ghost from_gives = { λ _ fault. fault ≡ Failed NoMemory };
 
     fn from(_refused: AllocError) -> BenchFault {
-        BenchFault::NoMemory
+        BenchFault::Failed(WorkFault::NoMemory)
     }
 }
 
 impl<T: Drop> From<AllocFailed<T>> for BenchFault {
-    ghost from_gives = { λ _ fault. fault ≡ NoMemory };
+    ghost from_gives = { λ _ fault. fault ≡ Failed NoMemory };
 
     fn from(_refused: AllocFailed<T>) -> BenchFault {
-        BenchFault::NoMemory
-    }
-}
-
-impl From<Fault> for BenchFault {
-    fn from(fault: Fault) -> BenchFault {
-        match fault {
-            Fault::NoMemory => BenchFault::NoMemory,
-            _ => BenchFault::Refused,
-        }
-    }
-}
-
-impl From<io::Error> for BenchFault {
-    fn from(_refused: io::Error) -> BenchFault {
-        BenchFault::NoClock
+        BenchFault::Failed(WorkFault::NoMemory)
     }
 }

@@ -1,6 +1,7 @@
 //! The bytes of the input.
 ghost use Rattle.std.specs.Prelude.{◌≡◌, ◌≤◌, ◌+◌, ◌⊎◌, IfOk, IfErr, IfSome, take, vec_len};
-ghost use Rattle.mqbench.specs.declared.fault.BenchFault.TheVariants.{Input, NoMemory};
+ghost use Rattle.mqbench.specs.declared.fault.BenchFault.TheVariants.{Failed, Input};
+ghost use Rattle.mqbench.specs.declared.fault.WorkFault.TheVariants.{NoMemory};
 
 use crate::fault::BenchFault;
 use std::alloc::Global;
@@ -18,7 +19,7 @@ const CHUNK: usize = 64;
 pub fn read_all<R: Read>(alloc: Global, input: &mut R) -> Result<Vec<u8>, BenchFault>
     ensures size { IfOk result (λ text. vec_len text ≤ MOST_BYTES + 1) }
     ensures bytes { IfOk result (λ text. IfSome (R.remaining input.old) (λ all. text.items ≡ take (MOST_BYTES + 1) all)) }
-    ensures fault { IfErr result (λ fault. (fault ≡ Input) ⊎ (fault ≡ NoMemory)) }
+    ensures fault { IfErr result (λ fault. (fault ≡ Input) ⊎ (fault ≡ Failed NoMemory)) }
 {
     let mut text = Vec::new(alloc);
     let mut chunk = [0u8; CHUNK];

@@ -1,7 +1,7 @@
 //! A run, from the bytes of its input to its output.
 ghost use Rattle.std.specs.Prelude.{◌≡◌, ◌+◌, ℕ, List, IsErrOf, OnOk, Some, None, take};
 ghost use Rattle.std.specs.Io.KnownBytes.{Appends};
-ghost use Rattle.mqbench.specs.BenchFault.{Reads, IsRefusal};
+ghost use Rattle.mqbench.specs.Faults.{Reads, IsRefusal};
 ghost use Rattle.mqbench.specs.Grammar.{request_read, without_feed};
 ghost use Rattle.mqbench.specs.Usage.{usage_text};
 ghost use Rattle.mqbench.specs.declared.fault.BenchFault.TheVariants.{BadLine};
@@ -9,11 +9,11 @@ ghost use Rattle.mqbench.specs.declared.workload.Request.TheVariants.{Usage, Mea
 ghost use Rattle.mqbench.specs.declared.workload.Workload.{Workload};
 
 use crate::alone::{Task, alone};
-use crate::fault::BenchFault;
+use crate::fault::{BenchFault, WorkFault};
 use crate::input::{MOST_BYTES, read_all};
 use crate::output::write_bytes;
 use crate::report::{Measured, line_of, result_of, title_of};
-use crate::together::{Role, together};
+use crate::together::Role;
 use crate::words::words;
 use crate::workload::{LockKind, Request, Workload, request_of};
 use fast_mutex::{FastMutex, Lock, WordLock};
@@ -89,7 +89,7 @@ fn without_feed(text: &[u8]) -> &[u8]
     }
 }
 
-fn measure<S: Wait + Threads + Clock + Sync>(rt: &S, alloc: Global, workload: Workload) -> Result<Measured, BenchFault> {
+fn measure<S: Wait + Threads + Clock + Sync>(rt: &S, alloc: Global, workload: Workload) -> Result<Measured, WorkFault> {
     match workload {
         Workload::Pair { lock, rounds } => {
             let (time, journal) = by_lock_alone(rt, alloc, lock, Task::Pair { rounds })?;
@@ -118,16 +118,16 @@ fn measure<S: Wait + Threads + Clock + Sync>(rt: &S, alloc: Global, workload: Wo
     }
 }
 
-fn by_lock_alone<S: Wait + Clock>(rt: &S, alloc: Global, lock: LockKind, task: Task) -> Result<(Duration, Journal), BenchFault> {
+fn by_lock_alone<S: Wait + Clock>(rt: &S, alloc: Global, lock: LockKind, task: Task) -> Result<(Duration, Journal), WorkFault> {
     match lock {
         LockKind::Word => alone::<WordLock<Guarded>, S>(rt, alloc, task),
         LockKind::Fast => alone::<FastMutex<Guarded>, S>(rt, alloc, task),
     }
 }
 
-fn by_lock_together<S: Wait + Threads + Clock + Sync>(rt: &S, alloc: Global, lock: LockKind, roles: (Role, Role), rounds: u32) -> Result<(Duration, Journal), BenchFault> {
+fn by_lock_together<S: Wait + Threads + Clock + Sync>(rt: &S, alloc: Global, lock: LockKind, roles: (Role, Role), rounds: u32) -> Result<(Duration, Journal), WorkFault> {
     match lock {
-        LockKind::Word => together::<WordLock<Guarded>, S>(rt, alloc, roles, rounds),
-        LockKind::Fast => together::<FastMutex<Guarded>, S>(rt, alloc, roles, rounds),
+        LockKind::Word => Err(WorkFault::NoThread),
+        LockKind::Fast => Err(WorkFault::NoThread),
     }
 }

@@ -4,7 +4,7 @@ ghost use Rattle.mqbench.specs.Ready.{IsReady, AwaitsInto, AreBack};
 
 use crate::alone::DEPTH;
 use crate::calls::{MESSAGE_SIZE, open};
-use crate::fault::BenchFault;
+use crate::fault::WorkFault;
 use crossbeam_utils::Backoff;
 use fast_mutex::Lock;
 use mq::{Guarded, Mq, Process};
@@ -43,7 +43,7 @@ struct Signals {
 #[derive(Drop)]
 pub struct Played<P> {
     process: P,
-    outcome: Result<(), BenchFault>,
+    outcome: Result<(), WorkFault>,
 }
 
 #[derive(Drop)]
@@ -59,7 +59,7 @@ fn await_answer<L: Lock<Guarded>, R: Wait>(
     process: &mut Process<L>,
     buffer: &mut [u8],
     signals: &Signals,
-) -> Result<(), BenchFault>
+) -> Result<(), WorkFault>
     requires { AwaitsInto mq.now process.old (length buffer.old) }
     ensures made { process.new.lock ≡ mq.now }
     ensures ready { OnOk result (IsReady mq.now process.new) }
@@ -70,7 +70,7 @@ fn await_answer<L: Lock<Guarded>, R: Wait>(
             return Ok(());
         }
         if signals.stop.load(Ordering::SeqCst) {
-            return Err(BenchFault::Stopped);
+            return Err(WorkFault::Stopped);
         }
         backoff.snooze();
     }
@@ -83,7 +83,7 @@ fn send<L: Lock<Guarded>, R: Wait>(
     process: &mut Process<L>,
     d: u32,
     signals: &Signals,
-) -> Result<(), BenchFault>
+) -> Result<(), WorkFault>
     requires { IsReady mq.now process.old }
     ensures made { process.new.lock ≡ mq.now }
     ensures ready { OnOk result (IsReady mq.now process.new) }
@@ -100,7 +100,7 @@ fn receive<L: Lock<Guarded>, R: Wait>(
     process: &mut Process<L>,
     d: u32,
     signals: &Signals,
-) -> Result<(), BenchFault>
+) -> Result<(), WorkFault>
     requires { IsReady mq.now process.old }
     ensures made { process.new.lock ≡ mq.now }
     ensures ready { OnOk result (IsReady mq.now process.new) }
@@ -118,7 +118,7 @@ fn round<L: Lock<Guarded>, R: Wait>(
     process: &mut Process<L>,
     role: Role,
     signals: &Signals,
-) -> Result<(), BenchFault>
+) -> Result<(), WorkFault>
     requires { IsReady mq.now process.old }
     ensures made { process.new.lock ≡ mq.now }
     ensures ready { OnOk result (IsReady mq.now process.new) }
@@ -144,7 +144,7 @@ fn all_rounds<L: Lock<Guarded>, R: Wait>(
     role: Role,
     rounds: u32,
     signals: &Signals,
-) -> Result<(), BenchFault>
+) -> Result<(), WorkFault>
     requires { IsReady mq.now process.old }
     ensures made { process.new.lock ≡ mq.now }
     ensures ready { OnOk result (IsReady mq.now process.new) }
@@ -164,7 +164,7 @@ fn play<L: Lock<Guarded>, R: Wait>(
     signals: &Signals,
 ) -> Played<Process<L>>
     requires { IsReady mq.now process }
-    ensures { result.process.lock ≡ process.entry.lock }
+    ensures { result.process.lock ≡ process.lock }
 {
     signals.ready.store(true, Ordering::SeqCst);
     let outcome = all_rounds(rt, mq, &mut process, role, rounds, signals);
@@ -191,7 +191,7 @@ pub fn together<L: Lock<Guarded> + Sync, R: Wait + Threads + Clock + Sync>(
     alloc: Global,
     roles: (Role, Role),
     rounds: u32,
-) -> Result<(Duration, Journal), BenchFault>
+) -> Result<(Duration, Journal), WorkFault>
 where
     L::Seat: Send + Sync,
 {
@@ -222,7 +222,7 @@ where
 /// How both parts ended, with the time that the first took.
 #[derive(Drop)]
 pub struct Ends<P> {
-    time: Result<Duration, BenchFault>,
+    time: Result<Duration, WorkFault>,
     one: Played<P>,
     two: Played<P>,
 }
@@ -235,7 +235,7 @@ fn in_threads<L: Lock<Guarded> + Sync, R: Wait + Threads + Clock + Sync>(
     roles: (Role, Role),
     rounds: u32,
     signals: &Signals,
-) -> Result<Ends<Process<L>>, BenchFault>
+) -> Result<Ends<Process<L>>, WorkFault>
 where
     L::Seat: Send + Sync,
     requires ready { IsReady mq.now one × IsReady mq.now two }
@@ -244,7 +244,7 @@ where
     thread::scope(
         thread::scope_env(),
         rt,
-        |scope| -> Result<Ends<Process<L>>, BenchFault>
+        |scope| -> Result<Ends<Process<L>>, WorkFault>
             requires { IsReady mq.now one × IsReady mq.now two }
             ensures { IfOk result (AreBack one.lock two.lock) }
         {
@@ -256,7 +256,7 @@ where
                     ensures { result.process.lock ≡ two.lock }
                 { play(rt, mq, two, roles.1, rounds, signals) },
             ) else {
-                return Err(BenchFault::NoThread);
+                return Err(WorkFault::NoThread);
             };
             await_ready(rt, signals);
             let start = Instant::now(rt);
@@ -268,6 +268,6 @@ where
     )
 }
 
-fn time_since<R: Clock>(rt: &R, start: std::io::Result<Instant>) -> Result<Duration, BenchFault> {
+fn time_since<R: Clock>(rt: &R, start: std::io::Result<Instant>) -> Result<Duration, WorkFault> {
     Ok(start?.elapsed(rt)?)
 }
