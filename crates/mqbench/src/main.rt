@@ -8,6 +8,8 @@ mod input;
 mod output;
 mod report;
 mod run;
+#[cfg(test)]
+mod tests;
 mod together;
 mod words;
 mod workload;

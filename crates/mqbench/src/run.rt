@@ -13,7 +13,7 @@ use crate::fault::{BenchFault, WorkFault};
 use crate::input::{MOST_BYTES, read_all};
 use crate::output::write_bytes;
 use crate::report::{Measured, line_of, result_of, title_of};
-use crate::together::Role;
+use crate::together::{Role, together};
 use crate::words::words;
 use crate::workload::{LockKind, Request, Workload, request_of};
 use fast_mutex::{FastMutex, Lock, WordLock};
@@ -125,9 +125,10 @@ fn by_lock_alone<S: Wait + Clock>(rt: &S, alloc: Global, lock: LockKind, task: T
     }
 }
 
+#[tactic(auto, using(crate::proofs::Crossing::word_seat_sync, crate::proofs::Crossing::fast_seat_sync))]
 fn by_lock_together<S: Wait + Threads + Clock + Sync>(rt: &S, alloc: Global, lock: LockKind, roles: (Role, Role), rounds: u32) -> Result<(Duration, Journal), WorkFault> {
     match lock {
-        LockKind::Word => Err(WorkFault::NoThread),
-        LockKind::Fast => Err(WorkFault::NoThread),
+        LockKind::Word => together::<WordLock<Guarded>, S>(rt, alloc, roles, rounds),
+        LockKind::Fast => together::<FastMutex<Guarded>, S>(rt, alloc, roles, rounds),
     }
 }
