@@ -1,0 +1,10 @@
+use Rattle.std.proofs.Common.{length}
+use Rattle.mqbench.specs.Ready.{AwaitsInto}
+use Rattle.mqbench.proofs.together.await_answer.Given as goal
+
+abbrev pub invariant-loop : goal.invariant-loop
+invariant-loop g l = record {
+  can : (goal.iterator-loop g).can_next l.iterator';
+  ends : (goal.iterator-loop g).is_finite l.iterator';
+  awaits : AwaitsInto l.mq l.process (length l.buffer);
+}

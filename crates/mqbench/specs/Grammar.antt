@@ -1,0 +1,129 @@
+-- What the line of an input asks for.
+use Rattle.std.specs.Prelude.{ℕ, Bool, true, false, ◌&&◌, ◌==◌, ◌^◌, ◌*◌, nat_lt, nat_le, List, [], ◌∷◌, length, take, slice_index, ◌-◌, filter, find, Option, None, Some, if◌then◌else◌, codes}
+use Rattle.std.specs.List.{slice_split, list_all}
+use Rattle.std.specs.Char.{is_ascii_digit}
+use Rattle.std.specs.Str.{bytes_eq}
+use Rattle.std.specs.Str.Parse.{digits_value}
+use Rattle.mqbench.specs.declared.workload.LockKind.{LockKind}
+use Rattle.mqbench.specs.declared.workload.LockKind.TheVariants as lock
+use Rattle.mqbench.specs.declared.workload.Workload.{Workload}
+use Rattle.mqbench.specs.declared.workload.Workload.TheVariants as workload
+use Rattle.mqbench.specs.declared.workload.Request.{Request}
+use Rattle.mqbench.specs.declared.workload.Request.TheVariants as request
+use Rattle.mqbench.specs.declared.workload.Name.{Name}
+use Rattle.mqbench.specs.declared.workload.Name.TheVariants as name
+
+-- what f gives for the value, if there is one
+infixl 10 ◌>>=◌
+abbrev pub ◌>>=◌ : {A B : Type 0} → Option A → (A → Option B) → Option B
+None >>= f = None
+(Some x) >>= f = f x
+
+-- a word of a line
+abbrev pub Word : Type 0
+Word = List ℕ
+
+abbrev pub is_space : ℕ → Bool
+is_space b = b == 32
+
+-- the words of a line: the pieces between spaces that are not empty
+abbrev pub words_of : List ℕ → List Word
+words_of line = filter (λ word. nat_lt 0 (length word)) (slice_split is_space line)
+
+-- decimal digits, one or more, whose value fits k bits
+abbrev pub is_number : ℕ → Word → Bool
+is_number k word = nat_lt 0 (length word) && (list_all is_ascii_digit word && nat_lt (digits_value 10 word) (2 ^ k))
+
+-- the number of k bits that a word writes
+abbrev pub number_written : ℕ → Word → Option ℕ
+number_written k word = if is_number k word then Some (digits_value 10 word) else None
+
+-- a number from 1 to most
+abbrev pub count_written : ℕ → Word → Option ℕ
+count_written most word = do
+  n ← number_written 32 word
+  if nat_le 1 n && nat_le n most then Some n else None
+
+-- rounds and entries: at most ten million
+abbrev pub rounds_written : Word → Option ℕ
+rounds_written word = count_written 10000000 word
+
+-- the lock that a word names
+abbrev pub lock_written : Word → Option LockKind
+lock_written word = if bytes_eq word (codes "word") then Some lock.Word else (if bytes_eq word (codes "fast") then Some lock.Fast else None)
+
+-- what the words behind each name write
+abbrev pub pair_written : List Word → Option Workload
+pair_written (lock ∷ rounds ∷ []) = do
+  lock ← lock_written lock
+  rounds ← rounds_written rounds
+  Some (workload.Pair lock rounds)
+pair_written words = None
+
+-- at most ten million messages in all rounds
+abbrev pub deep_written : List Word → Option Workload
+deep_written (lock ∷ depth ∷ rounds ∷ []) = do
+  lock ← lock_written lock
+  depth ← count_written 4096 depth
+  rounds ← rounds_written rounds
+  if nat_le (depth * rounds) 10000000 then Some (workload.Deep lock depth rounds) else None
+deep_written words = None
+
+abbrev pub ping_pong_written : List Word → Option Workload
+ping_pong_written (lock ∷ rounds ∷ []) = do
+  lock ← lock_written lock
+  rounds ← rounds_written rounds
+  Some (workload.PingPong lock rounds)
+ping_pong_written words = None
+
+abbrev pub stream_written : List Word → Option Workload
+stream_written (lock ∷ rounds ∷ []) = do
+  lock ← lock_written lock
+  rounds ← rounds_written rounds
+  Some (workload.Stream lock rounds)
+stream_written words = None
+
+abbrev pub check_written : List Word → Option Workload
+check_written (entries ∷ []) = do
+  entries ← rounds_written entries
+  Some (workload.Check entries)
+check_written words = None
+
+-- the word of each workload
+abbrev pub name_text : Name → List ℕ
+name_text name.Pair = codes "pair"
+name_text name.Deep = codes "deep"
+name_text name.PingPong = codes "pingpong"
+name_text name.Stream = codes "stream"
+name_text name.Check = codes "check"
+
+abbrev pub names : List Name
+names = name.Pair ∷ name.Deep ∷ name.PingPong ∷ name.Stream ∷ name.Check ∷ []
+
+-- the workload that a word names
+abbrev pub name_written : Word → Option Name
+name_written word = find (λ name. bytes_eq word (name_text name)) names
+
+-- the workload that a name and the words behind it write
+abbrev pub workload_written : Name → List Word → Option Workload
+workload_written name.Pair = pair_written
+workload_written name.Deep = deep_written
+workload_written name.PingPong = ping_pong_written
+workload_written name.Stream = stream_written
+workload_written name.Check = check_written
+
+-- what the words of a line ask for
+abbrev pub request_written : List Word → Option Request
+request_written [] = Some request.Usage
+request_written (word ∷ arguments) = do
+  name ← name_written word
+  workload ← workload_written name arguments
+  Some (request.Measure workload)
+
+-- the bytes without the feed that ends them, if one does
+abbrev pub without_feed : List ℕ → List ℕ
+without_feed text = if nat_lt 0 (length text) && (slice_index text (length text - 1) == 10) then take (length text - 1) text else text
+
+-- what an input asks for: one line of at most 256 bytes with its feed, which may be missing
+abbrev pub request_read : List ℕ → Option Request
+request_read text = if nat_le (length text) 256 then request_written (words_of (without_feed text)) else None

@@ -1,0 +1,69 @@
+//! The calls that workloads are made of.
+ghost use Rattle.std.specs.Prelude.{◌≡◌, OnOk};
+ghost use Rattle.mqbench.specs.Ready.{IsReady};
+
+use crate::fault::WorkFault;
+use fast_mutex::Lock;
+use mq::{Guarded, Mq, Process};
+use mq_core::entries::{Access, Attr, OpenFlags};
+use mq_core::names::Name;
+use std::sync::Wait;
+
+/// How many bytes each message has.
+pub const MESSAGE_SIZE: usize = 16;
+
+const MESSAGE: [u8; MESSAGE_SIZE] = *b"sixteen bytes ..";
+
+/// Opens a queue for sends and receives that may wait, which it creates with this depth where there is none.
+pub fn open<L: Lock<Guarded>, R: Wait>(
+    rt: &R,
+    mq: &Mq<L>,
+    process: &mut Process<L>,
+    name: &[u8],
+    depth: u32,
+) -> Result<u32, WorkFault>
+    requires ready { IsReady mq.now process.old }
+    ensures ready { IsReady mq.now process.new }
+{
+    let name = Name::read(name)?;
+    let flags = OpenFlags {
+        access: Access::Both,
+        create: true,
+        excl: false,
+        nonblock: false,
+    };
+    let attr = Attr {
+        maxmsg: i64::from(depth),
+        msgsize: MESSAGE_SIZE as i64,
+    };
+    Ok(process.open(rt, mq, &name, flags, Some(attr))?)
+}
+
+/// Sends a message of 16 bytes.
+pub fn send<L: Lock<Guarded>, R: Wait>(
+    rt: &R,
+    mq: &Mq<L>,
+    process: &mut Process<L>,
+    d: u32,
+    prio: u32,
+) -> Result<(), WorkFault>
+    requires ready { IsReady mq.now process.old }
+    ensures ready { IsReady mq.now process.new }
+{
+    Ok(process.send(rt, mq, d, &MESSAGE, prio)?)
+}
+
+/// Receives a message.
+pub fn receive<L: Lock<Guarded>, R: Wait>(
+    rt: &R,
+    mq: &Mq<L>,
+    process: &mut Process<L>,
+    d: u32,
+) -> Result<(), WorkFault>
+    requires ready { IsReady mq.now process.old }
+    ensures ready { IsReady mq.now process.new }
+{
+    let mut buffer = [0; MESSAGE_SIZE];
+    process.receive(rt, mq, d, &mut buffer)?;
+    Ok(())
+}

@@ -1,0 +1,133 @@
+//! A run, from the bytes of its input to its output.
+ghost use Rattle.std.specs.Prelude.{◌≡◌, ◌+◌, ℕ, List, IsErrOf, OnOk, Some, None, take};
+ghost use Rattle.std.specs.Io.KnownBytes.{Appends};
+ghost use Rattle.mqbench.specs.Faults.{Reads, IsRefusal};
+ghost use Rattle.mqbench.specs.Grammar.{request_read, without_feed};
+ghost use Rattle.mqbench.specs.Usage.{usage_text};
+ghost use Rattle.mqbench.specs.declared.fault.BenchFault.TheVariants.{BadLine};
+ghost use Rattle.mqbench.specs.declared.workload.Request.TheVariants.{Usage, Measure};
+ghost use Rattle.mqbench.specs.declared.workload.Workload.{Workload};
+
+use crate::alone::{Task, alone};
+use crate::fault::{BenchFault, WorkFault};
+use crate::input::{MOST_BYTES, read_all};
+use crate::output::write_bytes;
+use crate::report::{Measured, line_of, result_of, title_of};
+use crate::together::{Role, together};
+use crate::words::words;
+use crate::workload::{LockKind, Request, Workload, request_of};
+use fast_mutex::{FastMutex, Lock, WordLock};
+use mq::Guarded;
+use mq_core::checker::check_history;
+use mq_core::journals::Journal;
+use std::alloc::Global;
+use std::io::{Read, Write};
+use std::sync::Wait;
+use std::thread::Threads;
+use std::time::{Clock, Duration, Instant};
+
+/// What the program prints where the input is empty.
+const USAGE: &[u8] = b"\
+usage: one line on the standard input, of a workload and its sizes
+  pair LOCK N      one process: a send and a receive in turn, N times each
+  deep LOCK D N    one process: fills a queue of depth D with D messages of pseudo-random priorities and drains it, N times
+  pingpong LOCK N  two processes in two threads: a message to and fro, N times
+  stream LOCK N    two processes in two threads: one sends N messages, one receives them
+  check K          checks a journal of K entries
+LOCK is word or fast, N and K from 1 to 10000000, D from 1 to 4096, D times N at most 10000000
+";
+
+/// Reads the line of an input, measures the workload that it names, and writes a line with the result, or the usage where the
+/// input is empty. `BenchFault::BadLine`: the line names no workload. `BenchFault::Input`, `BenchFault::Output`: a read or a
+/// write failed. Any other fault: the workload could not be carried out.
+pub fn run_line<S: Wait + Threads + Clock + Sync, R: Read, W: Write>(
+    rt: &S,
+    alloc: Global,
+    input: &mut R,
+    output: &mut W,
+) -> Result<(), BenchFault>
+    ensures bad_line { (all : List ℕ) → R.remaining input.old ≡ Some all →
+        request_read (take (MOST_BYTES + 1) all) ≡ None →
+        IsRefusal result × (W.contents output.new ≡ W.contents output.old) }
+    ensures usage { (all : List ℕ) → R.remaining input.old ≡ Some all →
+        request_read (take (MOST_BYTES + 1) all) ≡ Some Usage →
+        OnOk result (Appends (W.contents output.old) (W.contents output.new) usage_text) }
+    ensures workload { (all : List ℕ) (workload : Workload) → R.remaining input.old ≡ Some all →
+        request_read (take (MOST_BYTES + 1) all) ≡ Some (Measure workload) →
+        IsErrOf result BadLine → ⊥ }
+{
+    let text = read_all(alloc, input)?;
+    match request_in(alloc, text.as_slice())? {
+        Request::Usage => write_bytes(output, USAGE),
+        Request::Measure(workload) => {
+            let result = measure(rt, alloc, workload)?;
+            let line = line_of(alloc, title_of(workload), result)?;
+            write_bytes(output, line.as_bytes())
+        }
+    }
+}
+
+// What an input asks for.
+fn request_in(alloc: Global, text: &[u8]) -> Result<Request, BenchFault>
+    ensures { Reads (request_read text.now) result }
+{
+    if text.len() > MOST_BYTES {
+        return Err(BenchFault::BadLine);
+    }
+    let words = words(alloc, without_feed(text))?;
+    request_of(words.as_slice()).ok_or(BenchFault::BadLine)
+}
+
+// A line without the feed that ends it.
+fn without_feed(text: &[u8]) -> &[u8]
+    ensures { result.now ≡ without_feed text.now }
+{
+    if !text.is_empty() && text[text.len() - 1] == b'\n' {
+        &text[..text.len() - 1]
+    } else {
+        text
+    }
+}
+
+fn measure<S: Wait + Threads + Clock + Sync>(rt: &S, alloc: Global, workload: Workload) -> Result<Measured, WorkFault> {
+    match workload {
+        Workload::Pair { lock, rounds } => {
+            let (time, journal) = by_lock_alone(rt, alloc, lock, Task::Pair { rounds })?;
+            Ok(result_of(2 * u64::from(rounds), time, &journal))
+        }
+        Workload::Deep { lock, depth, rounds } => {
+            let (time, journal) = by_lock_alone(rt, alloc, lock, Task::Deep { depth, rounds })?;
+            Ok(result_of(u64::from(rounds).saturating_mul(2 * u64::from(depth)), time, &journal))
+        }
+        Workload::PingPong { lock, rounds } => {
+            let (time, journal) = by_lock_together(rt, alloc, lock, (Role::Ping, Role::Pong), rounds)?;
+            Ok(result_of(4 * u64::from(rounds), time, &journal))
+        }
+        Workload::Stream { lock, rounds } => {
+            let (time, journal) = by_lock_together(rt, alloc, lock, (Role::Receiver, Role::Sender), rounds)?;
+            Ok(result_of(2 * u64::from(rounds), time, &journal))
+        }
+        Workload::Check { entries } => {
+            let task = Task::Calls { count: entries.saturating_sub(1) };
+            let (_, journal) = alone::<WordLock<Guarded>, S>(rt, alloc, task)?;
+            let start = Instant::now(rt)?;
+            let _ = check_history(&journal);
+            let time = start.elapsed(rt)?;
+            Ok(result_of(u64::from(entries), time, &journal))
+        }
+    }
+}
+
+fn by_lock_alone<S: Wait + Clock>(rt: &S, alloc: Global, lock: LockKind, task: Task) -> Result<(Duration, Journal), WorkFault> {
+    match lock {
+        LockKind::Word => alone::<WordLock<Guarded>, S>(rt, alloc, task),
+        LockKind::Fast => alone::<FastMutex<Guarded>, S>(rt, alloc, task),
+    }
+}
+
+fn by_lock_together<S: Wait + Threads + Clock + Sync>(rt: &S, alloc: Global, lock: LockKind, roles: (Role, Role), rounds: u32) -> Result<(Duration, Journal), WorkFault> {
+    match lock {
+        LockKind::Word => together::<WordLock<Guarded>, S>(rt, alloc, roles, rounds),
+        LockKind::Fast => together::<FastMutex<Guarded>, S>(rt, alloc, roles, rounds),
+    }
+}

@@ -1,0 +1,73 @@
+//! Each workload with small sizes, and lines that are refused.
+use crate::fault::BenchFault;
+use crate::run::run_line;
+use std::alloc::Global;
+use std::sync::Wait;
+use std::thread::Threads;
+use std::time::Clock;
+
+fn output_of<S: Wait + Threads + Clock + Sync>(
+    rt: &S,
+    alloc: Global,
+    line: &str,
+) -> Result<Vec<u8>, BenchFault> {
+    let mut output = Vec::new(alloc);
+    let mut input = line.as_bytes();
+    run_line(rt, alloc, &mut input, &mut output)?;
+    Ok(output)
+}
+
+// Lines, and how their results begin.
+const RESULTS: [(&str, &str); 9] = [
+    ("pair word 3\n", "pair word: 6 operations, "),
+    ("pair fast 3", "pair fast: 6 operations, "),
+    (" deep  word 4 2 \n", "deep word: 16 operations, "),
+    ("deep fast 1 002\n", "deep fast: 4 operations, "),
+    ("pingpong word 20\n", "pingpong word: 80 operations, "),
+    ("pingpong fast 20\n", "pingpong fast: 80 operations, "),
+    ("stream word 50\n", "stream word: 100 operations, "),
+    ("stream fast 50\n", "stream fast: 100 operations, "),
+    ("check 5\n", "check: 5 operations, "),
+];
+
+#[test]
+fn each_workload_prints_its_result(rt: HostRuntime) {
+    for (line, start) in RESULTS {
+        let output = output_of(&rt, rt.alloc(), line).expect(&rt, "a result");
+        assert!(rt; output.as_slice().starts_with(start.as_bytes()), "{line}");
+    }
+}
+
+const REFUSED: [&str; 15] = [
+    "word\n",
+    "Pair word 1\n",
+    "pair\n",
+    "pair word\n",
+    "pair slow 1\n",
+    "pair word 0\n",
+    "pair word 10000001\n",
+    "pair word 1x\n",
+    "pair word 1 1\n",
+    "deep word 4097 1\n",
+    "deep word 4096 2442\n",
+    "pingpong 1\n",
+    "stream fast -1\n",
+    "check 18446744073709551617\n",
+    "pair word 1\npair word 1\n",
+];
+
+#[test]
+fn other_lines_are_refused(rt: HostRuntime) {
+    for line in REFUSED {
+        let refused = output_of(&rt, rt.alloc(), line);
+        assert!(rt; refused.err() == Some(BenchFault::BadLine), "{line}");
+    }
+}
+
+#[test]
+fn an_empty_line_prints_the_usage(rt: HostRuntime) {
+    for line in ["", "\n", "  \n"] {
+        let output = output_of(&rt, rt.alloc(), line).expect(&rt, "the usage");
+        assert!(rt; output.as_slice().starts_with(b"usage: "), "{line}");
+    }
+}

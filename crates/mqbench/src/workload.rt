@@ -1,0 +1,190 @@
+//! What a run is asked for, and the words that write it.
+ghost use Rattle.std.specs.Prelude.{◌≡◌, ◌≤◌, ◌*◌, map, IfSome};
+ghost use Rattle.mqbench.specs.Grammar.{request_written, workload_written, lock_written, pair_written, deep_written, ping_pong_written, stream_written, check_written, name_written, count_written};
+
+use crate::words::count_of;
+
+/// Which lock stands round the queues.
+#[derive(Clone, Copy, Debug, PartialEq, Eq)]
+pub enum LockKind {
+    /// The lock of one word.
+    Word,
+    /// Lamport's lock.
+    Fast,
+}
+
+/// What is measured, with its sizes.
+#[derive(Clone, Copy, Debug, PartialEq, Eq)]
+pub enum Workload {
+    /// One process sends and receives in turn.
+    Pair { lock: LockKind, rounds: u32 },
+    /// One process fills a queue to its depth and drains it.
+    Deep {
+        lock: LockKind,
+        depth: u32,
+        rounds: u32,
+    },
+    /// Two processes in two threads send a message to and fro.
+    PingPong { lock: LockKind, rounds: u32 },
+    /// A process sends, and another one receives in a thread of its own.
+    Stream { lock: LockKind, rounds: u32 },
+    /// A journal of so many entries is checked.
+    Check { entries: u32 },
+}
+
+/// What a line asks for.
+#[derive(Clone, Copy, Debug, PartialEq, Eq)]
+pub enum Request {
+    Usage,
+    Measure(Workload),
+}
+
+/// The first word of a line.
+#[derive(Clone, Copy, Debug, PartialEq, Eq)]
+pub enum Name {
+    Pair,
+    Deep,
+    PingPong,
+    Stream,
+    Check,
+}
+
+/// The most rounds of a workload, and the most messages of all rounds.
+const MOST_ROUNDS: u32 = 10_000_000;
+/// The most messages in a queue.
+const MOST_DEPTH: u32 = 4096;
+
+const NAMES: [Name; 5] = [
+    Name::Pair,
+    Name::Deep,
+    Name::PingPong,
+    Name::Stream,
+    Name::Check,
+];
+
+impl Name {
+    ghost use Rattle.mqbench.specs.Grammar.{name_text};
+
+    /// The word of the name.
+    pub fn text(self) -> &'static [u8]
+        ensures { result.now ≡ name_text self }
+    {
+        match self {
+            Name::Pair => b"pair",
+            Name::Deep => b"deep",
+            Name::PingPong => b"pingpong",
+            Name::Stream => b"stream",
+            Name::Check => b"check",
+        }
+    }
+}
+
+/// What the words of a line ask for. No word asks for the usage.
+pub fn request_of(words: &[&[u8]]) -> Option<Request>
+    ensures { result ≡ request_written (map (λ word. word.now) words.now) }
+{
+    match words {
+        [] => Some(Request::Usage),
+        [word, arguments @ ..] => {
+            Some(Request::Measure(workload_of(name_of(word)?, arguments)?))
+        }
+    }
+}
+
+fn name_of(word: &[u8]) -> Option<Name>
+    ensures { result ≡ name_written word.now }
+{
+    NAMES.iter().copied().find(|name| word == name.text())
+}
+
+fn workload_of(name: Name, arguments: &[&[u8]]) -> Option<Workload>
+    ensures { result ≡ workload_written name (map (λ word. word.now) arguments.now) }
+{
+    match name {
+        Name::Pair => pair_of(arguments),
+        Name::Deep => deep_of(arguments),
+        Name::PingPong => ping_pong_of(arguments),
+        Name::Stream => stream_of(arguments),
+        Name::Check => check_of(arguments),
+    }
+}
+
+fn pair_of(arguments: &[&[u8]]) -> Option<Workload>
+    ensures { result ≡ pair_written (map (λ word. word.now) arguments.now) }
+{
+    match arguments {
+        [lock, rounds] => Some(Workload::Pair {
+            lock: lock_of(lock)?,
+            rounds: count_of(MOST_ROUNDS, rounds)?,
+        }),
+        _ => None,
+    }
+}
+
+fn deep_of(arguments: &[&[u8]]) -> Option<Workload>
+    ensures { result ≡ deep_written (map (λ word. word.now) arguments.now) }
+{
+    match arguments {
+        [lock, depth, rounds] => {
+            let lock = lock_of(lock)?;
+            let depth = count_of(MOST_DEPTH, depth)?;
+            let rounds = count_of(MOST_ROUNDS, rounds)?;
+            if u64::from(depth) * u64::from(rounds) > u64::from(MOST_ROUNDS) {
+                return None;
+            }
+            Some(Workload::Deep {
+                lock,
+                depth,
+                rounds,
+            })
+        }
+        _ => None,
+    }
+}
+
+fn ping_pong_of(arguments: &[&[u8]]) -> Option<Workload>
+    ensures { result ≡ ping_pong_written (map (λ word. word.now) arguments.now) }
+{
+    match arguments {
+        [lock, rounds] => Some(Workload::PingPong {
+            lock: lock_of(lock)?,
+            rounds: count_of(MOST_ROUNDS, rounds)?,
+        }),
+        _ => None,
+    }
+}
+
+fn stream_of(arguments: &[&[u8]]) -> Option<Workload>
+    ensures { result ≡ stream_written (map (λ word. word.now) arguments.now) }
+{
+    match arguments {
+        [lock, rounds] => Some(Workload::Stream {
+            lock: lock_of(lock)?,
+            rounds: count_of(MOST_ROUNDS, rounds)?,
+        }),
+        _ => None,
+    }
+}
+
+fn check_of(arguments: &[&[u8]]) -> Option<Workload>
+    ensures { result ≡ check_written (map (λ word. word.now) arguments.now) }
+{
+    match arguments {
+        [entries] => Some(Workload::Check {
+            entries: count_of(MOST_ROUNDS, entries)?,
+        }),
+        _ => None,
+    }
+}
+
+fn lock_of(word: &[u8]) -> Option<LockKind>
+    ensures { result ≡ lock_written word.now }
+{
+    if word == b"word".as_slice() {
+        return Some(LockKind::Word);
+    }
+    if word == b"fast".as_slice() {
+        return Some(LockKind::Fast);
+    }
+    None
+}
