@@ -1,5 +1,5 @@
 -- A message that was received has room in the buffer that it was put into.
-use Rattle.std.proofs.Common.{◌≡◌, ◌≤◌, ◌+◌, ℕ, List, length, drop, inl, inr, refl, ap, sym, ◌∙◌, arith, length-append, Option, None, Some, Result, Ok, Err}
+use Rattle.std.proofs.Common.{◌≡◌, ◌≤◌, ◌+◌, ℕ, List, length, drop, inl, inr, ap, ◌∙◌, arith, length-append, Option, Some, Result, Ok}
 use Rattle.fast_mutex.specs.Items.{Ticket}
 use Rattle.mq.specs.Calls.{WholeReceive}
 use Rattle.mq.specs.Says.{receive_says}

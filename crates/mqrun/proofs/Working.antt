@@ -9,7 +9,7 @@ use Rattle.mqrun.specs.Buffer.{buffer_given}
 use Rattle.mqrun.specs.Grammar.{Word}
 use Rattle.mqrun.specs.Members.{AllHaveShares, AllOff, HasShare}
 use Rattle.mqrun.specs.Phase.{AllWorkOff, WorksOff, calls_in, text_in}
-use Rattle.mqrun.specs.Runs.{IsReady, IsSameProcess, Performs, RunsCalls, RunsPhase, RunsPhases, calls_of, reply_lines}
+use Rattle.mqrun.specs.Runs.{IsReady, Performs, RunsCalls, RunsPhase, RunsPhases, calls_of, reply_lines}
 use Rattle.mqrun.specs.Script.{said_calls, said_phases}
 use Rattle.mqrun.specs.declared.line.ScriptCall.{ScriptCall}
 use Rattle.mqrun.specs.declared.phase.Member.{Member}

@@ -1,5 +1,4 @@
-use Rattle.std.proofs.Common.{rules, ◌≡◌, length, Ok}
-use Rattle.mq.specs.Calls.{WholeReceive}
+use Rattle.std.proofs.Common.{rules, ◌≡◌, length}
 use Rattle.mqrun.proofs.Buffers.{message-fits}
 use Rattle.mqrun.proofs.calls.receive.Goals as goal
 

@@ -1,7 +1,7 @@
-use Rattle.std.proofs.Common.{arith, ◌≡◌, ◌∙◌, All, length, map, rules}
+use Rattle.std.proofs.Common.{arith, ◌≡◌, length, map}
 use Rattle.std.proofs.lemmas.Grind.{common_steps}
 use Rattle.std.proofs.lemmas.List.Elements.{All-same}
-use Rattle.mqrun.specs.Phase.{AreReady, text_in}
+use Rattle.mqrun.specs.Phase.{text_in}
 use Rattle.mqrun.specs.Runs.{IsReady}
 use Rattle.mqrun.specs.Script.{said_calls}
 use Rattle.mqrun.proofs.Taking.{all-unmap}
