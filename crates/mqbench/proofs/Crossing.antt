@@ -5,6 +5,8 @@ use Rattle.atomic_table.proofs.Sent.{seat_keyless}
 use Rattle.atomic_table.specs.contracts.shared.Seat as Seat
 use Rattle.fast_mutex.specs.declared.logged.Logged.{Ghosts}
 use Rattle.fast_mutex.specs.contracts.word.WordSeat as WordSeat
+use Rattle.std.proofs.Crossing.{crosses}
+use Rattle.mq.specs.contracts.guarded.Guarded as guarded
 use Rattle.fast_mutex.specs.contracts.fast.FastSeat as FastSeat
 
 seat_send : (S V : RattleType) → IsSend S → IsSend (Seat.the_row S V)
@@ -18,3 +20,6 @@ word_seat_sync S I g s = search (sendable, seat_sync) depth 20
 
 pub fast_seat_sync : (S I : RattleType) (g : Ghosts S.Denot I.Denot) → IsSend S → IsSync (FastSeat.the_row S I g)
 fast_seat_sync S I g s = search (sendable, seat_sync) depth 20
+
+pub guarded_send : IsSend guarded.the_row
+guarded_send = search (sendable, crosses) depth 200 fits 1000000

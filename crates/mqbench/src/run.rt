@@ -125,7 +125,6 @@ fn by_lock_alone<S: Wait + Clock>(rt: &S, alloc: Global, lock: LockKind, task: T
     }
 }
 
-#[tactic(auto, using(crate::proofs::Crossing::word_seat_sync, crate::proofs::Crossing::fast_seat_sync))]
 fn by_lock_together<S: Wait + Threads + Clock + Sync>(rt: &S, alloc: Global, lock: LockKind, roles: (Role, Role), rounds: u32) -> Result<(Duration, Journal), WorkFault> {
     match lock {
         LockKind::Word => together::<WordLock<Guarded>, S>(rt, alloc, roles, rounds),
