@@ -7,8 +7,7 @@ ghost use Rattle.mqbench.specs.Faults.{exit_status, fault_text, work_fault_text}
 use mq_core::faults::Fault;
 use std::alloc::{AllocError, AllocFailed};
 use std::error::Error;
-use std::fmt;
-use std::io;
+use std::{fmt, io};
 
 /// Why a workload could not be carried out.
 #[derive(Clone, Copy, Debug, PartialEq, Eq)]

@@ -25,7 +25,9 @@ pub fn read_all<R: Read>(alloc: Global, input: &mut R) -> Result<Vec<u8>, BenchF
     let mut chunk = [0u8; CHUNK];
     for _ in 0..MOST_READS {
         let room = (MOST_BYTES + 1 - text.len()).min(CHUNK);
-        let count = input.read(&mut chunk[..room]).map_err(|_| BenchFault::Input)?;
+        let count = input
+            .read(&mut chunk[..room])
+            .map_err(|_| BenchFault::Input)?;
         text.extend_from_slice(&chunk[..count])?;
         if count == 0 || text.len() > MOST_BYTES {
             return Ok(text);

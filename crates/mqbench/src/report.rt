@@ -46,7 +46,9 @@ pub fn line_of(alloc: Global, title: &str, m: Measured) -> Result<String, AllocE
     let (entries, payload) = (m.entries, m.payload);
     let bytes = (u128::from(entries) * ENTRY_SIZE).saturating_add(u128::from(payload));
     let bytes = per_operation(alloc, bytes, operations)?;
-    format!(in alloc; "{title}: {operations} operations, {time} ns each; {entries} entries, {payload} payload bytes, {bytes} bytes each\n")
+    format!(in alloc;
+        "{title}: {operations} operations, {time} ns each; {entries} entries, {payload} payload bytes, {bytes} bytes each\n"
+    )
 }
 
 // A total by the operation, with one decimal.
@@ -59,14 +61,40 @@ fn per_operation(alloc: Global, total: u128, operations: u64) -> Result<String, 
 /// What stands in front of a result: the workload, and its lock where it has one.
 pub fn title_of(workload: Workload) -> &'static str {
     match workload {
-        Workload::Pair { lock: LockKind::Word, rounds: _ } => "pair word",
-        Workload::Pair { lock: LockKind::Fast, rounds: _ } => "pair fast",
-        Workload::Deep { lock: LockKind::Word, depth: _, rounds: _ } => "deep word",
-        Workload::Deep { lock: LockKind::Fast, depth: _, rounds: _ } => "deep fast",
-        Workload::PingPong { lock: LockKind::Word, rounds: _ } => "pingpong word",
-        Workload::PingPong { lock: LockKind::Fast, rounds: _ } => "pingpong fast",
-        Workload::Stream { lock: LockKind::Word, rounds: _ } => "stream word",
-        Workload::Stream { lock: LockKind::Fast, rounds: _ } => "stream fast",
+        Workload::Pair {
+            lock: LockKind::Word,
+            rounds: _,
+        } => "pair word",
+        Workload::Pair {
+            lock: LockKind::Fast,
+            rounds: _,
+        } => "pair fast",
+        Workload::Deep {
+            lock: LockKind::Word,
+            depth: _,
+            rounds: _,
+        } => "deep word",
+        Workload::Deep {
+            lock: LockKind::Fast,
+            depth: _,
+            rounds: _,
+        } => "deep fast",
+        Workload::PingPong {
+            lock: LockKind::Word,
+            rounds: _,
+        } => "pingpong word",
+        Workload::PingPong {
+            lock: LockKind::Fast,
+            rounds: _,
+        } => "pingpong fast",
+        Workload::Stream {
+            lock: LockKind::Word,
+            rounds: _,
+        } => "stream word",
+        Workload::Stream {
+            lock: LockKind::Fast,
+            rounds: _,
+        } => "stream fast",
         Workload::Check { entries: _ } => "check",
     }
 }

@@ -89,26 +89,52 @@ fn without_feed(text: &[u8]) -> &[u8]
     }
 }
 
-fn measure<S: Wait + Threads + Clock + Sync>(rt: &S, alloc: Global, workload: Workload) -> Result<Measured, WorkFault> {
+fn measure<S: Wait + Threads + Clock + Sync>(
+    rt: &S,
+    alloc: Global,
+    workload: Workload,
+) -> Result<Measured, WorkFault> {
     match workload {
         Workload::Pair { lock, rounds } => {
             let (time, journal) = by_lock_alone(rt, alloc, lock, Task::Pair { rounds })?;
             Ok(result_of(2 * u64::from(rounds), time, &journal))
         }
-        Workload::Deep { lock, depth, rounds } => {
+        Workload::Deep {
+            lock,
+            depth,
+            rounds,
+        } => {
             let (time, journal) = by_lock_alone(rt, alloc, lock, Task::Deep { depth, rounds })?;
-            Ok(result_of(u64::from(rounds).saturating_mul(2 * u64::from(depth)), time, &journal))
+            Ok(result_of(
+                u64::from(rounds).saturating_mul(2 * u64::from(depth)),
+                time,
+                &journal,
+            ))
         }
         Workload::PingPong { lock, rounds } => {
-            let (time, journal) = by_lock_together(rt, alloc, lock, (Role::Ping, Role::Pong), rounds)?;
+            let (time, journal) = by_lock_together(
+                rt,
+                alloc,
+                lock,
+                (Role::Ping, Role::Pong),
+                rounds,
+            )?;
             Ok(result_of(4 * u64::from(rounds), time, &journal))
         }
         Workload::Stream { lock, rounds } => {
-            let (time, journal) = by_lock_together(rt, alloc, lock, (Role::Receiver, Role::Sender), rounds)?;
+            let (time, journal) = by_lock_together(
+                rt,
+                alloc,
+                lock,
+                (Role::Receiver, Role::Sender),
+                rounds,
+            )?;
             Ok(result_of(2 * u64::from(rounds), time, &journal))
         }
         Workload::Check { entries } => {
-            let task = Task::Calls { count: entries.saturating_sub(1) };
+            let task = Task::Calls {
+                count: entries.saturating_sub(1),
+            };
             let (_, journal) = alone::<WordLock<Guarded>, S>(rt, alloc, task)?;
             let start = Instant::now(rt)?;
             let _ = check_history(&journal);
@@ -118,14 +144,25 @@ fn measure<S: Wait + Threads + Clock + Sync>(rt: &S, alloc: Global, workload: Wo
     }
 }
 
-fn by_lock_alone<S: Wait + Clock>(rt: &S, alloc: Global, lock: LockKind, task: Task) -> Result<(Duration, Journal), WorkFault> {
+fn by_lock_alone<S: Wait + Clock>(
+    rt: &S,
+    alloc: Global,
+    lock: LockKind,
+    task: Task,
+) -> Result<(Duration, Journal), WorkFault> {
     match lock {
         LockKind::Word => alone::<WordLock<Guarded>, S>(rt, alloc, task),
         LockKind::Fast => alone::<FastMutex<Guarded>, S>(rt, alloc, task),
     }
 }
 
-fn by_lock_together<S: Wait + Threads + Clock + Sync>(rt: &S, alloc: Global, lock: LockKind, roles: (Role, Role), rounds: u32) -> Result<(Duration, Journal), WorkFault> {
+fn by_lock_together<S: Wait + Threads + Clock + Sync>(
+    rt: &S,
+    alloc: Global,
+    lock: LockKind,
+    roles: (Role, Role),
+    rounds: u32,
+) -> Result<(Duration, Journal), WorkFault> {
     match lock {
         LockKind::Word => together::<WordLock<Guarded>, S>(rt, alloc, roles, rounds),
         LockKind::Fast => together::<FastMutex<Guarded>, S>(rt, alloc, roles, rounds),

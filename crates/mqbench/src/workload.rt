@@ -17,7 +17,10 @@ pub enum LockKind {
 #[derive(Clone, Copy, Debug, PartialEq, Eq)]
 pub enum Workload {
     /// One process sends and receives in turn.
-    Pair { lock: LockKind, rounds: u32 },
+    Pair {
+        lock: LockKind,
+        rounds: u32,
+    },
     /// One process fills a queue to its depth and drains it.
     Deep {
         lock: LockKind,
@@ -25,11 +28,19 @@ pub enum Workload {
         rounds: u32,
     },
     /// Two processes in two threads send a message to and fro.
-    PingPong { lock: LockKind, rounds: u32 },
+    PingPong {
+        lock: LockKind,
+        rounds: u32,
+    },
     /// A process sends, and another one receives in a thread of its own.
-    Stream { lock: LockKind, rounds: u32 },
+    Stream {
+        lock: LockKind,
+        rounds: u32,
+    },
     /// A journal of so many entries is checked.
-    Check { entries: u32 },
+    Check {
+        entries: u32,
+    },
 }
 
 /// What a line asks for.
