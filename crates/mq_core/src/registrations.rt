@@ -1,5 +1,5 @@
 //! Which registration stands on a queue, entry by entry.
-ghost use Rattle.std.specs.Prelude.{◌≡◌, IsTrue, IsFalse, ◌↔◌, Some, None, ◌==◌, ◌&&◌, ◌||◌, ℕ, Bool, Option};
+ghost use Rattle.std.specs.Prelude.{◌≡◌, ◌≢◌, IsTrue, IsFalse, ◌↔◌, Some, None, ◌==◌, ◌&&◌, ◌||◌, ℕ, Bool, Option};
 ghost use Rattle.mq_core.specs.Descriptors.{is_place};
 ghost use Rattle.mq_core.specs.Notices.{registration_by, registration_of, only_if, notified, is_removal, removes, is_close_of, closes, ends, unless, or_else, registration_after, is_about_registrations};
 
@@ -139,9 +139,10 @@ fn is_about_registrations(call: Call) -> bool
     }
 }
 
-/// The entry may change the registration of some queue.
+/// The entry changes some registration, wherever it stands.
 pub fn touches_registrations(entry: Entry) -> bool
-    ensures { IsFalse result → (on : Bool) (here : ℕ) (before : Option _) → registration_after on here entry before ≡ before }
+    ensures none { IsFalse result → (on : Bool) (here : ℕ) (before : Option _) → registration_after on here entry before ≡ before }
+    ensures some { IsTrue result → (on : Bool) × (here : ℕ) × (before : Option _) × (registration_after on here entry before ≢ before) }
 {
     match entry.reply {
         Reply::Done => is_about_registrations(entry.call),

@@ -1,9 +1,11 @@
-use Rattle.std.proofs.Common.{◌≡◌, ◌∙◌, sym, false}
-use Rattle.mq_core.specs.Notices.{is_about_registrations}
-use Rattle.mq_core.proofs.Untouched.{untouched}
+use Rattle.std.proofs.Common.{◌≡◌, ◌∙◌, sym, ap, false, true}
+use Rattle.std.specs.Option.{is_some}
+use Rattle.mq_core.specs.Notices.{notified}
+use Rattle.mq_core.proofs.Untouched.{touched-done, touched-notified}
 use Rattle.mq_core.proofs.registrations.touches_registrations.Goals as goal
 
-pub returns-in-Done : goal.returns-in-Done
-returns-in-Done c = λ not on here before.
-    let quiet : is_about_registrations c.args.entry.call ≡ false = sym c.is_about_registrations.ensures ∙ not in
-    untouched c.args.entry c.in-Done.is quiet on here before
+pub returns-in-Done-clause-some : goal.returns-in-Done-clause-some
+returns-in-Done-clause-some c = λ is. touched-done c.args.entry c.in-Done.is (sym c.is_about_registrations.ensures ∙ is)
+
+pub returns-in_default-clause-some : goal.returns-in_default-clause-some
+returns-in_default-clause-some c = λ is. touched-notified c.args.entry (ap is_some (sym c.notified.ensures) ∙ sym c.is_some.ensures ∙ is)
