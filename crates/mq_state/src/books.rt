@@ -20,9 +20,15 @@ use mq_core::names::Name;
 use std::alloc::{AllocError, Global};
 use std::marker::Model;
 
-/// The queues of one thread.
+/// The queues of one thread. It takes one word, so to hand it over, as a lock does, is cheap.
 #[derive(Debug, Drop)]
 pub struct Books {
+    shelf: Box<Shelf>,
+}
+
+/// What a `Books` has.
+#[derive(Debug, Drop)]
+struct Shelf {
     journal: Journal,
     tables: Tables,
 }
@@ -46,10 +52,12 @@ impl Books {
         ensures empty { IfOk result (λ b. b.records ≡ []) }
         ensures processes { IfOk result (λ b. b.n ≡ n) }
     {
-        let tables = Tables::new(alloc, n)?;
-        Ok(Books {
+        let shelf = Shelf {
             journal: Journal::new(alloc),
-            tables,
+            tables: Tables::new(alloc, n)?,
+        };
+        Ok(Books {
+            shelf: Box::new(alloc, shelf)?,
         })
     }
 
@@ -61,8 +69,8 @@ impl Books {
         ensures no_memory { result ≡ Reply.Refused Fault.NoMemory → self.new.records ≡ self.old.records }
         ensures processes { self.new.n ≡ self.old.n }
     {
-        self.tables
-            .open(&mut self.journal, p, name.bytes(), flags, attr)
+        let Shelf { journal, tables } = &mut *self.shelf;
+        tables.open(journal, p, name.bytes(), flags, attr)
     }
 
     /// A close of descriptor d (`mq_close`). Replies `Done`, or refuses with `BadDescriptor`.
@@ -73,7 +81,8 @@ impl Books {
         ensures no_memory { result ≡ Reply.Refused Fault.NoMemory → self.new.records ≡ self.old.records }
         ensures processes { self.new.n ≡ self.old.n }
     {
-        self.tables.close(&mut self.journal, p, d)
+        let Shelf { journal, tables } = &mut *self.shelf;
+        tables.close(journal, p, d)
     }
 
     /// An unlink of a name (`mq_unlink`). Replies `Done`, or refuses with `NoEntry`.
@@ -84,7 +93,8 @@ impl Books {
         ensures no_memory { result ≡ Reply.Refused Fault.NoMemory → self.new.records ≡ self.old.records }
         ensures processes { self.new.n ≡ self.old.n }
     {
-        self.tables.unlink(&mut self.journal, p, name.bytes())
+        let Shelf { journal, tables } = &mut *self.shelf;
+        tables.unlink(journal, p, name.bytes())
     }
 
     /// The attributes of descriptor d (`mq_getattr`). Replies `Attrs`, or refuses with `BadDescriptor`.
@@ -95,7 +105,8 @@ impl Books {
         ensures no_memory { result ≡ Reply.Refused Fault.NoMemory → self.new.records ≡ self.old.records }
         ensures processes { self.new.n ≡ self.old.n }
     {
-        self.tables.getattr(&mut self.journal, p, d)
+        let Shelf { journal, tables } = &mut *self.shelf;
+        tables.getattr(journal, p, d)
     }
 
     /// Another flag for descriptor d (`mq_setattr`): of `new` its `nonblock` alone is used. Replies `Attrs` from before, or refuses
@@ -107,7 +118,8 @@ impl Books {
         ensures no_memory { result ≡ Reply.Refused Fault.NoMemory → self.new.records ≡ self.old.records }
         ensures processes { self.new.n ≡ self.old.n }
     {
-        self.tables.setattr(&mut self.journal, p, d, new.nonblock)
+        let Shelf { journal, tables } = &mut *self.shelf;
+        tables.setattr(journal, p, d, new.nonblock)
     }
 
     /// A registration on the queue of descriptor d with the value of its notice, or the removal of one (`mq_notify`). Replies
@@ -119,7 +131,8 @@ impl Books {
         ensures no_memory { result ≡ Reply.Refused Fault.NoMemory → self.new.records ≡ self.old.records }
         ensures processes { self.new.n ≡ self.old.n }
     {
-        self.tables.notify(&mut self.journal, p, d, value)
+        let Shelf { journal, tables } = &mut *self.shelf;
+        tables.notify(journal, p, d, value)
     }
 
     /// The oldest notice that process p has not yet taken. Replies `Notice`.
@@ -130,7 +143,8 @@ impl Books {
         ensures no_memory { result ≡ Reply.Refused Fault.NoMemory → self.new.records ≡ self.old.records }
         ensures processes { self.new.n ≡ self.old.n }
     {
-        self.tables.next_notice(&mut self.journal, p)
+        let Shelf { journal, tables } = &mut *self.shelf;
+        tables.next_notice(journal, p)
     }
 
     /// A send of a message to the queue of descriptor d (`mq_send`). Replies `Queued`, `Handed` or `Waits`, or refuses with
@@ -142,7 +156,8 @@ impl Books {
         ensures no_memory { result ≡ Reply.Refused Fault.NoMemory → self.new.records ≡ self.old.records }
         ensures processes { self.new.n ≡ self.old.n }
     {
-        self.tables.send(&mut self.journal, p, d, bytes, prio)
+        let Shelf { journal, tables } = &mut *self.shelf;
+        tables.send(journal, p, d, bytes, prio)
     }
 
     /// A receive from the queue of descriptor d (`mq_receive`). Replies `Got`, and then the front of the buffer holds the
@@ -155,16 +170,18 @@ impl Books {
         ensures processes { self.new.n ≡ self.old.n }
         ensures buffer { buf.new ≡ filled self.old.records result buf.old }
     {
-        self.tables.receive(&mut self.journal, p, d, buf)
+        let Shelf { journal, tables } = &mut *self.shelf;
+        tables.receive(journal, p, d, buf)
     }
 
     /// `None` where process p has no open wait, else the length of the buffer of the receive that waits, or 0 for a send.
     pub fn waiting(&self, p: u32) -> Option<usize>
         ensures { result ≡ waiting_room self.now.records p }
     {
-        match self.tables.wait(p) {
+        let Shelf { journal, tables } = &*self.shelf;
+        match tables.wait(p) {
             None => None,
-            Some(_) => Some(room_of(waiting_call(&self.journal, &self.tables, p))),
+            Some(_) => Some(room_of(waiting_call(journal, tables, p))),
         }
     }
 
@@ -172,7 +189,7 @@ impl Books {
     pub fn answered(&self, p: u32) -> bool
         ensures { result ≡ is_answered self.now.records p }
     {
-        self.tables.answer(p).is_some()
+        self.shelf.tables.answer(p).is_some()
     }
 
     /// Ends the open wait of process p, if it is answered, and gives what it came to. A message that was received lies in the
@@ -188,10 +205,11 @@ impl Books {
         ensures buffer { buf.new ≡ collected_into self.old.records p buf.old }
         ensures processes { self.new.n ≡ self.old.n }
     {
-        let by = self.tables.answer(p)?;
-        let call = waiting_call(&self.journal, &self.tables, p);
-        let outcome = outcome(&self.journal, call, by, buf);
-        self.tables.collect(&mut self.journal, p, by);
+        let Shelf { journal, tables } = &mut *self.shelf;
+        let by = tables.answer(p)?;
+        let call = waiting_call(journal, tables, p);
+        let outcome = outcome(journal, call, by, buf);
+        tables.collect(journal, p, by);
         Some(outcome)
     }
 
@@ -199,7 +217,7 @@ impl Books {
     pub fn lowest_open(&self, p: u32) -> Option<u32>
         ensures { result ≡ lowest_held self.now.records p }
     {
-        self.tables.lowest_open(p)
+        self.shelf.tables.lowest_open(p)
     }
 
     /// The journal.
@@ -208,7 +226,7 @@ impl Books {
         ensures legal { Legal result.now.records }
         ensures processes { All (λ r. r.entry.process ≤ self.now.n) result.now.records }
     {
-        &self.journal
+        &self.shelf.journal
     }
 
     /// The journal, which is all that is left.
@@ -217,7 +235,7 @@ impl Books {
         ensures legal { Legal result.records }
         ensures processes { All (λ r. r.entry.process ≤ self.n) result.records }
     {
-        self.journal
+        Box::into_inner(self.shelf).journal
     }
 }
 
