@@ -1,7 +1,6 @@
 -- Known bytes over several reads or writes.
-use Rattle.std.proofs.Common.{◌≡◌, ◌≤◌, ◌<◌, ◌+◌, ℕ, List, ◌++◌, length, take, drop, sym, ap, ◌∙◌, append_assoc, append-nil, inl, inr, Option, None, Some, IfSome, ◌⊎◌, Result, Ok}
+use Rattle.std.proofs.Common.{◌≡◌, ◌<◌, ◌+◌, ℕ, List, ◌++◌, length, take, drop, sym, ap, ◌∙◌, append_assoc, Option, None, Some, Result, Ok}
 use Rattle.std.proofs.Math.Seq.{take-add}
-use Rattle.std.proofs.lemmas.List.{take_at, take_all}
 use Rattle.std.specs.Io.KnownBytes.{Appends, Consumes, IsAtEnd, WriteAppends, ReadConsumes}
 
 pub Appends-more : (a b c : Option (List ℕ)) (bs : List ℕ) (n m : ℕ) → Appends a b (take n bs) → Appends b c (take m (drop n bs)) → Appends a c (take (n + m) bs)
@@ -17,14 +16,6 @@ Consumes-more (Some x) None c xs ys first second = absurd first
 Consumes-more (Some x) (Some y) None xs ys first second = absurd second
 Consumes-more (Some x) (Some y) (Some z) xs ys first second =
     first ∙ ap (λ t. xs ++ t) second ∙ sym (append_assoc xs ys z)
-
--- what was read up to the end, or as far as there is room, is the front of all
-pub front_read : (a b : Option (List ℕ)) (text : List ℕ) (room : ℕ) → Consumes a b text → length text ≤ room → IsAtEnd b ⊎ (length text ≡ room) → IfSome a (λ all. text ≡ take room all)
-front_read None b text room read fits why = tt
-front_read (Some all) None text room read fits why = absurd read
-front_read (Some all) (Some rest) text room read fits (inl end) =
-    let whole : all ≡ text = read ∙ ap (λ t. text ++ t) end ∙ append-nil text in rw whole (sym (take_all room text fits))
-front_read (Some all) (Some rest) text room read fits (inr full) = rw read (sym (take_at text rest room full))
 
 -- what a write that took n bytes, and a read that gave n bytes, did
 pub wrote_at : {E : Type 0} (a b : Option (List ℕ)) (r : Result ℕ E) (buf : List ℕ) (n : ℕ) → WriteAppends a b r buf → r ≡ Ok n → Appends a b (take n buf)
