@@ -1,5 +1,7 @@
 -- Why a run ended without a result: what is printed, and the exit status.
 use Rattle.std.specs.Prelude.{◌≡◌, ℕ, List, codes, Option, Some, None, Result, Ok, Err}
+use Rattle.lines.specs.declared.input.ReadFault.{ReadFault}
+use Rattle.lines.specs.declared.input.ReadFault.TheVariants as read
 use Rattle.mqbench.specs.declared.fault.BenchFault.{BenchFault}
 use Rattle.mqbench.specs.declared.fault.BenchFault.TheVariants.{BadLine, Input, Output, Failed}
 use Rattle.mqbench.specs.declared.fault.WorkFault.{WorkFault}
@@ -26,6 +28,11 @@ exit_status BadLine = 2
 exit_status Input = 3
 exit_status Output = 3
 exit_status (Failed fault) = 4
+
+-- why a run ends whose input was not read to its end
+abbrev pub of_read_fault : ReadFault → BenchFault
+of_read_fault read.Failed = Input
+of_read_fault read.NoMemory = Failed NoMemory
 
 -- a run that was refused its line, or that could not read it
 abbrev pub IsRefusal : Result (Unit {0}) BenchFault → Type 0

@@ -1,9 +1,8 @@
 -- What the line of an input asks for.
-use Rattle.std.specs.Prelude.{ℕ, Bool, true, false, ◌&&◌, ◌==◌, ◌^◌, ◌*◌, nat_lt, nat_le, List, [], ◌∷◌, length, take, slice_index, ◌-◌, filter, find, Option, None, Some, if◌then◌else◌, codes}
-use Rattle.std.specs.List.{slice_split, list_all}
-use Rattle.std.specs.Char.{is_ascii_digit}
+use Rattle.std.specs.Prelude.{ℕ, Bool, not, ◌&&◌, ◌==◌, ◌*◌, nat_lt, nat_le, List, [], ◌∷◌, length, take, slice_index, ◌-◌, find, Option, None, Some, if◌then◌else◌, codes}
+use Rattle.std.specs.List.{list_any}
 use Rattle.std.specs.Str.{bytes_eq}
-use Rattle.std.specs.Str.Parse.{digits_value}
+use Rattle.lines.specs.Words.{◌>>=◌, Word, count_written, words_of}
 use Rattle.mqbench.specs.declared.workload.LockKind.{LockKind}
 use Rattle.mqbench.specs.declared.workload.LockKind.TheVariants as lock
 use Rattle.mqbench.specs.declared.workload.Workload.{Workload}
@@ -12,37 +11,6 @@ use Rattle.mqbench.specs.declared.workload.Request.{Request}
 use Rattle.mqbench.specs.declared.workload.Request.TheVariants as request
 use Rattle.mqbench.specs.declared.workload.Name.{Name}
 use Rattle.mqbench.specs.declared.workload.Name.TheVariants as name
-
--- what f gives for the value, if there is one
-infixl 10 ◌>>=◌
-abbrev pub ◌>>=◌ : {A B : Type 0} → Option A → (A → Option B) → Option B
-None >>= f = None
-(Some x) >>= f = f x
-
--- a word of a line
-abbrev pub Word : Type 0
-Word = List ℕ
-
-abbrev pub is_space : ℕ → Bool
-is_space b = b == 32
-
--- the words of a line: the pieces between spaces that are not empty
-abbrev pub words_of : List ℕ → List Word
-words_of line = filter (λ word. nat_lt 0 (length word)) (slice_split is_space line)
-
--- decimal digits, one or more, whose value fits k bits
-abbrev pub is_number : ℕ → Word → Bool
-is_number k word = nat_lt 0 (length word) && (list_all is_ascii_digit word && nat_lt (digits_value 10 word) (2 ^ k))
-
--- the number of k bits that a word writes
-abbrev pub number_written : ℕ → Word → Option ℕ
-number_written k word = if is_number k word then Some (digits_value 10 word) else None
-
--- a number from 1 to most
-abbrev pub count_written : ℕ → Word → Option ℕ
-count_written most word = do
-  n ← number_written 32 word
-  if nat_le 1 n && nat_le n most then Some n else None
 
 -- rounds and entries: at most ten million
 abbrev pub rounds_written : Word → Option ℕ
@@ -124,6 +92,10 @@ request_written (word ∷ arguments) = do
 abbrev pub without_feed : List ℕ → List ℕ
 without_feed text = if nat_lt 0 (length text) && (slice_index text (length text - 1) == 10) then take (length text - 1) text else text
 
+-- no feed stands before the last byte
+abbrev pub is_one_line : List ℕ → Bool
+is_one_line text = not (list_any (λ b. b == 10) (without_feed text))
+
 -- what an input asks for: one line of at most 256 bytes with its feed, which may be missing
 abbrev pub request_read : List ℕ → Option Request
-request_read text = if nat_le (length text) 256 then request_written (words_of (without_feed text)) else None
+request_read text = if nat_le (length text) 256 && is_one_line text then request_written (words_of text) else None

@@ -1,9 +1,11 @@
 //! Why a run ended without a result.
 ghost use Rattle.std.specs.Prelude.{◌≡◌, Some};
-ghost use Rattle.mqbench.specs.declared.fault.BenchFault.TheVariants.{Failed};
+ghost use Rattle.mqbench.specs.declared.fault.BenchFault.TheVariants.{Failed, Output};
 ghost use Rattle.mqbench.specs.declared.fault.WorkFault.TheVariants.{NoMemory};
-ghost use Rattle.mqbench.specs.Faults.{exit_status, fault_text, work_fault_text};
+ghost use Rattle.mqbench.specs.Faults.{exit_status, fault_text, of_read_fault, work_fault_text};
 
+use lines::input::ReadFault;
+use lines::output::WriteFailed;
 use mq_core::faults::Fault;
 use std::alloc::{AllocError, AllocFailed};
 use std::error::Error;
@@ -101,6 +103,25 @@ impl From<Fault> for WorkFault {
 impl From<io::Error> for WorkFault {
     fn from(_refused: io::Error) -> WorkFault {
         WorkFault::NoClock
+    }
+}
+
+impl From<ReadFault> for BenchFault {
+    ghost from_gives = { λ read fault. fault ≡ of_read_fault read };
+
+    fn from(fault: ReadFault) -> BenchFault {
+        match fault {
+            ReadFault::Failed => BenchFault::Input,
+            ReadFault::NoMemory => BenchFault::Failed(WorkFault::NoMemory),
+        }
+    }
+}
+
+impl From<WriteFailed> for BenchFault {
+    ghost from_gives = { λ _ fault. fault ≡ Output };
+
+    fn from(_failed: WriteFailed) -> BenchFault {
+        BenchFault::Output
     }
 }
 

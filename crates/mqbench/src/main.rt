@@ -4,14 +4,11 @@
 mod alone;
 mod calls;
 mod fault;
-mod input;
-mod output;
 mod report;
 mod run;
 #[cfg(test)]
 mod tests;
 mod together;
-mod words;
 mod workload;
 
 use run::run_line;

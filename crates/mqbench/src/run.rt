@@ -2,7 +2,7 @@
 ghost use Rattle.std.specs.Prelude.{◌≡◌, ◌+◌, ℕ, List, IsErrOf, OnOk, Some, None, take};
 ghost use Rattle.std.specs.Io.KnownBytes.{Appends};
 ghost use Rattle.mqbench.specs.Faults.{Reads, IsRefusal};
-ghost use Rattle.mqbench.specs.Grammar.{request_read, without_feed};
+ghost use Rattle.mqbench.specs.Grammar.{is_one_line, request_read, without_feed};
 ghost use Rattle.mqbench.specs.Usage.{usage_text};
 ghost use Rattle.mqbench.specs.declared.fault.BenchFault.TheVariants.{BadLine};
 ghost use Rattle.mqbench.specs.declared.workload.Request.TheVariants.{Usage, Measure};
@@ -10,13 +10,13 @@ ghost use Rattle.mqbench.specs.declared.workload.Workload.{Workload};
 
 use crate::alone::{Task, alone};
 use crate::fault::{BenchFault, WorkFault};
-use crate::input::{MOST_BYTES, read_all};
-use crate::output::write_bytes;
 use crate::report::{Measured, line_of, result_of, title_of};
 use crate::together::{Role, together};
-use crate::words::words;
 use crate::workload::{LockKind, Request, Workload, request_of};
 use fast_mutex::{FastMutex, Lock, WordLock};
+use lines::input::read_all;
+use lines::output::write_all;
+use lines::words::words;
 use mq::Guarded;
 use mq_core::checker::check_history;
 use mq_core::journals::Journal;
@@ -25,6 +25,9 @@ use std::io::{Read, Write};
 use std::sync::Wait;
 use std::thread::Threads;
 use std::time::{Clock, Duration, Instant};
+
+/// The most bytes of an input.
+pub const MOST_BYTES: usize = 256;
 
 /// What the program prints where the input is empty.
 const USAGE: &[u8] = b"\
@@ -56,26 +59,34 @@ pub fn run_line<S: Wait + Threads + Clock + Sync, R: Read, W: Write>(
         request_read (take (MOST_BYTES + 1) all) ≡ Some (Measure workload) →
         IsErrOf result BadLine → ⊥ }
 {
-    let text = read_all(alloc, input)?;
+    let text = read_all(alloc, input, MOST_BYTES)?;
     match request_in(alloc, text.as_slice())? {
-        Request::Usage => write_bytes(output, USAGE),
+        Request::Usage => write_all(output, USAGE)?,
         Request::Measure(workload) => {
             let result = measure(rt, alloc, workload)?;
             let line = line_of(alloc, title_of(workload), result)?;
-            write_bytes(output, line.as_bytes())
+            write_all(output, line.as_bytes())?;
         }
     }
+    Ok(())
 }
 
 // What an input asks for.
 fn request_in(alloc: Global, text: &[u8]) -> Result<Request, BenchFault>
     ensures { Reads (request_read text.now) result }
 {
-    if text.len() > MOST_BYTES {
+    if text.len() > MOST_BYTES || !is_one_line(text) {
         return Err(BenchFault::BadLine);
     }
-    let words = words(alloc, without_feed(text))?;
+    let words = words(alloc, text)?;
     request_of(words.as_slice()).ok_or(BenchFault::BadLine)
+}
+
+// No feed stands before the last byte.
+fn is_one_line(text: &[u8]) -> bool
+    ensures { result ≡ is_one_line text.now }
+{
+    !without_feed(text).contains(&b'\n')
 }
 
 // A line without the feed that ends it.

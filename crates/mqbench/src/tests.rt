@@ -38,7 +38,7 @@ fn each_workload_prints_its_result(rt: HostRuntime) {
     }
 }
 
-const REFUSED: [&str; 15] = [
+const REFUSED: [&str; 18] = [
     "word\n",
     "Pair word 1\n",
     "pair\n",
@@ -54,6 +54,9 @@ const REFUSED: [&str; 15] = [
     "stream fast -1\n",
     "check 18446744073709551617\n",
     "pair word 1\npair word 1\n",
+    "pair word 1\n\n",
+    "pair\nword 1\n",
+    "\n\n",
 ];
 
 #[test]

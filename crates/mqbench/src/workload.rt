@@ -1,8 +1,9 @@
 //! What a run is asked for, and the words that write it.
 ghost use Rattle.std.specs.Prelude.{◌≡◌, ◌≤◌, ◌*◌, map, IfSome};
-ghost use Rattle.mqbench.specs.Grammar.{request_written, workload_written, lock_written, pair_written, deep_written, ping_pong_written, stream_written, check_written, name_written, count_written};
+ghost use Rattle.lines.specs.Words.{count_written};
+ghost use Rattle.mqbench.specs.Grammar.{request_written, workload_written, lock_written, pair_written, deep_written, ping_pong_written, stream_written, check_written, name_written};
 
-use crate::words::count_of;
+use lines::words::count_of;
 
 /// Which lock stands round the queues.
 #[derive(Clone, Copy, Debug, PartialEq, Eq)]

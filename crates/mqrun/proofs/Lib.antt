@@ -2,7 +2,6 @@ pub mod Buffers
 pub mod KnownBytes
 pub mod Lines
 pub mod Lists
-pub mod Numbers
 pub mod ScriptLines
 pub mod Taking
 pub mod WordCounts

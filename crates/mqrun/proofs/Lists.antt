@@ -5,7 +5,7 @@ use Rattle.std.proofs.lemmas.List.{take_more, map-append}
 use Rattle.std.proofs.lemmas.List.Elements.{filter-append}
 use Rattle.fast_mutex.specs.Items.{Ticket}
 use Rattle.mq_core.specs.Record.{Record}
-use Rattle.mqrun.specs.Grammar.{Word}
+use Rattle.lines.specs.Words.{Word}
 use Rattle.mqrun.specs.Phase.{calls_in, text_in}
 use Rattle.mqrun.specs.Replies.{reply_line}
 use Rattle.mqrun.specs.Runs.{calls_of, reply_lines}

@@ -3,7 +3,7 @@ use Rattle.std.proofs.Common.{◌≡◌, ◌+◌, ℕ, List, ◌∷◌, refl, ap
 use Rattle.mqrun.specs.declared.line.Line.{Line}
 use Rattle.mqrun.specs.declared.script.Place.{Place}
 use Rattle.mqrun.specs.declared.script.Phases.{Phases}
-use Rattle.mqrun.specs.Grammar.{Word}
+use Rattle.lines.specs.Words.{Word}
 use Rattle.mqrun.specs.Phases.{whole_behind}
 use Rattle.mqrun.specs.Script.{Written, Whole, line_read, or_fault, processes_behind, result_map, script_read, with_line}
 

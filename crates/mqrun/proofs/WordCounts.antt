@@ -1,6 +1,7 @@
 -- Words in a number that no call has.
 use Rattle.std.proofs.Common.{◌≡◌, ◌<◌, ◌≢◌, List, [], ◌∷◌, length, map, refl, arith, None, Bor}
-use Rattle.mqrun.specs.Grammar.{Word, open_written, attr_written}
+use Rattle.lines.specs.Words.{Word}
+use Rattle.mqrun.specs.Grammar.{open_written, attr_written}
 
 -- the words that references point to
 abbrev pub words_at : List (Bor Word) → List Word

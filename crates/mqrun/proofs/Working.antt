@@ -6,7 +6,7 @@ use Rattle.std.specs.List.{AllByRecursion as ByRecursion}
 use Rattle.fast_mutex.specs.Items.{LockId, Ticket, tickets_from}
 use Rattle.mq_core.specs.Record.{Record}
 use Rattle.mqrun.specs.Buffer.{buffer_given}
-use Rattle.mqrun.specs.Grammar.{Word}
+use Rattle.lines.specs.Words.{Word}
 use Rattle.mqrun.specs.Members.{AllHaveShares, AllOff, HasShare}
 use Rattle.mqrun.specs.Phase.{AllWorkOff, WorksOff, calls_in, text_in}
 use Rattle.mqrun.specs.Runs.{IsReady, Performs, RunsCalls, RunsPhase, RunsPhases, calls_of, reply_lines}

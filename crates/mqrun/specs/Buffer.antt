@@ -1,6 +1,6 @@
 -- The buffers of calls.
 use Rattle.std.specs.Prelude.{ℕ, List, [], replicate}
-use Rattle.mqrun.specs.Grammar.{Word}
+use Rattle.lines.specs.Words.{Word}
 use Rattle.mqrun.specs.declared.command.Command.{Command}
 use Rattle.mqrun.specs.declared.command.Command.TheVariants as command
 

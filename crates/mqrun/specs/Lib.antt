@@ -1,7 +1,6 @@
 pub mod Buffer
 pub mod Grammar
 pub mod Members
-pub mod Output
 pub mod Phase
 pub mod Phases
 pub mod Replies

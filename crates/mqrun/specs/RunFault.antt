@@ -1,6 +1,8 @@
 -- Why a run ended before its end: what is printed, and the exit status.
 use Rattle.std.specs.Prelude.{◌≡◌, ℕ, ◌++◌, List, codes, Result, Ok, Err}
 use Rattle.std.specs.Fmt.{decimal}
+use Rattle.lines.specs.declared.input.ReadFault.{ReadFault}
+use Rattle.lines.specs.declared.input.ReadFault.TheVariants as read
 use Rattle.mqrun.specs.declared.fault.RunFault.{RunFault}
 use Rattle.mqrun.specs.declared.fault.RunFault.TheVariants.{BadCall, Input, Output, NoMemory}
 
@@ -17,6 +19,11 @@ exit_status (BadCall line) = 2
 exit_status Input = 3
 exit_status Output = 3
 exit_status NoMemory = 4
+
+-- why a run ends whose script was not read to its end
+abbrev pub of_read_fault : ReadFault → RunFault
+of_read_fault read.Failed = Input
+of_read_fault read.NoMemory = NoMemory
 
 -- a fault that comes behind the reading
 abbrev pub IsLate : RunFault → Type 0

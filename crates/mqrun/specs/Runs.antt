@@ -14,7 +14,7 @@ use Rattle.mq_core.specs.declared.entries.Reply.{Reply}
 use Rattle.mq_core.specs.declared.faults.Fault.{Fault}
 use Rattle.mq_core.specs.declared.faults.Fault.TheVariants.{Invalid, NameTooLong}
 use Rattle.mqrun.specs.Buffer.{buffer_given}
-use Rattle.mqrun.specs.Grammar.{Word}
+use Rattle.lines.specs.Words.{Word}
 use Rattle.mqrun.specs.Replies.{reply_line}
 use Rattle.mqrun.specs.Script.{Whole}
 use Rattle.mqrun.specs.declared.command.Command.{Command}

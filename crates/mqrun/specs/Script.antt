@@ -5,7 +5,8 @@ use Rattle.std.specs.Str.{bytes_eq}
 use denote.Ref.{Bor}
 use Rattle.std.specs.declared.vec.Vec.{Vec}
 use Rattle.std.specs.declared.alloc.Global.{Global}
-use Rattle.mqrun.specs.Grammar.{◌>>=◌, Word, words_of, count_written, command_written, said}
+use Rattle.lines.specs.Words.{◌>>=◌, Word, words_of, count_written}
+use Rattle.mqrun.specs.Grammar.{command_written, said}
 use Rattle.mqrun.specs.declared.fault.RunFault.{RunFault}
 use Rattle.mqrun.specs.declared.fault.RunFault.TheVariants as fault
 use Rattle.mqrun.specs.declared.line.ScriptCall.{ScriptCall}

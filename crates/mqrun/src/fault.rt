@@ -1,8 +1,10 @@
 // Why a run ended before its end.
 ghost use Rattle.std.specs.Prelude.{◌≡◌, Some};
-ghost use Rattle.mqrun.specs.declared.fault.RunFault.TheVariants.{NoMemory};
-ghost use Rattle.mqrun.specs.RunFault.{exit_status, fault_text};
+ghost use Rattle.mqrun.specs.declared.fault.RunFault.TheVariants.{NoMemory, Output};
+ghost use Rattle.mqrun.specs.RunFault.{exit_status, fault_text, of_read_fault};
 
+use lines::input::ReadFault;
+use lines::output::WriteFailed;
 use std::alloc::{AllocError, AllocFailed};
 use std::error::Error;
 use std::fmt;
@@ -47,6 +49,25 @@ impl fmt::Display for RunFault {
 }
 
 impl Error for RunFault {}
+
+impl From<ReadFault> for RunFault {
+    ghost from_gives = { λ read fault. fault ≡ of_read_fault read };
+
+    fn from(fault: ReadFault) -> RunFault {
+        match fault {
+            ReadFault::Failed => RunFault::Input,
+            ReadFault::NoMemory => RunFault::NoMemory,
+        }
+    }
+}
+
+impl From<WriteFailed> for RunFault {
+    ghost from_gives = { λ _ fault. fault ≡ Output };
+
+    fn from(_failed: WriteFailed) -> RunFault {
+        RunFault::Output
+    }
+}
 
 impl From<AllocError> for RunFault {
     ghost from_gives = { λ _ fault. fault ≡ NoMemory };

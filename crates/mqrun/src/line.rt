@@ -4,7 +4,7 @@ ghost use Rattle.std.specs.Option.{option_map};
 ghost use Rattle.mqrun.specs.Script.{is_skipped, is_phase_end, processes_written, call_line_written, line_written, lines_of, processes_behind, said_call, said_line};
 
 use crate::command::{Command, command_of};
-use crate::words::count_of;
+use lines::words::count_of;
 
 /// The most processes of a system.
 const MOST_PROCESSES: u32 = 32;

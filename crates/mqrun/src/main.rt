@@ -6,9 +6,7 @@ mod command;
 mod deal;
 mod fault;
 mod gate;
-mod input;
 mod line;
-mod output;
 mod phase;
 mod reply;
 mod run;
@@ -17,7 +15,6 @@ mod script;
 mod tests;
 mod text;
 mod turns;
-mod words;
 
 use fast_mutex::FastMutex;
 use gate::Plain;

@@ -11,13 +11,13 @@ ghost use Rattle.mqrun.specs.declared.fault.RunFault.TheVariants.{Input};
 use crate::deal::{processes_of, shares_of};
 use crate::fault::RunFault;
 use crate::gate::Gate;
-use crate::input::{MOST_BYTES, read_all};
 use crate::line::ScriptCall;
-use crate::output::write_bytes;
 use crate::phase::run_phase;
-use crate::script::{Script, read_script};
+use crate::script::{MOST_BYTES, Script, read_script};
 use crate::text::text_of;
 use fast_mutex::Lock;
+use lines::input::read_all;
+use lines::output::write_all;
 use mq::{Guarded, Mq, Process};
 use mq_core::checker::check_history;
 use mq_core::journals::Journal;
@@ -53,7 +53,7 @@ where
         script_written (take (MOST_BYTES + 1) all) ≡ Ok script →
         OnOk result (RunsScript script (W.contents output.old) (W.contents output.new)) }
 {
-    let text = read_all(alloc, input)?;
+    let text = read_all(alloc, input, MOST_BYTES)?;
     let script = read_script(alloc, text.as_slice())?;
     run_phases::<L, S, W, G>(rt, alloc, &script, output, gate)
 }
@@ -142,7 +142,7 @@ where
     let shares = shares_of(alloc, processes, calls)?;
     let workers = run_phase(rt, alloc, mq, gate, shares)?;
     let text = text_of(alloc, workers.as_slice())?;
-    write_bytes(output, text.as_slice())?;
+    write_all(output, text.as_slice())?;
     Ok(processes_of(alloc, workers)?)
 }
 
@@ -155,7 +155,7 @@ fn write_last_line<W: Write>(output: &mut W, journal: &Journal) -> Result<Result
 {
     let verdict = check_history(journal);
     if verdict.is_ok() {
-        write_bytes(output, b"history ok\n")?;
+        write_all(output, b"history ok\n")?;
     }
     Ok(verdict)
 }

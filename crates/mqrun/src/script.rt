@@ -4,12 +4,13 @@ ghost use Rattle.mqrun.specs.Phases.{whole_behind};
 ghost use Rattle.mqrun.specs.Script.{Gives, Written, is_within_limits, line_read, or_fault, place_behind, processes_behind, said_line, said_script, script_written, with_line};
 
 use crate::fault::RunFault;
-use crate::input::MOST_BYTES;
 use crate::line::{Line, ScriptCall, first_line, line_of};
-use crate::words::words;
+use lines::words::words;
 use std::alloc::{AllocError, Global};
 use std::mem;
 
+/// The most bytes of a script.
+pub const MOST_BYTES: usize = 1_048_576;
 /// The most call lines of a script.
 const MOST_CALLS: u64 = 1000;
 

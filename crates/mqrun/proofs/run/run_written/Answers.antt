@@ -31,5 +31,5 @@ returns-clause-ran g c =
     let is : text ≡ text_in workers = rw c.as_slice.ensures.value at c.in_ok-text.ensures in (
       text,
       phase-done (said_calls c.args.calls.now) shares workers c.args.processes.items c.in_ok-processes_of.field-0.items text c.in_ok-workers.ensures c.in_ok-shares.ensures.calls c.in_ok-shares.ensures.processes c.in_ok-processes_of.ensures is,
-      rw c.as_slice-2.ensures.value at c.in_ok-write_bytes.ensures.whole,
+      rw c.as_slice-2.ensures.value at c.in_ok-write_all.ensures.whole,
     )

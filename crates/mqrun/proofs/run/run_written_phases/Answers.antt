@@ -1,5 +1,5 @@
 use Rattle.std.proofs.Common.{◌≡◌, ◌++◌, ◌∙◌, ap, get_or, Vec, Global, Bor}
-use Rattle.mqrun.specs.Grammar.{Word}
+use Rattle.lines.specs.Words.{Word}
 use Rattle.mqrun.specs.Runs.{RunsPhase}
 use Rattle.mqrun.specs.Script.{said_calls}
 use Rattle.mqrun.specs.declared.line.ScriptCall.{ScriptCall}

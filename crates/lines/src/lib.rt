@@ -1,0 +1,8 @@
+//! The bytes of an input, the words of its lines, and bytes to an output.
+#![tactic(auto)]
+
+pub mod input;
+pub mod output;
+#[cfg(test)]
+mod tests;
+pub mod words;

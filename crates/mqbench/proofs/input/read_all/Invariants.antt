@@ -1,8 +1,0 @@
-use Rattle.std.proofs.Common.{◌≤◌, vec_len}
-use Rattle.std.specs.Io.KnownBytes.{Consumes}
-use Rattle.mqbench.proofs.input.read_all.Given as goal
-
-abbrev pub invariant-loop : goal.invariant-loop
-invariant-loop g l =
-    (vec_len l.text ≤ 256)
-    × Consumes (g.R.Read.remaining l.initial.input) (g.R.Read.remaining l.input) l.text.items
