@@ -1,5 +1,5 @@
 -- What the calls of a script leave. A process shows its ticket: its lock, its number, and the journal that it last left.
-use Rattle.std.specs.Prelude.{◌≡◌, ◌==◌, ◌++◌, ℕ, List, [], ◌∷◌, codes, filter, IsFalse, IsTrue, Option, Result, Ok, Err}
+use Rattle.std.specs.Prelude.{◌≡◌, ◌==◌, ◌++◌, ℕ, List, [], ◌∷◌, codes, filter, IsFalse, IsTrue, Option, Result, Ok, Err, ◌⊎◌, take}
 use Rattle.std.specs.List.{All}
 use Rattle.std.specs.Io.KnownBytes as known
 use Rattle.fast_mutex.specs.Items.{LockId, Ticket, Grows, tickets_from}
@@ -104,6 +104,18 @@ RunsPhases (calls ∷ phases) before after text =
     × RunsPhase calls before between first
     × RunsPhases phases between after rest
     × (text ≡ first ++ rest)
+
+-- some phases were run from the first on, and known bytes have grown by just their replies
+pub record RunsFront (phases : List (List (ScriptCall Word))) (before : List (Ticket Record)) (old new : Option (List ℕ)) : Type 0 where
+  pub count : ℕ
+  pub after : List (Ticket Record)
+  pub replies : List ℕ
+  pub ran : RunsPhases (take count phases) before after replies
+  pub written : known.Appends old new replies
+
+-- a script was run up to the end of a phase, or not begun: nothing else is written
+abbrev pub StopsBehindPhase : Whole → Option (List ℕ) → Option (List ℕ) → Type 0
+StopsBehindPhase script old new = (new ≡ old) ⊎ ((system : LockId) × RunsFront script.phases (tickets_from system 1 script.processes) old new)
 
 -- the line that ends a whole run
 abbrev pub last_line : List ℕ

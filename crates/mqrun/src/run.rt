@@ -4,9 +4,9 @@ ghost use Rattle.std.specs.Io.KnownBytes.{Appends};
 ghost use Rattle.std.specs.List.{All};
 ghost use Rattle.mq_core.specs.Answer.{Legal};
 ghost use Rattle.mqrun.specs.RunFault.{IsLate, StopsAt};
-ghost use Rattle.mqrun.specs.Runs.{IsReady, RunsPhase, RunsPhases, RunsScript, last_line};
+ghost use Rattle.mqrun.specs.Runs.{IsReady, RunsFront, RunsPhase, RunsPhases, RunsScript, StopsBehindPhase, last_line};
 ghost use Rattle.mqrun.specs.Script.{Whole, said_calls, said_phases, said_script, script_written};
-ghost use Rattle.mqrun.specs.declared.fault.RunFault.TheVariants.{Input};
+ghost use Rattle.mqrun.specs.declared.fault.RunFault.TheVariants.{Input, NoMemory, Output};
 
 use crate::deal::{processes_of, shares_of};
 use crate::fault::RunFault;
@@ -29,7 +29,8 @@ use std::thread::Threads;
 /// Reads a script, checks it whole, makes its calls over the lock `L` and writes their replies, phase by phase. In a phase each
 /// process that has calls makes them in a thread of its own, and meets the gate before each.
 /// `RunFault::BadCall`: a line of the script is at fault. `RunFault::Input`, `RunFault::Output`: a read or a write failed.
-/// `RunFault::NoMemory`: a growth outside a call, or a thread, was refused; nothing of that phase is written.
+/// `RunFault::NoMemory`: a growth outside a call, or a thread, was refused; the replies of the phases before are written, and
+/// nothing of that phase.
 /// A script in which a call waits and is never answered does not end.
 pub fn run_script<L, S, R, W, G>(
     rt: &S,
@@ -49,6 +50,9 @@ where
     ensures bad_call { (all : List ℕ) (line : ℕ) → R.remaining input.old ≡ Some all →
         script_written (take (MOST_BYTES + 1) all) ≡ Err line →
         StopsAt line result × (W.contents output.new ≡ W.contents output.old) }
+    ensures no_memory { (all : List ℕ) (script : Whole) → R.remaining input.old ≡ Some all →
+        script_written (take (MOST_BYTES + 1) all) ≡ Ok script → IsErrOf result NoMemory →
+        StopsBehindPhase script (W.contents output.old) (W.contents output.new) }
     ensures done { (all : List ℕ) (script : Whole) → R.remaining input.old ≡ Some all →
         script_written (take (MOST_BYTES + 1) all) ≡ Ok script →
         OnOk result (RunsScript script (W.contents output.old) (W.contents output.new)) }
@@ -74,6 +78,7 @@ where
     G: Gate + Sync,
     requires { (1 ≤ script.now.processes) × (script.now.processes ≤ 32) }
     ensures fault { IfErr result IsLate }
+    ensures no_memory { IsErrOf result NoMemory → StopsBehindPhase (said_script script.now) (W.contents output.old) (W.contents output.new) }
     ensures done { OnOk result (RunsScript (said_script script.now) (W.contents output.old) (W.contents output.new)) }
 {
     let Ok((mq, processes)) = Mq::<L>::new(alloc, script.processes) else {
@@ -107,6 +112,7 @@ where
     G: Gate + Sync,
     requires { All (IsReady mq.now) processes.items }
     ensures fault { IfErr result IsLate }
+    ensures no_memory { IsErrOf result NoMemory → RunsFront (said_phases phases.now) processes.items (W.contents output.old) (W.contents output.new) }
     ensures ready { IfOk result (λ after. All (IsReady mq.now) after.items) }
     ensures count { IfOk result (λ after. vec_len after ≡ vec_len processes) }
     ensures ran { IfOk result (λ after. (replies : List ℕ) × RunsPhases (said_phases phases.now) processes.items after.items replies × Appends (W.contents output.old) (W.contents output.new) replies) }
@@ -135,6 +141,7 @@ where
     G: Gate + Sync,
     requires { All (IsReady mq.now) processes.items }
     ensures fault { IfErr result IsLate }
+    ensures no_memory { IsErrOf result NoMemory → W.contents output.new ≡ W.contents output.old }
     ensures ready { IfOk result (λ after. All (IsReady mq.now) after.items) }
     ensures count { IfOk result (λ after. vec_len after ≡ vec_len processes) }
     ensures ran { IfOk result (λ after. (text : List ℕ) × RunsPhase (said_calls calls.now) processes.items after.items text × Appends (W.contents output.old) (W.contents output.new) text) }
@@ -142,13 +149,14 @@ where
     let shares = shares_of(alloc, processes, calls)?;
     let workers = run_phase(rt, alloc, mq, gate, shares)?;
     let text = text_of(alloc, workers.as_slice())?;
+    let processes = processes_of(alloc, workers)?;
     write_all(output, text.as_slice())?;
-    Ok(processes_of(alloc, workers)?)
+    Ok(processes)
 }
 
 // Writes that the history is ok, where the checker accepts it; else nothing, and gives the first place that is not legal.
 fn write_last_line<W: Write>(output: &mut W, journal: &Journal) -> Result<Result<(), u64>, RunFault>
-    ensures fault { IfErr result IsLate }
+    ensures fault { IfErr result (λ fault. fault ≡ Output) }
     ensures checked { IfOk result (λ verdict. IsOk verdict ↔ Legal journal.now.records) }
     ensures written { IfOk result (λ verdict. OnOk verdict (Appends (W.contents output.old) (W.contents output.new) last_line)) }
     ensures silent { IfOk result (λ verdict. IsErr verdict → W.contents output.new ≡ W.contents output.old) }

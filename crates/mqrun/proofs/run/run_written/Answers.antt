@@ -17,12 +17,12 @@ pub returns-clause-ready : goal.returns-clause-ready
 returns-clause-ready g c =
     let mq = c.args.mq.now in let shares = c.in_ok-shares.shares.items in let workers = c.in_ok-workers.workers.items in
     let ready = all-unmap (IsReady mq) (λ share. share.process) shares (All-same (IsReady mq) (map (λ share. share.process) shares) c.args.processes.items c.in_ok-shares.ensures.processes c.requires) in
-    All-same (IsReady mq) _ (map (λ worked. worked.process) workers) c.in_ok-processes_of.ensures (all-ready mq shares workers c.in_ok-workers.ensures ready)
+    All-same (IsReady mq) _ (map (λ worked. worked.process) workers) c.in_ok-processes.ensures (all-ready mq shares workers c.in_ok-workers.ensures ready)
 
 pub returns-clause-count : goal.returns-clause-count
 returns-clause-count g c =
-    let same : length c.in_ok-processes_of.field-0.items ≡ length c.args.processes.items =
-    same-lengths c.in_ok-shares.shares.items c.in_ok-workers.workers.items c.args.processes.items c.in_ok-processes_of.field-0.items c.in_ok-workers.ensures c.in_ok-shares.ensures.processes c.in_ok-processes_of.ensures in
+    let same : length c.in_ok-processes.processes.items ≡ length c.args.processes.items =
+    same-lengths c.in_ok-shares.shares.items c.in_ok-workers.workers.items c.args.processes.items c.in_ok-processes.processes.items c.in_ok-workers.ensures c.in_ok-shares.ensures.processes c.in_ok-processes.ensures in
     grind (arith, common_steps)
 
 pub returns-clause-ran : goal.returns-clause-ran
@@ -30,6 +30,6 @@ returns-clause-ran g c =
     let shares = c.in_ok-shares.shares.items in let workers = c.in_ok-workers.workers.items in let text = c.in_ok-text.text.items in
     let is : text ≡ text_in workers = rw c.as_slice.ensures.value at c.in_ok-text.ensures in (
       text,
-      phase-done (said_calls c.args.calls.now) shares workers c.args.processes.items c.in_ok-processes_of.field-0.items text c.in_ok-workers.ensures c.in_ok-shares.ensures.calls c.in_ok-shares.ensures.processes c.in_ok-processes_of.ensures is,
+      phase-done (said_calls c.args.calls.now) shares workers c.args.processes.items c.in_ok-processes.processes.items text c.in_ok-workers.ensures c.in_ok-shares.ensures.calls c.in_ok-shares.ensures.processes c.in_ok-processes.ensures is,
       rw c.as_slice-2.ensures.value at c.in_ok-write_all.ensures.whole,
     )

@@ -1,7 +1,10 @@
-use Rattle.std.proofs.Common.{◌≡◌, ◌++◌, ◌∙◌, ap, get_or, Vec, Global, Bor}
+use Rattle.std.proofs.Common.{◌≡◌, ◌++◌, ◌∙◌, ap, sym, subst, Err, get_or, Vec, Global, Bor}
+use Rattle.std.specs.Io.KnownBytes.{Appends}
+use Rattle.std.specs.List.{take-map}
 use Rattle.lines.specs.Words.{Word}
-use Rattle.mqrun.specs.Runs.{RunsPhase}
+use Rattle.mqrun.specs.Runs.{RunsPhase, RunsPhases}
 use Rattle.mqrun.specs.Script.{said_calls}
+use Rattle.mqrun.specs.declared.fault.RunFault.TheVariants.{NoMemory}
 use Rattle.mqrun.specs.declared.line.ScriptCall.{ScriptCall}
 use Rattle.mqrun.proofs.KnownBytes.{Appends-then}
 use Rattle.mqrun.proofs.Working.{phases-more}
@@ -22,4 +25,18 @@ loop-calls-preserved g c =
         phases-more phases i d _ _ _ was.ran.0 now.ran.0 c.loop-calls-test.true was.ran.1 last,
         Appends-then _ _ _ was.ran.0 now.ran.0 was.ran.2 now.ran.2,
       );
+    }
+
+pub returns-in_err-processes-clause-no_memory : goal.returns-in_err-processes-clause-no_memory
+returns-in_err-processes-clause-no_memory g c = λ failed.
+    let was = c.loop-calls.invariant in let phases = c.args.phases.now in let i = c.loop-calls.calls-index in
+    let fault : c.in_err-processes.field-0.0 ≡ NoMemory = sym (rw failed at c.from_residual.ensures.1) in
+    let same = c.run_written.ensures.no_memory (c.in_err-processes.was ∙ ap Err fault) in
+    let front = take-map (λ (phase : Vec (ScriptCall (Bor Word)) Global). said_calls phase.items) i phases in
+    record {
+      count = i;
+      after = c.loop-calls.processes.items;
+      replies = was.ran.0;
+      ran = subst (λ calls. RunsPhases calls c.args.processes.items c.loop-calls.processes.items was.ran.0) (sym front) was.ran.1;
+      written = subst (λ known. Appends (g.W.Write.contents c.args.output.now) known was.ran.0) (sym same) was.ran.2;
     }
