@@ -15,6 +15,7 @@ use std::alloc::Global;
 use std::process::Abort;
 use std::sync::Wait;
 
+mod calls;
 mod threads;
 
 const CREATE: OpenFlags = OpenFlags {

@@ -54,7 +54,8 @@ slots-free zero p o e = absurd (cc)
 slots-free (suc m) zero o e = let same : free_owner ≡ o = cc in ap (λ (x : Owner). length x.descriptors) (sym same)
 slots-free (suc m) (suc p) o e = slots-free m p o e
 
-owners-start : (m : ℕ) → OwnersMirror [] (replicate m free_owner)
+-- where no process has anything, the process table is that of the empty journal
+pub owners-start : (m : ℕ) → OwnersMirror [] (replicate m free_owner)
 owners-start m = record {
   slots = λ p o e. slots-free m p o e;
   held = λ p d. held-free m p d;

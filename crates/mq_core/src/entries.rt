@@ -1,4 +1,7 @@
 //! Calls and their replies, as the journal keeps them.
+ghost use Rattle.std.specs.Prelude.{◌≡◌};
+ghost use Rattle.mq_core.specs.Messages.{priority_given};
+
 use crate::faults::Fault;
 
 /// What a descriptor may be used for.
@@ -74,6 +77,18 @@ pub enum Call {
     },
     NextNotice,
     Collect,
+}
+
+impl Call {
+    /// The priority that a send gives its message, and 0 of any other call (`mq_send`).
+    pub fn priority(self) -> u32
+        ensures { result ≡ priority_given self }
+    {
+        match self {
+            Call::MqSend { d: _, prio, len: _ } => prio,
+            _ => 0,
+        }
+    }
 }
 
 /// What a call was answered.

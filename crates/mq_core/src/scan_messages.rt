@@ -3,7 +3,7 @@
 
 ghost use Rattle.std.specs.Prelude.{◌≡◌, ◌<◌, ◌≤◌, IsFalse, List, ℕ, length, pos, int_le};
 ghost use Rattle.mq_core.specs.Record.{first};
-ghost use Rattle.mq_core.specs.Messages.{is_send, is_in, queues, blocks_send, admits, blocked_sends, entered, taken, present, priority_given, priority, goes_first, best};
+ghost use Rattle.mq_core.specs.Messages.{is_send, is_in, queues, blocks_send, admits, blocked_sends, entered, taken, present, priority, goes_first, best};
 ghost use Rattle.mq_core.specs.OnePass.{better};
 ghost use Rattle.mq_core.specs.TakenTable.{TakenMirror, enters, unless_in, with_best};
 
@@ -141,22 +141,13 @@ pub(crate) fn present_count(journal: &Journal, k: u64, marks: &[bool], q: u64) -
     count
 }
 
-pub(crate) fn priority_given(call: Call) -> u32
-    ensures { result ≡ priority_given call }
-{
-    match call {
-        Call::MqSend { d: _, prio, len: _ } => prio,
-        _ => 0,
-    }
-}
-
 // The priority of message `m`.
 pub(crate) fn priority(journal: &Journal, k: u64, m: u64) -> u32
     requires { k ≤ length journal.now.records }
     ensures { result ≡ priority (first k journal.now.records) m }
 {
     match entry_before(journal, k, m) {
-        Some(entry) => priority_given(entry.call),
+        Some(entry) => entry.call.priority(),
         None => 0,
     }
 }

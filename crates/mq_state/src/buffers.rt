@@ -3,7 +3,6 @@ ghost use Rattle.std.specs.Prelude.{◌≡◌, ◌≤◌, length};
 ghost use Rattle.mq_core.specs.Messages.{priority};
 ghost use Rattle.mq_state.specs.Buffers.{message_at, with_front, filled, Fits, received_at};
 
-use crate::queues;
 use mq_core::entries::{Received, Reply};
 use mq_core::journals::Journal;
 
@@ -12,7 +11,7 @@ pub fn priority_at(journal: &Journal, place: u64) -> u32
     ensures { result ≡ priority journal.now.records place }
 {
     match journal.entry(place) {
-        Some(entry) => queues::priority_given(entry.call),
+        Some(entry) => entry.call.priority(),
         None => 0,
     }
 }

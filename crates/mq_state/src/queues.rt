@@ -3,7 +3,6 @@ ghost use Rattle.std.specs.Prelude.{◌≡◌, ◌<◌, ◌^◌, ◌==◌, ◌++
 ghost use Rattle.std.specs.Option.{option_map};
 ghost use Rattle.std.specs.Str.{bytes_eq};
 ghost use Rattle.mq_core.specs.Names.{name_of};
-ghost use Rattle.mq_core.specs.Messages.{priority_given};
 ghost use Rattle.mq_state.specs.Queues.{queue_in, slots_in, registration_in, is_named_in, bound_in, changed, renewed, renewed_done, admitting, HasRoom, reregistered, without_queue, fresh, frees, may_free, released, noted_queues};
 ghost use Rattle.mq_state.specs.QueueShown.{QueueShown};
 ghost use Rattle.mq_state.specs.SlotOrder.{best_slot};
@@ -121,7 +120,7 @@ impl Queue {
     {
         match entry.reply {
             Reply::Queued { notified: _ } => self.push(Slot {
-                prio: priority_given(entry.call),
+                prio: entry.call.priority(),
                 place: here,
             }),
             Reply::Got {
@@ -148,16 +147,6 @@ impl Queue {
     {
         let on = queue == self.place;
         self.registration = registrations::registration_after(on, here, entry, self.registration);
-    }
-}
-
-/// The priority that a call gives its message.
-pub fn priority_given(call: Call) -> u32
-    ensures { result ≡ priority_given call }
-{
-    match call {
-        Call::MqSend { d: _, prio, len: _ } => prio,
-        _ => 0,
     }
 }
 
