@@ -4,16 +4,16 @@ use Rattle.std.specs.List.{find, All}
 use Rattle.std.proofs.lemmas.List.Elements.{All-nil, All-cons}
 use Rattle.std.specs.Option.{option_eq}
 use Rattle.std.proofs.lemmas.Bool.{eqb-false}
-use Rattle.mq_core.specs.Record.{Record, Past}
-use Rattle.mq_core.specs.Descriptors.{held, lowest_held, numbers_from, descriptor_numbers}
-use Rattle.mq_core.specs.Waits.{open_wait}
-use Rattle.mq_core.specs.Answer.{answer, Appends}
-use Rattle.mq_core.proofs.Places.{split}
-use Rattle.mq_core.specs.declared.entries.Call.TheVariants.{MqClose}
-use Rattle.mq_core.specs.declared.entries.Reply.{Reply}
-use Rattle.mq_core.specs.declared.entries.Reply.TheVariants.{Done, Refused}
-use Rattle.mq_core.specs.declared.faults.Fault.{Fault}
-use Rattle.mq_core.specs.declared.faults.Fault.TheVariants.{NoMemory, BadDescriptor}
+use Rattle.mq_model.specs.Record.{Record, Past}
+use Rattle.mq_model.specs.Descriptors.{held, lowest_held, numbers_from, descriptor_numbers}
+use Rattle.mq_model.specs.Waits.{open_wait}
+use Rattle.mq_model.specs.Answer.{answer, Appends}
+use Rattle.mq_model.proofs.Places.{split}
+use Rattle.mq_model.specs.declared.entries.Call.TheVariants.{MqClose}
+use Rattle.mq_model.specs.declared.entries.Reply.{Reply}
+use Rattle.mq_model.specs.declared.entries.Reply.TheVariants.{Done, Refused}
+use Rattle.mq_model.specs.declared.faults.Fault.{Fault}
+use Rattle.mq_model.specs.declared.faults.Fault.TheVariants.{NoMemory, BadDescriptor}
 use Rattle.fast_mutex.specs.Items.{items_of}
 use Rattle.mq.specs.Calls.{owner, recorded, closes, is_no_memory, AreLowest, Closing}
 use Rattle.mq.proofs.Replies.{no-memory, some-memory}

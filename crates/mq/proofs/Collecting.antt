@@ -3,14 +3,14 @@ use Rattle.std.proofs.Common.{◌≡◌, ◌≤◌, ◌<◌, ◌↔◌, ℕ, ◌
 use Rattle.std.specs.List.{All}
 use Rattle.std.specs.Option.{option_map}
 use Rattle.std.proofs.lemmas.List.Elements.{All-nil, All-cons}
-use Rattle.mq_core.specs.Record.{Record, Past}
-use Rattle.mq_core.specs.Waits.{open_wait, answered_by, is_answered}
-use Rattle.mq_core.specs.Answer.{Legal, Appends}
-use Rattle.mq_core.specs.declared.entries.Received.{Received}
-use Rattle.mq_core.specs.declared.entries.Call.{Call}
-use Rattle.mq_core.specs.declared.entries.Call.TheVariants.{MqSend, MqReceive, Collect}
-use Rattle.mq_core.specs.declared.entries.Reply.{Reply}
-use Rattle.mq_core.specs.declared.entries.Reply.TheVariants.{Waits, Collected}
+use Rattle.mq_model.specs.Record.{Record, Past}
+use Rattle.mq_model.specs.Waits.{open_wait, answered_by, is_answered}
+use Rattle.mq_model.specs.Answer.{Legal, Appends}
+use Rattle.mq_model.specs.declared.entries.Received.{Received}
+use Rattle.mq_model.specs.declared.entries.Call.{Call}
+use Rattle.mq_model.specs.declared.entries.Call.TheVariants.{MqSend, MqReceive, Collect}
+use Rattle.mq_model.specs.declared.entries.Reply.{Reply}
+use Rattle.mq_model.specs.declared.entries.Reply.TheVariants.{Waits, Collected}
 use Rattle.mq_state.specs.Kept.{Kept}
 use Rattle.mq_state.specs.Buffers.{waiting_call, waiting_room, room_of, collected, collected_by, collected_into, received_at, message_at, with_front}
 use Rattle.mq_state.specs.declared.collected.Collected.{Collected as Outcome}

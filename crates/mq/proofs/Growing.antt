@@ -2,13 +2,13 @@
 use Rattle.std.proofs.Common.{◌≡◌, ◌≢◌, ℕ, ◌==◌, Bool, true, false, List, [], ◌∷◌, ◌++◌, map, length, Option, Some, None, is_some, refl, ap, sym, ◌∙◌, subst, arith, append_assoc, eq-eqb}
 use Rattle.std.specs.List.{All, filter}
 use Rattle.std.proofs.lemmas.List.Elements.{filter-append, All-nil, All-cons}
-use Rattle.mq_core.specs.Record.{Record, Past}
-use Rattle.mq_core.specs.Waits.{open_wait, is_wait}
-use Rattle.mq_core.specs.Answer.{Legal}
-use Rattle.mq_core.proofs.Places.{split}
-use Rattle.mq_core.specs.declared.entries.Call.{Call}
-use Rattle.mq_core.specs.declared.entries.Reply.{Reply}
-use Rattle.mq_core.specs.declared.entries.Reply.TheVariants.{Waits}
+use Rattle.mq_model.specs.Record.{Record, Past}
+use Rattle.mq_model.specs.Waits.{open_wait, is_wait}
+use Rattle.mq_model.specs.Answer.{Legal}
+use Rattle.mq_model.proofs.Places.{split}
+use Rattle.mq_model.specs.declared.entries.Call.{Call}
+use Rattle.mq_model.specs.declared.entries.Reply.{Reply}
+use Rattle.mq_model.specs.declared.entries.Reply.TheVariants.{Waits}
 use Rattle.mq_state.specs.Kept.{Kept}
 use Rattle.fast_mutex.specs.Items.{LockId, Ticket, Grows, GrowsBy, items_of}
 use Rattle.mq.specs.Calls.{owner, recorded, made, is_no_memory, Calls, Came, ticket_of}

@@ -1,16 +1,16 @@
 -- Records that are no messages change no message.
 use Rattle.std.proofs.Common.{◌≡◌, ℕ, ◌<◌, ◌==◌, Bool, true, false, List, [], ◌∷◌, ◌++◌, length, Option, Some, None, refl, ap, sym, ◌∙◌, arith, eqb-true}
 use Rattle.std.specs.Option.{option_map, unwrap_or}
-use Rattle.mq_core.specs.Record.{Record, Past, record_at}
-use Rattle.mq_core.specs.Messages.{priority, priority_given}
-use Rattle.mq_core.proofs.Places.{split}
-use Rattle.mq_core.proofs.Prefixes.{record_at-below}
-use Rattle.mq_core.specs.declared.entries.Received.{Received}
-use Rattle.mq_core.specs.declared.entries.Call.{Call}
-use Rattle.mq_core.specs.declared.entries.Call.TheVariants.{MqReceive, Collect}
-use Rattle.mq_core.specs.declared.entries.Reply.{Reply}
-use Rattle.mq_core.specs.declared.entries.Reply.TheVariants.{Opened, Queued, Handed, Waits, Got, Collected, Attrs, Notice, Done, Refused}
-use Rattle.mq_core.specs.Answer.{payload_of}
+use Rattle.mq_model.specs.Record.{Record, Past, record_at}
+use Rattle.mq_model.specs.Messages.{priority, priority_given}
+use Rattle.mq_model.proofs.Places.{split}
+use Rattle.mq_model.proofs.Prefixes.{record_at-below}
+use Rattle.mq_model.specs.declared.entries.Received.{Received}
+use Rattle.mq_model.specs.declared.entries.Call.{Call}
+use Rattle.mq_model.specs.declared.entries.Call.TheVariants.{MqReceive, Collect}
+use Rattle.mq_model.specs.declared.entries.Reply.{Reply}
+use Rattle.mq_model.specs.declared.entries.Reply.TheVariants.{Opened, Queued, Handed, Waits, Got, Collected, Attrs, Notice, Done, Refused}
+use Rattle.mq_model.specs.Answer.{payload_of}
 use Rattle.mq_state.specs.Buffers.{message_at, received_at, with_front, filled}
 use Rattle.mq.specs.Calls.{recorded, made, is_no_memory}
 

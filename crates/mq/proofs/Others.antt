@@ -3,14 +3,14 @@ use Rattle.std.proofs.Common.{◌≡◌, ℕ, ◌<◌, ◌+◌, ◌==◌, Bool, 
 use Rattle.std.specs.List.{filter, list_all}
 use Rattle.std.specs.Option.{option_map, option_and_then, unwrap_or}
 use Rattle.std.proofs.lemmas.Bool.{eqb-false}
-use Rattle.mq_core.specs.Record.{Record, Past, record_at}
-use Rattle.mq_core.specs.Waits.{open_wait, is_answered}
-use Rattle.mq_core.specs.Laws.{are_of_others}
-use Rattle.mq_core.proofs.Places.{split}
-use Rattle.mq_core.proofs.Frames.{record_at-older}
-use Rattle.mq_core.proofs.HeldLaws.{others-leave, open_wait-below}
-use Rattle.mq_core.specs.declared.entries.Call.{Call}
-use Rattle.mq_core.specs.declared.entries.Call.TheVariants.{Collect}
+use Rattle.mq_model.specs.Record.{Record, Past, record_at}
+use Rattle.mq_model.specs.Waits.{open_wait, is_answered}
+use Rattle.mq_model.specs.Laws.{are_of_others}
+use Rattle.mq_model.proofs.Places.{split}
+use Rattle.mq_model.proofs.Frames.{record_at-older}
+use Rattle.mq_model.proofs.HeldLaws.{others-leave, open_wait-below}
+use Rattle.mq_model.specs.declared.entries.Call.{Call}
+use Rattle.mq_model.specs.declared.entries.Call.TheVariants.{Collect}
 use Rattle.mq_state.specs.Buffers.{waiting_call, waiting_room, room_of}
 use Rattle.fast_mutex.specs.Items.{Grows, items_of}
 use Rattle.mq.specs.Calls.{owner}

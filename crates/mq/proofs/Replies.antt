@@ -1,18 +1,18 @@
 -- What a call on the books leaves, and which replies it is given.
 use Rattle.std.proofs.Common.{◌≡◌, ◌≢◌, ℕ, Bool, true, false, List, [], ◌∷◌, ◌++◌, Option, Some, None, is_some, Result, Ok, Err, refl, ap, sym, ◌∙◌, subst}
-use Rattle.mq_core.specs.Record.{Record, Past}
-use Rattle.mq_core.specs.Answer.{Appends, answer}
-use Rattle.mq_core.specs.Waits.{is_wait}
-use Rattle.mq_core.proofs.Places.{split}
-use Rattle.mq_core.proofs.Cases.{Says, answer_says, OpenReply, DoneReply, AttrsReply, SendSays, ReceiveSays}
-use Rattle.mq_core.specs.declared.entries.Description.{Description}
-use Rattle.mq_core.specs.declared.entries.Call.{Call}
-use Rattle.mq_core.specs.declared.entries.Call.TheVariants.{MqOpen, MqClose, MqUnlink, MqSend, MqReceive, MqGetattr, MqSetattr, MqNotify, NextNotice, Collect}
-use Rattle.mq_core.specs.declared.entries.Reply.{Reply}
-use Rattle.mq_core.specs.declared.entries.Reply.TheVariants.{Opened, Queued, Handed, Waits, Got, Collected, Attrs, Notice, Done, Refused}
-use Rattle.mq_core.specs.declared.faults.Fault.{Fault}
-use Rattle.mq_core.specs.declared.faults.Fault.TheVariants.{Again, BadDescriptor, Busy, Exists, Invalid, TooManyOpen, MessageSize, NameTooLong, NoEntry, NoSpace, NoMemory}
-use Rattle.mq_core.specs.declared.entries.Received.{Received}
+use Rattle.mq_model.specs.Record.{Record, Past}
+use Rattle.mq_model.specs.Answer.{Appends, answer}
+use Rattle.mq_model.specs.Waits.{is_wait}
+use Rattle.mq_model.proofs.Places.{split}
+use Rattle.mq_model.proofs.Cases.{Says, answer_says, OpenReply, DoneReply, AttrsReply, SendSays, ReceiveSays}
+use Rattle.mq_model.specs.declared.entries.Description.{Description}
+use Rattle.mq_model.specs.declared.entries.Call.{Call}
+use Rattle.mq_model.specs.declared.entries.Call.TheVariants.{MqOpen, MqClose, MqUnlink, MqSend, MqReceive, MqGetattr, MqSetattr, MqNotify, NextNotice, Collect}
+use Rattle.mq_model.specs.declared.entries.Reply.{Reply}
+use Rattle.mq_model.specs.declared.entries.Reply.TheVariants.{Opened, Queued, Handed, Waits, Got, Collected, Attrs, Notice, Done, Refused}
+use Rattle.mq_model.specs.declared.faults.Fault.{Fault}
+use Rattle.mq_model.specs.declared.faults.Fault.TheVariants.{Again, BadDescriptor, Busy, Exists, Invalid, TooManyOpen, MessageSize, NameTooLong, NoEntry, NoSpace, NoMemory}
+use Rattle.mq_model.specs.declared.entries.Received.{Received}
 use Rattle.mq_state.specs.Buffers.{received_at}
 use Rattle.mq.specs.Says.{start_send_says, start_receive_says}
 use Rattle.mq.specs.Calls.{recorded, made, is_no_memory}

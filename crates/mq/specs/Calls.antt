@@ -1,17 +1,17 @@
 -- What a call of a process leaves behind. Lists of records are latest first, so that what came later stands in front.
 use Rattle.std.specs.Prelude.{ℕ, ◌≡◌, ◌≤◌, Bool, true, false, List, [], ◌∷◌, ◌++◌, length, map, Option, Some, None, Result, Ok, Err, ◌⊎◌, OnOk, IfErr, if◌then◌else◌}
 use Rattle.fast_mutex.specs.Items.{LockId, Ticket, Grows}
-use Rattle.mq_core.specs.Record.{Record, Past}
-use Rattle.mq_core.specs.Descriptors.{lowest_held}
-use Rattle.mq_core.specs.Waits.{open_wait, answered_by, is_answered}
-use Rattle.mq_core.specs.Answer.{Legal, payload_of}
-use Rattle.mq_core.specs.declared.entries.Received.{Received}
-use Rattle.mq_core.specs.declared.entries.Call.{Call}
-use Rattle.mq_core.specs.declared.entries.Call.TheVariants.{MqClose, MqSend, MqReceive, Collect}
-use Rattle.mq_core.specs.declared.entries.Reply.{Reply}
-use Rattle.mq_core.specs.declared.entries.Reply.TheVariants.{Opened, Queued, Handed, Waits, Got, Collected, Attrs, Notice, Done, Refused}
-use Rattle.mq_core.specs.declared.faults.Fault.{Fault}
-use Rattle.mq_core.specs.declared.faults.Fault.TheVariants.{Again, BadDescriptor, Busy, Exists, Invalid, TooManyOpen, MessageSize, NameTooLong, NoEntry, NoSpace, NoMemory}
+use Rattle.mq_model.specs.Record.{Record, Past}
+use Rattle.mq_model.specs.Descriptors.{lowest_held}
+use Rattle.mq_model.specs.Waits.{open_wait, answered_by, is_answered}
+use Rattle.mq_model.specs.Answer.{Legal, payload_of}
+use Rattle.mq_model.specs.declared.entries.Received.{Received}
+use Rattle.mq_model.specs.declared.entries.Call.{Call}
+use Rattle.mq_model.specs.declared.entries.Call.TheVariants.{MqClose, MqSend, MqReceive, Collect}
+use Rattle.mq_model.specs.declared.entries.Reply.{Reply}
+use Rattle.mq_model.specs.declared.entries.Reply.TheVariants.{Opened, Queued, Handed, Waits, Got, Collected, Attrs, Notice, Done, Refused}
+use Rattle.mq_model.specs.declared.faults.Fault.{Fault}
+use Rattle.mq_model.specs.declared.faults.Fault.TheVariants.{Again, BadDescriptor, Busy, Exists, Invalid, TooManyOpen, MessageSize, NameTooLong, NoEntry, NoSpace, NoMemory}
 use Rattle.mq_state.specs.Buffers.{filled, with_front, message_at, received_at, collected, collected_into, waiting_call, waiting_room, room_of}
 use Rattle.mq_state.specs.Kept.{Kept}
 use Rattle.mq_state.specs.declared.collected.Collected.{Collected as Outcome}

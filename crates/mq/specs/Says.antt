@@ -1,11 +1,11 @@
 -- What a call of a process returns, by the reply in its entry. None stands for a reply that the call is never given.
 use Rattle.std.specs.Prelude.{ℕ, Bool, true, false, Option, Some, None, Result, Ok, Err}
-use Rattle.mq_core.specs.Record.{Past}
-use Rattle.mq_core.specs.declared.entries.Status.{Status}
-use Rattle.mq_core.specs.declared.entries.Received.{Received}
-use Rattle.mq_core.specs.declared.entries.Reply.{Reply}
-use Rattle.mq_core.specs.declared.entries.Reply.TheVariants.{Opened, Queued, Handed, Waits, Got, Attrs, Notice, Done, Refused}
-use Rattle.mq_core.specs.declared.faults.Fault.{Fault}
+use Rattle.mq_model.specs.Record.{Past}
+use Rattle.mq_model.specs.declared.entries.Status.{Status}
+use Rattle.mq_model.specs.declared.entries.Received.{Received}
+use Rattle.mq_model.specs.declared.entries.Reply.{Reply}
+use Rattle.mq_model.specs.declared.entries.Reply.TheVariants.{Opened, Queued, Handed, Waits, Got, Attrs, Notice, Done, Refused}
+use Rattle.mq_model.specs.declared.faults.Fault.{Fault}
 use Rattle.mq_state.specs.Buffers.{received_at}
 
 abbrev pub open_says : Reply → Option (Result ℕ Fault)

@@ -1,15 +1,15 @@
 //! Calls on the books by their kind, and what their replies say.
 ghost use Rattle.std.specs.Prelude.{◌≡◌, ◌≤◌, ◌++◌, Bool, true, false, None, Some, []};
-ghost use Rattle.mq_core.specs.Answer.{answer};
-ghost use Rattle.mq_core.specs.Waits.{open_wait};
-ghost use Rattle.mq_core.specs.declared.entries.Call.{Call};
+ghost use Rattle.mq_model.specs.Answer.{answer};
+ghost use Rattle.mq_model.specs.Waits.{open_wait};
+ghost use Rattle.mq_model.specs.declared.entries.Call.{Call};
 ghost use Rattle.mq.specs.Calls.{made};
 ghost use Rattle.mq.specs.Asked.{is_plain, is_of_name, may_reply};
 ghost use Rattle.mq.specs.Says.{done_says, attributes_says};
 
-use mq_core::entries::{Call, Reply, Status};
-use mq_core::faults::Fault;
-use mq_core::names::Name;
+use mq_model::entries::{Call, Reply, Status};
+use mq_model::faults::Fault;
+use mq_model::names::Name;
 use mq_state::books::Books;
 
 /// Makes a call that needs no more than its numbers.

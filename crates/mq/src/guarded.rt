@@ -2,7 +2,7 @@
 ghost use Rattle.std.specs.Prelude.{◌∷◌, [], refl};
 
 use fast_mutex::Logged;
-use mq_core::entries::Entry;
+use mq_model::entries::Entry;
 use mq_state::books::Books;
 use std::marker::Model;
 
@@ -15,7 +15,7 @@ pub struct LoggedRecord {
 }
 
 impl Model for LoggedRecord {
-    ghost use Rattle.mq_core.specs.Record.{Record};
+    ghost use Rattle.mq_model.specs.Record.{Record};
 
     ghost Value = { Record };
 
@@ -33,9 +33,9 @@ impl Logged for Guarded {
     type Item = LoggedRecord;
 
     ghost use Rattle.std.specs.Prelude.{◌∷◌, [], refl};
-    ghost use Rattle.mq_core.specs.Waits.{is_answered};
+    ghost use Rattle.mq_model.specs.Waits.{is_answered};
     ghost use Rattle.mq.specs.Calls.{owner};
-    ghost use Rattle.mq_core.proofs.HeldLaws.{answered-stays};
+    ghost use Rattle.mq_model.proofs.HeldLaws.{answered-stays};
 
     ghost items = { λ s. s.books.records };
 

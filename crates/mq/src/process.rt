@@ -1,8 +1,8 @@
 //! A process and its calls.
 ghost use Rattle.std.specs.Prelude.{◌≡◌, ◌≢◌, ◌≤◌, Bool, true, false, Some, None, IsSome, IfSome, IfNone, OnSome, Ok, length, [], is_some};
-ghost use Rattle.mq_core.specs.Waits.{open_wait};
-ghost use Rattle.mq_core.specs.Answer.{Legal};
-ghost use Rattle.mq_core.specs.declared.entries.Call.{Call};
+ghost use Rattle.mq_model.specs.Waits.{open_wait};
+ghost use Rattle.mq_model.specs.Answer.{Legal};
+ghost use Rattle.mq_model.specs.declared.entries.Call.{Call};
 ghost use Rattle.mq_state.specs.Buffers.{waiting_room, waiting_call, room_of};
 ghost use Rattle.mq.specs.Calls.{ticket_of};
 ghost use Rattle.mq.specs.Asked.{is_done, is_attributes};
@@ -16,9 +16,9 @@ use crate::guarded::Guarded;
 use crate::stays::{come, depart};
 use crate::system::Mq;
 use fast_mutex::Lock;
-use mq_core::entries::{Attr, Call, OpenFlags, Reply, Status};
-use mq_core::faults::Fault;
-use mq_core::names::Name;
+use mq_model::entries::{Attr, Call, OpenFlags, Reply, Status};
+use mq_model::faults::Fault;
+use mq_model::names::Name;
 use std::marker::Model;
 use std::sync::Wait;
 
@@ -32,7 +32,7 @@ pub struct Process<L: Lock<Guarded>> {
 impl<L: Lock<Guarded>> Model for Process<L> {
     ghost use Rattle.std.specs.Prelude.{◌≡◌, IsSome};
     ghost use Rattle.fast_mutex.specs.Items.{Ticket};
-    ghost use Rattle.mq_core.specs.Record.{Record};
+    ghost use Rattle.mq_model.specs.Record.{Record};
     ghost use Rattle.mq_state.specs.Buffers.{waiting_room};
     ghost use Rattle.mq.specs.Calls.{ticket_of};
 
@@ -61,9 +61,9 @@ pub(crate) fn seat_of<L: Lock<Guarded>>(process: Process<L>) -> L::Seat
 
 impl<L: Lock<Guarded>> Process<L> {
     ghost use Rattle.std.specs.Prelude.{◌≡◌, ◌≢◌, ◌≤◌, Bool, true, false, Some, None, IsSome, IfSome, IfNone, OnSome, Ok, length, [], is_some};
-    ghost use Rattle.mq_core.specs.Waits.{open_wait};
-    ghost use Rattle.mq_core.specs.declared.entries.Call.{Call};
-    ghost use Rattle.mq_core.specs.declared.entries.Reply.{Reply};
+    ghost use Rattle.mq_model.specs.Waits.{open_wait};
+    ghost use Rattle.mq_model.specs.declared.entries.Call.{Call};
+    ghost use Rattle.mq_model.specs.declared.entries.Reply.{Reply};
     ghost use Rattle.mq_state.specs.Buffers.{waiting_room, waiting_call, room_of, filled};
     ghost use Rattle.mq.specs.Asked.{is_plain, is_of_name, may_reply};
     ghost use Rattle.mq.specs.Says.{open_says, done_says, attributes_says, notice_says, start_send_says, start_receive_says};

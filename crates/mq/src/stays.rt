@@ -1,7 +1,7 @@
 //! The two steps that touch the lock.
 ghost use Rattle.std.specs.Prelude.{◌≡◌, IsSome, false};
 ghost use Rattle.fast_mutex.specs.Items.{GrowsBy};
-ghost use Rattle.mq_core.specs.Answer.{Legal};
+ghost use Rattle.mq_model.specs.Answer.{Legal};
 ghost use Rattle.mq.specs.Calls.{Came, ticket_of, owner};
 
 use crate::guarded::Guarded;

@@ -2,15 +2,15 @@
 ghost use Rattle.std.specs.Prelude.{◌≡◌, ◌≤◌, ◌<◌, ◌⊎◌, ◌↔◌, [], map, length, Err, IfOk, IfErr, IsOk, vec_len, vec_capacity};
 ghost use Rattle.std.specs.List.{All};
 ghost use Rattle.fast_mutex.specs.Items.{Grows, tickets_from};
-ghost use Rattle.mq_core.specs.Answer.{Legal};
-ghost use Rattle.mq_core.specs.declared.faults.Fault.TheVariants.{Invalid, NoMemory};
+ghost use Rattle.mq_model.specs.Answer.{Legal};
+ghost use Rattle.mq_model.specs.declared.faults.Fault.TheVariants.{Invalid, NoMemory};
 ghost use Rattle.mq.specs.Calls.{owner};
 
 use crate::guarded::Guarded;
 use crate::process::{Process, process_of, seat_of};
 use fast_mutex::{Lock, Missing};
-use mq_core::faults::Fault;
-use mq_core::journals::Journal;
+use mq_model::faults::Fault;
+use mq_model::journals::Journal;
 use mq_state::books::Books;
 use std::alloc::Global;
 use std::marker::Model;
@@ -47,8 +47,8 @@ impl<L: Lock<Guarded>> Mq<L> {
     ghost use Rattle.std.specs.Prelude.{◌≡◌, ◌≤◌, ◌<◌, ◌⊎◌, ◌↔◌, ◌∷◌, [], map, length, Err, IfOk, IfErr, IsOk, vec_len, vec_capacity};
     ghost use Rattle.std.specs.List.{All};
     ghost use Rattle.fast_mutex.specs.Items.{Grows, tickets_from};
-    ghost use Rattle.mq_core.specs.Answer.{Legal};
-    ghost use Rattle.mq_core.specs.declared.faults.Fault.TheVariants.{Invalid, NoMemory};
+    ghost use Rattle.mq_model.specs.Answer.{Legal};
+    ghost use Rattle.mq_model.specs.declared.faults.Fault.TheVariants.{Invalid, NoMemory};
     ghost use Rattle.mq.specs.Calls.{owner};
 
     /// The queues of n processes, none yet, and the processes 1 to n in order, each of which has left the empty journal.

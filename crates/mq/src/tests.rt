@@ -5,11 +5,11 @@ ghost use Rattle.mq.specs.Calls.{IsFree};
 
 use crate::{Guarded, Mq, Process};
 use fast_mutex::{FastMutex, Lock, Missing, WordLock};
-use mq_core::checker::check_history;
-use mq_core::entries::{Access, Attr, OpenFlags, Received, Reply};
-use mq_core::faults::Fault;
-use mq_core::journals::Journal;
-use mq_core::names::Name;
+use mq_model::checker::check_history;
+use mq_model::entries::{Access, Attr, OpenFlags, Received, Reply};
+use mq_model::faults::Fault;
+use mq_model::journals::Journal;
+use mq_model::names::Name;
 use mq_state::collected::Collected;
 use std::alloc::Global;
 use std::process::Abort;

@@ -1,12 +1,12 @@
 -- The message that a collect gives fits its buffer.
 use Rattle.std.proofs.Common.{◌≡◌, ℕ, ◌≤◌, Option, Some, None, refl, ◌∙◌, sym, ap, arith}
 use Rattle.std.specs.Option.{option_map, option_and_then, unwrap_or}
-use Rattle.mq_core.specs.Record.{Record, Past, record_at}
-use Rattle.mq_core.specs.Waits.{open_wait, answered_by}
-use Rattle.mq_core.specs.Answer.{Legal}
-use Rattle.mq_core.specs.declared.entries.Call.{Call}
-use Rattle.mq_core.specs.declared.entries.Call.TheVariants.{MqOpen, MqClose, MqUnlink, MqSend, MqReceive, MqGetattr, MqSetattr, MqNotify, NextNotice, Collect}
-use Rattle.mq_core.proofs.Waiters.{open_wait-process}
+use Rattle.mq_model.specs.Record.{Record, Past, record_at}
+use Rattle.mq_model.specs.Waits.{open_wait, answered_by}
+use Rattle.mq_model.specs.Answer.{Legal}
+use Rattle.mq_model.specs.declared.entries.Call.{Call}
+use Rattle.mq_model.specs.declared.entries.Call.TheVariants.{MqOpen, MqClose, MqUnlink, MqSend, MqReceive, MqGetattr, MqSetattr, MqNotify, NextNotice, Collect}
+use Rattle.mq_model.proofs.Waiters.{open_wait-process}
 use Rattle.mq_state.specs.Buffers.{waiting_call, room_of, FitsOutcome}
 use Rattle.mq_state.proofs.Fitting.{handed-fits}
 use Rattle.mq_state.proofs.WaitsNoted.{answered-waits}

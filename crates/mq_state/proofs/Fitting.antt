@@ -4,30 +4,30 @@ use Rattle.std.specs.Prelude.{ℤ, int_lt, pos, negsuc}
 use Rattle.std.specs.Option.{option_map, unwrap_or}
 use Rattle.std.proofs.lemmas.Bool.{and_parts}
 use Rattle.std.proofs.lemmas.Bool.Decides.{nat_tests}
-use Rattle.mq_core.specs.Record.{Record, Past, record_at}
-use Rattle.mq_core.specs.Names.{attributes}
-use Rattle.mq_core.specs.Descriptors.{held, called_queue, is_place, is_on}
-use Rattle.mq_core.specs.Messages.{is_in, is_send, is_receive, with_place, if_in, queues, admits, blocks_send, blocks_receive, blocked_sends, blocked_receives, waiting_sends, waiting_receives, admitted_waits, handed_waits, entered, admitted, present}
-use Rattle.mq_core.specs.Waits.{open_wait, names_wait, answered_by}
-use Rattle.mq_core.specs.Answer.{Legal, IsLegalNext, answer, is_refused, is_payload}
-use Rattle.mq_core.specs.declared.entries.Call.{Call}
-use Rattle.mq_core.specs.declared.entries.Call.TheVariants.{MqOpen, MqClose, MqUnlink, MqSend, MqReceive, MqGetattr, MqSetattr, MqNotify, NextNotice, Collect}
-use Rattle.mq_core.specs.declared.entries.Reply.{Reply}
-use Rattle.mq_core.specs.declared.entries.Reply.TheVariants.{Opened, Queued, Handed, Waits, Got, Collected, Attrs, Notice, Done, Refused}
-use Rattle.mq_core.proofs.Places.{split, clash, find-in, is_in-filter}
-use Rattle.mq_core.proofs.Cases.{Says, answer_says}
-use Rattle.mq_core.proofs.LegalReplies.{legal_says}
-use Rattle.mq_core.proofs.Frames.{record_at-older}
-use Rattle.mq_core.proofs.Steps.{if_in-inside}
-use Rattle.mq_core.proofs.Presence.{sent_to, present-admitted}
-use Rattle.mq_core.proofs.NamedWaits.{least-in}
-use Rattle.mq_core.proofs.Waiters.{open_wait-process}
-use Rattle.mq_core.proofs.Prefixes.{record_at-below}
-use Rattle.mq_core.proofs.PresentFew.{attributes-older}
-use Rattle.mq_core.proofs.SentMessages.{called-alive}
+use Rattle.mq_model.specs.Record.{Record, Past, record_at}
+use Rattle.mq_model.specs.Names.{attributes}
+use Rattle.mq_model.specs.Descriptors.{held, called_queue, is_place, is_on}
+use Rattle.mq_model.specs.Messages.{is_in, is_send, is_receive, with_place, if_in, queues, admits, blocks_send, blocks_receive, blocked_sends, blocked_receives, waiting_sends, waiting_receives, admitted_waits, handed_waits, entered, admitted, present}
+use Rattle.mq_model.specs.Waits.{open_wait, names_wait, answered_by}
+use Rattle.mq_model.specs.Answer.{Legal, IsLegalNext, answer, is_refused, is_payload}
+use Rattle.mq_model.specs.declared.entries.Call.{Call}
+use Rattle.mq_model.specs.declared.entries.Call.TheVariants.{MqOpen, MqClose, MqUnlink, MqSend, MqReceive, MqGetattr, MqSetattr, MqNotify, NextNotice, Collect}
+use Rattle.mq_model.specs.declared.entries.Reply.{Reply}
+use Rattle.mq_model.specs.declared.entries.Reply.TheVariants.{Opened, Queued, Handed, Waits, Got, Collected, Attrs, Notice, Done, Refused}
+use Rattle.mq_model.proofs.Places.{split, clash, find-in, is_in-filter}
+use Rattle.mq_model.proofs.Cases.{Says, answer_says}
+use Rattle.mq_model.proofs.LegalReplies.{legal_says}
+use Rattle.mq_model.proofs.Frames.{record_at-older}
+use Rattle.mq_model.proofs.Steps.{if_in-inside}
+use Rattle.mq_model.proofs.Presence.{sent_to, present-admitted}
+use Rattle.mq_model.proofs.NamedWaits.{least-in}
+use Rattle.mq_model.proofs.Waiters.{open_wait-process}
+use Rattle.mq_model.proofs.Prefixes.{record_at-below}
+use Rattle.mq_model.proofs.PresentFew.{attributes-older}
+use Rattle.mq_model.proofs.SentMessages.{called-alive}
 use Rattle.mq_state.specs.Buffers.{message_at, Fits}
-use Rattle.mq_core.specs.declared.entries.Attr.{Attr}
-use Rattle.mq_core.specs.declared.entries.Description.{Description}
+use Rattle.mq_model.specs.declared.entries.Attr.{Attr}
+use Rattle.mq_model.specs.declared.entries.Description.{Description}
 use Rattle.mq_state.proofs.QueuesNoted.{sent_to-below}
 use Rattle.mq_state.proofs.QueuesKeep.{alive-below}
 

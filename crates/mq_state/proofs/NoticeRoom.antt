@@ -3,26 +3,26 @@ use Rattle.std.proofs.Common.{◌≡◌, ◌≢◌, ℕ, ◌+◌, ◌<◌, ◌�
 use Rattle.std.proofs.lemmas.List.{length-map}
 use Rattle.std.specs.List.{filter}
 use Rattle.std.proofs.lemmas.List.Sums.{sum_by-cons, sum_by_push, count_by-le-length}
-use Rattle.mq_core.specs.Record.{Past}
-use Rattle.mq_core.specs.Notices.{registration_of, registration_after, only_if, or_else, unless, ends, notified}
-use Rattle.mq_core.specs.Answer.{Legal, IsLegalNext}
-use Rattle.mq_core.specs.declared.owners.Owner.{Owner}
-use Rattle.mq_core.specs.declared.entries.Entry.{Entry}
-use Rattle.mq_core.specs.declared.entries.Registration.{Registration}
-use Rattle.mq_core.specs.declared.entries.Call.{Call}
-use Rattle.mq_core.specs.declared.entries.Call.TheVariants.{MqOpen, MqClose, MqUnlink, MqSend, MqReceive, MqGetattr, MqSetattr, MqNotify, NextNotice, Collect}
-use Rattle.mq_core.specs.declared.entries.Reply.{Reply}
-use Rattle.mq_core.specs.declared.entries.Reply.TheVariants.{Opened, Queued, Handed, Waits, Got, Collected, Attrs, Notice, Done, Refused}
-use Rattle.mq_core.proofs.Places.{split}
-use Rattle.mq_core.proofs.LegalReplies.{legal_says}
-use Rattle.mq_core.proofs.NoticeSteps.{made-of}
+use Rattle.mq_model.specs.Record.{Past}
+use Rattle.mq_model.specs.Notices.{registration_of, registration_after, only_if, or_else, unless, ends, notified}
+use Rattle.mq_model.specs.Answer.{Legal, IsLegalNext}
+use Rattle.mq_model.specs.declared.owners.Owner.{Owner}
+use Rattle.mq_model.specs.declared.entries.Entry.{Entry}
+use Rattle.mq_model.specs.declared.entries.Registration.{Registration}
+use Rattle.mq_model.specs.declared.entries.Call.{Call}
+use Rattle.mq_model.specs.declared.entries.Call.TheVariants.{MqOpen, MqClose, MqUnlink, MqSend, MqReceive, MqGetattr, MqSetattr, MqNotify, NextNotice, Collect}
+use Rattle.mq_model.specs.declared.entries.Reply.{Reply}
+use Rattle.mq_model.specs.declared.entries.Reply.TheVariants.{Opened, Queued, Handed, Waits, Got, Collected, Attrs, Notice, Done, Refused}
+use Rattle.mq_model.proofs.Places.{split}
+use Rattle.mq_model.proofs.LegalReplies.{legal_says}
+use Rattle.mq_model.proofs.NoticeSteps.{made-of}
 use Rattle.std.proofs.lemmas.Bool.{eqb-false}
 use Rattle.mq_state.specs.Slots.{Slots}
 use Rattle.mq_state.specs.QueueShown.{QueueShown}
 use Rattle.mq_state.specs.InboxShown.{InboxShown}
 use Rattle.mq_state.specs.Inboxes.{room_in}
 use Rattle.mq_state.specs.Queues.{queue_in, registration_in, registrations_in, is_registered_by, changed, without_queue, reregistered, renewed, released, may_free, noted_queues, fresh, is_named_in, QueuesMirror}
-use Rattle.mq_core.specs.Owners.{is_held_in}
+use Rattle.mq_model.specs.Owners.{is_held_in}
 use Rattle.mq_state.specs.Tables.{HasNoticeRoom, HasRoomToRegister, entry_queue, notices_brought, with_fresh}
 use Rattle.mq_state.proofs.QueuesKeep.{rec, renewed-registration}
 use Rattle.mq_state.proofs.Reading.{registration-read}

@@ -1,16 +1,16 @@
 -- The table of queues, line by line.
 use Rattle.std.proofs.Common.{◌≡◌, ℕ, zero, suc, ◌+◌, ◌<◌, ◌==◌, Bool, true, false, List, [], ◌∷◌, ◌++◌, length, map, Option, Some, None, if◌then◌else◌, set, get_or, take, drop, refl, sym, ◌∙◌, ap, arith, eqb-true, eq-eqb, not, ◌⊎◌, inl, inr}
 use Rattle.std.specs.List.{find, filter, position, position_from}
-use Rattle.mq_core.specs.Messages.{is_in}
+use Rattle.mq_model.specs.Messages.{is_in}
 use Rattle.std.specs.Option.{option_map}
 use Rattle.std.proofs.lemmas.List.Quantifiers.{position-Some}
 use Rattle.std.proofs.lemmas.Iterator.Adapters.{position_from-zero}
-use Rattle.mq_core.proofs.Places.{split, clash}
+use Rattle.mq_model.proofs.Places.{split, clash}
 use Rattle.mq_state.specs.QueueShown.{QueueShown}
 use Rattle.mq_state.specs.Queues.{queue_in, changed, reregistered, without_queue}
-use Rattle.mq_core.specs.Notices.{registration_after}
-use Rattle.mq_core.specs.declared.entries.Entry.{Entry}
-use Rattle.mq_core.specs.declared.entries.Registration.{Registration}
+use Rattle.mq_model.specs.Notices.{registration_after}
+use Rattle.mq_model.specs.declared.entries.Entry.{Entry}
+use Rattle.mq_model.specs.declared.entries.Registration.{Registration}
 
 -- queue q has index i, and none before it is q
 record IsFirst (queues : List QueueShown) (q i : ℕ) (d : QueueShown) : Type 0 where

@@ -4,24 +4,24 @@ use Rattle.std.specs.Prelude.{ℤ, int_le, pos, negsuc}
 use Rattle.std.proofs.lemmas.Bool.{eqb-false}
 use Rattle.std.proofs.lemmas.Bool.Decides.{nat_tests}
 use Rattle.std.proofs.lemmas.Grind.{common_steps}
-use Rattle.mq_core.specs.Record.{Record, Past}
-use Rattle.mq_core.specs.Names.{bound_queue}
-use Rattle.mq_core.specs.Descriptors.{alive, created, is_named, is_held, called_queue, opened_queue}
-use Rattle.mq_core.specs.Messages.{is_in, present, priority, priority_given, waiting_sends, blocked_sends, admitted_waits, least}
-use Rattle.mq_core.specs.Notices.{registration_after}
-use Rattle.mq_core.specs.Answer.{Legal}
-use Rattle.mq_core.specs.declared.entries.Entry.{Entry}
-use Rattle.mq_core.specs.declared.entries.Registration.{Registration}
-use Rattle.mq_core.specs.declared.entries.Call.{Call}
-use Rattle.mq_core.specs.declared.entries.Call.TheVariants.{MqOpen, MqClose, MqUnlink, MqSend, MqReceive, MqGetattr, MqSetattr, MqNotify, NextNotice, Collect}
-use Rattle.mq_core.specs.declared.entries.Reply.{Reply}
-use Rattle.mq_core.specs.declared.entries.Reply.TheVariants.{Opened, Queued, Handed, Waits, Got, Done}
-use Rattle.mq_core.proofs.Places.{split, is_in-filter}
-use Rattle.mq_core.proofs.Cases.{Says}
-use Rattle.mq_core.proofs.Frames.{created-below}
-use Rattle.mq_core.proofs.NamedWaits.{least-in}
-use Rattle.mq_core.proofs.Steps.{Below, blocked_sends-below, without, present-queued, present-queued_elsewhere}
-use Rattle.mq_core.proofs.Presence.{GotFacts, present-got_here, present-got_elsewhere, present-handed, priority-older, present-below}
+use Rattle.mq_model.specs.Record.{Record, Past}
+use Rattle.mq_model.specs.Names.{bound_queue}
+use Rattle.mq_model.specs.Descriptors.{alive, created, is_named, is_held, called_queue, opened_queue}
+use Rattle.mq_model.specs.Messages.{is_in, present, priority, priority_given, waiting_sends, blocked_sends, admitted_waits, least}
+use Rattle.mq_model.specs.Notices.{registration_after}
+use Rattle.mq_model.specs.Answer.{Legal}
+use Rattle.mq_model.specs.declared.entries.Entry.{Entry}
+use Rattle.mq_model.specs.declared.entries.Registration.{Registration}
+use Rattle.mq_model.specs.declared.entries.Call.{Call}
+use Rattle.mq_model.specs.declared.entries.Call.TheVariants.{MqOpen, MqClose, MqUnlink, MqSend, MqReceive, MqGetattr, MqSetattr, MqNotify, NextNotice, Collect}
+use Rattle.mq_model.specs.declared.entries.Reply.{Reply}
+use Rattle.mq_model.specs.declared.entries.Reply.TheVariants.{Opened, Queued, Handed, Waits, Got, Done}
+use Rattle.mq_model.proofs.Places.{split, is_in-filter}
+use Rattle.mq_model.proofs.Cases.{Says}
+use Rattle.mq_model.proofs.Frames.{created-below}
+use Rattle.mq_model.proofs.NamedWaits.{least-in}
+use Rattle.mq_model.proofs.Steps.{Below, blocked_sends-below, without, present-queued, present-queued_elsewhere}
+use Rattle.mq_model.proofs.Presence.{GotFacts, present-got_here, present-got_elsewhere, present-handed, priority-older, present-below}
 use Rattle.mq_state.specs.declared.order.Slot.{Slot}
 use Rattle.mq_state.specs.SlotOrder.{without as without_place}
 use Rattle.mq_state.specs.QueueShown.{QueueShown}

@@ -5,34 +5,34 @@ use Rattle.std.specs.List.{filter}
 use Rattle.std.specs.Option.{option_map}
 use Rattle.std.proofs.lemmas.Bool.{eqb-false}
 use Rattle.std.proofs.lemmas.Grind.{common_steps}
-use Rattle.mq_core.specs.Record.{Record, Past}
-use Rattle.mq_core.specs.Names.{creates, unlinks, bound_queue, attributes, attributes_given}
-use Rattle.mq_core.specs.Descriptors.{held, created, after_setattr, with_nonblock, alive, is_named, is_held, is_place, is_on, called_queue, opened_queue}
-use Rattle.mq_core.specs.Messages.{is_in, present, is_full}
-use Rattle.mq_core.specs.Notices.{registered, registration_after, only_if, registration_of, or_else}
-use Rattle.mq_core.specs.Answer.{Legal, IsLegalNext}
-use Rattle.mq_core.specs.Owners.{OwnersMirror, is_held_in}
-use Rattle.mq_core.specs.declared.entries.Attr.{Attr}
-use Rattle.mq_core.specs.declared.entries.OpenFlags.{OpenFlags}
-use Rattle.mq_core.specs.declared.entries.Entry.{Entry}
-use Rattle.mq_core.specs.declared.entries.Registration.{Registration}
-use Rattle.mq_core.specs.declared.entries.Description.{Description}
-use Rattle.mq_core.specs.declared.entries.Call.{Call}
-use Rattle.mq_core.specs.declared.entries.Call.TheVariants.{MqOpen, MqClose, MqUnlink, MqSend, MqReceive, MqGetattr, MqSetattr, MqNotify, NextNotice, Collect}
-use Rattle.mq_core.specs.declared.entries.Reply.{Reply}
-use Rattle.mq_core.specs.declared.entries.Reply.TheVariants.{Opened, Queued, Handed, Waits, Got, Collected, Attrs, Notice, Done, Refused}
-use Rattle.mq_core.specs.declared.owners.Owner.{Owner}
-use Rattle.mq_core.proofs.Places.{split}
-use Rattle.mq_core.proofs.Cases.{Says}
-use Rattle.mq_core.proofs.LegalReplies.{legal_says}
-use Rattle.mq_core.proofs.OpenReplies.{OpenedFacts, opened-says}
-use Rattle.mq_core.proofs.HeldQueues.{bound-created}
-use Rattle.mq_core.proofs.Waiters.{in-filter}
-use Rattle.mq_core.proofs.Presence.{without-fewer, sent_to, admitted-to, present-admitted}
-use Rattle.mq_core.proofs.Alive.{is_needed, is_held-table, named-same, named-created, named-newest, named-unlinked, bound-named, alive-same_queues, alive-opened, alive-new, alive-closed, alive-unlinked}
-use Rattle.mq_core.proofs.Steps.{without}
-use Rattle.mq_core.proofs.PresentFew.{attributes-older}
-use Rattle.mq_core.proofs.SentMessages.{called-alive}
+use Rattle.mq_model.specs.Record.{Record, Past}
+use Rattle.mq_model.specs.Names.{creates, unlinks, bound_queue, attributes, attributes_given}
+use Rattle.mq_model.specs.Descriptors.{held, created, after_setattr, with_nonblock, alive, is_named, is_held, is_place, is_on, called_queue, opened_queue}
+use Rattle.mq_model.specs.Messages.{is_in, present, is_full}
+use Rattle.mq_model.specs.Notices.{registered, registration_after, only_if, registration_of, or_else}
+use Rattle.mq_model.specs.Answer.{Legal, IsLegalNext}
+use Rattle.mq_model.specs.Owners.{OwnersMirror, is_held_in}
+use Rattle.mq_model.specs.declared.entries.Attr.{Attr}
+use Rattle.mq_model.specs.declared.entries.OpenFlags.{OpenFlags}
+use Rattle.mq_model.specs.declared.entries.Entry.{Entry}
+use Rattle.mq_model.specs.declared.entries.Registration.{Registration}
+use Rattle.mq_model.specs.declared.entries.Description.{Description}
+use Rattle.mq_model.specs.declared.entries.Call.{Call}
+use Rattle.mq_model.specs.declared.entries.Call.TheVariants.{MqOpen, MqClose, MqUnlink, MqSend, MqReceive, MqGetattr, MqSetattr, MqNotify, NextNotice, Collect}
+use Rattle.mq_model.specs.declared.entries.Reply.{Reply}
+use Rattle.mq_model.specs.declared.entries.Reply.TheVariants.{Opened, Queued, Handed, Waits, Got, Collected, Attrs, Notice, Done, Refused}
+use Rattle.mq_model.specs.declared.owners.Owner.{Owner}
+use Rattle.mq_model.proofs.Places.{split}
+use Rattle.mq_model.proofs.Cases.{Says}
+use Rattle.mq_model.proofs.LegalReplies.{legal_says}
+use Rattle.mq_model.proofs.OpenReplies.{OpenedFacts, opened-says}
+use Rattle.mq_model.proofs.HeldQueues.{bound-created}
+use Rattle.mq_model.proofs.Waiters.{in-filter}
+use Rattle.mq_model.proofs.Presence.{without-fewer, sent_to, admitted-to, present-admitted}
+use Rattle.mq_model.proofs.Alive.{is_needed, is_held-table, named-same, named-created, named-newest, named-unlinked, bound-named, alive-same_queues, alive-opened, alive-new, alive-closed, alive-unlinked}
+use Rattle.mq_model.proofs.Steps.{without}
+use Rattle.mq_model.proofs.PresentFew.{attributes-older}
+use Rattle.mq_model.proofs.SentMessages.{called-alive}
 use Rattle.mq_state.specs.SlotOrder.{without as without_place}
 use Rattle.mq_state.specs.QueueShown.{QueueShown}
 use Rattle.mq_state.specs.Queues.{queue_in, is_named_in, changed, without_queue, renewed, HasRoom, reregistered, may_free, noted_queues, fresh, slots_of, LineMirror, QueuesMirror}

@@ -7,22 +7,22 @@ use Rattle.std.specs.Option.{option_map}
 use Rattle.std.proofs.lemmas.Bool.{and_parts, false_from_ne_true}
 use Rattle.std.proofs.lemmas.Slice.Eq.{bytes_eq-Decides}
 use Rattle.std.proofs.lemmas.Grind.{common_steps}
-use Rattle.mq_core.specs.Record.{Past}
-use Rattle.mq_core.specs.Names.{creates, bound_queue, attributes, name_of}
-use Rattle.mq_core.specs.Descriptors.{lowest_free, lowest_held, alive, created, is_named, descriptor_numbers}
-use Rattle.mq_core.specs.Messages.{is_in, present, best, goes_first, least, is_full}
-use Rattle.mq_core.specs.Notices.{registered, registered_place}
-use Rattle.mq_core.specs.Answer.{answer_open, answer_send, answer_receive}
-use Rattle.mq_core.specs.Owners.{free_number_in, lowest_held_in, OwnersMirror, waiting}
-use Rattle.mq_core.specs.declared.owners.Owner.{Owner}
-use Rattle.mq_core.specs.declared.entries.Attr.{Attr}
-use Rattle.mq_core.specs.declared.entries.OpenFlags.{OpenFlags}
-use Rattle.mq_core.specs.declared.entries.Status.{Status}
-use Rattle.mq_core.specs.declared.entries.Description.{Description}
-use Rattle.mq_core.proofs.Places.{split, clash, is_in-filter}
-use Rattle.mq_core.proofs.Frames.{created-below}
-use Rattle.mq_core.proofs.Best.{find-test}
-use Rattle.mq_core.proofs.Alive.{bound-name, named-bound, bound-named}
+use Rattle.mq_model.specs.Record.{Past}
+use Rattle.mq_model.specs.Names.{creates, bound_queue, attributes, name_of}
+use Rattle.mq_model.specs.Descriptors.{lowest_free, lowest_held, alive, created, is_named, descriptor_numbers}
+use Rattle.mq_model.specs.Messages.{is_in, present, best, goes_first, least, is_full}
+use Rattle.mq_model.specs.Notices.{registered, registered_place}
+use Rattle.mq_model.specs.Answer.{answer_open, answer_send, answer_receive}
+use Rattle.mq_model.specs.Owners.{free_number_in, lowest_held_in, OwnersMirror, waiting}
+use Rattle.mq_model.specs.declared.owners.Owner.{Owner}
+use Rattle.mq_model.specs.declared.entries.Attr.{Attr}
+use Rattle.mq_model.specs.declared.entries.OpenFlags.{OpenFlags}
+use Rattle.mq_model.specs.declared.entries.Status.{Status}
+use Rattle.mq_model.specs.declared.entries.Description.{Description}
+use Rattle.mq_model.proofs.Places.{split, clash, is_in-filter}
+use Rattle.mq_model.proofs.Frames.{created-below}
+use Rattle.mq_model.proofs.Best.{find-test}
+use Rattle.mq_model.proofs.Alive.{bound-name, named-bound, bound-named}
 use Rattle.mq_state.specs.declared.order.Slot.{Slot}
 use Rattle.mq_state.specs.SlotOrder.{best_slot, goes_first as slot_first}
 use Rattle.mq_state.specs.QueueShown.{QueueShown}

@@ -3,9 +3,9 @@ use Rattle.std.proofs.Common.{◌≡◌, ℕ, ◌≤◌, ◌==◌, Bool, not, Li
 use Rattle.std.specs.List.{filter}
 use Rattle.std.proofs.lemmas.Bool.Decides.{nat_tests}
 use Rattle.std.proofs.lemmas.Grind.{common_steps}
-use Rattle.mq_core.specs.OnePass.{best_of}
-use Rattle.mq_core.proofs.Best.{IsRanking, best_of-best}
-use Rattle.mq_core.proofs.Places.{split}
+use Rattle.mq_model.specs.OnePass.{best_of}
+use Rattle.mq_model.proofs.Best.{IsRanking, best_of-best}
+use Rattle.mq_model.proofs.Places.{split}
 use Rattle.mq_state.specs.SlotOrder.{goes_first, best_slot, without}
 use Rattle.mq_state.specs.declared.order.Slot.{Slot}
 

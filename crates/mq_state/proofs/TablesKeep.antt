@@ -1,31 +1,31 @@
 -- The tables stay those of the journal, where they note an entry.
 use Rattle.std.proofs.Common.{◌≡◌, ℕ, ◌≤◌, ◌==◌, Bool, true, false, ◌&&◌, not, List, [], ◌∷◌, ◌++◌, length, drop, Option, Some, None, is_some, if◌then◌else◌, refl, sym, ◌∙◌, ap, subst, arith}
 use Rattle.std.specs.Option.{option_map, unwrap_or}
-use Rattle.mq_core.specs.Record.{Past}
-use Rattle.mq_core.specs.Names.{creates, bound_queue}
-use Rattle.mq_core.specs.Descriptors.{held, called_queue, opened_queue, alive}
-use Rattle.mq_core.specs.Messages.{is_in, present, is_full, priority}
-use Rattle.mq_core.specs.Notices.{registered, registered_place, notified, gives_notice, notices}
-use Rattle.mq_core.specs.Answer.{Legal, IsLegalNext, answer}
-use Rattle.mq_core.specs.Owners.{OwnersMirror}
-use Rattle.mq_core.specs.OwnersNoted.{noted}
-use Rattle.mq_core.specs.declared.faults.Fault.TheVariants.{BadDescriptor, NoEntry}
-use Rattle.mq_core.specs.declared.owners.Owner.{Owner}
-use Rattle.mq_core.specs.declared.entries.Entry.{Entry}
-use Rattle.mq_core.specs.declared.entries.Registration.{Registration}
-use Rattle.mq_core.specs.declared.entries.Description.{Description}
-use Rattle.mq_core.specs.declared.entries.Call.{Call}
-use Rattle.mq_core.specs.declared.entries.Call.TheVariants.{MqOpen, MqClose, MqUnlink, MqSend, MqReceive, MqGetattr, MqSetattr, MqNotify, NextNotice, Collect}
-use Rattle.mq_core.specs.declared.entries.Reply.{Reply}
-use Rattle.mq_core.specs.declared.entries.Reply.TheVariants.{Opened, Queued, Handed, Waits, Got, Collected, Attrs, Notice, Done, Refused}
-use Rattle.mq_core.proofs.Places.{find-in}
-use Rattle.mq_core.proofs.Cases.{Says}
-use Rattle.mq_core.proofs.LegalReplies.{legal_says}
-use Rattle.mq_core.proofs.OpenReplies.{opened-says}
-use Rattle.mq_core.proofs.OwnersKeep.{EntryQueue, noted-keeps}
-use Rattle.mq_core.proofs.Presence.{GotFacts}
-use Rattle.mq_core.proofs.NoticeSteps.{notices-same, notices-notified, notices-given}
-use Rattle.mq_core.proofs.SentMessages.{called-alive}
+use Rattle.mq_model.specs.Record.{Past}
+use Rattle.mq_model.specs.Names.{creates, bound_queue}
+use Rattle.mq_model.specs.Descriptors.{held, called_queue, opened_queue, alive}
+use Rattle.mq_model.specs.Messages.{is_in, present, is_full, priority}
+use Rattle.mq_model.specs.Notices.{registered, registered_place, notified, gives_notice, notices}
+use Rattle.mq_model.specs.Answer.{Legal, IsLegalNext, answer}
+use Rattle.mq_model.specs.Owners.{OwnersMirror}
+use Rattle.mq_model.specs.OwnersNoted.{noted}
+use Rattle.mq_model.specs.declared.faults.Fault.TheVariants.{BadDescriptor, NoEntry}
+use Rattle.mq_model.specs.declared.owners.Owner.{Owner}
+use Rattle.mq_model.specs.declared.entries.Entry.{Entry}
+use Rattle.mq_model.specs.declared.entries.Registration.{Registration}
+use Rattle.mq_model.specs.declared.entries.Description.{Description}
+use Rattle.mq_model.specs.declared.entries.Call.{Call}
+use Rattle.mq_model.specs.declared.entries.Call.TheVariants.{MqOpen, MqClose, MqUnlink, MqSend, MqReceive, MqGetattr, MqSetattr, MqNotify, NextNotice, Collect}
+use Rattle.mq_model.specs.declared.entries.Reply.{Reply}
+use Rattle.mq_model.specs.declared.entries.Reply.TheVariants.{Opened, Queued, Handed, Waits, Got, Collected, Attrs, Notice, Done, Refused}
+use Rattle.mq_model.proofs.Places.{find-in}
+use Rattle.mq_model.proofs.Cases.{Says}
+use Rattle.mq_model.proofs.LegalReplies.{legal_says}
+use Rattle.mq_model.proofs.OpenReplies.{opened-says}
+use Rattle.mq_model.proofs.OwnersKeep.{EntryQueue, noted-keeps}
+use Rattle.mq_model.proofs.Presence.{GotFacts}
+use Rattle.mq_model.proofs.NoticeSteps.{notices-same, notices-notified, notices-given}
+use Rattle.mq_model.proofs.SentMessages.{called-alive}
 use Rattle.mq_state.specs.Slots.{Slots}
 use Rattle.mq_state.specs.QueueShown.{QueueShown}
 use Rattle.mq_state.specs.InboxShown.{InboxShown}

@@ -2,22 +2,22 @@
 use Rattle.std.proofs.Common.{◌≡◌, ℕ, ◌+◌, ◌<◌, ◌≤◌, true, false, List, length, Option, Some, None, refl, sym, ◌∙◌, ap, arith}
 use Rattle.std.specs.Prelude.{IsTrue}
 use Rattle.std.specs.Option.{option_map, option_and_then}
-use Rattle.mq_core.specs.Record.{Past}
-use Rattle.mq_core.specs.Messages.{is_send}
-use Rattle.mq_core.specs.Waits.{open_wait, answered_by}
-use Rattle.mq_core.specs.Answer.{may_call}
-use Rattle.mq_core.specs.Owners.{wait_in, with_wait, waiter_in, waits_count, OwnersMirror}
-use Rattle.mq_core.specs.OwnersNoted.{noted, noted_open, noted_done, noted_attributes, with_answer_at}
-use Rattle.mq_core.specs.declared.owners.OpenWait.{OpenWait}
-use Rattle.mq_core.specs.declared.owners.Owner.{Owner}
-use Rattle.mq_core.specs.declared.entries.Call.{Call}
-use Rattle.mq_core.specs.declared.entries.Call.TheVariants.{MqOpen, MqClose, MqUnlink, MqSend, MqReceive, MqGetattr, MqSetattr, MqNotify, NextNotice, Collect}
-use Rattle.mq_core.specs.declared.entries.Reply.{Reply}
-use Rattle.mq_core.specs.declared.entries.Reply.TheVariants.{Opened, Queued, Handed, Waits, Got, Collected, Attrs, Notice, Done, Refused}
-use Rattle.mq_core.proofs.Frames.{answered_by-none}
-use Rattle.mq_core.proofs.Cases.{Says}
-use Rattle.mq_core.proofs.OwnersKeep.{turn-none}
-use Rattle.mq_core.proofs.OwnerLines.{length-with_slot, length-with_wait, length-with_answer, waits_count-with_slot, waits_count-with_wait, waits_count-with_answer, waits_count-no_wait, no-wait}
+use Rattle.mq_model.specs.Record.{Past}
+use Rattle.mq_model.specs.Messages.{is_send}
+use Rattle.mq_model.specs.Waits.{open_wait, answered_by}
+use Rattle.mq_model.specs.Answer.{may_call}
+use Rattle.mq_model.specs.Owners.{wait_in, with_wait, waiter_in, waits_count, OwnersMirror}
+use Rattle.mq_model.specs.OwnersNoted.{noted, noted_open, noted_done, noted_attributes, with_answer_at}
+use Rattle.mq_model.specs.declared.owners.OpenWait.{OpenWait}
+use Rattle.mq_model.specs.declared.owners.Owner.{Owner}
+use Rattle.mq_model.specs.declared.entries.Call.{Call}
+use Rattle.mq_model.specs.declared.entries.Call.TheVariants.{MqOpen, MqClose, MqUnlink, MqSend, MqReceive, MqGetattr, MqSetattr, MqNotify, NextNotice, Collect}
+use Rattle.mq_model.specs.declared.entries.Reply.{Reply}
+use Rattle.mq_model.specs.declared.entries.Reply.TheVariants.{Opened, Queued, Handed, Waits, Got, Collected, Attrs, Notice, Done, Refused}
+use Rattle.mq_model.proofs.Frames.{answered_by-none}
+use Rattle.mq_model.proofs.Cases.{Says}
+use Rattle.mq_model.proofs.OwnersKeep.{turn-none}
+use Rattle.mq_model.proofs.OwnerLines.{length-with_slot, length-with_wait, length-with_answer, waits_count-with_slot, waits_count-with_wait, waits_count-with_answer, waits_count-no_wait, no-wait}
 use Rattle.mq_state.specs.Kept.{HasEntryRoom}
 
 answer-at-length : (owners : List Owner) (o : Option ℕ) (here : ℕ) → length (with_answer_at owners o here) ≡ length owners

@@ -1,14 +1,14 @@
 -- What a receive and a collect put into their buffer.
 use Rattle.std.specs.Prelude.{ℕ, ◌≤◌, List, [], ◌++◌, drop, length, Option, Some, None}
 use Rattle.std.specs.Option.{option_map, option_and_then, unwrap_or}
-use Rattle.mq_core.specs.Record.{Past, record_at}
-use Rattle.mq_core.specs.Messages.{priority}
-use Rattle.mq_core.specs.Waits.{open_wait, answered_by}
-use Rattle.mq_core.specs.declared.entries.Received.{Received}
-use Rattle.mq_core.specs.declared.entries.Call.{Call}
-use Rattle.mq_core.specs.declared.entries.Call.TheVariants.{MqReceive, Collect}
-use Rattle.mq_core.specs.declared.entries.Reply.{Reply}
-use Rattle.mq_core.specs.declared.entries.Reply.TheVariants.{Got}
+use Rattle.mq_model.specs.Record.{Past, record_at}
+use Rattle.mq_model.specs.Messages.{priority}
+use Rattle.mq_model.specs.Waits.{open_wait, answered_by}
+use Rattle.mq_model.specs.declared.entries.Received.{Received}
+use Rattle.mq_model.specs.declared.entries.Call.{Call}
+use Rattle.mq_model.specs.declared.entries.Call.TheVariants.{MqReceive, Collect}
+use Rattle.mq_model.specs.declared.entries.Reply.{Reply}
+use Rattle.mq_model.specs.declared.entries.Reply.TheVariants.{Got}
 use Rattle.mq_state.specs.declared.collected.Collected.{Collected}
 use Rattle.mq_state.specs.declared.collected.Collected.TheVariants.{Sent, Got as GotMessage}
 

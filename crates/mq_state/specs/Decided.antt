@@ -1,19 +1,19 @@
 -- The answers of the definitions, over what the tables say. It defines nothing new: each equals the answer of the same call.
 use Rattle.std.specs.Prelude.{ℕ, pos, length, Bool, ◌&&◌, not, nat_le, Option, Some, None, is_some, is_none, if◌then◌else◌}
 use Rattle.std.specs.Option.{unwrap_or}
-use Rattle.mq_core.specs.Names.{are_within_limits, attributes}
-use Rattle.mq_core.specs.Record.{Past}
-use Rattle.mq_core.specs.Messages.{present}
-use Rattle.mq_core.specs.declared.entries.Description.{Description}
-use Rattle.mq_core.specs.declared.entries.Registration.{Registration}
-use Rattle.mq_core.specs.declared.entries.Status.{Status}
-use Rattle.mq_core.specs.Answer.{is_read_only, is_write_only}
-use Rattle.mq_core.specs.declared.entries.Access.{Access}
-use Rattle.mq_core.specs.declared.entries.Attr.{Attr}
-use Rattle.mq_core.specs.declared.entries.OpenFlags.{OpenFlags}
-use Rattle.mq_core.specs.declared.faults.Fault.TheVariants.{Again, BadDescriptor, Busy, Exists, Invalid, TooManyOpen, MessageSize, NoEntry, NoSpace}
-use Rattle.mq_core.specs.declared.entries.Reply.{Reply}
-use Rattle.mq_core.specs.declared.entries.Reply.TheVariants.{Opened, Queued, Handed, Waits, Got, Done, Refused}
+use Rattle.mq_model.specs.Names.{are_within_limits, attributes}
+use Rattle.mq_model.specs.Record.{Past}
+use Rattle.mq_model.specs.Messages.{present}
+use Rattle.mq_model.specs.declared.entries.Description.{Description}
+use Rattle.mq_model.specs.declared.entries.Registration.{Registration}
+use Rattle.mq_model.specs.declared.entries.Status.{Status}
+use Rattle.mq_model.specs.Answer.{is_read_only, is_write_only}
+use Rattle.mq_model.specs.declared.entries.Access.{Access}
+use Rattle.mq_model.specs.declared.entries.Attr.{Attr}
+use Rattle.mq_model.specs.declared.entries.OpenFlags.{OpenFlags}
+use Rattle.mq_model.specs.declared.faults.Fault.TheVariants.{Again, BadDescriptor, Busy, Exists, Invalid, TooManyOpen, MessageSize, NoEntry, NoSpace}
+use Rattle.mq_model.specs.declared.entries.Reply.{Reply}
+use Rattle.mq_model.specs.declared.entries.Reply.TheVariants.{Opened, Queued, Handed, Waits, Got, Done, Refused}
 use Rattle.mq_state.specs.Queues.{is_registered_by}
 
 -- an open: whether its name is bound, the lowest free descriptor, and whether there are as many queues as may be

@@ -1,9 +1,9 @@
 use Rattle.std.specs.Prelude.{ℕ, ◌+◌, ◌≤◌}
-use Rattle.mq_core.specs.Record.{Past, Shown}
-use Rattle.mq_core.specs.Answer.{Legal}
-use Rattle.mq_core.specs.Owners.{waits_count}
-use Rattle.mq_core.specs.declared.entries.Reply.{Reply}
-use Rattle.mq_core.specs.declared.entries.Reply.TheVariants.{Waits, Collected}
+use Rattle.mq_model.specs.Record.{Past, Shown}
+use Rattle.mq_model.specs.Answer.{Legal}
+use Rattle.mq_model.specs.Owners.{waits_count}
+use Rattle.mq_model.specs.declared.entries.Reply.{Reply}
+use Rattle.mq_model.specs.declared.entries.Reply.TheVariants.{Waits, Collected}
 use Rattle.mq_state.specs.Tables.{TablesMirror, AreAtMost, HasNoticeRoom}
 use Rattle.mq_state.specs.declared.tables.Tables.{Tables}
 

@@ -1,5 +1,5 @@
 use Rattle.std.specs.Prelude.{ℕ, Bool, List, Option}
-use Rattle.mq_core.specs.declared.entries.Registration.{Registration}
+use Rattle.mq_model.specs.declared.entries.Registration.{Registration}
 use Rattle.mq_state.specs.declared.order.Slot.{Slot}
 
 -- what a queue of the table shows: the place of the open that created it, whether it is still bound to its name, the

@@ -4,19 +4,19 @@ use Rattle.std.specs.Prelude.{ℕ, ◌≡◌, ◌<◌, ◌+◌, ◌-◌, Bool, t
 use Rattle.std.specs.List.{find, filter, count_by}
 use Rattle.std.specs.Str.{bytes_eq}
 use Rattle.std.specs.Option.{option_map, option_and_then, unwrap_or}
-use Rattle.mq_core.specs.Record.{Past}
-use Rattle.mq_core.specs.Names.{attributes, name_of}
-use Rattle.mq_core.specs.Descriptors.{alive, is_named}
-use Rattle.mq_core.specs.Messages.{present, priority, priority_given}
-use Rattle.mq_core.specs.Notices.{registered, registration_after}
-use Rattle.mq_core.specs.Owners.{is_held_in}
-use Rattle.mq_core.specs.declared.owners.Owner.{Owner}
-use Rattle.mq_core.specs.declared.entries.Registration.{Registration}
-use Rattle.mq_core.specs.declared.entries.Entry.{Entry}
-use Rattle.mq_core.specs.declared.entries.Call.{Call}
-use Rattle.mq_core.specs.declared.entries.Call.TheVariants.{MqClose, MqUnlink}
-use Rattle.mq_core.specs.declared.entries.Reply.{Reply}
-use Rattle.mq_core.specs.declared.entries.Reply.TheVariants.{Queued, Got, Done}
+use Rattle.mq_model.specs.Record.{Past}
+use Rattle.mq_model.specs.Names.{attributes, name_of}
+use Rattle.mq_model.specs.Descriptors.{alive, is_named}
+use Rattle.mq_model.specs.Messages.{present, priority, priority_given}
+use Rattle.mq_model.specs.Notices.{registered, registration_after}
+use Rattle.mq_model.specs.Owners.{is_held_in}
+use Rattle.mq_model.specs.declared.owners.Owner.{Owner}
+use Rattle.mq_model.specs.declared.entries.Registration.{Registration}
+use Rattle.mq_model.specs.declared.entries.Entry.{Entry}
+use Rattle.mq_model.specs.declared.entries.Call.{Call}
+use Rattle.mq_model.specs.declared.entries.Call.TheVariants.{MqClose, MqUnlink}
+use Rattle.mq_model.specs.declared.entries.Reply.{Reply}
+use Rattle.mq_model.specs.declared.entries.Reply.TheVariants.{Queued, Got, Done}
 use Rattle.mq_state.specs.declared.order.Slot.{Slot}
 use Rattle.mq_state.specs.SlotOrder.{without}
 use Rattle.mq_state.specs.QueueShown.{QueueShown}

@@ -1,18 +1,18 @@
 -- The tables beside the journal say what the definitions say of it.
 use Rattle.std.specs.Prelude.{ℕ, ◌≡◌, ◌+◌, ◌≤◌, ◌<◌, true, false, List, [], ◌∷◌, ◌++◌, ◌&&◌, ◌==◌, if◌then◌else◌, drop, All, length, Option, Some, None, is_some, int_le, pos}
 use Rattle.std.specs.Option.{unwrap_or}
-use Rattle.mq_core.specs.Names.{bound_queue, creates, attributes_given}
-use Rattle.mq_core.specs.Descriptors.{called_queue}
-use Rattle.mq_core.specs.Messages.{priority}
-use Rattle.mq_core.specs.declared.entries.Registration.{Registration}
-use Rattle.mq_core.specs.declared.entries.Call.{Call}
-use Rattle.mq_core.specs.declared.entries.Call.TheVariants.{MqOpen, MqUnlink, MqNotify}
-use Rattle.mq_core.specs.declared.entries.Reply.{Reply}
-use Rattle.mq_core.specs.declared.entries.Reply.TheVariants.{Got, Done}
-use Rattle.mq_core.specs.Record.{Past}
-use Rattle.mq_core.specs.Notices.{notices, notified, gives_notice}
-use Rattle.mq_core.specs.Owners.{OwnersMirror}
-use Rattle.mq_core.specs.declared.owners.Owner.{Owner}
+use Rattle.mq_model.specs.Names.{bound_queue, creates, attributes_given}
+use Rattle.mq_model.specs.Descriptors.{called_queue}
+use Rattle.mq_model.specs.Messages.{priority}
+use Rattle.mq_model.specs.declared.entries.Registration.{Registration}
+use Rattle.mq_model.specs.declared.entries.Call.{Call}
+use Rattle.mq_model.specs.declared.entries.Call.TheVariants.{MqOpen, MqUnlink, MqNotify}
+use Rattle.mq_model.specs.declared.entries.Reply.{Reply}
+use Rattle.mq_model.specs.declared.entries.Reply.TheVariants.{Got, Done}
+use Rattle.mq_model.specs.Record.{Past}
+use Rattle.mq_model.specs.Notices.{notices, notified, gives_notice}
+use Rattle.mq_model.specs.Owners.{OwnersMirror}
+use Rattle.mq_model.specs.declared.owners.Owner.{Owner}
 use Rattle.mq_state.specs.QueueShown.{QueueShown}
 use Rattle.mq_state.specs.InboxShown.{InboxShown}
 use Rattle.mq_state.specs.Queues.{QueuesMirror, registrations_in, fresh}

@@ -4,19 +4,19 @@
 //! that the definitions give, and returns that reply. A call that is answered `Refused(NoMemory)` has no entry and changes
 //! nothing; it comes only where a growth was refused.
 ghost use Rattle.std.specs.Prelude.{◌≡◌, ◌≢◌, ◌<◌, ◌≤◌, ◌+◌, IfOk, IfSome, IsSome, IsTrue, ◌↔◌, Some, None, length, [], All};
-ghost use Rattle.mq_core.specs.Waits.{open_wait, answered_by, is_answered};
-ghost use Rattle.mq_core.specs.Descriptors.{lowest_held};
-ghost use Rattle.mq_core.specs.Answer.{Appends, Legal};
+ghost use Rattle.mq_model.specs.Waits.{open_wait, answered_by, is_answered};
+ghost use Rattle.mq_model.specs.Descriptors.{lowest_held};
+ghost use Rattle.mq_model.specs.Answer.{Appends, Legal};
 ghost use Rattle.mq_state.specs.Buffers.{filled, collected, collected_into, collected_by, into_by, waiting_call, waiting_room, room_of, FitsOutcome};
 ghost use Rattle.mq_state.specs.Kept.{IsKeptBy};
 
 use crate::buffers;
 use crate::collected::Collected;
 use crate::tables::Tables;
-use mq_core::entries::{Attr, Call, OpenFlags, Reply, Status};
-use mq_core::faults::Fault;
-use mq_core::journals::Journal;
-use mq_core::names::Name;
+use mq_model::entries::{Attr, Call, OpenFlags, Reply, Status};
+use mq_model::faults::Fault;
+use mq_model::journals::Journal;
+use mq_model::names::Name;
 use std::alloc::{AllocError, Global};
 use std::marker::Model;
 

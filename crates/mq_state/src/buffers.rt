@@ -1,10 +1,10 @@
 //! Messages in the journal, and the buffers that they are put into.
 ghost use Rattle.std.specs.Prelude.{◌≡◌, ◌≤◌, length};
-ghost use Rattle.mq_core.specs.Messages.{priority};
+ghost use Rattle.mq_model.specs.Messages.{priority};
 ghost use Rattle.mq_state.specs.Buffers.{message_at, with_front, filled, Fits, received_at};
 
-use mq_core::entries::{Received, Reply};
-use mq_core::journals::Journal;
+use mq_model::entries::{Received, Reply};
+use mq_model::journals::Journal;
 
 /// The priority of the message that was sent at a place.
 pub fn priority_at(journal: &Journal, place: u64) -> u32

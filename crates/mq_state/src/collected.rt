@@ -1,5 +1,5 @@
 //! What an open wait comes to.
-use mq_core::entries::Received;
+use mq_model::entries::Received;
 
 /// What the open wait of a process came to: its message was admitted, or it has received one.
 #[derive(Clone, Copy, Debug, PartialEq, Eq)]

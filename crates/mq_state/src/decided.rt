@@ -1,13 +1,13 @@
 //! The reply to a call, from what the tables say: the cases of the standard in their order.
 ghost use Rattle.std.specs.Prelude.{◌≡◌, ◌<◌, ◌^◌, pos, int_lt, int_le, Some, None, true};
-ghost use Rattle.mq_core.specs.Names.{are_within_limits, attributes_given, attributes};
-ghost use Rattle.mq_core.specs.Answer.{is_read_only, is_write_only};
+ghost use Rattle.mq_model.specs.Names.{are_within_limits, attributes_given, attributes};
+ghost use Rattle.mq_model.specs.Answer.{is_read_only, is_write_only};
 ghost use Rattle.mq_state.specs.Decided.{decided_open, decided_accepted, decided_send, decided_found, decided_receive, decided_notify};
 ghost use Rattle.mq_state.specs.Queues.{is_registered_by};
 
-use mq_core::entries::{Access, Attr, Call, OpenFlags, Registration, Reply, Status};
-use mq_core::faults::Fault;
-use mq_core::journals::Journal;
+use mq_model::entries::{Access, Attr, Call, OpenFlags, Registration, Reply, Status};
+use mq_model::faults::Fault;
+use mq_model::journals::Journal;
 
 /// `maxmsg` and `msgsize` of a queue that is created without attributes.
 const DEFAULT_ATTRIBUTES: Attr = Attr {

@@ -2,16 +2,16 @@
 ghost use Rattle.std.specs.Prelude.{◌≡◌, ◌<◌, ◌^◌, ◌==◌, ◌++◌, ◌∷◌, [], IfOk, position, length, not, Some, None, map, ℕ, vec_len, vec_capacity, ◌≤◌};
 ghost use Rattle.std.specs.Option.{option_map};
 ghost use Rattle.std.specs.Str.{bytes_eq};
-ghost use Rattle.mq_core.specs.Names.{name_of};
+ghost use Rattle.mq_model.specs.Names.{name_of};
 ghost use Rattle.mq_state.specs.Queues.{queue_in, slots_in, registration_in, is_named_in, bound_in, changed, renewed, renewed_done, admitting, HasRoom, reregistered, without_queue, fresh, frees, may_free, released, noted_queues};
 ghost use Rattle.mq_state.specs.QueueShown.{QueueShown};
 ghost use Rattle.mq_state.specs.SlotOrder.{best_slot};
 
 use crate::order::{Order, Slot};
-use mq_core::entries::{Call, Entry, Registration, Reply};
-use mq_core::journals::Journal;
-use mq_core::owners::Owner;
-use mq_core::{owners, registrations};
+use mq_model::entries::{Call, Entry, Registration, Reply};
+use mq_model::journals::Journal;
+use mq_model::owners::Owner;
+use mq_model::{owners, registrations};
 use std::marker::Model;
 
 /// A queue that exists, named by the place of the open that created it.

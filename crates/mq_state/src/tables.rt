@@ -1,16 +1,16 @@
 //! The tables beside the journal, the replies that they give, and how they note an entry.
 ghost use Rattle.std.specs.Prelude.{◌≡◌, ◌<◌, ◌≤◌, ◌+◌, IfOk, OnOk, OnErr, IsSome, Some, None, IsTrue, ℕ, length, [], pos, int_le, map, replicate};
-ghost use Rattle.mq_core.specs.declared.entries.Registration.{Registration};
-ghost use Rattle.mq_core.specs.Descriptors.{held, lowest_held, alive};
-ghost use Rattle.mq_core.specs.Messages.{is_in, best, least};
-ghost use Rattle.mq_core.specs.Notices.{registered, registered_place, gives_notice};
-ghost use Rattle.mq_core.specs.Answer.{Legal, answer, answer_attributes, answer_send, answer_receive};
-ghost use Rattle.mq_core.specs.Owners.{waiting, waits_count, free_owner};
+ghost use Rattle.mq_model.specs.declared.entries.Registration.{Registration};
+ghost use Rattle.mq_model.specs.Descriptors.{held, lowest_held, alive};
+ghost use Rattle.mq_model.specs.Messages.{is_in, best, least};
+ghost use Rattle.mq_model.specs.Notices.{registered, registered_place, gives_notice};
+ghost use Rattle.mq_model.specs.Answer.{Legal, answer, answer_attributes, answer_send, answer_receive};
+ghost use Rattle.mq_model.specs.Owners.{waiting, waits_count, free_owner};
 ghost use Rattle.std.specs.Option.{option_map, unwrap_or};
-ghost use Rattle.mq_core.specs.Names.{bound_queue};
+ghost use Rattle.mq_model.specs.Names.{bound_queue};
 ghost use Rattle.mq_state.specs.Tables.{entry_queue, admitted_priority};
 ghost use Rattle.mq_state.specs.Decided.{decided_notify, status_of};
-ghost use Rattle.mq_core.specs.Waits.{open_wait, answered_by};
+ghost use Rattle.mq_model.specs.Waits.{open_wait, answered_by};
 
 mod calls;
 
@@ -18,11 +18,11 @@ use crate::notices::Inbox;
 use crate::order::Order;
 use crate::queues::Queue;
 use crate::{buffers, decided, notices, queues};
-use mq_core::entries::{Attr, Call, Description, Entry, OpenFlags, Reply, Status};
-use mq_core::faults::Fault;
-use mq_core::journals::Journal;
-use mq_core::owners::Owner;
-use mq_core::{owners, registrations};
+use mq_model::entries::{Attr, Call, Description, Entry, OpenFlags, Reply, Status};
+use mq_model::faults::Fault;
+use mq_model::journals::Journal;
+use mq_model::owners::Owner;
+use mq_model::{owners, registrations};
 use std::alloc::{AllocError, Global};
 
 /// How many queues exist at most.
@@ -311,7 +311,7 @@ impl Tables {
 
 impl Tables {
     ghost use Rattle.std.specs.Prelude.{vec_len, vec_capacity};
-    ghost use Rattle.mq_core.specs.OwnersNoted.{noted, FitsSlots};
+    ghost use Rattle.mq_model.specs.OwnersNoted.{noted, FitsSlots};
     ghost use Rattle.mq_state.specs.Queues.{queue_in, reregistered, noted_queues, registration_in, HasRoom};
     ghost use Rattle.mq_state.specs.Inboxes.{notices_in, room_in};
     ghost use Rattle.mq_state.specs.QueueShown.{QueueShown};

@@ -1,13 +1,13 @@
 //! Calls that wait and what they come to, notices, the most queues and descriptors, and calls with numbers out of all bounds.
 //! Each test passes, too, where any one growth is refused: a refused call changes no journal, and is made once more.
 ghost use Rattle.std.specs.Prelude.{◌≡◌, ◌≤◌, IsTrue, None};
-ghost use Rattle.mq_core.specs.Waits.{open_wait};
+ghost use Rattle.mq_model.specs.Waits.{open_wait};
 
 use crate::books::Books;
 use crate::collected::Collected;
-use mq_core::entries::{Access, Attr, OpenFlags, Received, Reply, Status};
-use mq_core::faults::Fault;
-use mq_core::names::Name;
+use mq_model::entries::{Access, Attr, OpenFlags, Received, Reply, Status};
+use mq_model::faults::Fault;
+use mq_model::names::Name;
 use std::alloc::{AllocError, Global};
 use std::marker::Model;
 use std::test::Fail;
@@ -68,7 +68,7 @@ struct Trial {
 
 impl Model for Trial {
     ghost use Rattle.std.specs.Prelude.{◌≡◌};
-    ghost use Rattle.mq_core.specs.Record.{Past};
+    ghost use Rattle.mq_model.specs.Record.{Past};
 
     ghost Value = { Past };
 

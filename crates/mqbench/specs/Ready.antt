@@ -1,7 +1,7 @@
 -- What a process needs for its next call.
 use Rattle.std.specs.Prelude.{ℕ, ◌≡◌, Some}
 use Rattle.fast_mutex.specs.Items.{LockId, Ticket}
-use Rattle.mq_core.specs.Record.{Record}
+use Rattle.mq_model.specs.Record.{Record}
 use Rattle.mq.specs.Calls.{IsFree}
 use Rattle.mq_state.specs.Buffers.{waiting_room}
 use Rattle.mqbench.specs.declared.together.Ends.{Ends}

@@ -6,7 +6,7 @@ use crate::calls::{open, receive, send};
 use crate::fault::WorkFault;
 use fast_mutex::Lock;
 use mq::{Guarded, Mq, Process};
-use mq_core::journals::Journal;
+use mq_model::journals::Journal;
 use std::alloc::Global;
 use std::sync::Wait;
 use std::time::{Clock, Duration, Instant};

@@ -5,8 +5,8 @@ ghost use Rattle.mqbench.specs.Ready.{IsReady};
 use crate::fault::WorkFault;
 use fast_mutex::Lock;
 use mq::{Guarded, Mq, Process};
-use mq_core::entries::{Access, Attr, OpenFlags};
-use mq_core::names::Name;
+use mq_model::entries::{Access, Attr, OpenFlags};
+use mq_model::names::Name;
 use std::sync::Wait;
 
 /// How many bytes each message has.

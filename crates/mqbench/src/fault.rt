@@ -6,7 +6,7 @@ ghost use Rattle.mqbench.specs.Faults.{exit_status, fault_text, of_read_fault, w
 
 use lines::input::ReadFault;
 use lines::output::WriteFailed;
-use mq_core::faults::Fault;
+use mq_model::faults::Fault;
 use std::alloc::{AllocError, AllocFailed};
 use std::error::Error;
 use std::{fmt, io};

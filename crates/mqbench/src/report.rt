@@ -1,7 +1,7 @@
 //! The line of a result.
 use crate::workload::{LockKind, Workload};
-use mq_core::entries::Entry;
-use mq_core::journals::Journal;
+use mq_model::entries::Entry;
+use mq_model::journals::Journal;
 use std::alloc::{AllocError, Global};
 use std::time::Duration;
 

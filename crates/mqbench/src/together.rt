@@ -8,7 +8,7 @@ use crate::fault::WorkFault;
 use crossbeam_utils::Backoff;
 use fast_mutex::Lock;
 use mq::{Guarded, Mq, Process};
-use mq_core::journals::Journal;
+use mq_model::journals::Journal;
 use std::alloc::Global;
 use std::snapshot::Snapshot;
 use std::sync::Wait;

@@ -3,11 +3,11 @@ use Rattle.std.proofs.Common.{◌≡◌, ◌≤◌, ◌+◌, ℕ, List, length, 
 use Rattle.fast_mutex.specs.Items.{Ticket}
 use Rattle.mq.specs.Calls.{WholeReceive}
 use Rattle.mq.specs.Says.{receive_says}
-use Rattle.mq_core.specs.Record.{Past, Record}
-use Rattle.mq_core.specs.declared.entries.Received.{Received}
-use Rattle.mq_core.specs.declared.entries.Reply.{Reply}
-use Rattle.mq_core.specs.declared.entries.Reply.TheVariants.{Opened, Queued, Handed, Waits, Got, Collected, Attrs, Notice, Done, Refused}
-use Rattle.mq_core.specs.declared.faults.Fault.{Fault}
+use Rattle.mq_model.specs.Record.{Past, Record}
+use Rattle.mq_model.specs.declared.entries.Received.{Received}
+use Rattle.mq_model.specs.declared.entries.Reply.{Reply}
+use Rattle.mq_model.specs.declared.entries.Reply.TheVariants.{Opened, Queued, Handed, Waits, Got, Collected, Attrs, Notice, Done, Refused}
+use Rattle.mq_model.specs.declared.faults.Fault.{Fault}
 use Rattle.mq_state.specs.Buffers.{filled, message_at, received_at, with_front}
 
 front-fits : (message before behind : List ℕ) → behind ≡ with_front message before → length behind ≡ length before → length message ≤ length before

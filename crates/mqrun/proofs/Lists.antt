@@ -4,7 +4,7 @@ use Rattle.std.proofs.lemmas.Bool.{cases_Bool}
 use Rattle.std.proofs.lemmas.List.{take_more, map-append}
 use Rattle.std.proofs.lemmas.List.Elements.{filter-append}
 use Rattle.fast_mutex.specs.Items.{Ticket}
-use Rattle.mq_core.specs.Record.{Record}
+use Rattle.mq_model.specs.Record.{Record}
 use Rattle.lines.specs.Words.{Word}
 use Rattle.mqrun.specs.Phase.{calls_in, text_in}
 use Rattle.mqrun.specs.Replies.{reply_line}

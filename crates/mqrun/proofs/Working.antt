@@ -4,7 +4,7 @@ use Rattle.std.proofs.lemmas.List.{length-map, take_more, map-append}
 use Rattle.std.proofs.lemmas.List.Elements.{All-from_recursion, recursion_from_All}
 use Rattle.std.specs.List.{AllByRecursion as ByRecursion}
 use Rattle.fast_mutex.specs.Items.{LockId, Ticket, tickets_from}
-use Rattle.mq_core.specs.Record.{Record}
+use Rattle.mq_model.specs.Record.{Record}
 use Rattle.mqrun.specs.Buffer.{buffer_given}
 use Rattle.lines.specs.Words.{Word}
 use Rattle.mqrun.specs.Members.{AllHaveShares, AllOff, HasShare}

@@ -4,10 +4,10 @@ use Rattle.std.specs.List.{list_all, list_any}
 use Rattle.std.specs.Str.{bytes_eq}
 use denote.Ref.{Bor}
 use Rattle.lines.specs.Words.{◌>>=◌, Word, integer_written, number_written}
-use Rattle.mq_core.specs.declared.entries.Access.{Access}
-use Rattle.mq_core.specs.declared.entries.Access.TheVariants.{Read, Write, Both}
-use Rattle.mq_core.specs.declared.entries.OpenFlags.{OpenFlags}
-use Rattle.mq_core.specs.declared.entries.Attr.{Attr}
+use Rattle.mq_model.specs.declared.entries.Access.{Access}
+use Rattle.mq_model.specs.declared.entries.Access.TheVariants.{Read, Write, Both}
+use Rattle.mq_model.specs.declared.entries.OpenFlags.{OpenFlags}
+use Rattle.mq_model.specs.declared.entries.Attr.{Attr}
 use Rattle.mqrun.specs.declared.command.Command.{Command}
 use Rattle.mqrun.specs.declared.command.Command.TheVariants as command
 use Rattle.mqrun.specs.declared.command.Verb.{Verb}

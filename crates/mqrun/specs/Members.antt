@@ -2,7 +2,7 @@
 use Rattle.std.specs.Prelude.{◌≡◌, List, [], ◌∷◌}
 use Rattle.std.specs.List.{AllZip}
 use Rattle.fast_mutex.specs.Items.{Ticket}
-use Rattle.mq_core.specs.Record.{Record}
+use Rattle.mq_model.specs.Record.{Record}
 use Rattle.mqrun.specs.Phase.{WorksOff}
 use Rattle.mqrun.specs.declared.phase.Member.{Member}
 use Rattle.mqrun.specs.declared.phase.Member.TheVariants.{Idle, Busy}

@@ -3,7 +3,7 @@ use Rattle.std.specs.Prelude.{◌++◌, ℕ, List, [], ◌∷◌, map}
 use Rattle.std.specs.List.{All, AllZip}
 use Rattle.fast_mutex.specs.Items.{LockId, Ticket}
 use Rattle.mq.specs.Calls.{IsFree}
-use Rattle.mq_core.specs.Record.{Record}
+use Rattle.mq_model.specs.Record.{Record}
 use Rattle.lines.specs.Words.{Word}
 use Rattle.mqrun.specs.Runs.{IsReady, IsSameProcess, RunsCalls, reply_lines}
 use Rattle.mqrun.specs.Script.{said_call}

@@ -1,7 +1,7 @@
 -- The text of replies.
 use Rattle.std.specs.Prelude.{ℕ, ◌≤◌, Bool, List, [], ◌∷◌, ◌++◌, take, codes, None, Some, if◌then◌else◌}
 use Rattle.std.specs.Fmt.{decimal, signed_decimal}
-use Rattle.mq_core.specs.Fault.{text_of}
+use Rattle.mq_model.specs.Fault.{text_of}
 use Rattle.mqrun.specs.declared.reply.Outcome.{Outcome}
 use Rattle.mqrun.specs.declared.reply.Outcome.TheVariants.{Opened, Done, Got, Attrs, Notice, Refused}
 

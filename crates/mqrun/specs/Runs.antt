@@ -5,14 +5,14 @@ use Rattle.std.specs.Io.KnownBytes as known
 use Rattle.fast_mutex.specs.Items.{LockId, Ticket, Grows, tickets_from}
 use Rattle.mq.specs.Calls.{IsFree, Exits, OneCall, SendCall, WholeReceive, owner}
 use Rattle.mq.specs.Says.{attributes_says, done_says, notice_says, open_says}
-use Rattle.mq_core.specs.Answer.{Legal}
-use Rattle.mq_core.specs.Name.{has_name_form, is_name, is_short}
-use Rattle.mq_core.specs.Record.{Past, Record}
-use Rattle.mq_core.specs.declared.entries.Call.{Call}
-use Rattle.mq_core.specs.declared.entries.Call.TheVariants.{MqOpen, MqClose, MqUnlink, MqGetattr, MqSetattr, MqNotify, NextNotice}
-use Rattle.mq_core.specs.declared.entries.Reply.{Reply}
-use Rattle.mq_core.specs.declared.faults.Fault.{Fault}
-use Rattle.mq_core.specs.declared.faults.Fault.TheVariants.{Invalid, NameTooLong}
+use Rattle.mq_model.specs.Answer.{Legal}
+use Rattle.mq_model.specs.Name.{has_name_form, is_name, is_short}
+use Rattle.mq_model.specs.Record.{Past, Record}
+use Rattle.mq_model.specs.declared.entries.Call.{Call}
+use Rattle.mq_model.specs.declared.entries.Call.TheVariants.{MqOpen, MqClose, MqUnlink, MqGetattr, MqSetattr, MqNotify, NextNotice}
+use Rattle.mq_model.specs.declared.entries.Reply.{Reply}
+use Rattle.mq_model.specs.declared.faults.Fault.{Fault}
+use Rattle.mq_model.specs.declared.faults.Fault.TheVariants.{Invalid, NameTooLong}
 use Rattle.mqrun.specs.Buffer.{buffer_given}
 use Rattle.lines.specs.Words.{Word}
 use Rattle.mqrun.specs.Replies.{reply_line}

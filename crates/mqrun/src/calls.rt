@@ -2,7 +2,7 @@
 ghost use Rattle.std.specs.Prelude.{◌≡◌, ℕ, [], length};
 ghost use Rattle.mq.specs.Calls.{IsFree, Exits, SendCall, WholeReceive};
 ghost use Rattle.mq.specs.Says.{attributes_says, done_says, notice_says, open_says};
-ghost use Rattle.mq_core.specs.declared.entries.Call.{Call};
+ghost use Rattle.mq_model.specs.declared.entries.Call.{Call};
 ghost use Rattle.mqrun.specs.Grammar.{said};
 ghost use Rattle.mqrun.specs.Replies.{HasMessage};
 ghost use Rattle.mqrun.specs.Runs.{IsSameProcess, MakesNamed, Performs, Shows, outcome_by};
@@ -12,9 +12,9 @@ use crate::command::Command;
 use crate::reply::Outcome;
 use fast_mutex::Lock;
 use mq::{Guarded, Mq, Process};
-use mq_core::entries::{Attr, OpenFlags, Status};
-use mq_core::faults::Fault;
-use mq_core::names::Name;
+use mq_model::entries::{Attr, OpenFlags, Status};
+use mq_model::faults::Fault;
+use mq_model::names::Name;
 use std::sync::Wait;
 
 /// Makes the call of a command, which may block. A message that is received is put into the front of the buffer.

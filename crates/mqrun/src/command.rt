@@ -5,7 +5,7 @@ ghost use Rattle.std.specs.Option.{option_map};
 ghost use Rattle.mqrun.specs.Grammar.{said, command_written, open_written, attr_written, close_written, unlink_written, send_written, receive_written, getattr_written, setattr_written, notify_written, notice_written, exit_written, value_written, verb_written, access_written, are_options, flags_written, flag_written, is_at_most_once, is_option_letter, option_letters, room_written};
 
 use lines::words::{integer, number, small_number};
-use mq_core::entries::{Access, Attr, OpenFlags};
+use mq_model::entries::{Access, Attr, OpenFlags};
 
 /// A call of a script. `T` holds the bytes of names and messages: in a program, a slice of the script.
 #[derive(Clone, Copy, Debug, PartialEq, Eq)]

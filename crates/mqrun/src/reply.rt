@@ -2,8 +2,8 @@
 ghost use Rattle.std.specs.Prelude.{◌≡◌, ◌++◌, IfOk, OnOk, length, string_bytes};
 ghost use Rattle.mqrun.specs.Replies.{HasMessage, message_received, outcome_text, reply_line};
 
-use mq_core::entries::{Received, Status};
-use mq_core::faults::Fault;
+use mq_model::entries::{Received, Status};
+use mq_model::faults::Fault;
 use std::alloc::{AllocError, Global};
 
 /// What a call of a script came to.

@@ -1,10 +1,10 @@
 //! The end of a process.
 ghost use Rattle.std.specs.Prelude.{◌≡◌, ◌≤◌, ◌∷◌, [], Some, None, OnOk, IfOk, IfErr};
-ghost use Rattle.mq_core.specs.Waits.{open_wait};
-ghost use Rattle.mq_core.specs.Descriptors.{lowest_held};
-ghost use Rattle.mq_core.specs.declared.faults.Fault.TheVariants.{NoMemory};
-ghost use Rattle.mq_core.specs.declared.entries.Call.{Call};
-ghost use Rattle.mq_core.specs.declared.entries.Reply.{Reply};
+ghost use Rattle.mq_model.specs.Waits.{open_wait};
+ghost use Rattle.mq_model.specs.Descriptors.{lowest_held};
+ghost use Rattle.mq_model.specs.declared.faults.Fault.TheVariants.{NoMemory};
+ghost use Rattle.mq_model.specs.declared.entries.Call.{Call};
+ghost use Rattle.mq_model.specs.declared.entries.Reply.{Reply};
 ghost use Rattle.mq.specs.Calls.{Closing, recorded};
 
 use super::Process;
@@ -12,8 +12,8 @@ use crate::guarded::Guarded;
 use crate::stays::{come, depart};
 use crate::system::Mq;
 use fast_mutex::Lock;
-use mq_core::entries::Reply;
-use mq_core::faults::Fault;
+use mq_model::entries::Reply;
+use mq_model::faults::Fault;
 use mq_state::books::Books;
 use std::sync::Wait;
 

@@ -10,16 +10,16 @@ use crate::stays::{come, depart};
 use crate::system::Mq;
 use crossbeam_utils::Backoff;
 use fast_mutex::Lock;
-use mq_core::entries::{Received, Reply};
-use mq_core::faults::Fault;
+use mq_model::entries::{Received, Reply};
+use mq_model::faults::Fault;
 use mq_state::buffers::received;
 use mq_state::collected::Collected;
 use std::sync::Wait;
 
 impl<L: Lock<Guarded>> Process<L> {
     ghost use Rattle.std.specs.Prelude.{◌≡◌, ◌≢◌, ◌≤◌, Bool, true, false, Some, None, IsSome, IfSome, IfNone, Ok, length, []};
-    ghost use Rattle.mq_core.specs.Answer.{Legal};
-    ghost use Rattle.mq_core.specs.declared.entries.Call.{Call};
+    ghost use Rattle.mq_model.specs.Answer.{Legal};
+    ghost use Rattle.mq_model.specs.declared.entries.Call.{Call};
     ghost use Rattle.mq_state.specs.Buffers.{waiting_room};
     ghost use Rattle.mq.specs.Says.{start_send_says, start_receive_says};
     ghost use Rattle.mq.specs.Calls.{IsFree, OneCall, ReceiveCall, SendCall, WholeReceive, WaitsIn, Collects, StillWaits};

@@ -1,10 +1,10 @@
 //! The calls: each makes room, decides its reply, and appends its entry, which the tables note.
 ghost use Rattle.std.specs.Prelude.{◌≡◌, ◌≢◌, ◌<◌, ◌≤◌, ◌+◌, ◌-◌, IfOk, OnOk, IsTrue, Some, None, ℕ, length, [], ◌∷◌, is_some, vec_len, vec_capacity, if◌then◌else◌};
-ghost use Rattle.mq_core.specs.Name.{is_name};
-ghost use Rattle.mq_core.specs.Waits.{open_wait, answered_by};
-ghost use Rattle.mq_core.specs.Answer.{Appends, answer, may_call, is_payload, payload_of, is_refused, Legal, IsLegalNext};
+ghost use Rattle.mq_model.specs.Name.{is_name};
+ghost use Rattle.mq_model.specs.Waits.{open_wait, answered_by};
+ghost use Rattle.mq_model.specs.Answer.{Appends, answer, may_call, is_payload, payload_of, is_refused, Legal, IsLegalNext};
 ghost use Rattle.std.specs.Option.{option_map};
-ghost use Rattle.mq_core.specs.Owners.{waits_count, answer_in, wait_in, lowest_held_in};
+ghost use Rattle.mq_model.specs.Owners.{waits_count, answer_in, wait_in, lowest_held_in};
 ghost use Rattle.mq_state.specs.Buffers.{filled};
 ghost use Rattle.mq_state.specs.Tables.{entry_queue, HasRoomToRegister, BringsOrder};
 ghost use Rattle.mq_state.specs.Kept.{IsKeptBy, HasEntryRoom};
@@ -12,10 +12,10 @@ ghost use Rattle.mq_state.specs.Kept.{IsKeptBy, HasEntryRoom};
 use crate::order::Order;
 use crate::tables::Tables;
 use crate::{buffers, decided, notices};
-use mq_core::entries::{Attr, Call, Entry, OpenFlags, Reply};
-use mq_core::faults::Fault;
-use mq_core::journals::Journal;
-use mq_core::owners;
+use mq_model::entries::{Attr, Call, Entry, OpenFlags, Reply};
+use mq_model::faults::Fault;
+use mq_model::journals::Journal;
+use mq_model::owners;
 use std::alloc::{AllocError, Global};
 
 // The payload of a call that was given these bytes.

@@ -5,7 +5,7 @@ use Rattle.std.proofs.Common.{rules, arith, ◌≡◌, ◌++◌, ◌∷◌, [], 
 use Rattle.std.proofs.lemmas.Grind.{common_steps}
 use Rattle.std.specs.Vec.Iter.{into_iter_items}
 use Rattle.fast_mutex.specs.Items.{Ticket}
-use Rattle.mq_core.specs.Record.{Record}
+use Rattle.mq_model.specs.Record.{Record}
 use Rattle.mqrun.specs.Members.{HasShare}
 use Rattle.mqrun.specs.Phase.{WorksOff}
 use Rattle.mqrun.specs.declared.turns.Share.{Share}

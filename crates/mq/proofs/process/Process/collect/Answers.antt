@@ -1,5 +1,5 @@
 use Rattle.std.proofs.Common.{◌≡◌, ◌≤◌, ◌∙◌, [], ap, sym, refl, subst, IsSome, IfSome, Some, None, Option, ℕ, length}
-use Rattle.mq_core.specs.Waits.{open_wait}
+use Rattle.mq_model.specs.Waits.{open_wait}
 use Rattle.mq_state.specs.Buffers.{waiting_room}
 use Rattle.mq.proofs.Calling.{came-room, came-grows_by, same-number}
 use Rattle.mq.proofs.Collecting.{room-waits, room-fits, collect-adds, collect-answered, collect-unanswered, came-collects, came-still, collected-free}

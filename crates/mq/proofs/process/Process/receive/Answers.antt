@@ -1,5 +1,5 @@
 use Rattle.std.proofs.Common.{◌∙◌, ap, Ok, Option}
-use Rattle.mq_core.specs.declared.entries.Received.{Received}
+use Rattle.mq_model.specs.declared.entries.Received.{Received}
 use Rattle.mq.proofs.Collecting.{receive-waited}
 use Rattle.mq.proofs.process.Process.receive.Goals as goal
 

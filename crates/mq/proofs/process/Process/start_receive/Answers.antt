@@ -1,5 +1,5 @@
 use Rattle.std.proofs.Common.{◌≡◌, ◌∙◌, ap, sym, refl, length, []}
-use Rattle.mq_core.specs.declared.entries.Call.TheVariants.{MqReceive}
+use Rattle.mq_model.specs.declared.entries.Call.TheVariants.{MqReceive}
 use Rattle.mq.proofs.Calling.{came-free, came-grows, came-made, still-free, now-waits, room-begun}
 use Rattle.mq.proofs.Replies.{asked, replied, receive-waits, receive-answered}
 use Rattle.mq_state.specs.Buffers.{filled}

@@ -1,5 +1,5 @@
 use Rattle.std.proofs.Common.{◌≡◌, ◌∙◌, ap, sym, refl, length}
-use Rattle.mq_core.specs.declared.entries.Call.TheVariants.{MqSend}
+use Rattle.mq_model.specs.declared.entries.Call.TheVariants.{MqSend}
 use Rattle.mq.proofs.Calling.{came-free, came-grows, came-made, still-free, now-waits, room-begun}
 use Rattle.mq.proofs.Replies.{asked, replied, send-waits, send-answered}
 use Rattle.mq.proofs.process.Process.start_send.Goals as goal

@@ -1,5 +1,5 @@
 use Rattle.std.proofs.Common.{◌≡◌, ◌∙◌, None, arith}
-use Rattle.mq_core.specs.Waits.{open_wait}
+use Rattle.mq_model.specs.Waits.{open_wait}
 use Rattle.mq.proofs.Closings.{from-next, from-closed, from-end, closing-more, closed-free, lowest-is, lowest-is_not}
 use Rattle.mq.proofs.process.exits.close_all.Goals as goal
 use Rattle.mq.proofs.process.exits.close_all.Goals.{then-eq+in_ok-close_lowest, else-eq}

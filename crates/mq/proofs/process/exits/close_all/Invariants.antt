@@ -1,5 +1,5 @@
 use Rattle.std.proofs.Common.{◌≡◌, None}
-use Rattle.mq_core.specs.Waits.{open_wait}
+use Rattle.mq_model.specs.Waits.{open_wait}
 use Rattle.mq.specs.Calls.{Closing}
 use Rattle.mq.proofs.Closings.{IsFrom}
 use Rattle.mq.proofs.process.exits.close_all.Given as goal

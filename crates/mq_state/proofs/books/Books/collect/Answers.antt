@@ -2,7 +2,7 @@ use Rattle.std.proofs.Common.{◌≡◌, ◌≤◌, ◌∙◌, sym, subst, lengt
 use Rattle.mq_state.specs.Buffers.{waiting_call, room_of, FitsOutcome}
 use Rattle.mq_state.specs.Kept.{IsKeptBy}
 use Rattle.mq_state.specs.declared.books.Shelf.{Shelf}
-use Rattle.mq_core.specs.Waits.{answered_by}
+use Rattle.mq_model.specs.Waits.{answered_by}
 use Rattle.mq_state.proofs.Collecting.{collect-fits}
 use Rattle.mq_state.proofs.books.Books.collect.Goals as goal
 

@@ -1,6 +1,6 @@
 use Rattle.std.proofs.Common.{◌≡◌, ◌∙◌, ap, reverse, take, arith}
 use Rattle.std.proofs.lemmas.List.{take_all}
-use Rattle.mq_core.specs.OnePass.{best_of}
+use Rattle.mq_model.specs.OnePass.{best_of}
 use Rattle.mq_state.specs.Slots.{Slots}
 use Rattle.mq_state.specs.SlotOrder.{goes_first}
 use Rattle.mq_state.proofs.Slotted.{best_of-slots}

@@ -1,5 +1,5 @@
 use Rattle.std.proofs.Common.{◌≡◌, reverse, take}
-use Rattle.mq_core.specs.OnePass.{best_of}
+use Rattle.mq_model.specs.OnePass.{best_of}
 use Rattle.mq_state.specs.SlotOrder.{goes_first}
 use Rattle.mq_state.proofs.order.Order.best.Given as goal
 

@@ -1,6 +1,6 @@
 use Rattle.std.proofs.Common.{◌∙◌, sym, ap}
-use Rattle.mq_core.specs.Owners.{held_in}
-use Rattle.mq_core.proofs.HeldQueues.{held-alive}
+use Rattle.mq_model.specs.Owners.{held_in}
+use Rattle.mq_model.proofs.HeldQueues.{held-alive}
 use Rattle.mq_state.proofs.tables.Tables.answer_attributes.Goals as goal
 
 pub status-requires-clause-alive : goal.status-requires-clause-alive

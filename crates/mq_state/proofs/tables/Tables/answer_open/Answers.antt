@@ -1,6 +1,6 @@
 use Rattle.std.proofs.Common.{◌≡◌, ◌∙◌, ap, is_some, length, arith}
 use Rattle.std.specs.Prelude.{nat_le}
-use Rattle.mq_core.specs.Owners.{free_number_in}
+use Rattle.mq_model.specs.Owners.{free_number_in}
 use Rattle.mq_state.specs.Queues.{bound_in}
 use Rattle.mq_state.specs.Decided.{decided_open}
 use Rattle.mq_state.proofs.Reading.{open-read}

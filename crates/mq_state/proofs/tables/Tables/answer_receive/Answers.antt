@@ -1,6 +1,6 @@
 use Rattle.std.proofs.Common.{◌∙◌, sym, ap}
-use Rattle.mq_core.specs.Owners.{held_in}
-use Rattle.mq_core.proofs.HeldQueues.{held-alive}
+use Rattle.mq_model.specs.Owners.{held_in}
+use Rattle.mq_model.proofs.HeldQueues.{held-alive}
 use Rattle.mq_state.proofs.tables.Tables.answer_receive.Goals as goal
 
 pub answer_receive_on-requires-clause-alive : goal.answer_receive_on-requires-clause-alive

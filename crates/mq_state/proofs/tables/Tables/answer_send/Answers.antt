@@ -1,6 +1,6 @@
 use Rattle.std.proofs.Common.{◌∙◌, sym, ap}
-use Rattle.mq_core.specs.Owners.{held_in}
-use Rattle.mq_core.proofs.HeldQueues.{held-alive}
+use Rattle.mq_model.specs.Owners.{held_in}
+use Rattle.mq_model.proofs.HeldQueues.{held-alive}
 use Rattle.mq_state.proofs.tables.Tables.answer_send.Goals as goal
 
 pub answer_send_on-requires-clause-alive : goal.answer_send_on-requires-clause-alive

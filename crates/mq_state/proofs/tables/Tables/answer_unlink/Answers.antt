@@ -1,6 +1,6 @@
 use Rattle.std.proofs.Common.{◌∙◌, sym, ap, is_some, if◌then◌else◌}
-use Rattle.mq_core.specs.declared.faults.Fault.TheVariants.{NoEntry}
-use Rattle.mq_core.specs.declared.entries.Reply.TheVariants.{Done, Refused}
+use Rattle.mq_model.specs.declared.faults.Fault.TheVariants.{NoEntry}
+use Rattle.mq_model.specs.declared.entries.Reply.TheVariants.{Done, Refused}
 use Rattle.mq_state.specs.Queues.{bound_in}
 use Rattle.mq_state.proofs.Reading.{bound-read}
 use Rattle.mq_state.proofs.tables.Tables.answer_unlink.Goals as goal

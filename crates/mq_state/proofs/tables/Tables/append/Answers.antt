@@ -1,11 +1,11 @@
 use Rattle.std.proofs.Common.{◌≡◌, ◌∙◌, ◌+◌, ◌≤◌, ◌∷◌, ℕ, List, length, sym, ap, subst, arith, vec_len, vec_capacity}
 use Rattle.std.proofs.lemmas.List.Elements.{All-cons}
-use Rattle.mq_core.specs.Record.{Record, Past}
-use Rattle.mq_core.specs.Answer.{Legal}
-use Rattle.mq_core.specs.Owners.{waits_count}
-use Rattle.mq_core.specs.OwnersNoted.{noted}
-use Rattle.mq_core.proofs.LegalReplies.{legal_says}
-use Rattle.mq_core.proofs.OwnersKeep.{noted-fits}
+use Rattle.mq_model.specs.Record.{Record, Past}
+use Rattle.mq_model.specs.Answer.{Legal}
+use Rattle.mq_model.specs.Owners.{waits_count}
+use Rattle.mq_model.specs.OwnersNoted.{noted}
+use Rattle.mq_model.proofs.LegalReplies.{legal_says}
+use Rattle.mq_model.proofs.OwnersKeep.{noted-fits}
 use Rattle.mq_state.specs.Tables.{TablesMirror, AreAtMost, entry_queue, admitted_priority, noted_values, with_fresh, notices_brought, HasNoticeRoom}
 use Rattle.mq_state.specs.Inboxes.{notices_in, room_in}
 use Rattle.mq_state.specs.QueueShown.{QueueShown}

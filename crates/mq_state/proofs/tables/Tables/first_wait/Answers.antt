@@ -1,7 +1,7 @@
 use Rattle.std.proofs.Common.{◌∙◌, sym, ap, subst, List, refl}
-use Rattle.mq_core.specs.Owners.{IsFirstWait, pending_in}
-use Rattle.mq_core.specs.declared.owners.Owner.{Owner}
-use Rattle.mq_core.proofs.Pending.{least-pending, no-pending}
+use Rattle.mq_model.specs.Owners.{IsFirstWait, pending_in}
+use Rattle.mq_model.specs.declared.owners.Owner.{Owner}
+use Rattle.mq_model.proofs.Pending.{least-pending, no-pending}
 use Rattle.mq_state.proofs.tables.Tables.first_wait.Goals as goal
 
 pub returns-in-None : goal.returns-in-None

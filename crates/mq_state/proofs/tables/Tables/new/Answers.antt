@@ -1,7 +1,7 @@
 use Rattle.std.proofs.Common.{◌∙◌, ◌+◌, List, refl, ap, sym, subst, arith}
 use Rattle.mq_state.specs.Queues.{registrations_in}
 use Rattle.mq_state.proofs.NoticeRoom.{registrations-none}
-use Rattle.mq_core.specs.Owners.{waits_count}
+use Rattle.mq_model.specs.Owners.{waits_count}
 use Rattle.mq_state.specs.QueueShown.{QueueShown}
 use Rattle.mq_state.specs.Tables.{TablesMirror}
 use Rattle.mq_state.proofs.Starting.{mirrors-new, waits_count-new}

@@ -1,5 +1,5 @@
 use Rattle.std.proofs.Common.{length, sym, subst}
-use Rattle.mq_core.specs.Answer.{Legal}
+use Rattle.mq_model.specs.Answer.{Legal}
 use Rattle.mq_state.proofs.Fitting.{reply-fits}
 use Rattle.mq_state.proofs.tables.Tables.receive.Goals as goal
 

@@ -1,6 +1,6 @@
 use Rattle.std.proofs.Common.{◌∙◌, sym, ap}
 use Rattle.std.specs.Option.{option_map}
-use Rattle.mq_core.specs.declared.entries.Registration.{Registration}
+use Rattle.mq_model.specs.declared.entries.Registration.{Registration}
 use Rattle.mq_state.specs.Queues.{registration_in}
 use Rattle.mq_state.proofs.Reading.{registration-read}
 use Rattle.mq_state.proofs.tables.Tables.registered_place.Goals as goal

@@ -1,6 +1,6 @@
 use Rattle.std.proofs.Common.{◌∙◌, ap, length}
 use Rattle.std.specs.Prelude.{pos}
-use Rattle.mq_core.specs.declared.entries.Attr.{Attr}
+use Rattle.mq_model.specs.declared.entries.Attr.{Attr}
 use Rattle.mq_state.specs.Queues.{slots_in}
 use Rattle.mq_state.proofs.Reading.{count-read, status-is}
 use Rattle.mq_state.proofs.tables.Tables.status.Goals as goal

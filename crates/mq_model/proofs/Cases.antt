@@ -1,0 +1,153 @@
+-- Which call a reply belongs to, and what was so before it.
+use Rattle.std.proofs.Common.{◌≡◌, ℕ, Bool, true, false, ◌&&◌, ◌==◌, not, List, length, Option, Some, None, is_some, is_none, if◌then◌else◌, refl}
+use Rattle.std.specs.Prelude.{nat_le, int_lt, pos, slice_get}
+use Rattle.std.specs.Option.{unwrap_or}
+use Rattle.mq_model.specs.Record.{Past}
+use Rattle.mq_model.specs.Names.{bound_queue, attributes, are_within_limits}
+use Rattle.mq_model.specs.Descriptors.{held, lowest_free, alive}
+use Rattle.mq_model.specs.Messages.{present, is_full, best, least, waiting_sends, waiting_receives}
+use Rattle.mq_model.specs.Notices.{registered, registered_place, notices}
+use Rattle.mq_model.specs.Waits.{answered_by}
+use Rattle.mq_model.specs.Answer.{answer, answer_open, answer_send, answer_accepted, answer_receive, answer_found, answer_attributes, answer_notify, is_read_only, is_write_only, is_of}
+use Rattle.mq_model.specs.declared.entries.Attr.{Attr}
+use Rattle.mq_model.specs.declared.entries.OpenFlags.{OpenFlags}
+use Rattle.mq_model.specs.declared.faults.Fault.TheVariants.{Again, BadDescriptor}
+use Rattle.mq_model.specs.declared.entries.Description.{Description}
+use Rattle.mq_model.specs.declared.entries.Call.{Call}
+use Rattle.mq_model.specs.declared.entries.Call.TheVariants.{MqOpen, MqClose, MqUnlink, MqSend, MqReceive, MqGetattr, MqSetattr, MqNotify, NextNotice, Collect}
+use Rattle.mq_model.specs.declared.entries.Reply.{Reply}
+use Rattle.mq_model.specs.declared.entries.Reply.TheVariants.{Opened, Queued, Handed, Waits, Got, Collected, Attrs, Notice, Done, Refused}
+
+-- a fact on both branches
+pub either : (P : Reply → Type 0) (b : Bool) (x y : Reply) → (b ≡ true → P x) → (b ≡ false → P y) → P (if b then x else y)
+either P true x y p q = p refl
+either P false x y p q = q refl
+
+-- what a reply says of the descriptor o that the call was made on
+pub record SendFacts (past : Past) (h : Description) (prio len : ℕ) : Type 0 where
+  pub access : is_read_only h.access ≡ false
+  pub prio_allowed : nat_le 32768 prio ≡ false
+  pub fits : int_lt (attributes past h.queue).msgsize (pos len) ≡ false
+
+pub record ReceiveFacts (past : Past) (h : Description) (room : ℕ) : Type 0 where
+  pub access : is_write_only h.access ≡ false
+  pub fits : int_lt (pos room) (attributes past h.queue).msgsize ≡ false
+
+-- what each reply of a send says
+abbrev pub MessageReply : Past → Description → Reply → Type 0
+MessageReply past h (Handed w) = least (waiting_receives past h.queue) ≡ Some w
+MessageReply past h Waits = (least (waiting_receives past h.queue) ≡ None) × (is_full past h.queue ≡ true) × (h.nonblock ≡ false)
+MessageReply past h (Queued n) = (least (waiting_receives past h.queue) ≡ None) × (is_full past h.queue ≡ false) × (n ≡ (if length (present past h.queue) == 0 then registered_place past h.queue else None))
+MessageReply past h reply = ⊥
+
+-- what each reply of a receive says
+abbrev pub BestReply : Past → Description → Reply → Type 0
+BestReply past h (Got m a n) = (best past h.queue ≡ Some m) × (a ≡ least (waiting_sends past h.queue)) × (n ≡ (if is_some a && length (present past h.queue) == 1 then registered_place past h.queue else None))
+BestReply past h Waits = (best past h.queue ≡ None) × (h.nonblock ≡ false)
+BestReply past h reply = ⊥
+
+abbrev pub OpenReply : Reply → Type 0
+OpenReply (Opened d created) = Unit {0}
+OpenReply (Refused fault) = Unit {0}
+OpenReply reply = ⊥
+
+-- a reply is a refusal, or there is a description of which all this holds
+abbrev pub Unless : Reply → Type 0 → Type 0
+Unless (Refused fault) P = Unit {0}
+Unless reply P = P
+
+abbrev pub DoneReply : Reply → Type 0
+DoneReply Done = Unit {0}
+DoneReply (Refused fault) = Unit {0}
+DoneReply reply = ⊥
+
+abbrev pub AttrsReply : Reply → Type 0
+AttrsReply (Attrs s) = Unit {0}
+AttrsReply (Refused fault) = Unit {0}
+AttrsReply reply = ⊥
+
+abbrev pub SendSays : Past → Option Description → ℕ → ℕ → Reply → Type 0
+SendSays past o prio len reply = Unless reply ((h : Description) × (o ≡ Some h) × SendFacts past h prio len × MessageReply past h reply)
+
+abbrev pub ReceiveSays : Past → Option Description → ℕ → Reply → Type 0
+ReceiveSays past o room reply = Unless reply ((h : Description) × (o ≡ Some h) × ReceiveFacts past h room × BestReply past h reply)
+
+abbrev pub CloseSays : Option Description → Reply → Type 0
+CloseSays o reply = DoneReply reply × Unless reply ((h : Description) × (o ≡ Some h))
+
+-- what a reply says, by the call
+abbrev pub Says : Past → ℕ → Call → Reply → Type 0
+Says past p (MqOpen flags attr) reply = OpenReply reply
+Says past p (MqClose d) reply = CloseSays (held past p d) reply
+Says past p MqUnlink reply = DoneReply reply
+Says past p (MqSend d prio len) reply = SendSays past (held past p d) prio len reply
+Says past p (MqReceive d room) reply = ReceiveSays past (held past p d) room reply
+Says past p (MqGetattr d) reply = AttrsReply reply
+Says past p (MqSetattr d nonblock) reply = AttrsReply reply
+Says past p (MqNotify d value) reply = DoneReply reply
+Says past p NextNotice reply = reply ≡ Notice (slice_get (notices past p) 0)
+Says past p Collect reply = reply ≡ Collected (unwrap_or (answered_by past p) 0)
+
+message_says : (past : Past) (h : Description) (prio len : ℕ) (w : Option ℕ) → SendFacts past h prio len → least (waiting_receives past h.queue) ≡ w → (is_full past h.queue && h.nonblock) ≡ false → SendSays past (Some h) prio len (answer_accepted past h.queue w)
+message_says past h prio len (Some w) facts first room = (h, refl, facts, first)
+message_says past h prio len None facts first room =
+    either (SendSays past (Some h) prio len) (is_full past h.queue) Waits (Queued (if length (present past h.queue) == 0 then registered_place past h.queue else None))
+    (λ full. (h, refl, facts, (first, full, rw full at room)))
+    (λ full. (h, refl, facts, (first, full, refl)))
+
+send_says : (past : Past) (o : Option Description) (prio len : ℕ) → SendSays past o prio len (answer_send past o prio len)
+send_says past None prio len = tt
+send_says past (Some h) prio len =
+    let P = SendSays past (Some h) prio len in
+    either P (is_read_only h.access) _ _ (λ _. tt) (λ access.
+    either P (nat_le 32768 prio) _ _ (λ _. tt) (λ allowed.
+    either P (int_lt (attributes past h.queue).msgsize (pos len)) _ _ (λ _. tt) (λ fits.
+    either P (is_full past h.queue && h.nonblock) _ _ (λ _. tt) (λ room.
+    message_says past h prio len (least (waiting_receives past h.queue)) (record { access = access; prio_allowed = allowed; fits = fits }) refl room))))
+
+best_says : (past : Past) (h : Description) (room : ℕ) (m : Option ℕ) → ReceiveFacts past h room → best past h.queue ≡ m → ReceiveSays past (Some h) room (answer_found past h m (least (waiting_sends past h.queue)))
+best_says past h room (Some m) facts found = (h, refl, facts, (found, refl, refl))
+best_says past h room None facts found = either (ReceiveSays past (Some h) room) h.nonblock (Refused Again) Waits (λ _. tt) (λ blocks. (h, refl, facts, (found, blocks)))
+
+receive_says : (past : Past) (o : Option Description) (room : ℕ) → ReceiveSays past o room (answer_receive past o room)
+receive_says past None room = tt
+receive_says past (Some h) room =
+    let P = ReceiveSays past (Some h) room in
+    either P (is_write_only h.access) _ _ (λ _. tt) (λ access.
+    either P (int_lt (pos room) (attributes past h.queue).msgsize) _ _ (λ _. tt) (λ fits.
+    best_says past h room (best past h.queue) (record { access = access; fits = fits }) refl))
+
+open_says : (past : Past) (p : ℕ) (flags : OpenFlags) (attr : Option Attr) (name : List ℕ) → OpenReply (answer_open past p flags attr name)
+open_says past p flags attr name =
+    let bound = is_some (bound_queue past name) in
+    let free = lowest_free past p in
+    either OpenReply (flags.create && flags.excl && bound) _ _ (λ _. tt) (λ _.
+    either OpenReply (not flags.create && not bound) _ _ (λ _. tt) (λ _.
+    either OpenReply (not bound && not (are_within_limits attr)) _ _ (λ _. tt) (λ _.
+    either OpenReply (is_none free) _ _ (λ _. tt) (λ _.
+    either OpenReply (not bound && nat_le 64 (length (alive past))) _ _ (λ _. tt) (λ _. tt)))))
+
+close_says : (o : Option Description) → CloseSays o (if is_some o then Done else Refused BadDescriptor)
+close_says None = (tt, tt)
+close_says (Some h) = (tt, (h, refl))
+
+attributes_says : (past : Past) (o : Option Description) → AttrsReply (answer_attributes past o)
+attributes_says past None = tt
+attributes_says past (Some h) = tt
+
+notify_says : (past : Past) (p : ℕ) (o : Option Description) (value : Option ℕ) → DoneReply (answer_notify past p o value)
+notify_says past p None value = tt
+notify_says past p (Some h) (Some v) = either DoneReply (is_some (registered past h.queue)) _ _ (λ _. tt) (λ _. tt)
+notify_says past p (Some h) None = either DoneReply (is_of p (registered past h.queue)) _ _ (λ _. tt) (λ _. tt)
+
+pub answer_says : (past : Past) (p : ℕ) (call : Call) (name : List ℕ) → Says past p call (answer past p call name)
+answer_says past p (MqOpen flags attr) name = open_says past p flags attr name
+answer_says past p (MqClose d) name = close_says (held past p d)
+answer_says past p MqUnlink name = either DoneReply (is_some (bound_queue past name)) _ _ (λ _. tt) (λ _. tt)
+answer_says past p (MqSend d prio len) name = send_says past (held past p d) prio len
+answer_says past p (MqReceive d room) name = receive_says past (held past p d) room
+answer_says past p (MqGetattr d) name = attributes_says past (held past p d)
+answer_says past p (MqSetattr d nonblock) name = attributes_says past (held past p d)
+answer_says past p (MqNotify d value) name = notify_says past p (held past p d) value
+answer_says past p NextNotice name = refl
+answer_says past p Collect name = refl

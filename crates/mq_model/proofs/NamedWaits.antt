@@ -1,0 +1,186 @@
+-- Which waits the entries of a legal journal name.
+use Rattle.std.proofs.Common.{◌≡◌, ℕ, ◌<◌, ◌==◌, Bool, true, false, ◌&&◌, ◌||◌, List, [], ◌∷◌, length, min, Option, Some, None, if◌then◌else◌, refl, ◌∙◌, ap, arith, eqb-true, eq-eqb, ne_eqb}
+use Rattle.std.specs.Option.{unwrap_or}
+use Rattle.std.proofs.lemmas.Bool.{and_parts, eqb-false}
+use Rattle.mq_model.specs.Record.{Record, Past}
+use Rattle.mq_model.specs.Descriptors.{is_place, is_on, called_queue}
+use Rattle.mq_model.specs.Messages.{is_in, with_place, is_send, is_receive, hands, least, blocks_send, blocks_receive, blocked_sends, blocked_receives, waiting_receives, handed_waits}
+use Rattle.mq_model.specs.Waits.{is_wait, names_wait, open_wait, answered_by}
+use Rattle.mq_model.specs.Answer.{Legal, IsLegalNext}
+use Rattle.mq_model.proofs.Places.{split, clash, is_in-filter}
+use Rattle.mq_model.proofs.Cases.{Says}
+use Rattle.mq_model.proofs.LegalReplies.{legal_says}
+use Rattle.mq_model.proofs.Steps.{Below, not-below}
+use Rattle.mq_model.specs.declared.entries.Call.{Call}
+use Rattle.mq_model.specs.declared.entries.Call.TheVariants.{MqOpen, MqClose, MqUnlink, MqSend, MqReceive, MqGetattr, MqSetattr, MqNotify, NextNotice, Collect}
+use Rattle.mq_model.specs.declared.entries.Reply.{Reply}
+use Rattle.mq_model.specs.declared.entries.Reply.TheVariants.{Opened, Queued, Handed, Waits, Got, Collected, Attrs, Notice, Done, Refused}
+use Rattle.mq_model.specs.Owners.{blocked}
+
+abbrev pub blocks : Bool → Call → Reply → Bool
+blocks true call reply = blocks_send call reply
+blocks false call reply = blocks_receive call reply
+
+-- a blocked call is the newest record, or one of the older ones
+pub blocked-cases : (past : Past) (r : Record) (s : Bool) (q w : ℕ) → is_in (blocked (r ∷ past) s q) w ≡ true → (length past ≡ w → (blocks s r.entry.call r.entry.reply && is_on past r.entry q) ≡ false → is_in (blocked past s q) w ≡ true) × ((length past ≡ w → ⊥) → is_in (blocked past s q) w ≡ true)
+blocked-cases past r true q w h = split (blocks_send r.entry.call r.entry.reply && is_on past r.entry q)
+    (λ t. let new : (length past == w || is_in (blocked_sends past q) w) ≡ true = rw t at h in
+    (λ e f. clash (blocks_send r.entry.call r.entry.reply && is_on past r.entry q) t f, λ ne. rw (ne_eqb (length past) w ne) at new))
+    (λ f. let old : is_in (blocked_sends past q) w ≡ true = rw f at h in (λ e g. old, λ ne. old))
+blocked-cases past r false q w h = split (blocks_receive r.entry.call r.entry.reply && is_on past r.entry q)
+    (λ t. let new : (length past == w || is_in (blocked_receives past q) w) ≡ true = rw t at h in
+    (λ e f. clash (blocks_receive r.entry.call r.entry.reply && is_on past r.entry q) t f, λ ne. rw (ne_eqb (length past) w ne) at new))
+    (λ f. let old : is_in (blocked_receives past q) w ≡ true = rw f at h in (λ e g. old, λ ne. old))
+
+pub blocked-below : (past : Past) (s : Bool) (q w : ℕ) → is_in (blocked past s q) w ≡ true → w < length past
+blocked-below [] true q w h = absurd (cc)
+blocked-below [] false q w h = absurd (cc)
+blocked-below (r ∷ past) s q w h = split (length past == w)
+    (λ e. let same : length past ≡ w = eqb-true _ _ e in omega arith)
+    (λ n. let lt = blocked-below past s q w ((blocked-cases past r s q w h).1 (eqb-false _ _ n)) in omega (arith, lt))
+
+-- the newest record is the blocked call
+newest-is : (past : Past) (r : Record) (s : Bool) (q : ℕ) → is_in (blocked (r ∷ past) s q) (length past) ≡ true → (blocks s r.entry.call r.entry.reply && is_on past r.entry q) ≡ true
+newest-is past r s q h = split (blocks s r.entry.call r.entry.reply && is_on past r.entry q)
+    (λ t. t)
+    (λ f. let old = (blocked-cases past r s q (length past) h).0 refl f in let lt = blocked-below past s q (length past) old in absurd (omega arith))
+
+pub newest-receive : (past : Past) (r : Record) (q : ℕ) → is_in (blocked_receives (r ∷ past) q) (length past) ≡ true → (blocks_receive r.entry.call r.entry.reply && is_on past r.entry q) ≡ true
+newest-receive past r q h = newest-is past r false q h
+
+pub newest-send : (past : Past) (r : Record) (q : ℕ) → is_in (blocked_sends (r ∷ past) q) (length past) ≡ true → (blocks_send r.entry.call r.entry.reply && is_on past r.entry q) ≡ true
+newest-send past r q h = newest-is past r true q h
+
+not-both : (call : Call) → is_send call ≡ true → is_receive call ≡ true → ⊥
+not-both (MqOpen flags attr) h g = cc
+not-both (MqClose d) h g = cc
+not-both MqUnlink h g = cc
+not-both (MqSend d prio len) h g = cc
+not-both (MqReceive d room) h g = cc
+not-both (MqGetattr d) h g = cc
+not-both (MqSetattr d nonblock) h g = cc
+not-both (MqNotify d value) h g = cc
+not-both NextNotice h g = cc
+not-both Collect h g = cc
+
+not-both-blocked : (call : Call) (reply : Reply) → blocks_send call reply ≡ true → blocks_receive call reply ≡ true → ⊥
+not-both-blocked call (Opened d created) h g = cc
+not-both-blocked call (Queued n) h g = cc
+not-both-blocked call (Handed w) h g = cc
+not-both-blocked call Waits h g = not-both call h g
+not-both-blocked call (Got m a n) h g = cc
+not-both-blocked call (Collected b) h g = cc
+not-both-blocked call (Attrs s) h g = cc
+not-both-blocked call (Notice v) h g = cc
+not-both-blocked call Done h g = cc
+not-both-blocked call (Refused x) h g = cc
+
+kind-of : (s t : Bool) (call : Call) (reply : Reply) → blocks s call reply ≡ true → blocks t call reply ≡ true → s ≡ t
+kind-of true true call reply h g = refl
+kind-of false false call reply h g = refl
+kind-of true false call reply h g = absurd (not-both-blocked call reply h g)
+kind-of false true call reply h g = absurd (not-both-blocked call reply g h)
+
+same_queue : (o : Option ℕ) (q k : ℕ) → is_place q o ≡ true → is_place k o ≡ true → q ≡ k
+same_queue None q k h g = absurd (cc)
+same_queue (Some j) q k h g = let a : j ≡ q = eqb-true _ _ h in let b : j ≡ k = eqb-true _ _ g in cc
+
+-- a call blocked on one queue, as a send or as a receive
+pub blocked-once : (past : Past) (s t : Bool) (q k w : ℕ) → is_in (blocked past s q) w ≡ true → is_in (blocked past t k) w ≡ true → (s ≡ t) × (q ≡ k)
+blocked-once [] true t q k w h g = absurd (cc)
+blocked-once [] false t q k w h g = absurd (cc)
+blocked-once (r ∷ past) s t q k w h g = split (length past == w)
+    (λ e. let same : length past ≡ w = eqb-true _ _ e in
+    let mine = newest-is past r s q (rw (← same) at h) in let its = newest-is past r t k (rw (← same) at g) in
+    let a = and_parts (blocks s r.entry.call r.entry.reply) (is_on past r.entry q) mine in
+    let b = and_parts (blocks t r.entry.call r.entry.reply) (is_on past r.entry k) its in
+    (kind-of s t r.entry.call r.entry.reply a.0 b.0, same_queue (called_queue past r.entry.process r.entry.call) q k a.1 b.1))
+    (λ n. let ne = eqb-false (length past) w n in blocked-once past s t q k w ((blocked-cases past r s q w h).1 ne) ((blocked-cases past r t k w g).1 ne))
+
+pub least-in : (xs : List ℕ) (m : ℕ) → least xs ≡ Some m → is_in xs m ≡ true
+least-in [] m e = absurd (cc)
+least-in (x ∷ xs) m e = by (λ k f. least-in xs k f) (least xs) refl e
+  where
+    by : ((k : ℕ) → least xs ≡ Some k → is_in xs k ≡ true) → (o : Option ℕ) → least xs ≡ o → Some (min x (unwrap_or o x)) ≡ Some m → is_in (x ∷ xs) m ≡ true
+    by rest None f g = let same : min x x ≡ m = cc in let here : x ≡ m = omega arith in rw (eq-eqb x m here) refl
+    by rest (Some k) f g =
+        let same : min x k ≡ m = cc in
+        split (x == m) (λ t. rw t refl) (λ n. let ne : x ≡ m → ⊥ = eqb-false _ _ n in let old : k ≡ m = omega arith in let inside : is_in xs m ≡ true = rw old at (rest k f) in rw (n, inside) refl)
+
+hands-below : (past : Past) (r : Record) (k : ℕ) → IsLegalNext past r → hands r.entry.reply ≡ Some k → k < length past
+hands-below past r k legal e = by r.entry.call r.entry.reply (legal_says past r legal) e
+  where
+    waits : (q : ℕ) → least (waiting_receives past q) ≡ Some k → k < length past
+    waits q e = blocked-below past false q k (is_in-filter _ (blocked_receives past q) k (least-in (waiting_receives past q) k e)).0
+
+    by : (call : Call) (reply : Reply) → Says past r.entry.process call reply → hands reply ≡ Some k → k < length past
+    by (MqSend d prio len) (Handed w) says e = let same : w ≡ k = cc in waits says.0.queue (says.3 ∙ ap Some same)
+    by call (Opened d created) says e = absurd (cc)
+    by call (Queued n) says e = absurd (cc)
+    by call Waits says e = absurd (cc)
+    by call (Got m a n) says e = absurd (cc)
+    by call (Collected b) says e = absurd (cc)
+    by call (Attrs s) says e = absurd (cc)
+    by call (Notice v) says e = absurd (cc)
+    by call Done says e = absurd (cc)
+    by call (Refused f) says e = absurd (cc)
+    by (MqReceive d room) (Handed w) says e = absurd says.3
+    by (MqOpen flags attr) (Handed w) says e = absurd says
+    by (MqClose d) (Handed w) says e = absurd says.0
+    by MqUnlink (Handed w) says e = absurd says
+    by (MqGetattr d) (Handed w) says e = absurd says
+    by (MqSetattr d nonblock) (Handed w) says e = absurd says
+    by (MqNotify d value) (Handed w) says e = absurd says
+    by NextNotice (Handed w) says e = absurd (cc)
+    by Collect (Handed w) says e = absurd (cc)
+
+handed-below : (past : Past) → Legal past → Below (length past) (handed_waits past)
+handed-below [] legal = λ m h. absurd (cc)
+handed-below (r ∷ past) legal = λ m h. step (hands r.entry.reply) refl (handed-below past legal.0) m h
+  where
+    step : (o : Option ℕ) → hands r.entry.reply ≡ o → Below (length past) (handed_waits past) → (m : ℕ) → is_in (with_place o (handed_waits past)) m ≡ true → m < length (r ∷ past)
+    step None e before m h = let lt = before m h in omega (arith, lt)
+    step (Some k) e before m h = split (k == m)
+        (λ t. let same : k ≡ m = eqb-true _ _ t in let lt = hands-below past r k legal.1 e in omega (arith, lt))
+        (λ f. let old : is_in (handed_waits past) m ≡ true = rw f at h in let lt = before m old in omega (arith, lt))
+
+-- no entry hands a message to an open wait that is not answered
+pub unhanded : (past : Past) → Legal past → (p w : ℕ) → open_wait past p ≡ Some w → answered_by past p ≡ None → is_in (handed_waits past) w ≡ false
+unhanded [] legal p w e a = absurd (cc)
+unhanded (r ∷ past) legal p w e a = split (r.entry.process == p)
+    (λ own. let last : (if is_wait r.entry.reply then Some (length past) else None) ≡ Some w = rw own at e in own-case (is_wait r.entry.reply) refl last)
+    (λ other.
+    let old : open_wait past p ≡ Some w = rw other at e in
+    let rest : (if names_wait r.entry.reply (open_wait past p) then Some (length past) else answered_by past p) ≡ None = rw other at a in
+    let rest' : (if names_wait r.entry.reply (Some w) then Some (length past) else answered_by past p) ≡ None = rw old at rest in
+    split (names_wait r.entry.reply (Some w))
+    (λ t. absurd (let bad : Some (length past) ≡ None = rw t at rest' in cc))
+    (λ f. let free : answered_by past p ≡ None = rw f at rest' in unlisted r.entry.reply f (unhanded past legal.0 p w old free)))
+  where
+    own-case : (b : Bool) → is_wait r.entry.reply ≡ b → (if b then Some (length past) else None) ≡ Some w → is_in (handed_waits (r ∷ past)) w ≡ false
+    own-case true is e = let place : length past ≡ w = cc in waits r.entry.reply is (rw (← place) (not-below (length past) (handed_waits past) (handed-below past legal.0)))
+      where
+        waits : (reply : Reply) → is_wait reply ≡ true → is_in (handed_waits past) w ≡ false → is_in (with_place (hands reply) (handed_waits past)) w ≡ false
+        waits Waits is f = f
+        waits (Handed k) is f = absurd (cc)
+        waits (Opened d created) is f = f
+        waits (Queued n) is f = f
+        waits (Got m a n) is f = f
+        waits (Collected b) is f = f
+        waits (Attrs s) is f = f
+        waits (Notice v) is f = f
+        waits Done is f = f
+        waits (Refused x) is f = f
+    own-case false is e = absurd (cc)
+
+    unlisted : (reply : Reply) → names_wait reply (Some w) ≡ false → is_in (handed_waits past) w ≡ false → is_in (with_place (hands reply) (handed_waits past)) w ≡ false
+    unlisted (Handed k) f g = rw (f, g) refl
+    unlisted Waits f g = g
+    unlisted (Opened d created) f g = g
+    unlisted (Queued n) f g = g
+    unlisted (Got m a n) f g = g
+    unlisted (Collected b) f g = g
+    unlisted (Attrs s) f g = g
+    unlisted (Notice v) f g = g
+    unlisted Done f g = g
+    unlisted (Refused x) f g = g

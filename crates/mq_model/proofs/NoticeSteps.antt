@@ -1,0 +1,166 @@
+-- The notices of each process behind one more record.
+use Rattle.std.proofs.Common.{◌≡◌, ℕ, suc, ◌+◌, ◌<◌, ◌≤◌, ◌==◌, Bool, true, false, ◌&&◌, List, [], ◌∷◌, ◌++◌, length, drop, Option, Some, None, if◌then◌else◌, refl, sym, ◌∙◌, ap, arith, eqb-true, eq-eqb, length-drop, length-append, zero}
+use Rattle.std.specs.Prelude.{slice_get}
+use Rattle.std.specs.Option.{option_to_list}
+use Rattle.std.proofs.lemmas.Grind.{common_steps}
+use Rattle.mq_model.specs.Record.{Record, Past, record_at}
+use Rattle.mq_model.specs.Descriptors.{is_on}
+use Rattle.mq_model.specs.Notices.{registration_by, registration_of, only_if, notified, ends, unless, registered, value_of_notify, value_given, value_notified, values_notified, gives_notice, notices_given, notices}
+use Rattle.mq_model.specs.Answer.{Legal}
+use Rattle.mq_model.specs.declared.entries.Registration.{Registration}
+use Rattle.mq_model.specs.declared.entries.Call.{Call}
+use Rattle.mq_model.specs.declared.entries.Call.TheVariants.{MqOpen, MqClose, MqUnlink, MqSend, MqReceive, MqGetattr, MqSetattr, MqNotify, NextNotice, Collect}
+use Rattle.mq_model.specs.declared.entries.Reply.{Reply}
+use Rattle.mq_model.specs.declared.entries.Reply.TheVariants.{Opened, Queued, Handed, Waits, Got, Collected, Attrs, Notice, Done, Refused}
+use Rattle.mq_model.proofs.Places.{split}
+use Rattle.mq_model.proofs.Cases.{Says}
+use Rattle.mq_model.proofs.LegalReplies.{legal_says}
+use Rattle.mq_model.proofs.Frames.{record_at-older}
+
+-- the record that made a registration
+pub record IsMadeBy (past : Past) (n : Registration) : Type 0 where
+  pub place : n.place < length past
+  pub record_ : Record
+  pub at : record_at past n.place ≡ Some record_
+  pub process : record_.entry.process ≡ n.process
+  pub value : value_of_notify record_.entry.call ≡ Some n.value
+
+made-older : (past : Past) (r : Record) (n : Registration) → IsMadeBy past n → IsMadeBy (r ∷ past) n
+made-older past r n x = record { place = let lt = x.place in omega (arith, lt); record_ = x.record_; at = record_at-older past r n.place x.place ∙ x.at; process = x.process; value = x.value }
+
+made-by : (p here : ℕ) (call : Call) (n : Registration) → registration_by here p call ≡ Some n → (n.place ≡ here) × (n.process ≡ p) × (value_of_notify call ≡ Some n.value)
+made-by p here (MqNotify d (Some v)) n e = let same : record { place = here; process = p; d = d; value = v } ≡ n = cc in
+    (ap (λ (x : Registration). x.place) (sym same), ap (λ (x : Registration). x.process) (sym same), ap (λ (x : Registration). Some x.value) same)
+made-by p here (MqNotify d None) n e = absurd (cc)
+made-by p here (MqOpen flags attr) n e = absurd (cc)
+made-by p here (MqClose d) n e = absurd (cc)
+made-by p here MqUnlink n e = absurd (cc)
+made-by p here (MqSend d prio len) n e = absurd (cc)
+made-by p here (MqReceive d room) n e = absurd (cc)
+made-by p here (MqGetattr d) n e = absurd (cc)
+made-by p here (MqSetattr d nonblock) n e = absurd (cc)
+made-by p here NextNotice n e = absurd (cc)
+made-by p here Collect n e = absurd (cc)
+
+pub made-of : (p here : ℕ) (call : Call) (reply : Reply) (n : Registration) → registration_of here p call reply ≡ Some n → (n.place ≡ here) × (n.process ≡ p) × (value_of_notify call ≡ Some n.value)
+made-of p here call Done n e = made-by p here call n e
+made-of p here call (Opened d created) n e = absurd (cc)
+made-of p here call (Queued m) n e = absurd (cc)
+made-of p here call (Handed w) n e = absurd (cc)
+made-of p here call Waits n e = absurd (cc)
+made-of p here call (Got m a k) n e = absurd (cc)
+made-of p here call (Collected b) n e = absurd (cc)
+made-of p here call (Attrs s) n e = absurd (cc)
+made-of p here call (Notice v) n e = absurd (cc)
+made-of p here call (Refused f) n e = absurd (cc)
+
+pub only-some : (b : Bool) (o : Option Registration) (n : Registration) → only_if b o ≡ Some n → o ≡ Some n
+only-some b None n e = absurd (cc)
+only-some true (Some m) n e = e
+only-some false (Some m) n e = absurd (cc)
+
+unless-some : (ended : Registration → Bool) (o : Option Registration) (n : Registration) → unless ended o ≡ Some n → o ≡ Some n
+unless-some ended None n e = absurd (cc)
+unless-some ended (Some m) n e = split (ended m) (λ t. let bad : None ≡ Some n = rw t at e in absurd (cc)) (λ f. rw f at e)
+
+-- a registration that stands was made by its record
+pub registered-made : (past : Past) (q : ℕ) (n : Registration) → registered past q ≡ Some n → IsMadeBy past n
+registered-made [] q n e = absurd (cc)
+registered-made (r ∷ past) q n e = by (only_if (is_on past r.entry q) (registration_of (length past) r.entry.process r.entry.call r.entry.reply)) refl e (λ old. registered-made past q n old)
+  where
+    by : (o : Option Registration) → only_if (is_on past r.entry q) (registration_of (length past) r.entry.process r.entry.call r.entry.reply) ≡ o → registered (r ∷ past) q ≡ Some n → (registered past q ≡ Some n → IsMadeBy past n) → IsMadeBy (r ∷ past) n
+    by None is e rest = let old : unless (ends (is_on past r.entry q) r.entry) (registered past q) ≡ Some n = rw is at e in made-older past r n (rest (unless-some (ends (is_on past r.entry q) r.entry) (registered past q) n old))
+    by (Some m) is e rest =
+        let here : Some m ≡ Some n = rw is at e in
+        let facts = made-of r.entry.process (length past) r.entry.call r.entry.reply n (only-some (is_on past r.entry q) _ n (is ∙ here)) in
+        record { place = let at = facts.0 in omega (arith, at); record_ = r; at = rw (facts.0, eq-eqb (length past) (length past) refl) refl; process = sym facts.1; value = facts.2 }
+
+-- the notices that come --------------------------------------------------------------------------------------------------
+
+append-nil : (xs : List ℕ) → xs ++ [] ≡ xs
+append-nil xs = grind (arith, common_steps)
+
+-- the value that a notified registration brings its process
+value-of : (past : Past) (q : ℕ) (n : Registration) → registered past q ≡ Some n → (p : ℕ) → value_notified past p (Some n.place) ≡ (if n.process == p then Some n.value else None)
+value-of past q n e p =
+    let x = registered-made past q n e in
+    ap (value_given p) x.at ∙ rw (x.process, x.value) refl
+
+-- a process was given no more notices than it had
+pub given-few : (past : Past) → Legal past → (p : ℕ) → notices_given past p ≤ length (values_notified past p)
+given-few [] legal p = omega arith
+given-few (r ∷ past) legal p =
+    let before = given-few past legal.0 p in
+    let longer : length (values_notified (r ∷ past) p) ≡ length (values_notified past p) + length (option_to_list (value_notified past p (notified r.entry.reply))) = length-append (values_notified past p) (option_to_list (value_notified past p (notified r.entry.reply))) in
+    split (gives_notice r.entry.reply && r.entry.process == p)
+    (λ t. rw t (given r.entry.reply refl (legal_says past r legal.1) t longer before))
+    (λ f. rw f (omega (arith, before, longer)))
+  where
+    some-left : (k : ℕ) (xs : List ℕ) (v : ℕ) → slice_get (drop k xs) 0 ≡ Some v → k < length xs
+    some-left k xs v e = by (drop k xs) refl e
+      where
+        by : (ys : List ℕ) → drop k xs ≡ ys → slice_get ys 0 ≡ Some v → k < length xs
+        by [] is e = absurd (cc)
+        by (y ∷ ys) is e = let len : length (drop k xs) ≡ length (y ∷ ys) = ap length is in omega (arith, len, length-drop k xs)
+
+    given : (reply : Reply) → r.entry.reply ≡ reply → Says past r.entry.process r.entry.call reply → (gives_notice r.entry.reply && r.entry.process == p) ≡ true →
+        length (values_notified (r ∷ past) p) ≡ length (values_notified past p) + length (option_to_list (value_notified past p (notified r.entry.reply))) → notices_given past p ≤ length (values_notified past p) →
+        notices_given past p + 1 ≤ length (values_notified (r ∷ past) p)
+    given (Notice (Some v)) is says t longer before =
+        let own : (r.entry.process == p) ≡ true = rw is at t in
+        let mine : r.entry.process ≡ p = eqb-true _ _ own in
+        let first : slice_get (notices past p) 0 ≡ Some v = rw (← mine) (notice-of r.entry.call says) in
+        let lt = some-left (notices_given past p) (values_notified past p) v first in omega (arith, longer, lt)
+      where
+        notice-of : (call : Call) → Says past r.entry.process call (Notice (Some v)) → slice_get (notices past r.entry.process) 0 ≡ Some v
+        notice-of NextNotice says = let same : Notice (Some v) ≡ Notice (slice_get (notices past r.entry.process) 0) = says in cc
+        notice-of (MqOpen flags attr) says = absurd says
+        notice-of (MqClose d) says = absurd says.0
+        notice-of MqUnlink says = absurd says
+        notice-of (MqSend d prio len) says = absurd says.3
+        notice-of (MqReceive d room) says = absurd says.3
+        notice-of (MqGetattr d) says = absurd says
+        notice-of (MqSetattr d nonblock) says = absurd says
+        notice-of (MqNotify d value) says = absurd says
+        notice-of Collect says = absurd (cc)
+    given (Notice None) is says t longer before = absurd (let bad : false ≡ true = rw is at t in cc)
+    given (Opened d created) is says t longer before = absurd (let bad : false ≡ true = rw is at t in cc)
+    given (Queued m) is says t longer before = absurd (let bad : false ≡ true = rw is at t in cc)
+    given (Handed w) is says t longer before = absurd (let bad : false ≡ true = rw is at t in cc)
+    given Waits is says t longer before = absurd (let bad : false ≡ true = rw is at t in cc)
+    given (Got m a k) is says t longer before = absurd (let bad : false ≡ true = rw is at t in cc)
+    given (Collected b) is says t longer before = absurd (let bad : false ≡ true = rw is at t in cc)
+    given (Attrs s) is says t longer before = absurd (let bad : false ≡ true = rw is at t in cc)
+    given Done is says t longer before = absurd (let bad : false ≡ true = rw is at t in cc)
+    given (Refused f) is says t longer before = absurd (let bad : false ≡ true = rw is at t in cc)
+
+-- a record that notifies nobody and gives no notice
+pub notices-same : (past : Past) (r : Record) (p : ℕ) → notified r.entry.reply ≡ None → gives_notice r.entry.reply ≡ false → notices (r ∷ past) p ≡ notices past p
+notices-same past r p none quiet = rw (none, quiet) (ap (drop (notices_given past p)) (append-nil (values_notified past p)))
+
+drop-append : (k : ℕ) (xs ys : List ℕ) → k ≤ length xs → drop k (xs ++ ys) ≡ drop k xs ++ ys
+drop-append k xs ys le = grind (arith, common_steps)
+
+-- a record that notifies the registration of a queue
+pub notices-notified : (past : Past) → Legal past → (r : Record) (q : ℕ) (n : Registration) (p : ℕ) → registered past q ≡ Some n → notified r.entry.reply ≡ Some n.place → gives_notice r.entry.reply ≡ false →
+    notices (r ∷ past) p ≡ (if n.process == p then notices past p ++ n.value ∷ [] else notices past p)
+notices-notified past legal r q n p stands is quiet =
+    rw (is, quiet) (ap (λ o. drop (notices_given past p) (values_notified past p ++ option_to_list o)) (value-of past q n stands p)
+    ∙ split (n.process == p)
+    (λ t. rw t (drop-append (notices_given past p) (values_notified past p) (n.value ∷ []) (given-few past legal p)))
+    (λ f. rw f (ap (drop (notices_given past p)) (append-nil (values_notified past p)))))
+
+drop-nothing : (k : ℕ) → drop {A = ℕ} k [] ≡ []
+drop-nothing zero = refl
+drop-nothing (suc k) = refl
+
+drop-one : (k : ℕ) (xs : List ℕ) → drop (k + 1) xs ≡ drop 1 (drop k xs)
+drop-one k [] = drop-nothing (k + 1) ∙ sym (ap (drop 1) (drop-nothing k))
+drop-one zero (x ∷ xs) = refl
+drop-one (suc k) (x ∷ xs) = let e : suc k + 1 ≡ suc (k + 1) = omega arith in rw e (drop-one k xs)
+
+-- a record that gives a notice
+pub notices-given : (past : Past) (q : ℕ) (call : Call) (v : ℕ) (payload : List ℕ) (p : ℕ) → notices (record { entry = record { process = q; call = call; reply = Notice (Some v) }; payload = payload } ∷ past) p ≡ (if q == p then drop 1 (notices past p) else notices past p)
+notices-given past q call v payload p = split (q == p)
+    (λ t. rw t (ap (drop (notices_given past p + 1)) (append-nil (values_notified past p)) ∙ drop-one (notices_given past p) (values_notified past p)))
+    (λ f. rw f (ap (drop (notices_given past p)) (append-nil (values_notified past p))))

@@ -1,0 +1,372 @@
+-- The table of processes stays that of the journal, where it notes each entry.
+use Rattle.std.proofs.Common.{◌≡◌, ℕ, suc, ◌+◌, ◌<◌, ◌≤◌, ◌==◌, Bool, true, false, List, [], ◌∷◌, length, Option, Some, None, is_some, is_none, if◌then◌else◌, refl, sym, ◌∙◌, ap, subst, arith, eqb-true, eq-eqb, ne_eqb, ◌⊎◌, inl, inr, zero, get_or}
+use Rattle.std.specs.Prelude.{slice_get}
+use Rattle.std.specs.Option.{option_map, option_and_then}
+use Rattle.std.specs.List.{position_from}
+use Rattle.std.proofs.lemmas.List.Quantifiers.{position-Some}
+use Rattle.std.proofs.lemmas.Iterator.Adapters.{position_from-zero}
+use Rattle.std.proofs.lemmas.Option.{slice_get-get_or, slice_get_past}
+use Rattle.std.proofs.lemmas.Bool.{eqb-false}
+use Rattle.mq_model.specs.Record.{Record, Past}
+use Rattle.mq_model.specs.Descriptors.{held, held_after, description, with_nonblock, opened_queue, called_queue, is_place}
+use Rattle.mq_model.specs.Messages.{is_in, is_send, is_receive, least}
+use Rattle.mq_model.specs.Waits.{is_wait, named_wait, names_wait, open_wait, answered_by}
+use Rattle.mq_model.specs.Answer.{Legal, IsLegalNext, may_call, answer}
+use Rattle.mq_model.specs.Owners.{held_in, wait_in, with_wait, with_answer, with_slot, waiter_in, OwnersMirror, blocked, waiting}
+use Rattle.mq_model.specs.OwnersNoted.{FitsSlots, noted, noted_done, noted_attributes, with_answer_at}
+use Rattle.mq_model.specs.declared.owners.OpenWait.{OpenWait}
+use Rattle.mq_model.specs.declared.owners.Owner.{Owner}
+use Rattle.mq_model.specs.declared.entries.Attr.{Attr}
+use Rattle.mq_model.specs.declared.entries.Status.{Status}
+use Rattle.mq_model.specs.declared.entries.OpenFlags.{OpenFlags}
+use Rattle.mq_model.specs.declared.faults.Fault.TheVariants.{BadDescriptor}
+use Rattle.mq_model.specs.declared.entries.Description.{Description}
+use Rattle.mq_model.specs.declared.entries.Call.{Call}
+use Rattle.mq_model.specs.declared.entries.Call.TheVariants.{MqOpen, MqClose, MqUnlink, MqSend, MqReceive, MqGetattr, MqSetattr, MqNotify, NextNotice, Collect}
+use Rattle.mq_model.specs.declared.entries.Reply.{Reply}
+use Rattle.mq_model.specs.declared.entries.Reply.TheVariants.{Opened, Queued, Handed, Waits, Got, Collected, Attrs, Notice, Done, Refused}
+use Rattle.mq_model.proofs.Places.{split, clash}
+use Rattle.mq_model.proofs.Cases.{Says, answer_says}
+use Rattle.mq_model.proofs.LegalReplies.{legal_says}
+use Rattle.mq_model.proofs.OwnerLines.{line-exists, held_in-with_slot, held_in-number, held_in-with_wait, held_in-with_answer, wait_in-with_wait, wait_in-with_answer, wait_in-with_slot, answer_in-with_wait, answer_in-with_answer, answer_in-with_slot, slots-with_slot, slots-with_wait, slots-with_answer}
+use Rattle.mq_model.proofs.Frames.{open_wait-same, answered_by-step, blocked-older}
+use Rattle.mq_model.proofs.Waiters.{same-waiter, waiter, admits-least, hands-least}
+use Rattle.mq_model.proofs.OpenReplies.{opened-says, lowest_free-is}
+use Rattle.mq_model.proofs.NamedWaits.{least-in}
+
+-- q is the queue that an open opened, or on whose descriptor a call blocked
+abbrev pub EntryQueue : Past → ℕ → Call → List ℕ → Reply → ℕ → Type 0
+EntryQueue past p call name (Opened d created) q = q ≡ opened_queue past name created
+EntryQueue past p call name Waits q = called_queue past p call ≡ Some q
+EntryQueue past p call name reply q = Unit {0}
+
+abbrev rec : ℕ → Call → Reply → List ℕ → Record
+rec p call reply payload = record { entry = record { process = p; call = call; reply = reply }; payload = payload }
+
+none-of : (o : Option ℕ) → is_none o ≡ true → o ≡ None
+none-of None e = refl
+none-of (Some w) e = absurd (let bad : false ≡ true = e in cc)
+
+-- a process that makes another call than a collect has no open wait
+pub turn-none : (past : Past) (p : ℕ) (call : Call) (reply : Reply) → Says past p call reply → may_call past p call ≡ true → ((by : ℕ) → reply ≡ Collected by → ⊥) → open_wait past p ≡ None
+turn-none past p Collect reply says turn not = absurd (not _ says)
+turn-none past p call reply says turn not = none-of (open_wait past p) turn
+
+names-nothing : (reply : Reply) → named_wait reply ≡ None → (o : Option ℕ) → names_wait reply o ≡ false
+names-nothing reply e None = refl
+names-nothing reply e (Some w) = rw e refl
+
+-- a reply that names the open wait of a process names no other
+names-one : (past : Past) (reply : Reply) (receiver w : ℕ) → named_wait reply ≡ Some w → open_wait past receiver ≡ Some w → (k : ℕ) → names_wait reply (open_wait past k) ≡ (receiver == k)
+names-one past reply receiver w named open_at k = by (open_wait past k) refl
+  where
+    by : (o : Option ℕ) → open_wait past k ≡ o → names_wait reply o ≡ (receiver == k)
+    by None e = sym (ne_eqb receiver k (λ same. let here : open_wait past receiver ≡ None = rw same e in cc))
+    by (Some v) e = rw named (split (w == v)
+        (λ t. let same : w ≡ v = eqb-true _ _ t in let at : open_wait past k ≡ Some w = rw same e in rw t (sym (eq-eqb receiver k (same-waiter past receiver k w open_at at))))
+        (λ f. rw f (sym (ne_eqb receiver k (λ same. let at : open_wait past receiver ≡ Some v = rw same e in let clashes : Some w ≡ Some v = sym open_at ∙ at in eqb-false _ _ f (cc))))))
+
+-- a record that names no wait answers none
+answered-same : (past : Past) (r : Record) → open_wait past r.entry.process ≡ None → named_wait r.entry.reply ≡ None → (k : ℕ) → answered_by (r ∷ past) k ≡ answered_by past k
+answered-same past r none e k = answered_by-step past r none k ∙ rw (names-nothing r.entry.reply e (open_wait past k)) refl
+
+-- a record of a process without an open wait that begins no wait, names none, and leaves the descriptors alone
+record IsQuiet (past : Past) (p : ℕ) (call : Call) (reply : Reply) (payload : List ℕ) : Type 0 where
+  free : open_wait past p ≡ None
+  goes : is_wait reply ≡ false
+  unnamed : named_wait reply ≡ None
+  descriptors : (d : ℕ) → held_after past call payload reply d (held past p d) ≡ held past p d
+
+held-quiet : (past : Past) (r : Record) → ((d : ℕ) → held_after past r.entry.call r.payload r.entry.reply d (held past r.entry.process d) ≡ held past r.entry.process d) → (k d : ℕ) → held (r ∷ past) k d ≡ held past k d
+held-quiet past r same k d = split (r.entry.process == k) (λ t. let e : r.entry.process ≡ k = eqb-true _ _ t in let at = same d in let P : ℕ → Type 0 = λ j. held_after past r.entry.call r.payload r.entry.reply d (held past j d) ≡ held past j d in rw t (subst P e at)) (λ f. rw f refl)
+
+keep-quiet : (past : Past) (owners : List Owner) → OwnersMirror past owners → (p : ℕ) (call : Call) (reply : Reply) (payload : List ℕ) → IsQuiet past p call reply payload → OwnersMirror (rec p call reply payload ∷ past) owners
+keep-quiet past owners m p call reply payload quiet =
+    let r : Record = rec p call reply payload in
+    record {
+      slots = m.slots;
+      held = λ k d. m.held k d ∙ sym (held-quiet past r quiet.descriptors k d);
+      waits = λ k. m.waits k ∙ sym (open_wait-same past r quiet.free quiet.goes k);
+      blocked = λ k w e. blocked-older past r w.sends w.queue w.place (m.blocked k w e);
+      answers = λ k. m.answers k ∙ sym (answered-same past r quiet.free quiet.unnamed k);
+    }
+
+-- one descriptor of the process is now this
+record ChangesSlot (past : Past) (p : ℕ) (call : Call) (reply : Reply) (payload : List ℕ) (d : ℕ) (v : Option Description) : Type 0 where
+  free : open_wait past p ≡ None
+  goes : is_wait reply ≡ false
+  unnamed : named_wait reply ≡ None
+  number : d < 16
+  descriptors : (e : ℕ) → held_after past call payload reply e (held past p e) ≡ (if d == e then v else held past p e)
+
+keep-slot : (past : Past) (owners : List Owner) → OwnersMirror past owners → (p : ℕ) (call : Call) (reply : Reply) (payload : List ℕ) (d : ℕ) (v : Option Description) → p < length owners → ChangesSlot past p call reply payload d v → OwnersMirror (rec p call reply payload ∷ past) (with_slot owners p d v)
+keep-slot past owners m p call reply payload d v lt changes =
+    let r : Record = rec p call reply payload in
+    record {
+      slots = slots-with_slot owners p d v m.slots;
+      held = λ k e. held_in-with_slot owners p d k e v m.slots lt changes.number ∙ split (p == k)
+          (λ t. let same : p ≡ k = eqb-true _ _ t in
+          let P : ℕ → Type 0 = λ j. (if d == e then v else held_in owners j e) ≡ held_after past call payload reply e (held past j e) in
+          let at : P p = ap (λ o. if d == e then v else o) (m.held p e) ∙ sym (changes.descriptors e) in
+          rw t (subst P same at))
+          (λ f. rw f (m.held k e));
+      waits = λ k. ap (option_map (λ (w : OpenWait). w.place)) (wait_in-with_slot owners p d k v) ∙ m.waits k ∙ sym (open_wait-same past r changes.free changes.goes k);
+      blocked = λ k w e. blocked-older past r w.sends w.queue w.place (m.blocked k w (sym (wait_in-with_slot owners p d k v) ∙ e));
+      answers = λ k. answer_in-with_slot owners p d k v ∙ m.answers k ∙ sym (answered-same past r changes.free changes.unnamed k);
+    }
+
+-- the entry answers the open wait of one process
+keep-answer : (past : Past) (owners : List Owner) → OwnersMirror past owners → (p : ℕ) (call : Call) (reply : Reply) (payload : List ℕ) (receiver w : ℕ) → open_wait past p ≡ None → is_wait reply ≡ false → named_wait reply ≡ Some w →
+    ((d : ℕ) → held_after past call payload reply d (held past p d) ≡ held past p d) → open_wait past receiver ≡ Some w → receiver < length owners →
+    OwnersMirror (rec p call reply payload ∷ past) (with_answer owners receiver (length past))
+keep-answer past owners m p call reply payload receiver w free goes named same open_at lt =
+    let r : Record = rec p call reply payload in
+    record {
+      slots = slots-with_answer owners receiver (length past) m.slots;
+      held = λ k d. held_in-with_answer owners receiver (length past) k d ∙ m.held k d ∙ sym (held-quiet past r same k d);
+      waits = λ k. ap (option_map (λ (w : OpenWait). w.place)) (wait_in-with_answer owners receiver (length past) k) ∙ m.waits k ∙ sym (open_wait-same past r free goes k);
+      blocked = λ k x e. blocked-older past r x.sends x.queue x.place (m.blocked k x (sym (wait_in-with_answer owners receiver (length past) k) ∙ e));
+      answers = λ k. answer_in-with_answer owners receiver (length past) k lt ∙ sym (answered_by-step past r free k ∙ rw (names-one past reply receiver w named open_at k) (ap (λ o. if receiver == k then Some (length past) else o) (sym (m.answers k))));
+    }
+
+-- the process waits no longer
+keep-collected : (past : Past) (owners : List Owner) → OwnersMirror past owners → (p : ℕ) (call : Call) (by : ℕ) (payload : List ℕ) → p < length owners → OwnersMirror (rec p call (Collected by) payload ∷ past) (with_wait owners p None)
+keep-collected past owners m p call by payload lt =
+    let r : Record = rec p call (Collected by) payload in
+    record {
+      slots = slots-with_wait owners p None m.slots;
+      held = λ k d. held_in-with_wait owners p None k d ∙ m.held k d ∙ sym (held-quiet past r (λ d. refl) k d);
+      waits = λ k. ap (option_map (λ (w : OpenWait). w.place)) (wait_in-with_wait owners p None k lt) ∙ split (p == k) (λ t. rw t refl) (λ f. rw f (m.waits k));
+      blocked = λ k w e. blocked-older past r w.sends w.queue w.place (m.blocked k w (still k w e));
+      answers = λ k. answer_in-with_wait owners p None k lt ∙ split (p == k) (λ t. rw t refl) (λ f. rw f (m.answers k ∙ unnamed k));
+    }
+  where
+    still : (k : ℕ) (w : OpenWait) → wait_in (with_wait owners p None) k ≡ Some w → wait_in owners k ≡ Some w
+    still k w e = let at : (if p == k then None else wait_in owners k) ≡ Some w = sym (wait_in-with_wait owners p None k lt) ∙ e in
+        split (p == k) (λ t. let bad : None ≡ Some w = rw t at at in absurd (cc)) (λ f. rw f at at)
+
+    unnamed : (k : ℕ) → answered_by past k ≡ (if names_wait (Collected by) (open_wait past k) then Some (length past) else answered_by past k)
+    unnamed k = rw (names-nothing (Collected by) refl (open_wait past k)) refl
+
+blocked-newest : (past : Past) (p : ℕ) (call : Call) (payload : List ℕ) (q : ℕ) → called_queue past p call ≡ Some q → ((is_send call ≡ true) ⊎ (is_receive call ≡ true)) → is_in (blocked (rec p call Waits payload ∷ past) (is_send call) q) (length past) ≡ true
+blocked-newest past p (MqSend d prio len) payload q on kind = rw (on, eq-eqb q q refl, eq-eqb (length past) (length past) refl) refl
+blocked-newest past p (MqReceive d room) payload q on kind = rw (on, eq-eqb q q refl, eq-eqb (length past) (length past) refl) refl
+blocked-newest past p call payload q on (inl e) = absurd (cc)
+blocked-newest past p call payload q on (inr e) = absurd (cc)
+
+waits-kind : (past : Past) (p : ℕ) (call : Call) → Says past p call Waits → (is_send call ≡ true) ⊎ (is_receive call ≡ true)
+waits-kind past p (MqOpen flags attr) says = absurd says
+waits-kind past p (MqClose d) says = absurd says.0
+waits-kind past p MqUnlink says = absurd says
+waits-kind past p (MqSend d prio len) says = inl refl
+waits-kind past p (MqReceive d room) says = inr refl
+waits-kind past p (MqGetattr d) says = absurd says
+waits-kind past p (MqSetattr d nonblock) says = absurd says
+waits-kind past p (MqNotify d value) says = absurd says
+waits-kind past p NextNotice says = absurd (cc)
+waits-kind past p Collect says = absurd (cc)
+
+keep-waits : (past : Past) (owners : List Owner) → OwnersMirror past owners → (p : ℕ) (call : Call) (payload : List ℕ) (q : ℕ) → Says past p call Waits → open_wait past p ≡ None → called_queue past p call ≡ Some q → p < length owners →
+    OwnersMirror (rec p call Waits payload ∷ past) (with_wait owners p (Some (record { place = length past; queue = q; sends = is_send call })))
+keep-waits past owners m p call payload q says free on lt =
+    let r : Record = rec p call Waits payload in
+    let wait : OpenWait = record { place = length past; queue = q; sends = is_send call } in
+    record {
+      slots = slots-with_wait owners p (Some wait) m.slots;
+      held = λ k d. held_in-with_wait owners p (Some wait) k d ∙ m.held k d ∙ sym (held-quiet past r (λ d. refl) k d);
+      waits = λ k. ap (option_map (λ (w : OpenWait). w.place)) (wait_in-with_wait owners p (Some wait) k lt) ∙ split (p == k) (λ t. rw t refl) (λ f. rw f (m.waits k));
+      blocked = λ k w e. stands k w (sym (wait_in-with_wait owners p (Some wait) k lt) ∙ e);
+      answers = λ k. answer_in-with_wait owners p (Some wait) k lt ∙ split (p == k) (λ t. rw t refl) (λ f. rw f (m.answers k ∙ unnamed k));
+    }
+  where
+    unnamed : (k : ℕ) → answered_by past k ≡ (if names_wait Waits (open_wait past k) then Some (length past) else answered_by past k)
+    unnamed k = rw (names-nothing Waits refl (open_wait past k)) refl
+
+    stands : (k : ℕ) (w : OpenWait) → (if p == k then Some (record { place = length past; queue = q; sends = is_send call }) else wait_in owners k) ≡ Some w → is_in (blocked (rec p call Waits payload ∷ past) w.sends w.queue) w.place ≡ true
+    stands k w e = split (p == k)
+        (λ t. let it : Some (record { place = length past; queue = q; sends = is_send call }) ≡ Some w = rw t at e in
+        let same : record { place = length past; queue = q; sends = is_send call } ≡ w = cc in
+        let P : OpenWait → Type 0 = λ w. is_in (blocked (rec p call Waits payload ∷ past) w.sends w.queue) w.place ≡ true in
+        subst P same (blocked-newest past p call payload q on (waits-kind past p call says)))
+        (λ f. let old : wait_in owners k ≡ Some w = rw f at e in blocked-older past (rec p call Waits payload) w.sends w.queue w.place (m.blocked k w old))
+
+-- the process found is the one that waits since this place
+none-passes : (t : Owner → Bool) (owners : List Owner) (i : ℕ) → position_from t i owners ≡ None → (k : ℕ) (o : Owner) → slice_get owners k ≡ Some o → t o ≡ false
+none-passes t [] i e k o is = absurd (cc)
+none-passes t (x ∷ owners) i e zero o is = split (t x)
+    (λ y. let bad : Some i ≡ None = rw y at e in absurd (cc))
+    (λ n. let same : x ≡ o = cc in rw (← same) n)
+none-passes t (x ∷ owners) i e (suc k) o is = split (t x)
+    (λ y. let bad : Some i ≡ None = rw y at e in absurd (cc))
+    (λ n. let rest : position_from t (i + 1) owners ≡ None = rw n at e in none-passes t owners (i + 1) rest k o is)
+
+abbrev waits_at : ℕ → Owner → Bool
+waits_at w o = is_place w (option_map (λ x. x.place) o.wait)
+
+record IsWaiter (past : Past) (owners : List Owner) (w p : ℕ) : Type 0 where
+  is : waiter_in owners w ≡ Some p
+  open_at : open_wait past p ≡ Some w
+  inside : p < length owners
+
+waits_at-open : (past : Past) (owners : List Owner) → OwnersMirror past owners → (w p : ℕ) (o : Owner) → slice_get owners p ≡ Some o → waits_at w o ≡ true → open_wait past p ≡ Some w
+unfolding wait_in
+waits_at-open past owners m w p o line test = sym (m.waits p) ∙ by o.wait refl test
+  where
+    read : (x : Option OpenWait) → o.wait ≡ x → wait_in owners p ≡ x
+    read x e = rw line e
+
+    by : (x : Option OpenWait) → o.wait ≡ x → is_place w (option_map (λ x. x.place) o.wait) ≡ true → option_map (λ w. w.place) (wait_in owners p) ≡ Some w
+    by None e t = absurd (let bad : false ≡ true = rw e at t in cc)
+    by (Some x) e t = let t' : (x.place == w) ≡ true = rw e at t in rw (read (Some x) e) (ap Some (eqb-true _ _ t'))
+
+waiter-found : (past : Past) (owners : List Owner) → OwnersMirror past owners → (w x : ℕ) → open_wait past x ≡ Some w → x < length owners → IsWaiter past owners w x
+unfolding waiter_in wait_in
+waiter-found past owners m w x open_at lt = by (waiter_in owners w) refl
+  where
+    line : (o : Owner) × (slice_get owners x ≡ Some o)
+    line = line-exists owners x lt
+
+    passes : waits_at w line.0 ≡ true
+    passes = inner line.0.wait refl (m.waits x ∙ open_at)
+      where
+        read : (y : Option OpenWait) → line.0.wait ≡ y → wait_in owners x ≡ y
+        read y e = rw line.1 e
+
+        inner : (y : Option OpenWait) → line.0.wait ≡ y → option_map (λ w. w.place) (wait_in owners x) ≡ Some w → waits_at w line.0 ≡ true
+        inner None e h = absurd (let bad : None ≡ Some w = rw (read None e) at h in cc)
+        inner (Some y) e h = let at : Some y.place ≡ Some w = rw (read (Some y) e) at h in let same : y.place ≡ w = cc in rw (e, eq-eqb y.place w same) refl
+
+    by : (o : Option ℕ) → waiter_in owners w ≡ o → IsWaiter past owners w x
+    by None e =
+        let none : waits_at w line.0 ≡ false = none-passes (waits_at w) owners 0 (sym (position_from-zero (waits_at w) owners) ∙ e) x line.0 line.1 in
+        clash _ passes none
+    by (Some y) e =
+        let is = position-Some (waits_at w) owners y line.0 e in
+        let at : slice_get owners y ≡ Some (get_or owners y line.0) = slice_get-get_or owners y line.0 is.0 in
+        let opened : open_wait past y ≡ Some w = waits_at-open past owners m w y (get_or owners y line.0) at is.1 in
+        let same : y ≡ x = same-waiter past y x w opened open_at in
+        record { is = e ∙ ap Some same; open_at = open_at; inside = lt }
+
+-- the process of an open wait has a line
+wait-inside : (past : Past) (owners : List Owner) → OwnersMirror past owners → (p w : ℕ) → open_wait past p ≡ Some w → p < length owners
+unfolding wait_in
+wait-inside past owners m p w e = by (cases p)
+  where
+    cases : (p : ℕ) → (p < length owners) ⊎ (length owners ≤ p)
+    cases p = grind arith
+
+    none : length owners ≤ p → wait_in owners p ≡ None
+    none ge = rw (slice_get_past owners p ge) refl
+
+    by : ((p < length owners) ⊎ (length owners ≤ p)) → p < length owners
+    by (inl lt) = lt
+    by (inr ge) = absurd (let out : option_map (λ w. w.place) (wait_in owners p) ≡ Some w = m.waits p ∙ e in let bad : None ≡ Some w = rw (none ge) at out in cc)
+
+-- the entry answers the wait that its reply names, the oldest of a kind on a queue
+answers-waiter : (past : Past) (owners : List Owner) → OwnersMirror past owners → Legal past → (p : ℕ) (call : Call) (reply : Reply) (payload : List ℕ) (w : ℕ) → open_wait past p ≡ None → is_wait reply ≡ false → named_wait reply ≡ Some w →
+    ((d : ℕ) → held_after past call payload reply d (held past p d) ≡ held past p d) → (sends : Bool) (q : ℕ) → least (waiting past sends q) ≡ Some w →
+    OwnersMirror (rec p call reply payload ∷ past) (with_answer_at owners (waiter_in owners w) (length past))
+answers-waiter past owners m legal p call reply payload w free goes named same sends q first =
+    let x = waiter past legal sends q w (least-in (waiting past sends q) w first) in
+    let found = waiter-found past owners m w x.0 x.1 (wait-inside past owners m x.0 w x.1) in
+    let P : Option ℕ → Type 0 = λ o. OwnersMirror (rec p call reply payload ∷ past) (with_answer_at owners o (length past)) in
+    subst P (sym found.is) (keep-answer past owners m p call reply payload x.0 w free goes named same found.open_at found.inside)
+
+-- what an open, a close, a setattr do to the descriptors of their process
+after-open : (past : Past) (p : ℕ) (flags : OpenFlags) (attr : Option Attr) (payload : List ℕ) (d : ℕ) (created : Bool) (q : ℕ) → q ≡ opened_queue past payload created → (e : ℕ) →
+    held_after past (MqOpen flags attr) payload (Opened d created) e (held past p e) ≡ (if d == e then Some (description q flags) else held past p e)
+after-open past p flags attr payload d created q same e = rw same refl
+
+after-flag : (past : Past) (owners : List Owner) → OwnersMirror past owners → (p d : ℕ) (nonblock : Bool) (payload : List ℕ) (s : Status) (e : ℕ) →
+    held_after past (MqSetattr d nonblock) payload (Attrs s) e (held past p e) ≡ (if d == e then option_map (with_nonblock nonblock) (held_in owners p d) else held past p e)
+after-flag past owners m p d nonblock payload s e = split (d == e)
+    (λ t. let same : d ≡ e = eqb-true _ _ t in rw t (ap (option_map (with_nonblock nonblock)) (sym (m.held p e) ∙ ap (held_in owners p) (sym same))))
+    (λ f. rw f refl)
+
+-- what the replies Done and Attrs say of the descriptor of a close or a setattr
+close-held : (past : Past) (p d : ℕ) (payload : List ℕ) (s : Reply) → answer past p (MqClose d) payload ≡ Done → is_some (held past p d) ≡ true
+close-held past p d payload s e = split (is_some (held past p d)) (λ t. t) (λ f. let bad : Refused BadDescriptor ≡ Done = rw f at e in absurd (cc))
+
+setattr-held : (past : Past) (p d : ℕ) (nonblock : Bool) (payload : List ℕ) (s : Status) → answer past p (MqSetattr d nonblock) payload ≡ Attrs s → is_some (held past p d) ≡ true
+setattr-held past p d nonblock payload s e = by (held past p d) refl
+  where
+    by : (o : Option Description) → held past p d ≡ o → is_some (held past p d) ≡ true
+    by None is = absurd (let bad : Refused BadDescriptor ≡ Attrs s = rw is at e in cc)
+    by (Some h) is = rw is refl
+
+held-small : (past : Past) (owners : List Owner) → OwnersMirror past owners → (p d : ℕ) → is_some (held past p d) ≡ true → d < 16
+held-small past owners m p d e = by (held past p d) refl e
+  where
+    by : (o : Option Description) → held past p d ≡ o → is_some (held past p d) ≡ true → d < 16
+    by None is e = absurd (let bad : false ≡ true = rw is at e in cc)
+    by (Some h) is e = held_in-number owners p d h m.slots (m.held p d ∙ is)
+
+quiet : (past : Past) (p : ℕ) (call : Call) (reply : Reply) (payload : List ℕ) → open_wait past p ≡ None → is_wait reply ≡ false → named_wait reply ≡ None → ((d : ℕ) → held_after past call payload reply d (held past p d) ≡ held past p d) → IsQuiet past p call reply payload
+quiet past p call reply payload free goes unnamed same = record { free = free; goes = goes; unnamed = unnamed; descriptors = same }
+
+keep-opened : (past : Past) (owners : List Owner) → OwnersMirror past owners → (p : ℕ) (call : Call) (payload : List ℕ) (d : ℕ) (created : Bool) (q : ℕ) → Opened d created ≡ answer past p call payload → open_wait past p ≡ None → p < length owners → q ≡ opened_queue past payload created →
+    OwnersMirror (rec p call (Opened d created) payload ∷ past) (noted owners (length past) p call (Opened d created) q)
+keep-opened past owners m p (MqOpen flags attr) payload d created q is free lt at =
+    keep-slot past owners m p (MqOpen flags attr) (Opened d created) payload d (Some (description q flags)) lt
+    (record { free = free; goes = refl; unnamed = refl; number = (lowest_free-is past p d (opened-says past p flags attr payload d created is).free).1; descriptors = after-open past p flags attr payload d created q at })
+keep-opened past owners m p call payload d created q is free lt at = keep-quiet past owners m p call (Opened d created) payload (quiet past p call (Opened d created) payload free refl refl (λ d. refl))
+
+keep-done : (past : Past) (owners : List Owner) → OwnersMirror past owners → (p : ℕ) (call : Call) (payload : List ℕ) → Done ≡ answer past p call payload → open_wait past p ≡ None → p < length owners →
+    OwnersMirror (rec p call Done payload ∷ past) (noted_done owners p call)
+keep-done past owners m p (MqClose d) payload is free lt =
+    keep-slot past owners m p (MqClose d) Done payload d None lt (record { free = free; goes = refl; unnamed = refl; number = held-small past owners m p d (close-held past p d payload Done (sym is)); descriptors = λ e. refl })
+keep-done past owners m p call payload is free lt = keep-quiet past owners m p call Done payload (quiet past p call Done payload free refl refl (λ d. refl))
+
+keep-attributes : (past : Past) (owners : List Owner) → OwnersMirror past owners → (p : ℕ) (call : Call) (s : Status) (payload : List ℕ) → Attrs s ≡ answer past p call payload → open_wait past p ≡ None → p < length owners →
+    OwnersMirror (rec p call (Attrs s) payload ∷ past) (noted_attributes owners p call)
+keep-attributes past owners m p (MqSetattr d nonblock) s payload is free lt =
+    keep-slot past owners m p (MqSetattr d nonblock) (Attrs s) payload d (option_map (with_nonblock nonblock) (held_in owners p d)) lt (record { free = free; goes = refl; unnamed = refl; number = held-small past owners m p d (setattr-held past p d nonblock payload s (sym is)); descriptors = after-flag past owners m p d nonblock payload s })
+keep-attributes past owners m p call s payload is free lt = keep-quiet past owners m p call (Attrs s) payload (quiet past p call (Attrs s) payload free refl refl (λ d. refl))
+
+keep-got : (past : Past) (owners : List Owner) → OwnersMirror past owners → Legal past → (p : ℕ) (call : Call) (place : ℕ) (admitted notified : Option ℕ) (payload : List ℕ) → Says past p call (Got place admitted notified) → open_wait past p ≡ None →
+    OwnersMirror (rec p call (Got place admitted notified) payload ∷ past) (with_answer_at owners (option_and_then (waiter_in owners) admitted) (length past))
+keep-got past owners m legal p call place None n payload says free = keep-quiet past owners m p call (Got place None n) payload (quiet past p call (Got place None n) payload free refl refl (λ d. refl))
+keep-got past owners m legal p call place (Some w) n payload says free =
+    let x = admits-least past p call place (Some w) n says in
+    answers-waiter past owners m legal p call (Got place (Some w) n) payload w free refl refl (λ d. refl) true x.0 (sym x.1)
+
+keep-by : (past : Past) (owners : List Owner) → OwnersMirror past owners → Legal past → (p : ℕ) (call : Call) (reply : Reply) (payload : List ℕ) (q : ℕ) → Says past p call reply → reply ≡ answer past p call payload →
+    (((by : ℕ) → reply ≡ Collected by → ⊥) → open_wait past p ≡ None) → p < length owners → EntryQueue past p call payload reply q → OwnersMirror (rec p call reply payload ∷ past) (noted owners (length past) p call reply q)
+keep-by past owners m legal p call (Opened d created) payload q says is free lt at = keep-opened past owners m p call payload d created q is (free (λ by e. cc)) lt at
+keep-by past owners m legal p call (Queued n) payload q says is free lt at = keep-quiet past owners m p call (Queued n) payload (quiet past p call (Queued n) payload (free (λ by e. cc)) refl refl (λ d. refl))
+keep-by past owners m legal p call (Handed w) payload q says is free lt at = let x = hands-least past p call w says in answers-waiter past owners m legal p call (Handed w) payload w (free (λ by e. cc)) refl refl (λ d. refl) false x.0 x.1
+keep-by past owners m legal p call Waits payload q says is free lt at = keep-waits past owners m p call payload q says (free (λ by e. cc)) at lt
+keep-by past owners m legal p call (Got place admitted notified) payload q says is free lt at = keep-got past owners m legal p call place admitted notified payload says (free (λ by e. cc))
+keep-by past owners m legal p call (Collected by) payload q says is free lt at = keep-collected past owners m p call by payload lt
+keep-by past owners m legal p call (Attrs s) payload q says is free lt at = keep-attributes past owners m p call s payload is (free (λ by e. cc)) lt
+keep-by past owners m legal p call (Notice v) payload q says is free lt at = keep-quiet past owners m p call (Notice v) payload (quiet past p call (Notice v) payload (free (λ by e. cc)) refl refl (λ d. refl))
+keep-by past owners m legal p call Done payload q says is free lt at = keep-done past owners m p call payload is (free (λ by e. cc)) lt
+keep-by past owners m legal p call (Refused f) payload q says is free lt at = keep-quiet past owners m p call (Refused f) payload (quiet past p call (Refused f) payload (free (λ by e. cc)) refl refl (λ d. refl))
+
+-- the table stays that of the journal where it notes an entry that may stand behind it
+pub noted-keeps : (past : Past) (owners : List Owner) → OwnersMirror past owners → Legal past → (r : Record) (q : ℕ) → IsLegalNext past r → r.entry.process < length owners → EntryQueue past r.entry.process r.entry.call r.payload r.entry.reply q →
+    OwnersMirror (r ∷ past) (noted owners (length past) r.entry.process r.entry.call r.entry.reply q)
+noted-keeps past owners m legal r q next lt at =
+    let says = legal_says past r next in
+    keep-by past owners m legal r.entry.process r.entry.call r.entry.reply r.payload q says next.reply (λ other. turn-none past r.entry.process r.entry.call r.entry.reply says next.turn other) lt at
+
+-- what the entry changes of the descriptors is one of the sixteen
+pub noted-fits : (past : Past) (owners : List Owner) → OwnersMirror past owners → (p : ℕ) (call : Call) (reply : Reply) (payload : List ℕ) → reply ≡ answer past p call payload → FitsSlots call reply
+noted-fits past owners m p call (Opened d created) payload is = opened call is (subst (Says past p call) (sym is) (answer_says past p call payload))
+  where
+    opened : (call : Call) → Opened d created ≡ answer past p call payload → Says past p call (Opened d created) → d < 16
+    opened (MqOpen flags attr) is says = (lowest_free-is past p d (opened-says past p flags attr payload d created is).free).1
+    opened (MqClose e) is says = absurd says.0
+    opened MqUnlink is says = absurd says
+    opened (MqSend e prio len) is says = absurd says.3
+    opened (MqReceive e room) is says = absurd says.3
+    opened (MqGetattr e) is says = absurd says
+    opened (MqSetattr e nonblock) is says = absurd says
+    opened (MqNotify e value) is says = absurd says
+    opened NextNotice is says = absurd (cc)
+    opened Collect is says = absurd (cc)
+noted-fits past owners m p (MqClose d) Done payload is = held-small past owners m p d (close-held past p d payload Done (sym is))
+noted-fits past owners m p call Done payload is = tt
+noted-fits past owners m p (MqSetattr d nonblock) (Attrs s) payload is = held-small past owners m p d (setattr-held past p d nonblock payload s (sym is))
+noted-fits past owners m p call (Attrs s) payload is = tt
+noted-fits past owners m p call reply payload is = tt

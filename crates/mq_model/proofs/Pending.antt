@@ -1,0 +1,104 @@
+-- The waits that a table of processes holds are those that the definitions give.
+use Rattle.std.proofs.Common.{◌≡◌, ℕ, ◌<◌, ◌≤◌, ◌==◌, Bool, true, false, ◌&&◌, not, List, length, Option, Some, None, refl, sym, ◌∙◌, ap, arith, eqb-true, eq-eqb, ◌⊎◌, inl, inr}
+use Rattle.std.specs.List.{filter}
+use Rattle.std.specs.Option.{option_map}
+use Rattle.std.proofs.lemmas.Bool.{and_parts}
+use Rattle.mq_model.specs.Record.{Past}
+use Rattle.mq_model.specs.Messages.{is_in, least}
+use Rattle.mq_model.specs.Waits.{open_wait, answered_by}
+use Rattle.mq_model.specs.Answer.{Legal}
+use Rattle.mq_model.specs.Owners.{wait_in, answer_in, pending, pending_in, is_kind, IsFirstWait, OwnersMirror, blocked, waiting}
+use Rattle.mq_model.specs.declared.owners.OpenWait.{OpenWait}
+use Rattle.mq_model.specs.declared.owners.Owner.{Owner}
+use Rattle.mq_model.proofs.Places.{split, is_in-filter}
+use Rattle.mq_model.proofs.OwnerLines.{pending_in-past}
+use Rattle.mq_model.proofs.NamedWaits.{blocked-once}
+use Rattle.mq_model.proofs.Waiters.{named_waits, waiting-filter, in-filter, waiter, unnamed, least-none, least-some}
+
+-- what a pending wait is
+record IsPending (owners : List Owner) (p q : ℕ) (sends : Bool) (w : ℕ) : Type 0 where
+  wait : OpenWait
+  is : wait_in owners p ≡ Some wait
+  open_still : answer_in owners p ≡ None
+  place : wait.place ≡ w
+  queue : wait.queue ≡ q
+  kind : wait.sends ≡ sends
+
+is_kind-same : (s t : Bool) → is_kind s t ≡ true → t ≡ s
+is_kind-same true true e = refl
+is_kind-same true false e = absurd (cc)
+is_kind-same false true e = absurd (cc)
+is_kind-same false false e = refl
+
+is_pending : (owners : List Owner) (p q : ℕ) (sends : Bool) (w : ℕ) → pending_in owners p q sends ≡ Some w → IsPending owners p q sends w
+unfolding pending_in
+is_pending owners p q sends w e = by (wait_in owners p) refl (answer_in owners p) refl e
+  where
+    by : (o : Option OpenWait) → wait_in owners p ≡ o → (a : Option ℕ) → answer_in owners p ≡ a → pending o a q sends ≡ Some w → IsPending owners p q sends w
+    by None is a none e = absurd (cc)
+    by (Some x) is (Some b) none e = absurd (cc)
+    by (Some x) is None none e = split (x.queue == q && is_kind sends x.sends)
+        (λ t. let parts = and_parts (x.queue == q) (is_kind sends x.sends) t in let same : Some x.place ≡ Some w = rw t at e in
+        record { wait = x; is = is; open_still = none; place = cc; queue = eqb-true _ _ parts.0; kind = is_kind-same sends x.sends parts.1 })
+        (λ f. let same : None ≡ Some w = rw f at e in absurd (cc))
+
+is_kind-self : (s : Bool) → is_kind s s ≡ true
+is_kind-self true = refl
+is_kind-self false = refl
+
+pending-is : (owners : List Owner) (p q : ℕ) (sends : Bool) (w : ℕ) (y : OpenWait) → wait_in owners p ≡ Some y → answer_in owners p ≡ None → y.place ≡ w → y.queue ≡ q → y.sends ≡ sends → pending_in owners p q sends ≡ Some w
+unfolding pending_in
+pending-is owners p q sends w y is none place queue kind = rw (is, none, queue, kind, eq-eqb q q refl, is_kind-self sends) (ap Some place)
+
+pub pending-inside : (owners : List Owner) (p q : ℕ) (sends : Bool) (w : ℕ) → pending_in owners p q sends ≡ Some w → p < length owners
+pending-inside owners p q sends w e = by (cases p)
+  where
+    cases : (p : ℕ) → (p < length owners) ⊎ (length owners ≤ p)
+    cases p = grind arith
+
+    by : ((p < length owners) ⊎ (length owners ≤ p)) → p < length owners
+    by (inl lt) = lt
+    by (inr ge) = absurd (let none : pending_in owners p q sends ≡ None = pending_in-past owners p q sends ge in cc)
+
+pub pending-waits : (past : Past) (owners : List Owner) → OwnersMirror past owners → Legal past → (p q : ℕ) (sends : Bool) (w : ℕ) → pending_in owners p q sends ≡ Some w → is_in (waiting past sends q) w ≡ true
+pending-waits past owners m legal p q sends w e =
+    let x = is_pending owners p q sends w e in
+    let P : ℕ → Type 0 = λ k. open_wait past p ≡ Some k in
+    let open_at : open_wait past p ≡ Some x.wait.place = sym (m.waits p) ∙ ap (option_map (λ (y : OpenWait). y.place)) x.is in
+    let unanswered : answered_by past p ≡ None = sym (m.answers p) ∙ x.open_still in
+    let free : is_in (named_waits past sends) x.wait.place ≡ false = unnamed past legal p x.wait.place open_at unanswered sends in
+    let stands : is_in (blocked past x.wait.sends x.wait.queue) x.wait.place ≡ true = m.blocked p x.wait x.is in
+    let stands' : is_in (blocked past sends q) x.wait.place ≡ true = rw (x.kind, x.queue) at stands in
+    rw (waiting-filter past sends q, ← x.place) (in-filter _ (blocked past sends q) x.wait.place stands' (rw free refl))
+
+pub waits-pending : (past : Past) (owners : List Owner) → OwnersMirror past owners → Legal past → (q : ℕ) (sends : Bool) (w : ℕ) → is_in (waiting past sends q) w ≡ true → (p : ℕ) × (pending_in owners p q sends ≡ Some w)
+waits-pending past owners m legal q sends w h =
+    let x = waiter past legal sends q w h in
+    let h' : is_in (filter (λ w. not (is_in (named_waits past sends) w)) (blocked past sends q)) w ≡ true = rw (waiting-filter past sends q) at h in
+    let inside = is_in-filter _ (blocked past sends q) w h' in
+    (x.0, by x.0 (wait_in owners x.0) refl (answer_in owners x.0) refl (m.waits x.0 ∙ x.1) (m.answers x.0 ∙ x.2) inside.0)
+  where
+    by : (p : ℕ) (o : Option OpenWait) → wait_in owners p ≡ o → (a : Option ℕ) → answer_in owners p ≡ a → option_map (λ y. y.place) (wait_in owners p) ≡ Some w → answer_in owners p ≡ None → is_in (blocked past sends q) w ≡ true → pending_in owners p q sends ≡ Some w
+    by p None is a none at free stands = absurd (let e : None ≡ Some w = rw is at at in cc)
+    by p (Some y) is (Some b) none at free stands = absurd (let e : Some b ≡ None = sym none ∙ free in cc)
+    by p (Some y) is None none at free stands =
+        let e : Some y.place ≡ Some w = rw is at at in
+        let place : y.place ≡ w = cc in
+        let stands' : is_in (blocked past y.sends y.queue) w ≡ true = rw place at (m.blocked p y is) in
+        let same = blocked-once past y.sends sends y.queue q w stands' stands in
+        pending-is owners p q sends w y is none place same.1 same.0
+
+pub least-pending : (past : Past) (owners : List Owner) → OwnersMirror past owners → Legal past → (q : ℕ) (sends : Bool) (p w : ℕ) → IsFirstWait owners q sends p w → least (waiting past sends q) ≡ Some w
+least-pending past owners m legal q sends p w first =
+    least-some (waiting past sends q) w (pending-waits past owners m legal p q sends w first.waits)
+    (λ k h. let x = waits-pending past owners m legal q sends k h in first.least x.0 k x.1)
+
+pub no-pending : (past : Past) (owners : List Owner) → OwnersMirror past owners → Legal past → (q : ℕ) (sends : Bool) → ((p : ℕ) → pending_in owners p q sends ≡ None) → least (waiting past sends q) ≡ None
+no-pending past owners m legal q sends none =
+    least-none (waiting past sends q) (λ k h. let x = waits-pending past owners m legal q sends k h in let a : Some k ≡ None = sym x.1 ∙ none x.0 in cc)
+
+-- the process of a pending wait, and its open wait
+pub pending-open : (past : Past) (owners : List Owner) → OwnersMirror past owners → (p q : ℕ) (sends : Bool) (w : ℕ) → pending_in owners p q sends ≡ Some w → open_wait past p ≡ Some w
+pending-open past owners m p q sends w e =
+    let x = is_pending owners p q sends w e in
+    sym (m.waits p) ∙ ap (option_map (λ (y : OpenWait). y.place)) x.is ∙ ap Some x.place

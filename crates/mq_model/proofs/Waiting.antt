@@ -1,0 +1,156 @@
+-- Where a receive waits, nothing is in the queue.
+use Rattle.std.proofs.Common.{◌≡◌, ℕ, ◌==◌, true, false, ◌&&◌, ◌||◌, not, List, [], ◌∷◌, length, Option, Some, None, refl, sym, ◌∙◌, ap, subst, min, arith, eq-eqb, eqb-true, ne_eqb}
+use Rattle.std.specs.Option.{option_map}
+use Rattle.std.proofs.lemmas.Bool.{eqb-false, and_parts}
+use Rattle.mq_model.specs.Record.{Record, Past}
+use Rattle.mq_model.specs.Descriptors.{is_place, is_on, called_queue, held}
+use Rattle.mq_model.specs.Messages.{is_in, if_in, taken, present, admitted, least, blocked_sends, blocked_receives, blocks_send, handed_waits, admitted_waits, waiting_sends, waiting_receives}
+use Rattle.mq_model.specs.Answer.{Legal}
+use Rattle.mq_model.proofs.Places.{split, is_in-filter, find-in}
+use Rattle.mq_model.proofs.Best.{best-none}
+use Rattle.mq_model.proofs.Cases.{Says}
+use Rattle.mq_model.proofs.LegalReplies.{legal_says}
+use Rattle.mq_model.proofs.Steps.{without, filter-both, blocked_sends-below, if_in-inside}
+use Rattle.mq_model.specs.declared.entries.Description.{Description}
+use Rattle.mq_model.specs.declared.entries.Call.{Call}
+use Rattle.mq_model.specs.declared.entries.Call.TheVariants.{MqOpen, MqClose, MqUnlink, MqSend, MqReceive, MqGetattr, MqSetattr, MqNotify, NextNotice, Collect}
+use Rattle.mq_model.specs.declared.entries.Reply.{Reply}
+use Rattle.mq_model.specs.declared.entries.Reply.TheVariants.{Opened, Queued, Handed, Waits, Got, Collected, Attrs, Notice, Done, Refused}
+
+least-none : (xs : List ℕ) → least xs ≡ None → xs ≡ []
+least-none [] e = refl
+least-none (x ∷ xs) e = absurd (cc)
+
+not-in-nil : (xs : List ℕ) (m : ℕ) → xs ≡ [] → is_in xs m ≡ true → ⊥
+not-in-nil [] m e h = absurd (cc)
+not-in-nil (x ∷ xs) m e h = absurd (cc)
+
+least-in : (xs : List ℕ) (m : ℕ) → least xs ≡ Some m → is_in xs m ≡ true
+least-in [] m e = absurd (cc)
+least-in (x ∷ xs) m e = step x xs (least xs) refl m e (λ k f. least-in xs k f)
+  where
+    step : (x : ℕ) (xs : List ℕ) (o : Option ℕ) → least xs ≡ o → (m : ℕ) → least (x ∷ xs) ≡ Some m → ((k : ℕ) → least xs ≡ Some k → is_in xs k ≡ true) → is_in (x ∷ xs) m ≡ true
+    step x xs None f m e rest = let g : Some (min x x) ≡ Some m = rw f at e in let same : min x x ≡ m = cc in let here : x ≡ m = omega arith in rw (eq-eqb x m here) refl
+    step x xs (Some k) f m e rest =
+        let g : Some (min x k) ≡ Some m = rw f at e in let same : min x k ≡ m = cc in
+        split (x == m) (λ here. rw here refl) (λ other. let ne : x ≡ m → ⊥ = eqb-false _ _ other in let old : k ≡ m = omega arith in let inside : is_in xs m ≡ true = rw old at (rest k f) in rw (other, inside) refl)
+
+same_queue : (o : Option ℕ) (q k : ℕ) → is_place q o ≡ true → is_place k o ≡ true → q ≡ k
+same_queue None q k h g = absurd (cc)
+same_queue (Some j) q k h g = let a : j ≡ q = eqb-true _ _ h in let b : j ≡ k = eqb-true _ _ g in cc
+
+-- a blocked send is to one queue
+blocked-one_queue : (past : Past) (q k w : ℕ) → is_in (blocked_sends past q) w ≡ true → is_in (blocked_sends past k) w ≡ true → q ≡ k
+blocked-one_queue [] q k w h g = absurd (cc)
+blocked-one_queue (r ∷ past) q k w h g =
+    split (w == length past)
+    (λ here. let e : w ≡ length past = eqb-true _ _ here in
+    same_queue (called_queue past r.entry.process r.entry.call) q k (newest past r q w e h) (newest past r k w e g))
+    (λ there. let ne : w ≡ length past → ⊥ = eqb-false _ _ there in
+    blocked-one_queue past q k w (older past r q w ne h) (older past r k w ne g))
+  where
+    newest : (past : Past) (r : Record) (q w : ℕ) → w ≡ length past → is_in (blocked_sends (r ∷ past) q) w ≡ true → is_place q (called_queue past r.entry.process r.entry.call) ≡ true
+    newest past r q w e h =
+        split (blocks_send r.entry.call r.entry.reply && is_on past r.entry q)
+        (λ t. (and_parts (blocks_send r.entry.call r.entry.reply) (is_on past r.entry q) t).1)
+        (λ f. let old : is_in (blocked_sends past q) w ≡ true = rw f at h in absurd (omega (arith, blocked_sends-below past q w old)))
+
+    older : (past : Past) (r : Record) (q w : ℕ) → (w ≡ length past → ⊥) → is_in (blocked_sends (r ∷ past) q) w ≡ true → is_in (blocked_sends past q) w ≡ true
+    older past r q w ne h =
+        split (blocks_send r.entry.call r.entry.reply && is_on past r.entry q)
+        (λ t. let new : (length past == w || is_in (blocked_sends past q) w) ≡ true = rw t at h in let other : (length past == w) ≡ false = ne_eqb _ _ (λ e. ne (sym e)) in rw other at new)
+        (λ f. rw f at h)
+
+abbrev rec : ℕ → Call → Reply → List ℕ → Record
+rec p call reply payload = record { entry = record { process = p; call = call; reply = reply }; payload = payload }
+
+-- where a receive waits on queue q, the queue is empty
+abbrev IsEmptyWhereWaiting : Past → ℕ → ℕ → Type 0
+IsEmptyWhereWaiting past q w = is_in (waiting_receives past q) w ≡ true → present past q ≡ []
+
+-- the queue that a held descriptor names
+on_queue : (past : Past) (p d q : ℕ) (h : Description) → held past p d ≡ Some h → is_place q (option_map (λ h. h.queue) (held past p d)) ≡ true → h.queue ≡ q
+on_queue past p d q h e on = let test : (h.queue == q) ≡ true = rw e at on in eqb-true _ _ test
+
+empty-queued : (past : Past) (p : ℕ) (call : Call) (n : Option ℕ) (payload : List ℕ) (q w : ℕ) → Says past p call (Queued n) → IsEmptyWhereWaiting past q w → IsEmptyWhereWaiting (rec p call (Queued n) payload ∷ past) q w
+empty-queued past p (MqSend d prio len) n payload q w says before h =
+    split (is_place q (called_queue past p (MqSend d prio len)))
+    (λ on. let same : says.0.queue ≡ q = on_queue past p d q says.0 says.1 on in
+    let none : waiting_receives past says.0.queue ≡ [] = least-none _ says.3.0 in
+    let P : ℕ → Type 0 = λ k. waiting_receives past k ≡ [] in
+    absurd (not-in-nil (waiting_receives past q) w (subst P same none) h))
+    (λ off. rw off (before h))
+empty-queued past p (MqOpen flags attr) n payload q w says before h = absurd says
+empty-queued past p (MqClose d) n payload q w says before h = absurd says.0
+empty-queued past p MqUnlink n payload q w says before h = absurd says
+empty-queued past p (MqReceive d room) n payload q w says before h = absurd says.3
+empty-queued past p (MqGetattr d) n payload q w says before h = absurd says
+empty-queued past p (MqSetattr d nonblock) n payload q w says before h = absurd says
+empty-queued past p (MqNotify d value) n payload q w says before h = absurd says
+empty-queued past p NextNotice n payload q w says before h = absurd (cc)
+empty-queued past p Collect n payload q w says before h = absurd (cc)
+
+empty-handed : (past : Past) (p : ℕ) (call : Call) (w0 : ℕ) (payload : List ℕ) (q w : ℕ) → IsEmptyWhereWaiting past q w → IsEmptyWhereWaiting (rec p call (Handed w0) payload ∷ past) q w
+empty-handed past p call w0 payload q w before h =
+    let still : is_in (without w0 (waiting_receives past q)) w ≡ true = rw (← filter-both (λ k. w0 == k) (is_in (handed_waits past)) (blocked_receives past q)) h in
+    let empty = before (is_in-filter (λ k. not (w0 == k)) (waiting_receives past q) w still).0 in
+    filter-both (λ k. length past == k) (is_in (taken past)) (admitted past q) ∙ ap (without (length past)) empty
+
+empty-waits : (past : Past) (p : ℕ) (call : Call) (payload : List ℕ) (q w : ℕ) → Says past p call Waits → IsEmptyWhereWaiting past q w → IsEmptyWhereWaiting (rec p call Waits payload ∷ past) q w
+empty-waits past p (MqSend d prio len) payload q w says before h = before h
+empty-waits past p (MqReceive d room) payload q w says before h =
+    split (is_place q (called_queue past p (MqReceive d room)))
+    (λ on. let same : says.0.queue ≡ q = on_queue past p d q says.0 says.1 on in
+    let P : ℕ → Type 0 = λ k. present past k ≡ [] in
+    subst P same (best-none past says.0.queue says.3.0))
+    (λ off. let old : is_in (waiting_receives past q) w ≡ true = rw off at h in before old)
+empty-waits past p (MqOpen flags attr) payload q w says before h = absurd says
+empty-waits past p (MqClose d) payload q w says before h = absurd says.0
+empty-waits past p MqUnlink payload q w says before h = absurd says
+empty-waits past p (MqGetattr d) payload q w says before h = absurd says
+empty-waits past p (MqSetattr d nonblock) payload q w says before h = absurd says
+empty-waits past p (MqNotify d value) payload q w says before h = absurd says
+empty-waits past p NextNotice payload q w says before h = absurd (cc)
+empty-waits past p Collect payload q w says before h = absurd (cc)
+
+empty-got : (past : Past) (p : ℕ) (call : Call) (m : ℕ) (a n : Option ℕ) (payload : List ℕ) (q w : ℕ) → Says past p call (Got m a n) → IsEmptyWhereWaiting past q w → IsEmptyWhereWaiting (rec p call (Got m a n) payload ∷ past) q w
+empty-got past p (MqReceive d room) m a n payload q w says before h =
+    let empty : present past q ≡ [] = before h in
+    by_admitted (if_in (blocked_sends past q) a) refl empty
+  where
+    by_admitted : (o : Option ℕ) → if_in (blocked_sends past q) a ≡ o → present past q ≡ [] → present (rec p (MqReceive d room) (Got m a n) payload ∷ past) q ≡ []
+    by_admitted None e empty = rw e (filter-both (λ k. m == k) (is_in (taken past)) (admitted past q) ∙ ap (without m) empty)
+    by_admitted (Some w1) e empty =
+        let inside = if_in-inside (blocked_sends past q) a w1 e in
+        let first : least (waiting_sends past says.0.queue) ≡ Some w1 = sym says.3.1 ∙ inside.1 in
+        let there = (is_in-filter (λ k. not (is_in (admitted_waits past) k)) (blocked_sends past says.0.queue) w1 (least-in _ w1 first)).0 in
+        let same : says.0.queue ≡ q = blocked-one_queue past says.0.queue q w1 there inside.0 in
+        let P : ℕ → Type 0 = λ k. is_in (present past k) m ≡ true in
+        let held : is_in (present past q) m ≡ true = subst P same (find-in _ (present past says.0.queue) m says.3.0).0 in
+        absurd (not-in-nil (present past q) m empty held)
+empty-got past p (MqOpen flags attr) m a n payload q w says before h = absurd says
+empty-got past p (MqClose d) m a n payload q w says before h = absurd says.0
+empty-got past p MqUnlink m a n payload q w says before h = absurd says
+empty-got past p (MqSend d prio len) m a n payload q w says before h = absurd says.3
+empty-got past p (MqGetattr d) m a n payload q w says before h = absurd says
+empty-got past p (MqSetattr d nonblock) m a n payload q w says before h = absurd says
+empty-got past p (MqNotify d value) m a n payload q w says before h = absurd says
+empty-got past p NextNotice m a n payload q w says before h = absurd (cc)
+empty-got past p Collect m a n payload q w says before h = absurd (cc)
+
+empty-more : (past : Past) (p : ℕ) (call : Call) (reply : Reply) (payload : List ℕ) (q w : ℕ) → Says past p call reply → IsEmptyWhereWaiting past q w → IsEmptyWhereWaiting (rec p call reply payload ∷ past) q w
+empty-more past p call (Opened d created) payload q w says before h = before h
+empty-more past p call (Collected by) payload q w says before h = before h
+empty-more past p call (Attrs s) payload q w says before h = before h
+empty-more past p call (Notice v) payload q w says before h = before h
+empty-more past p call Done payload q w says before h = before h
+empty-more past p call (Refused f) payload q w says before h = before h
+empty-more past p call (Queued n) payload q w says before h = empty-queued past p call n payload q w says before h
+empty-more past p call (Handed w0) payload q w says before h = empty-handed past p call w0 payload q w before h
+empty-more past p call Waits payload q w says before h = empty-waits past p call payload q w says before h
+empty-more past p call (Got m a n) payload q w says before h = empty-got past p call m a n payload q w says before h
+
+-- if a receive waits on a queue, the queue is empty
+pub waiting-empty : (past : Past) → Legal past → (q w : ℕ) → is_in (waiting_receives past q) w ≡ true → present past q ≡ []
+waiting-empty [] legal q w h = refl
+waiting-empty (r ∷ past) legal q w h = empty-more past r.entry.process r.entry.call r.entry.reply r.payload q w (legal_says past r legal.1) (λ e. waiting-empty past legal.0 q w e) h

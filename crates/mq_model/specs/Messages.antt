@@ -1,0 +1,147 @@
+-- The messages of a queue, and the calls that wait on it (mq_send, mq_receive).
+use Rattle.std.specs.Prelude.{ℕ, pos, Bool, true, false, ◌&&◌, ◌||◌, not, ◌==◌, nat_lt, nat_le, min, List, [], ◌∷◌, length, Option, Some, None, if◌then◌else◌, int_le}
+use Rattle.std.specs.List.{list_any, list_all, filter, find}
+use Rattle.std.specs.Option.{option_map, unwrap_or}
+use Rattle.mq_model.specs.Record.{Past, record_at}
+use Rattle.mq_model.specs.Names.{attributes}
+use Rattle.mq_model.specs.Descriptors.{is_on}
+use Rattle.mq_model.specs.declared.entries.Entry.{Entry}
+use Rattle.mq_model.specs.declared.entries.Call.{Call}
+use Rattle.mq_model.specs.declared.entries.Call.TheVariants.{MqSend, MqReceive}
+use Rattle.mq_model.specs.declared.entries.Reply.{Reply}
+use Rattle.mq_model.specs.declared.entries.Reply.TheVariants.{Queued, Handed, Waits, Got}
+
+abbrev pub is_in : List ℕ → ℕ → Bool
+is_in places place = list_any (λ k. k == place) places
+
+abbrev pub is_send : Call → Bool
+is_send (MqSend d prio len) = true
+is_send _ = false
+
+abbrev pub is_receive : Call → Bool
+is_receive (MqReceive d room) = true
+is_receive _ = false
+
+-- a send whose message entered its queue at once
+abbrev pub queues : Call → Reply → Bool
+queues call (Queued notified) = is_send call
+queues call _ = false
+
+-- a send whose message was handed to a waiting receive
+abbrev pub hands_over : Call → Reply → Bool
+hands_over call (Handed wait) = is_send call
+hands_over call _ = false
+
+-- a send that blocked
+abbrev pub blocks_send : Call → Reply → Bool
+blocks_send call Waits = is_send call
+blocks_send call _ = false
+
+-- a receive that blocked
+abbrev pub blocks_receive : Call → Reply → Bool
+blocks_receive call Waits = is_receive call
+blocks_receive call _ = false
+
+-- the waiting send that a reply admits to its queue
+abbrev pub admits : Reply → Option ℕ
+admits (Got place admitted notified) = admitted
+admits _ = None
+
+-- the waiting receive that a reply hands a message to
+abbrev pub hands : Reply → Option ℕ
+hands (Handed wait) = Some wait
+hands _ = None
+
+abbrev pub with_place : Option ℕ → List ℕ → List ℕ
+with_place None places = places
+with_place (Some k) places = k ∷ places
+
+-- the waiting sends that were admitted, and the waiting receives that were handed a message
+abbrev pub admitted_waits : Past → List ℕ
+admitted_waits [] = []
+admitted_waits (r ∷ past) = with_place (admits r.entry.reply) (admitted_waits past)
+
+abbrev pub handed_waits : Past → List ℕ
+handed_waits [] = []
+handed_waits (r ∷ past) = with_place (hands r.entry.reply) (handed_waits past)
+
+-- the sends to a queue that blocked, and the receives on it that blocked, the latest first
+abbrev pub blocked_sends : Past → ℕ → List ℕ
+blocked_sends [] q = []
+blocked_sends (r ∷ past) q = if blocks_send r.entry.call r.entry.reply && is_on past r.entry q then length past ∷ blocked_sends past q else blocked_sends past q
+
+abbrev pub blocked_receives : Past → ℕ → List ℕ
+blocked_receives [] q = []
+blocked_receives (r ∷ past) q = if blocks_receive r.entry.call r.entry.reply && is_on past r.entry q then length past ∷ blocked_receives past q else blocked_receives past q
+
+-- the sends that wait for room in the queue, and the receives that wait for a message
+abbrev pub waiting_sends : Past → ℕ → List ℕ
+waiting_sends past q = filter (λ w. not (is_in (admitted_waits past) w)) (blocked_sends past q)
+
+abbrev pub waiting_receives : Past → ℕ → List ℕ
+waiting_receives past q = filter (λ w. not (is_in (handed_waits past) w)) (blocked_receives past q)
+
+-- this place, if it is one of these
+abbrev pub if_in : List ℕ → Option ℕ → Option ℕ
+if_in places None = None
+if_in places (Some w) = if is_in places w then Some w else None
+
+-- the message that an entry lets into queue q: that of a send queued at once, or of a blocked send that a receive admits
+abbrev pub entered : Past → Entry → ℕ → Option ℕ
+entered past e q =
+    if queues e.call e.reply && is_on past e q then Some (length past)
+    else if_in (blocked_sends past q) (admits e.reply)
+
+-- the messages that entered the queue, the last to enter first. Each is named by the place of its send, and a blocked
+-- one enters where it is admitted
+abbrev pub admitted : Past → ℕ → List ℕ
+admitted [] q = []
+admitted (r ∷ past) q = with_place (entered past r.entry q) (admitted past q)
+
+-- the messages that were handed to a receive that waited on the queue
+abbrev pub handed : Past → ℕ → List ℕ
+handed [] q = []
+handed (r ∷ past) q = if hands_over r.entry.call r.entry.reply && is_on past r.entry q then length past ∷ handed past q else handed past q
+
+-- the message was accepted: it entered the queue, or was handed over
+abbrev pub is_accepted : Past → ℕ → ℕ → Bool
+is_accepted past q m = is_in (admitted past q) m || is_in (handed past q) m
+
+-- the messages that a reply takes: the one that it gives to its caller, or the one that the caller handed over
+abbrev pub taken_by : ℕ → Reply → Option ℕ
+taken_by here (Got place admitted notified) = Some place
+taken_by here (Handed wait) = Some here
+taken_by here _ = None
+
+abbrev pub taken : Past → List ℕ
+taken [] = []
+taken (r ∷ past) = with_place (taken_by (length past) r.entry.reply) (taken past)
+
+-- the messages in the queue: those that entered it and were not taken, the last to enter first
+abbrev pub present : Past → ℕ → List ℕ
+present past q = filter (λ m. not (is_in (taken past) m)) (admitted past q)
+
+-- the queue holds as many messages as it may
+abbrev pub is_full : Past → ℕ → Bool
+is_full past q = int_le (attributes past q).maxmsg (pos (length (present past q)))
+
+abbrev pub priority_given : Call → ℕ
+priority_given (MqSend d prio len) = prio
+priority_given _ = 0
+
+-- the priority of a message
+abbrev pub priority : Past → ℕ → ℕ
+priority past m = unwrap_or (option_map (λ r. priority_given r.entry.call) (record_at past m)) 0
+
+-- of these two m is received first, or they are one: its priority is greater, or it is the same and m is the older
+abbrev pub goes_first : Past → ℕ → ℕ → Bool
+goes_first past m n = nat_lt (priority past n) (priority past m) || (priority past m == priority past n && nat_le m n)
+
+-- the oldest message of the highest priority in the queue
+abbrev pub best : Past → ℕ → Option ℕ
+best past q = find (λ m. list_all (goes_first past m) (present past q)) (present past q)
+
+-- the least of some places
+abbrev pub least : List ℕ → Option ℕ
+least [] = None
+least (k ∷ places) = Some (min k (unwrap_or (least places) k))

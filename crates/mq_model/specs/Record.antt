@@ -1,0 +1,28 @@
+-- What a journal shows. Lists of records are latest first throughout: the record made last is the head, so a journal that
+-- begins with the journal `old` is `more ++ old`.
+use Rattle.std.specs.Prelude.{ℕ, ◌-◌, drop, List, [], ◌∷◌, ◌==◌, length, Option, Some, None, if◌then◌else◌}
+use Rattle.mq_model.specs.declared.entries.Entry.{Entry}
+
+-- an entry of the journal with its payload
+pub record Record : Type 0 where
+  pub entry : Entry
+  pub payload : List ℕ
+
+-- the records made so far, the latest first. The place of each is the number of records before it
+abbrev pub Past : Type 0
+Past = List Record
+
+-- the record at a place
+abbrev pub record_at : Past → ℕ → Option Record
+record_at [] place = None
+record_at (r ∷ past) place = if place == length past then Some r else record_at past place
+
+-- the first k of the records
+abbrev pub first : ℕ → Past → Past
+first k past = drop (length past - k) past
+
+-- what a journal shows: its records, and how many more entries and payload bytes it has room for
+pub record Shown : Type 0 where
+  pub records : Past
+  pub entry_room : ℕ
+  pub byte_room : ℕ

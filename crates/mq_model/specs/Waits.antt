@@ -1,0 +1,39 @@
+-- The open wait of a process, and the entry that answers it.
+use Rattle.std.specs.Prelude.{ℕ, Bool, true, false, ◌==◌, [], ◌∷◌, length, Option, Some, None, is_some, if◌then◌else◌}
+use Rattle.mq_model.specs.Record.{Past}
+use Rattle.mq_model.specs.Descriptors.{is_place}
+use Rattle.mq_model.specs.declared.entries.Reply.{Reply}
+use Rattle.mq_model.specs.declared.entries.Reply.TheVariants.{Handed, Waits, Got}
+
+abbrev pub is_wait : Reply → Bool
+is_wait Waits = true
+is_wait _ = false
+
+-- the open wait of a process: its last entry, if that blocked
+abbrev pub open_wait : Past → ℕ → Option ℕ
+open_wait [] p = None
+open_wait (r ∷ past) p =
+    if r.entry.process == p then (if is_wait r.entry.reply then Some (length past) else None)
+    else open_wait past p
+
+-- the wait that a reply names: the receive that it hands a message to, or the send that it admits
+abbrev pub named_wait : Reply → Option ℕ
+named_wait (Handed wait) = Some wait
+named_wait (Got place admitted notified) = admitted
+named_wait _ = None
+
+-- the reply names this wait
+abbrev pub names_wait : Reply → Option ℕ → Bool
+names_wait reply None = false
+names_wait reply (Some w) = is_place w (named_wait reply)
+
+-- the place of the entry that answers the open wait of a process: a later one, which names it
+abbrev pub answered_by : Past → ℕ → Option ℕ
+answered_by [] p = None
+answered_by (r ∷ past) p =
+    if r.entry.process == p then None
+    else (if names_wait r.entry.reply (open_wait past p) then Some (length past) else answered_by past p)
+
+-- the process has an open wait, and a later entry names it
+abbrev pub is_answered : Past → ℕ → Bool
+is_answered past p = is_some (answered_by past p)

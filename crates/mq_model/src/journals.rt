@@ -1,0 +1,116 @@
+//! The journal.
+ghost use Rattle.std.specs.Prelude.{◌≡◌, ◌+◌, ◌<◌, ◌≤◌, [], ◌∷◌, length, OnOk, IsOk};
+
+use crate::entries::Entry;
+use std::alloc::{AllocError, Global};
+use std::marker::Model;
+
+/// An entry, and where its payload lies among the payload bytes.
+#[derive(Clone, Copy, Debug)]
+struct Stored {
+    entry: Entry,
+    start: usize,
+    end: usize,
+}
+
+/// The list of all calls that were made, with their replies and payloads. The place of an entry is its position, from 0. A
+/// payload is the whole name of an open or unlink, the message of a send that was not refused, and empty otherwise.
+#[derive(Debug, Drop)]
+pub struct Journal {
+    stored: Vec<Stored>,
+    bytes: Vec<u8>,
+}
+
+impl Model for Journal {
+    ghost use Rattle.mq_model.specs.Record.{Shown};
+
+    ghost Value = { Shown };
+
+    ghost use Rattle.mq_model.specs.Stored.{shown, IsStored};
+
+    ghost view = { shown };
+
+    ghost invariant = { IsStored };
+}
+
+impl Journal {
+    ghost use Rattle.std.specs.Prelude.{Some};
+    ghost use Rattle.std.specs.Option.{option_map};
+    ghost use Rattle.mq_model.specs.Record.{Record, record_at, first};
+
+    /// The empty journal, which takes no memory.
+    pub fn new(alloc: Global) -> Journal
+        ensures { result.records ≡ [] }
+    {
+        Journal {
+            stored: Vec::new(alloc),
+            bytes: Vec::new(alloc),
+        }
+    }
+
+    /// Makes room for that many more entries and payload bytes. It fails only where a growth was refused, and then loses no
+    /// room.
+    pub fn reserve(&mut self, entries: usize, bytes: usize) -> Result<(), AllocError>
+        ensures records { self.new.records ≡ self.old.records }
+        ensures entry_room { self.old.entry_room ≤ self.new.entry_room }
+        ensures byte_room { self.old.byte_room ≤ self.new.byte_room }
+        ensures ok { OnOk result ((entries ≤ self.new.entry_room) × (bytes ≤ self.new.byte_room)) }
+        ensures succeeds { entries ≤ self.old.entry_room → bytes ≤ self.old.byte_room → IsOk result }
+    {
+        self.stored.reserve(entries)?;
+        self.bytes.reserve(bytes)?;
+        Ok(())
+    }
+
+    /// Adds an entry with its payload behind all others, in room that was reserved. Takes no memory.
+    pub fn push(&mut self, entry: Entry, payload: &[u8])
+        requires entry_room { 0 < self.old.entry_room }
+        requires byte_room { length payload.now ≤ self.old.byte_room }
+        ensures records { self.new.records ≡ record { entry = entry; payload = payload.now } ∷ self.old.records }
+        ensures entry_room { self.old.entry_room ≤ self.new.entry_room + 1 }
+        ensures byte_room { self.old.byte_room ≤ self.new.byte_room + length payload.now }
+    {
+        let start = self.bytes.len();
+        let _ = self.bytes.extend_from_slice(payload);
+        let end = self.bytes.len();
+        self.stored.push_reserved(Stored { entry, start, end });
+    }
+
+    /// How many entries there are.
+    pub fn len(&self) -> u64
+        ensures { result ≡ length self.now.records }
+    {
+        self.stored.len() as u64
+    }
+
+    /// The entry at a place, or `None` at the length and beyond.
+    pub fn entry(&self, place: u64) -> Option<Entry>
+        ensures { result ≡ option_map (λ r. r.entry) (record_at self.now.records place) }
+    {
+        if place >= self.len() {
+            return None;
+        }
+        let s = self.stored[place as usize];
+        Some(s.entry)
+    }
+
+    /// The payload of the entry at a place, or `None` at the length and beyond.
+    pub fn payload(&self, place: u64) -> Option<&[u8]>
+        ensures { option_map (λ p. p.now) result ≡ option_map (λ r. r.payload) (record_at self.now.records place) }
+    {
+        if place >= self.len() {
+            return None;
+        }
+        let s = self.stored[place as usize];
+        Some(&self.bytes[s.start..s.end])
+    }
+
+    /// The entry at a place with its payload: what the first `place + 1` records have more than the first `place`.
+    pub fn record(&self, place: u64) -> (Entry, &[u8])
+        requires { place < length self.now.records }
+        ensures { first (place + 1) self.now.records ≡ record { entry = result.0; payload = result.1.now } ∷ first place self.now.records }
+    {
+        let s = self.stored[place as usize];
+        (s.entry, &self.bytes[s.start..s.end])
+    }
+}
