@@ -8,6 +8,7 @@ pub mod LowestFree
 pub mod Places
 pub mod Prefixes
 pub mod Records
+pub mod Refusals
 pub mod Steps
 pub mod Waiting
 pub mod WorkedJournals

@@ -1,6 +1,7 @@
 pub mod Fault
 pub mod Name
 pub mod Record
+pub mod Refusals
 pub mod Stored
 pub mod Names
 pub mod Descriptors

@@ -1,5 +1,6 @@
 //! What every legal journal keeps, whoever made it. Each function does nothing and takes no time: its contract is the law.
 ghost use Rattle.mq_model.specs.Answer.{Legal};
+ghost use Rattle.mq_model.specs.Refusals.{RefusalsChangeNothing};
 ghost use Rattle.mq_model.specs.Laws.{GivesOnce, GivesBest, LeavesInOrder, HoldsDescriptors, EndsForGood, WaitsForCause, OthersLeave};
 
 use crate::journals::Journal;
@@ -47,4 +48,11 @@ pub fn waits_for_cause(journal: &Journal)
 /// What others do leaves the open wait of process `p` as it is, and an answered one answered.
 pub fn others_leave(journal: &Journal, p: u32)
     ensures { OthersLeave journal.now.records p }
+{}
+
+/// A refused call changes nothing: after its entry each name, descriptor, queue, message, wait, registration and notice is what it was
+/// before it.
+pub fn refusals_change_nothing(journal: &Journal)
+    requires { Legal journal.now.records }
+    ensures { RefusalsChangeNothing journal.now.records }
 {}
