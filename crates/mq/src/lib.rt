@@ -1,4 +1,8 @@
 //! POSIX message queues that processes share, over any lock.
+//!
+//! All that a caller needs is named here. [`FastMq`] is the system over Lamport's lock, and [`FastProcess`] one of its processes.
+//! A caller owes two things at each call of a process, and the prover asks for them: that the process was made with this `Mq`, and
+//! that it has no open wait.
 #![tactic(auto)]
 
 mod asking;
@@ -9,6 +13,21 @@ mod system;
 #[cfg(test)]
 mod tests;
 
+use fast_mutex::FastMutex;
+
+pub use fast_mutex::Missing;
 pub use guarded::{Guarded, LoggedRecord};
+pub use mq_model::checker::check_history;
+pub use mq_model::entries::{Access, Attr, Call, Entry, OpenFlags, Received, Reply, Status};
+pub use mq_model::faults::Fault;
+pub use mq_model::journals::Journal;
+pub use mq_model::names::Name;
+pub use mq_state::collected::Collected;
 pub use process::Process;
 pub use system::Mq;
+
+/// The system over Lamport's lock.
+pub type FastMq = Mq<FastMutex<Guarded>>;
+
+/// A process of the system over Lamport's lock.
+pub type FastProcess = Process<FastMutex<Guarded>>;

@@ -1,12 +1,12 @@
 -- A refused entry changes nothing.
-use Rattle.std.proofs.Common.{◌≡◌, ℕ, ◌+◌, ◌==◌, Bool, true, false, ◌&&◌, List, [], ◌∷◌, length, Option, Some, None, is_none, if◌then◌else◌, refl, sym, ◌∙◌, ap, subst, arith, append-nil, eq-eqb}
+use Rattle.std.proofs.Common.{◌≡◌, ℕ, ◌==◌, Bool, true, false, List, [], ◌∷◌, length, Option, Some, None, is_none, refl, sym, ◌∙◌, ap, subst, arith, append-nil, eq-eqb}
 use Rattle.std.specs.Prelude.{IsTrue, pos, int_le, drop}
 use Rattle.std.specs.List.{find, list_all}
-use Rattle.mq_model.specs.Record.{Record, Past, record_at, first}
-use Rattle.mq_model.specs.Descriptors.{created, is_on}
+use Rattle.mq_model.specs.Record.{Record, Past, first}
+use Rattle.mq_model.specs.Descriptors.{is_on}
 use Rattle.mq_model.specs.Messages.{is_in, present, best, goes_first, priority}
 use Rattle.mq_model.specs.Notices.{registration_after, registered, notices_given, values_notified}
-use Rattle.mq_model.specs.Waits.{open_wait, answered_by, names_wait}
+use Rattle.mq_model.specs.Waits.{open_wait, names_wait}
 use Rattle.mq_model.specs.Answer.{Legal, answer, may_call}
 use Rattle.mq_model.specs.Refusals.{IsUnchanged, RefusalsChangeNothing}
 use Rattle.mq_model.proofs.Alive.{none-of}

@@ -9,9 +9,9 @@ use Rattle.mq_model.specs.declared.entries.Access.TheVariants.{Read, Write, Both
 use Rattle.mq_model.specs.declared.entries.Status.{Status}
 use Rattle.mq_model.specs.declared.faults.Fault.TheVariants.{Again, BadDescriptor, Busy, Exists, Invalid, MessageSize, NoEntry}
 use Rattle.mq_model.specs.declared.entries.Call.{Call}
-use Rattle.mq_model.specs.declared.entries.Call.TheVariants.{MqOpen, MqClose, MqUnlink, MqSend, MqReceive, MqGetattr, MqSetattr, MqNotify, NextNotice, Collect}
+use Rattle.mq_model.specs.declared.entries.Call.TheVariants.{MqOpen, MqClose, MqUnlink, MqSend, MqReceive, MqGetattr, MqSetattr, MqNotify, NextNotice}
 use Rattle.mq_model.specs.declared.entries.Reply.{Reply}
-use Rattle.mq_model.specs.declared.entries.Reply.TheVariants.{Opened, Queued, Handed, Waits, Got, Collected, Attrs, Notice, Done, Refused}
+use Rattle.mq_model.specs.declared.entries.Reply.TheVariants.{Opened, Queued, Got, Attrs, Notice, Done, Refused}
 
 abbrev pub made : ℕ → Call → Reply → List ℕ → Record
 made p call reply payload = record { entry = record { process = p; call = call; reply = reply }; payload = payload }

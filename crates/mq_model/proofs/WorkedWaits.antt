@@ -1,18 +1,13 @@
 -- Worked journals with calls that wait, latest first: each is legal, by computation.
-use Rattle.std.proofs.Common.{ℕ, ℤ, List, [], ◌∷◌, refl, Bool, true, false, Some, None}
-use Rattle.std.specs.Prelude.{pos, negsuc, codes, replicate}
-use Rattle.mq_model.specs.Record.{Record, Past}
+use Rattle.std.proofs.Common.{[], ◌∷◌, refl, true, false, Some, None}
+use Rattle.std.specs.Prelude.{pos, codes}
+use Rattle.mq_model.specs.Record.{Past}
 use Rattle.mq_model.specs.Descriptors.{descriptor_numbers}
 use Rattle.mq_model.specs.Answer.{Legal}
-use Rattle.mq_model.specs.declared.entries.Access.{Access}
 use Rattle.mq_model.specs.declared.entries.Access.TheVariants.{Read, Write, Both}
-use Rattle.mq_model.specs.declared.entries.Status.{Status}
-use Rattle.mq_model.specs.declared.faults.Fault.TheVariants.{Again, BadDescriptor, Busy, Exists, Invalid, MessageSize, NoEntry}
-use Rattle.mq_model.specs.declared.entries.Call.{Call}
-use Rattle.mq_model.specs.declared.entries.Call.TheVariants.{MqOpen, MqClose, MqUnlink, MqSend, MqReceive, MqGetattr, MqSetattr, MqNotify, NextNotice, Collect}
-use Rattle.mq_model.specs.declared.entries.Reply.{Reply}
-use Rattle.mq_model.specs.declared.entries.Reply.TheVariants.{Opened, Queued, Handed, Waits, Got, Collected, Attrs, Notice, Done, Refused}
-use Rattle.mq_model.proofs.WorkedJournals.{made, opening, opening_with, status}
+use Rattle.mq_model.specs.declared.entries.Call.TheVariants.{MqSend, MqReceive, MqNotify, NextNotice, Collect}
+use Rattle.mq_model.specs.declared.entries.Reply.TheVariants.{Opened, Queued, Handed, Waits, Got, Collected, Notice, Done}
+use Rattle.mq_model.proofs.WorkedJournals.{made, opening, opening_with}
 
 -- the receive that has waited longest is served first, and no notification is sent
 abbrev oldest_receive_first : Past

@@ -1,5 +1,5 @@
 -- A refused call leaves everything as it was: what the definitions say after its entry is what they said before it.
-use Rattle.std.specs.Prelude.{ℕ, ◌≡◌, ◌+◌, true, List, Option, Some}
+use Rattle.std.specs.Prelude.{ℕ, ◌≡◌, ◌+◌, true, List, Some}
 use Rattle.mq_model.specs.Record.{Record, Past, record_at, first}
 use Rattle.mq_model.specs.Names.{bound_queue, attributes}
 use Rattle.mq_model.specs.Descriptors.{held, created, alive}

@@ -1,81 +1,170 @@
 //! Calls and their replies, as the journal keeps them.
-ghost use Rattle.std.specs.Prelude.{◌≡◌};
+ghost use Rattle.std.specs.Prelude.{◌≡◌, true, false};
 ghost use Rattle.mq_model.specs.Messages.{priority_given};
 
 use crate::faults::Fault;
 
-/// What a descriptor may be used for.
+/// What a descriptor may be used for: the `oflag` of `mq_open`.
 #[derive(Clone, Copy, Debug, PartialEq, Eq)]
 pub enum Access {
+    /// Receiving alone (`O_RDONLY`).
     Read,
+    /// Sending alone (`O_WRONLY`).
     Write,
+    /// Sending and receiving (`O_RDWR`).
     Both,
 }
 
-/// The flags of an open.
+/// The flags of an open (`mq_open`), as `OpenFlags::read_write().create()`.
 #[derive(Clone, Copy, Debug, PartialEq, Eq)]
 pub struct OpenFlags {
+    /// What the descriptor may be used for.
     pub access: Access,
+    /// Creates the queue where the name is not bound (`O_CREAT`).
     pub create: bool,
+    /// With `create`, refuses a name that is bound (`O_EXCL`). Alone it has no effect.
     pub excl: bool,
+    /// Calls on the descriptor are refused with `Again` where they would wait (`O_NONBLOCK`). The flag is this descriptor's own.
     pub nonblock: bool,
 }
 
-/// The limits of a queue, as an open asks for them.
+impl OpenFlags {
+    /// A descriptor for receiving alone (`O_RDONLY`), with no other flag.
+    pub fn read_only() -> OpenFlags
+        ensures { result ≡ record { access = Access.Read; create = false; excl = false; nonblock = false } }
+    {
+        OpenFlags::with_access(Access::Read)
+    }
+
+    /// A descriptor for sending alone (`O_WRONLY`), with no other flag.
+    pub fn write_only() -> OpenFlags
+        ensures { result ≡ record { access = Access.Write; create = false; excl = false; nonblock = false } }
+    {
+        OpenFlags::with_access(Access::Write)
+    }
+
+    /// A descriptor for sending and receiving (`O_RDWR`), with no other flag.
+    pub fn read_write() -> OpenFlags
+        ensures { result ≡ record { access = Access.Both; create = false; excl = false; nonblock = false } }
+    {
+        OpenFlags::with_access(Access::Both)
+    }
+
+    /// A descriptor with this access and no other flag.
+    pub fn with_access(access: Access) -> OpenFlags
+        ensures { result ≡ record { access = access; create = false; excl = false; nonblock = false } }
+    {
+        OpenFlags {
+            access,
+            create: false,
+            excl: false,
+            nonblock: false,
+        }
+    }
+
+    /// These flags and `O_CREAT`.
+    pub fn create(self) -> OpenFlags
+        ensures { result ≡ record { access = self.access; create = true; excl = self.excl; nonblock = self.nonblock } }
+    {
+        OpenFlags {
+            create: true,
+            ..self
+        }
+    }
+
+    /// These flags and `O_EXCL`.
+    pub fn exclusive(self) -> OpenFlags
+        ensures { result ≡ record { access = self.access; create = self.create; excl = true; nonblock = self.nonblock } }
+    {
+        OpenFlags { excl: true, ..self }
+    }
+
+    /// These flags and `O_NONBLOCK`.
+    pub fn nonblocking(self) -> OpenFlags
+        ensures { result ≡ record { access = self.access; create = self.create; excl = self.excl; nonblock = true } }
+    {
+        OpenFlags {
+            nonblock: true,
+            ..self
+        }
+    }
+}
+
+/// The limits of a queue, as the open that creates it asks for them (`mq_attr` of `mq_open`). They lie within the limits where
+/// `maxmsg` is 1 to 4,096 and `msgsize` 1 to 65,536; a queue that is created without them has 10 and 8,192.
 #[derive(Clone, Copy, Debug, PartialEq, Eq)]
 pub struct Attr {
+    /// The most messages that the queue holds (`mq_maxmsg`).
     pub maxmsg: i64,
+    /// The most bytes of a message (`mq_msgsize`).
     pub msgsize: i64,
 }
 
-/// The attributes of a descriptor and of its queue.
+/// The attributes of a descriptor and of its queue (`mq_getattr`).
 #[derive(Clone, Copy, Debug, PartialEq, Eq)]
 pub struct Status {
+    /// The descriptor refuses calls that would wait (`O_NONBLOCK` in `mq_flags`). Of what `mq_setattr` is given this alone is used.
     pub nonblock: bool,
+    /// The most messages that the queue holds (`mq_maxmsg`).
     pub maxmsg: i64,
+    /// The most bytes of a message (`mq_msgsize`).
     pub msgsize: i64,
+    /// How many messages are in the queue (`mq_curmsgs`).
     pub curmsgs: i64,
 }
 
-/// The length and the priority of a message that was received.
+/// A message that was received (`mq_receive`). Its bytes lie in the front of the buffer.
 #[derive(Clone, Copy, Debug, PartialEq, Eq)]
 pub struct Received {
+    /// How many bytes the message has.
     pub len: usize,
+    /// The priority that its send gave, 0 to 32,767.
     pub prio: u32,
 }
 
-/// A call that a process made inside the lock.
+/// A call that a process made inside the lock. The name of an open or unlink, and the message of a send, stand in the payload of the
+/// record.
 #[derive(Clone, Copy, Debug, PartialEq, Eq)]
 pub enum Call {
+    /// `mq_open` with these flags, and with the limits of a new queue where they were given.
     MqOpen {
         flags: OpenFlags,
         attr: Option<Attr>,
     },
+    /// `mq_close` of descriptor `d`.
     MqClose {
         d: u32,
     },
+    /// `mq_unlink` of the name in the payload.
     MqUnlink,
+    /// `mq_send` by descriptor `d`, of a message of `len` bytes with priority `prio`.
     MqSend {
         d: u32,
         prio: u32,
         len: u64,
     },
+    /// `mq_receive` by descriptor `d`, into a buffer of `room` bytes.
     MqReceive {
         d: u32,
         room: u64,
     },
+    /// `mq_getattr` of descriptor `d`.
     MqGetattr {
         d: u32,
     },
+    /// `mq_setattr` of descriptor `d`, with the new `O_NONBLOCK`.
     MqSetattr {
         d: u32,
         nonblock: bool,
     },
+    /// `mq_notify` by descriptor `d`: a registration with the value of its notice, or with `None` a removal.
     MqNotify {
         d: u32,
         value: Option<u64>,
     },
+    /// The question for the oldest notice that the process was not yet given. This library's own: POSIX gives signals.
     NextNotice,
+    /// The end of the open wait of the process, once an entry names it. This library's own: in POSIX the blocked call returns.
     Collect,
 }
 
@@ -91,37 +180,50 @@ impl Call {
     }
 }
 
-/// What a call was answered.
+/// What a call was answered. A place is the number of a record in the journal, from 0: it names a message (the place of its
+/// send), a wait (the place of the call that blocked) and a registration (the place of its notify).
 #[derive(Clone, Copy, Debug, PartialEq, Eq)]
 pub enum Reply {
+    /// The descriptor of an open, 0 to 15, and whether the open created its queue.
     Opened {
         d: u32,
         created: bool,
     },
+    /// The message entered its queue; the place of the registration that this notified.
     Queued {
         notified: Option<u64>,
     },
+    /// The message went to the receive that waits since the place `wait`.
     Handed {
         wait: u64,
     },
+    /// The call blocks: from here the process has an open wait.
     Waits,
+    /// The place of the send whose message was received, that of the waiting send whose message then entered the queue, and that of
+    /// the registration that this notified.
     Got {
         place: u64,
         admitted: Option<u64>,
         notified: Option<u64>,
     },
+    /// The open wait ended; the place of the entry that names it.
     Collected {
         by: u64,
     },
+    /// The attributes: of a getattr now, of a setattr from before the call.
     Attrs(Status),
+    /// The value of the oldest notice not yet given, or none.
     Notice(Option<u64>),
+    /// A close, unlink or notify was done.
     Done,
+    /// The call was refused, and nothing but this entry was added.
     Refused(Fault),
 }
 
-/// A call and its reply.
+/// A call of a process with its reply.
 #[derive(Clone, Copy, Debug, PartialEq, Eq)]
 pub struct Entry {
+    /// The number of the process, 1 to 32 in a legal journal.
     pub process: u32,
     pub call: Call,
     pub reply: Reply,

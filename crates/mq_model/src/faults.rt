@@ -1,11 +1,11 @@
 //! Why calls are refused.
 ghost use Rattle.std.specs.Prelude.{◌≡◌};
 
-use std::error::Error;
-use std::fmt;
+use thiserror::Error;
 
-/// Why a call was refused. Its text is the name that POSIX gives the error (`errno.h`); `NOMEMORY` is this project's own.
-#[derive(Clone, Copy, Debug, PartialEq, Eq)]
+/// Why a call was refused. It prints as the name that POSIX gives the error (`errno.h`); `NOMEMORY` is this project's own.
+#[derive(Clone, Copy, Debug, PartialEq, Eq, Error)]
+#[error("{}", self.name())]
 pub enum Fault {
     /// The call would wait, and its descriptor is nonblocking.
     Again,
@@ -21,7 +21,7 @@ pub enum Fault {
     TooManyOpen,
     /// A message longer than `msgsize`, or a buffer shorter.
     MessageSize,
-    /// A name with more than 255 bytes behind its slash.
+    /// A name with more than 255 bytes after its slash.
     NameTooLong,
     /// The name is not bound.
     NoEntry,
@@ -32,7 +32,7 @@ pub enum Fault {
 }
 
 impl Fault {
-    ghost use Rattle.mq_model.specs.Fault.{number_of};
+    ghost use Rattle.mq_model.specs.Fault.{number_of, text_of};
 
     /// This project's own number of the fault, from 1 to 11.
     pub fn number(&self) -> u32
@@ -52,29 +52,23 @@ impl Fault {
             Fault::NoMemory => 11,
         }
     }
-}
 
-impl fmt::Display for Fault {
-    ghost use Rattle.std.specs.Prelude.{Some};
-    ghost use Rattle.mq_model.specs.Fault.{text_of};
-
-    ghost output = { λ f. Some (text_of f) };
-
-    fn fmt<W: fmt::Write>(&self, f: &mut fmt::Formatter<W>) -> fmt::Result {
+    /// The name that POSIX gives the error (`errno.h`), as `EAGAIN`.
+    pub fn name(&self) -> &'static str
+        ensures { result.now ≡ text_of self.now }
+    {
         match self {
-            Fault::Again => f.write_str("EAGAIN"),
-            Fault::BadDescriptor => f.write_str("EBADF"),
-            Fault::Busy => f.write_str("EBUSY"),
-            Fault::Exists => f.write_str("EEXIST"),
-            Fault::Invalid => f.write_str("EINVAL"),
-            Fault::TooManyOpen => f.write_str("EMFILE"),
-            Fault::MessageSize => f.write_str("EMSGSIZE"),
-            Fault::NameTooLong => f.write_str("ENAMETOOLONG"),
-            Fault::NoEntry => f.write_str("ENOENT"),
-            Fault::NoSpace => f.write_str("ENOSPC"),
-            Fault::NoMemory => f.write_str("NOMEMORY"),
+            Fault::Again => "EAGAIN",
+            Fault::BadDescriptor => "EBADF",
+            Fault::Busy => "EBUSY",
+            Fault::Exists => "EEXIST",
+            Fault::Invalid => "EINVAL",
+            Fault::TooManyOpen => "EMFILE",
+            Fault::MessageSize => "EMSGSIZE",
+            Fault::NameTooLong => "ENAMETOOLONG",
+            Fault::NoEntry => "ENOENT",
+            Fault::NoSpace => "ENOSPC",
+            Fault::NoMemory => "NOMEMORY",
         }
     }
 }
-
-impl Error for Fault {}

@@ -58,7 +58,7 @@ fn outcome_words(alloc: Global, outcome: &Outcome) -> Result<String, AllocError>
         }
         Outcome::Notice(Some(value)) => format!(in alloc; "notice {value}"),
         Outcome::Notice(None) => String::from_str(alloc, "notice none"),
-        Outcome::Refused(fault) => fault.to_string(alloc),
+        Outcome::Refused(fault) => String::from_str(alloc, fault.name()),
     }
 }
 

@@ -1,0 +1,20 @@
+// A notice: a process is told once when a message comes to its empty queue.
+use mq::{FastMq, Name, OpenFlags};
+
+pub fn run(rt: &HostRuntime) -> anyhow::Result<()> {
+    let (mq, mut processes) = FastMq::new(rt.alloc(), 2)?;
+    let mut sender = processes.pop().unwrap();
+    let mut reader = processes.pop().unwrap();
+
+    let name = Name::read(b"/mail")?;
+    let flags = OpenFlags::read_write().create();
+    let inbox = reader.open(rt, &mq, &name, flags, None)?;
+    let outbox = sender.open(rt, &mq, &name, OpenFlags::write_only(), None)?;
+
+    reader.notify(rt, &mq, inbox, Some(42))?;
+    println!(rt; "before: {:?}", reader.next_notice(rt, &mq)?)?;
+    sender.send(rt, &mq, outbox, b"hello", 0)?;
+    println!(rt; "after: {:?}", reader.next_notice(rt, &mq)?)?;
+    println!(rt; "once: {:?}", reader.next_notice(rt, &mq)?)?;
+    Ok(())
+}

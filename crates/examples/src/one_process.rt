@@ -1,0 +1,28 @@
+// One process: a queue of its own, and the best message first.
+use mq::{Attr, FastMq, Name, OpenFlags};
+
+pub fn run(rt: &HostRuntime) -> anyhow::Result<()> {
+    let (mq, mut processes) = FastMq::new(rt.alloc(), 1)?;
+    let mut process = processes.pop().unwrap();
+
+    let name = Name::read(b"/orders")?;
+    let limits = Attr {
+        maxmsg: 10,
+        msgsize: 64,
+    };
+    let orders = process.open(
+        rt,
+        &mq,
+        &name,
+        OpenFlags::read_write().create(),
+        Some(limits),
+    )?;
+    process.send(rt, &mq, orders, b"sweep the floor", 1)?;
+    process.send(rt, &mq, orders, b"put out the fire", 9)?;
+
+    let mut buf = [0; 64];
+    let received = process.receive(rt, &mq, orders, &mut buf)?;
+    let message = String::from_utf8_lossy(rt.alloc(), &buf[..received.len])?;
+    println!(rt; "{} (priority {})", message, received.prio)?;
+    Ok(())
+}

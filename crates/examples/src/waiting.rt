@@ -1,0 +1,31 @@
+// A call that would wait, begun by a thread that does other work meanwhile.
+use mq::{Attr, Collected, FastMq, Name, OpenFlags};
+
+pub fn run(rt: &HostRuntime) -> anyhow::Result<()> {
+    let (mq, mut processes) = FastMq::new(rt.alloc(), 2)?;
+    let mut sender = processes.pop().unwrap();
+    let mut reader = processes.pop().unwrap();
+
+    let name = Name::read(b"/later")?;
+    let limits = Attr {
+        maxmsg: 1,
+        msgsize: 8,
+    };
+    let flags = OpenFlags::read_write().create();
+    let inbox = reader.open(rt, &mq, &name, flags, Some(limits))?;
+    let outbox = sender.open(rt, &mq, &name, OpenFlags::write_only(), None)?;
+
+    let mut buf = [0; 8];
+    if let Some(received) = reader.start_receive(rt, &mq, inbox, &mut buf)? {
+        println!(rt; "at once: {} bytes", received.len)?;
+        return Ok(());
+    }
+    println!(rt; "the receive waits")?;
+    sender.send(rt, &mq, outbox, b"done", 3)?;
+    match reader.collect(rt, &mq, &mut buf) {
+        Some(Collected::Got(received)) => println!(rt; "collected {} bytes", received.len)?,
+        Some(Collected::Sent) => println!(rt; "sent")?,
+        None => println!(rt; "not yet")?,
+    }
+    Ok(())
+}
