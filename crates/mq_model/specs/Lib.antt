@@ -11,6 +11,3 @@ pub mod Answer
 pub mod OnePass
 pub mod Owners
 pub mod OwnersNoted
-pub mod Laws
-pub mod TakenTable
-pub mod CheckerTables

@@ -1,6 +1,5 @@
-use Rattle.std.proofs.Common.{◌≡◌, ◌∙◌, sym, ap, false, true}
+use Rattle.std.proofs.Common.{◌∙◌, sym, ap}
 use Rattle.std.specs.Option.{is_some}
-use Rattle.mq_model.specs.Notices.{notified}
 use Rattle.mq_model.proofs.Untouched.{touched-done, touched-notified}
 use Rattle.mq_model.proofs.registrations.touches_registrations.Goals as goal
 
