@@ -4,11 +4,10 @@ use Rattle.std.specs.List.{filter, list_all}
 use Rattle.std.specs.Option.{option_map, option_and_then, unwrap_or}
 use Rattle.std.proofs.lemmas.Bool.{eqb-false}
 use Rattle.mq_model.specs.Record.{Record, Past, record_at}
-use Rattle.mq_model.specs.Waits.{open_wait, is_answered}
-use Rattle.mq_model.specs.Laws.{are_of_others}
+use Rattle.mq_model.specs.Waits.{open_wait, is_answered, are_of_others}
+use Rattle.mq_model.proofs.OthersLeave.{others-leave, open_wait-below}
 use Rattle.mq_model.proofs.Places.{split}
 use Rattle.mq_model.proofs.Frames.{record_at-older}
-use Rattle.mq_model.proofs.HeldLaws.{others-leave, open_wait-below}
 use Rattle.mq_model.specs.declared.entries.Call.{Call}
 use Rattle.mq_model.specs.declared.entries.Call.TheVariants.{Collect}
 use Rattle.mq_state.specs.Buffers.{waiting_call, waiting_room, room_of}

@@ -35,7 +35,7 @@ impl Logged for Guarded {
     ghost use Rattle.std.specs.Prelude.{◌∷◌, [], refl};
     ghost use Rattle.mq_model.specs.Waits.{is_answered};
     ghost use Rattle.mq.specs.Calls.{owner};
-    ghost use Rattle.mq_model.proofs.HeldLaws.{answered-stays};
+    ghost use Rattle.mq_model.proofs.OthersLeave.{answered-stays};
 
     ghost items = { λ s. s.books.records };
 

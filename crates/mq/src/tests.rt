@@ -5,7 +5,7 @@ ghost use Rattle.mq.specs.Calls.{IsFree};
 
 use crate::{Guarded, Mq, Process};
 use fast_mutex::{FastMutex, Lock, Missing, WordLock};
-use mq_model::checker::check_history;
+use mq_checker::checker::check_history;
 use mq_model::entries::{Access, Attr, OpenFlags, Received, Reply};
 use mq_model::faults::Fault;
 use mq_model::journals::Journal;

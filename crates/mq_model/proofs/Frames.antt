@@ -3,7 +3,7 @@ use Rattle.std.proofs.Common.{◌≡◌, ℕ, ◌<◌, ◌==◌, Bool, true, fal
 use Rattle.std.specs.List.{filter, list_any}
 use Rattle.std.specs.Option.{option_map, unwrap_or}
 use Rattle.mq_model.specs.Record.{Record, Past, record_at}
-use Rattle.mq_model.specs.Names.{creates, unlinks, bound_queue, name_of}
+use Rattle.mq_model.specs.Names.{creates, unlinks, bound_queue, name_of, attributes, attributes_given, default_attributes}
 use Rattle.mq_model.specs.Descriptors.{held, held_after, opened_number, with_holder, openers, created, is_held, is_named, is_place, is_on, alive, Holder}
 use Rattle.mq_model.specs.Messages.{is_in, blocks_send, blocks_receive}
 use Rattle.mq_model.specs.Waits.{is_wait, names_wait, open_wait, answered_by}
@@ -109,3 +109,7 @@ keeps-refused past (MqSetattr d nonblock) f payload = record { creates = refl; u
 keeps-refused past (MqNotify d value) f payload = record { creates = refl; unlinks = refl; opens = refl; descriptors = λ d b. refl }
 keeps-refused past NextNotice f payload = record { creates = refl; unlinks = refl; opens = refl; descriptors = λ d b. refl }
 keeps-refused past Collect f payload = record { creates = refl; unlinks = refl; opens = refl; descriptors = λ d b. refl }
+
+-- a queue keeps its attributes
+pub attributes-older : (past : Past) (r : Record) (q : ℕ) → q < length past → attributes (r ∷ past) q ≡ attributes past q
+attributes-older past r q lt = ap (λ o. unwrap_or (option_map (λ (x : Record). attributes_given x.entry.call) o) default_attributes) (record_at-older past r q lt)

@@ -3,11 +3,11 @@ use Rattle.std.proofs.Common.{◌≡◌, ℕ, ◌==◌, Bool, true, false, ◌&&
 use Rattle.std.specs.Prelude.{nat_le}
 use Rattle.std.specs.List.{filter, list_any}
 use Rattle.std.specs.Str.{bytes_eq}
-use Rattle.std.specs.Option.{option_map, unwrap_or}
+use Rattle.std.specs.Option.{option_map, option_and_then, unwrap_or}
 use Rattle.std.proofs.lemmas.Bool.{and_parts}
 use Rattle.mq_model.specs.Record.{Record, Past}
 use Rattle.mq_model.specs.Names.{creates, unlinks, bound_queue, are_within_limits}
-use Rattle.mq_model.specs.Descriptors.{held, held_after, after_open, after_close, after_setattr, description, with_nonblock, opened_queue, opened_number, with_holder, openers, created, is_held, is_named, is_place, alive, lowest_free, Holder}
+use Rattle.mq_model.specs.Descriptors.{held, held_after, after_open, after_close, after_setattr, description, with_nonblock, opened_queue, opened_number, with_holder, openers, created, is_held, is_named, is_place, alive, called_queue, descriptor_of, lowest_free, Holder}
 use Rattle.mq_model.specs.Messages.{is_in}
 use Rattle.mq_model.specs.Answer.{Legal, answer_open}
 use Rattle.mq_model.proofs.Places.{split}
@@ -128,3 +128,15 @@ pub held-alive : (past : Past) → Legal past → (p d : ℕ) (h : Description) 
 held-alive past legal p d h e =
     let holds : is_held past h.queue ≡ true = any-opener past p d h e (λ x. is_place h.queue (option_map (λ h. h.queue) (held past x.process x.d))) (rw e (eq-eqb h.queue h.queue refl)) in
     in-filter _ (created past) h.queue (created-held past legal p d h e) (ap (λ b. is_named past h.queue || b) holds ∙ or-true (is_named past h.queue))
+
+-- the queue that a call is made on exists
+pub called-alive : (past : Past) → Legal past → (p : ℕ) (call : Call) (q : ℕ) → called_queue past p call ≡ Some q → is_in (alive past) q ≡ true
+called-alive past legal p call q e = by (descriptor_of call) refl e
+  where
+    held-case : (d : ℕ) (o : Option Description) → held past p d ≡ o → option_map (λ h. h.queue) o ≡ Some q → is_in (alive past) q ≡ true
+    held-case d None is e = absurd (cc)
+    held-case d (Some h) is e = let same : h.queue ≡ q = cc in rw (← same) (held-alive past legal p d h is)
+
+    by : (o : Option ℕ) → descriptor_of call ≡ o → option_map (λ h. h.queue) (option_and_then (held past p) o) ≡ Some q → is_in (alive past) q ≡ true
+    by None is e = absurd (cc)
+    by (Some d) is e = held-case d (held past p d) refl e

@@ -1,10 +1,12 @@
 -- The first records of a journal.
-use Rattle.std.proofs.Common.{◌≡◌, ℕ, suc, ◌+◌, ◌-◌, ◌<◌, ◌≤◌, ◌==◌, false, [], ◌∷◌, length, Option, Some, refl, ap, ◌∙◌, arith, length-drop, eqb-true, ne_eqb}
+use Rattle.std.proofs.Common.{◌≡◌, ℕ, suc, ◌+◌, ◌-◌, ◌<◌, ◌≤◌, ◌==◌, false, [], ◌∷◌, length, Option, Some, refl, ap, ◌∙◌, arith, length-drop, eqb-true, ne_eqb, leb-true, leb-false}
+use Rattle.std.specs.Prelude.{nat_le}
 use Rattle.std.proofs.lemmas.List.{drop_all}
 use Rattle.std.proofs.lemmas.Bool.{eqb-false}
 use Rattle.mq_model.specs.Record.{Record, Past, record_at, first}
 use Rattle.mq_model.specs.Names.{bound_queue}
 use Rattle.mq_model.specs.Descriptors.{is_place, is_named}
+use Rattle.mq_model.specs.Answer.{Legal}
 use Rattle.mq_model.proofs.Places.{split}
 
 pub length-first : (k : ℕ) (past : Past) → k ≤ length past → length (first k past) ≡ k
@@ -70,3 +72,10 @@ named_is past k q r o is lt le e =
 -- the first records, as many as there are, are all of them
 pub first-all : (past : Past) (k : ℕ) → k ≡ length past → first k past ≡ past
 first-all past k e = let none : length past - k ≡ 0 = omega arith in rw none refl
+
+-- what comes first in a legal journal is legal
+pub legal-first : (past : Past) (k : ℕ) → Legal past → Legal (first k past)
+legal-first [] k legal = let none : 0 - k ≡ 0 = omega arith in rw none legal
+legal-first (r ∷ past) k legal = split (nat_le (suc (length past)) k)
+    (λ all. let none : suc (length past) - k ≡ 0 = omega (arith, leb-true _ _ all) in rw none legal)
+    (λ some. let less : suc (length past) - k ≡ suc (length past - k) = omega (arith, leb-false _ _ some) in rw less (legal-first past k legal.0))

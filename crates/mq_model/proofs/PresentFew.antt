@@ -5,14 +5,14 @@ use Rattle.std.specs.Option.{option_map, unwrap_or}
 use Rattle.std.proofs.lemmas.Bool.{eqb-false}
 use Rattle.std.proofs.lemmas.Bool.Decides.{nat_tests}
 use Rattle.mq_model.specs.Record.{Record, Past}
-use Rattle.mq_model.specs.Names.{creates, bound_queue, attributes, attributes_given, default_attributes, are_within_limits}
+use Rattle.mq_model.specs.Names.{creates, bound_queue, attributes, attributes_given, are_within_limits}
 use Rattle.mq_model.specs.Descriptors.{held, called_queue, created, lowest_free, alive, is_place, is_named, is_held}
 use Rattle.mq_model.specs.Messages.{is_in, with_place, present, is_full}
 use Rattle.mq_model.specs.Answer.{Legal, IsLegalNext, answer_open}
 use Rattle.mq_model.proofs.Places.{split, is_in-filter, find-in}
 use Rattle.mq_model.proofs.Cases.{Says, either}
 use Rattle.mq_model.proofs.LegalReplies.{legal_says}
-use Rattle.mq_model.proofs.Frames.{created-below, record_at-older}
+use Rattle.mq_model.proofs.Frames.{created-below, attributes-older}
 use Rattle.mq_model.proofs.HeldQueues.{created-held, created-more}
 use Rattle.mq_model.proofs.Steps.{without, present-queued, present-queued_elsewhere}
 use Rattle.mq_model.proofs.Presence.{sent_to, admitted-to, present-admitted, present-got_here, present-got_elsewhere, present-handed, without-fewer, GotFacts}
@@ -29,8 +29,6 @@ rec p call reply payload = record { entry = record { process = p; call = call; r
 
 -- attributes -------------------------------------------------------------------------------------------------------------
 
-pub attributes-older : (past : Past) (r : Record) (q : ℕ) → q < length past → attributes (r ∷ past) q ≡ attributes past q
-attributes-older past r q lt = ap (λ o. unwrap_or (option_map (λ (x : Record). attributes_given x.entry.call) o) default_attributes) (record_at-older past r q lt)
 
 pub attributes-newest : (past : Past) (r : Record) → attributes (r ∷ past) (length past) ≡ attributes_given r.entry.call
 attributes-newest past r = rw (eq-eqb (length past) (length past) refl) refl

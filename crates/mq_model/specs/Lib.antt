@@ -1,7 +1,6 @@
 pub mod Fault
 pub mod Name
 pub mod Record
-pub mod Refusals
 pub mod Stored
 pub mod Names
 pub mod Descriptors
@@ -12,6 +11,3 @@ pub mod Answer
 pub mod OnePass
 pub mod Owners
 pub mod OwnersNoted
-pub mod Laws
-pub mod TakenTable
-pub mod CheckerTables

@@ -1,6 +1,7 @@
 -- The open wait of a process, and the entry that answers it.
-use Rattle.std.specs.Prelude.{ℕ, Bool, true, false, ◌==◌, [], ◌∷◌, length, Option, Some, None, is_some, if◌then◌else◌}
-use Rattle.mq_model.specs.Record.{Past}
+use Rattle.std.specs.Prelude.{ℕ, ◌≡◌, Bool, true, false, not, ◌==◌, List, [], ◌∷◌, ◌++◌, length, Option, Some, None, is_some, if◌then◌else◌}
+use Rattle.std.specs.List.{list_all}
+use Rattle.mq_model.specs.Record.{Record, Past}
 use Rattle.mq_model.specs.Descriptors.{is_place}
 use Rattle.mq_model.specs.declared.entries.Reply.{Reply}
 use Rattle.mq_model.specs.declared.entries.Reply.TheVariants.{Handed, Waits, Got}
@@ -37,3 +38,12 @@ answered_by (r ∷ past) p =
 -- the process has an open wait, and a later entry names it
 abbrev pub is_answered : Past → ℕ → Bool
 is_answered past p = is_some (answered_by past p)
+
+-- records of other processes alone
+abbrev pub are_of_others : ℕ → List Record → Bool
+are_of_others p more = list_all (λ r. not (r.entry.process == p)) more
+
+-- what others do leaves an open wait, and an answered one answered
+pub record OthersLeave (past : Past) (p : ℕ) : Type 0 where
+  pub wait : (more : List Record) → are_of_others p more ≡ true → open_wait (more ++ past) p ≡ open_wait past p
+  pub answered : (more : List Record) → are_of_others p more ≡ true → is_answered past p ≡ true → is_answered (more ++ past) p ≡ true

@@ -47,7 +47,8 @@ fn has_name_form(bytes: &[u8]) -> bool
     bytes.len() > 1 && bytes[0] == b'/' && are_name_bytes(&bytes[1..])
 }
 
-pub(crate) fn is_name(bytes: &[u8]) -> bool
+/// These bytes are those of a name.
+pub fn is_name(bytes: &[u8]) -> bool
     ensures { result ≡ is_name bytes.now }
 {
     has_name_form(bytes) && bytes.len() <= NAME_CAPACITY

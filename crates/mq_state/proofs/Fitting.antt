@@ -17,14 +17,13 @@ use Rattle.mq_model.specs.declared.entries.Reply.TheVariants.{Opened, Queued, Ha
 use Rattle.mq_model.proofs.Places.{split, clash, find-in, is_in-filter}
 use Rattle.mq_model.proofs.Cases.{Says, answer_says}
 use Rattle.mq_model.proofs.LegalReplies.{legal_says}
-use Rattle.mq_model.proofs.Frames.{record_at-older}
+use Rattle.mq_model.proofs.Frames.{record_at-older, attributes-older}
 use Rattle.mq_model.proofs.Steps.{if_in-inside}
 use Rattle.mq_model.proofs.Presence.{sent_to, present-admitted}
 use Rattle.mq_model.proofs.NamedWaits.{least-in}
 use Rattle.mq_model.proofs.Waiters.{open_wait-process}
 use Rattle.mq_model.proofs.Prefixes.{record_at-below}
-use Rattle.mq_model.proofs.PresentFew.{attributes-older}
-use Rattle.mq_model.proofs.SentMessages.{called-alive}
+use Rattle.mq_model.proofs.HeldQueues.{called-alive}
 use Rattle.mq_state.specs.Buffers.{message_at, Fits}
 use Rattle.mq_model.specs.declared.entries.Attr.{Attr}
 use Rattle.mq_model.specs.declared.entries.Description.{Description}

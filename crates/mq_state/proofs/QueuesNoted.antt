@@ -26,13 +26,12 @@ use Rattle.mq_model.proofs.Places.{split}
 use Rattle.mq_model.proofs.Cases.{Says}
 use Rattle.mq_model.proofs.LegalReplies.{legal_says}
 use Rattle.mq_model.proofs.OpenReplies.{OpenedFacts, opened-says}
-use Rattle.mq_model.proofs.HeldQueues.{bound-created}
+use Rattle.mq_model.proofs.HeldQueues.{bound-created, called-alive}
 use Rattle.mq_model.proofs.Waiters.{in-filter}
 use Rattle.mq_model.proofs.Presence.{without-fewer, sent_to, admitted-to, present-admitted}
 use Rattle.mq_model.proofs.Alive.{is_needed, is_held-table, named-same, named-created, named-newest, named-unlinked, bound-named, alive-same_queues, alive-opened, alive-new, alive-closed, alive-unlinked}
 use Rattle.mq_model.proofs.Steps.{without}
-use Rattle.mq_model.proofs.PresentFew.{attributes-older}
-use Rattle.mq_model.proofs.SentMessages.{called-alive}
+use Rattle.mq_model.proofs.Frames.{attributes-older}
 use Rattle.mq_state.specs.SlotOrder.{without as without_place}
 use Rattle.mq_state.specs.QueueShown.{QueueShown}
 use Rattle.mq_state.specs.Queues.{queue_in, is_named_in, changed, without_queue, renewed, HasRoom, reregistered, may_free, noted_queues, fresh, slots_of, LineMirror, QueuesMirror}

@@ -4,7 +4,7 @@ use Rattle.std.proofs.lemmas.List.{length-replicate}
 use Rattle.std.proofs.lemmas.List.Folds.{sum_by-replicate}
 use Rattle.mq_model.specs.Owners.{waits_count, free_owner, OwnersMirror}
 use Rattle.mq_model.specs.declared.owners.Owner.{Owner}
-use Rattle.mq_model.proofs.TablesKeep.{owners-start}
+use Rattle.mq_model.proofs.OwnersStart.{owners-start}
 use Rattle.mq_state.specs.QueueShown.{QueueShown}
 use Rattle.mq_state.specs.InboxShown.{InboxShown}
 use Rattle.mq_state.specs.Inboxes.{notices_in}

@@ -25,7 +25,7 @@ use Rattle.mq_model.proofs.OpenReplies.{opened-says}
 use Rattle.mq_model.proofs.OwnersKeep.{EntryQueue, noted-keeps}
 use Rattle.mq_model.proofs.Presence.{GotFacts}
 use Rattle.mq_model.proofs.NoticeSteps.{notices-same, notices-notified, notices-given}
-use Rattle.mq_model.proofs.SentMessages.{called-alive}
+use Rattle.mq_model.proofs.HeldQueues.{called-alive}
 use Rattle.mq_state.specs.Slots.{Slots}
 use Rattle.mq_state.specs.QueueShown.{QueueShown}
 use Rattle.mq_state.specs.InboxShown.{InboxShown}

@@ -18,7 +18,7 @@ use lines::input::read_all;
 use lines::output::write_all;
 use lines::words::words;
 use mq::Guarded;
-use mq_model::checker::check_history;
+use mq_checker::checker::check_history;
 use mq_model::journals::Journal;
 use std::alloc::Global;
 use std::io::{Read, Write};

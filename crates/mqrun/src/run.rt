@@ -19,7 +19,7 @@ use fast_mutex::Lock;
 use lines::input::read_all;
 use lines::output::write_all;
 use mq::{Guarded, Mq, Process};
-use mq_model::checker::check_history;
+use mq_checker::checker::check_history;
 use mq_model::journals::Journal;
 use std::alloc::Global;
 use std::io::{Read, Write};

@@ -5,7 +5,7 @@ ghost use Rattle.mq.specs.Calls.{IsFree};
 use super::{CREATE, OPEN, Pair, finish, make_pair, open_queue, receive, send};
 use crate::{Guarded, Mq, Process};
 use fast_mutex::{FastMutex, Lock, WordLock};
-use mq_model::checker::check_history;
+use mq_checker::checker::check_history;
 use mq_model::journals::Journal;
 use std::alloc::Global;
 use std::process::Abort;

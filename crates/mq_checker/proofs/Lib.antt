@@ -1,0 +1,4 @@
+pub mod Checked
+pub mod Flagged
+pub mod TakenBits
+pub mod TablesKeep

@@ -1,0 +1,12 @@
+-- When the checker's tables are those of a journal.
+use Rattle.std.specs.Prelude.{◌≡◌, length}
+use Rattle.mq_model.specs.Record.{Past}
+use Rattle.mq_model.specs.Owners.{OwnersMirror}
+use Rattle.mq_checker.specs.TakenTable.{TakenMirror}
+use Rattle.mq_checker.specs.declared.tables.Tables.{Tables}
+
+-- the tables say what the definitions say of the journal
+pub record TablesMirror (past : Past) (tables : Tables) : Type 0 where
+  pub owners : OwnersMirror past tables.owners
+  pub count : length tables.owners ≡ 33
+  pub taken : TakenMirror past tables.marks

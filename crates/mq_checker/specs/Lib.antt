@@ -1,0 +1,2 @@
+pub mod TakenTable
+pub mod CheckerTables

@@ -1,0 +1,90 @@
+//! Whether a journal is legal.
+#![tactic(auto, using(mq_model::proofs::Prefixes::prefixes))]
+
+ghost use Rattle.std.specs.Prelude.{◌≡◌, ◌+◌, ◌<◌, ◌≤◌, ◌&&◌, ◌↔◌, IsTrue, IsOk, IfErr, length, nat_le};
+ghost use Rattle.mq_model.specs.Record.{first};
+ghost use Rattle.mq_model.specs.Answer.{is_refused, is_payload, may_call, Legal, IsFirstIllegal};
+ghost use Rattle.mq_checker.specs.CheckerTables.{TablesMirror};
+
+use mq_model::entries::{Call, Reply};
+use crate::expected::answer;
+use mq_model::journals::Journal;
+use mq_model::names::is_name;
+use crate::replies::is_same;
+use crate::tables;
+use crate::tables::Tables;
+
+fn is_refused(reply: Reply) -> bool
+    ensures { result ≡ is_refused reply }
+{
+    match reply {
+        Reply::Refused(_) => true,
+        _ => false,
+    }
+}
+
+fn is_payload(call: Call, reply: Reply, payload: &[u8]) -> bool
+    ensures { result ≡ is_payload call reply payload.now }
+{
+    match call {
+        Call::MqOpen { flags: _, attr: _ } => is_name(payload),
+        Call::MqUnlink => is_name(payload),
+        Call::MqSend { d: _, prio: _, len } => payload.len() as u64
+            == if is_refused(reply) { 0 } else { len },
+        _ => payload.is_empty(),
+    }
+}
+
+fn may_call(journal: &Journal, k: u64, tables: &Tables, p: u32, call: Call) -> bool
+    requires { TablesMirror (first k journal.now.records) tables.now }
+    ensures { result ≡ may_call (first k journal.now.records) p call }
+{
+    match call {
+        Call::Collect => tables::answer(journal, k, tables, p).is_some(),
+        _ => tables::wait(journal, k, tables, p).is_none(),
+    }
+}
+
+fn is_process(p: u32) -> bool
+    ensures { result ≡ (nat_le 1 p && nat_le p 32) }
+{
+    1 <= p && p <= 32
+}
+
+fn all(process: bool, turn: bool, fits: bool, same: bool) -> bool
+    ensures { result ≡ (process && turn && fits && same) }
+{
+    process && turn && fits && same
+}
+
+// Whether the record at place `k` may stand behind those before it.
+fn is_legal_at(journal: &Journal, k: u64, tables: &Tables) -> bool
+    requires place { k < length journal.now.records }
+    requires legal { Legal (first k journal.now.records) }
+    requires mirror { TablesMirror (first k journal.now.records) tables.now }
+    ensures { IsTrue result ↔ Legal (first (k + 1) journal.now.records) }
+{
+    let (entry, payload) = journal.record(k);
+    let process = is_process(entry.process);
+    let turn = may_call(journal, k, tables, entry.process, entry.call);
+    let fits = is_payload(entry.call, entry.reply, payload);
+    let expected = answer(journal, k, tables, entry.process, entry.call, payload);
+    let same = is_same(entry.reply, expected);
+    all(process, turn, fits, same)
+}
+
+/// Checks that a journal is legal: each process is 1 to 32, makes a call where it may, and got the reply that the calls
+/// before determine, with the payload that belongs there. `Err` gives the first place where this is not so. Takes no memory.
+pub fn check_history(journal: &Journal) -> Result<(), u64>
+    ensures legal { IsOk result ↔ Legal journal.now.records }
+    ensures first_illegal { IfErr result (IsFirstIllegal journal.now.records) }
+{
+    let mut tables = tables::start();
+    for k in 0..journal.len() {
+        if !is_legal_at(journal, k, &tables) {
+            return Err(k);
+        }
+        tables::note(journal, k, &mut tables);
+    }
+    Ok(())
+}

@@ -1,0 +1,11 @@
+//! Whether a journal is legal: `checker::check_history` reads each reply off the entries before it.
+#![tactic(auto)]
+
+pub mod checker;
+mod expected;
+mod replies;
+mod scan_messages;
+mod scan_names;
+mod scan_notices;
+mod tables;
+mod taken;

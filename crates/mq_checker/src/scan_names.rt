@@ -1,0 +1,236 @@
+//! Names, descriptors and queues, read off the entries before a place.
+#![tactic(auto, using(mq_model::proofs::Prefixes::prefixes))]
+
+ghost use Rattle.std.specs.Prelude.{◌≡◌, ◌<◌, ◌≤◌, length, int_le};
+ghost use Rattle.mq_model.specs.Record.{first, record_at};
+ghost use Rattle.std.specs.Option.{option_map};
+ghost use Rattle.mq_model.specs.Names.{is_open, is_unlink, creates, unlinks, bound_queue, attributes_given, attributes, are_within_limits};
+ghost use Rattle.mq_model.specs.Descriptors.{opened_queue, held, descriptor_of, called_queue, is_place, is_named, alive};
+ghost use Rattle.mq_checker.specs.CheckerTables.{TablesMirror};
+
+use mq_model::entries::{Attr, Call, Description, Entry, Reply};
+use mq_model::journals::Journal;
+use crate::tables::{Tables, is_held};
+
+pub(crate) fn is_open(call: Call) -> bool
+    ensures { result ≡ is_open call }
+{
+    match call {
+        Call::MqOpen { .. } => true,
+        _ => false,
+    }
+}
+
+pub(crate) fn is_unlink(call: Call) -> bool
+    ensures { result ≡ is_unlink call }
+{
+    match call {
+        Call::MqUnlink => true,
+        _ => false,
+    }
+}
+
+pub(crate) fn creates(call: Call, reply: Reply) -> bool
+    ensures { result ≡ creates call reply }
+{
+    match reply {
+        Reply::Opened { d: _, created } => created && is_open(call),
+        _ => false,
+    }
+}
+
+pub(crate) fn unlinks(call: Call, reply: Reply) -> bool
+    ensures { result ≡ unlinks call reply }
+{
+    match reply {
+        Reply::Done => is_unlink(call),
+        _ => false,
+    }
+}
+
+// The queue that a name is bound to before place `k`.
+pub(crate) fn bound_queue(journal: &Journal, k: u64, name: &[u8]) -> Option<u64>
+    requires { k ≤ length journal.now.records }
+    ensures { result ≡ bound_queue (first k journal.now.records) name.now }
+{
+    for i in (0..k).rev() {
+        let (entry, payload) = journal.record(i);
+        if payload == name && creates(entry.call, entry.reply) {
+            return Some(i);
+        }
+        if payload == name && unlinks(entry.call, entry.reply) {
+            return None;
+        }
+    }
+    None
+}
+
+pub(crate) fn opened_queue(journal: &Journal, k: u64, name: &[u8], created: bool) -> u64
+    requires { k ≤ length journal.now.records }
+    ensures { result ≡ opened_queue (first k journal.now.records) name.now created }
+{
+    if created {
+        k
+    } else {
+        bound_queue(journal, k, name).unwrap_or(0)
+    }
+}
+
+// What process `p` holds under `d` before place `k`.
+#[tactic(auto, using(mq_model::proofs::Prefixes::prefixes, crate::proofs::Flagged::flagged_twice))]
+pub(crate) fn held(journal: &Journal, k: u64, p: u32, d: u32) -> Option<Description>
+    requires { k ≤ length journal.now.records }
+    ensures { result ≡ held (first k journal.now.records) p d }
+{
+    let mut flag = None;
+    for i in (0..k).rev() {
+        let (entry, payload) = journal.record(i);
+        if entry.process == p {
+            match entry.call {
+                Call::MqOpen { flags, attr: _ } => {
+                    if let Reply::Opened { d: e, created } = entry.reply {
+                        if e == d {
+                            let queue = opened_queue(journal, i, payload, created);
+                            let nonblock = flag.unwrap_or(flags.nonblock);
+                            return Some(Description {
+                                queue,
+                                access: flags.access,
+                                nonblock,
+                            });
+                        }
+                    }
+                }
+                Call::MqClose { d: e } => {
+                    if let Reply::Done = entry.reply {
+                        if e == d {
+                            return None;
+                        }
+                    }
+                }
+                Call::MqSetattr { d: e, nonblock } => {
+                    if let Reply::Attrs(_) = entry.reply {
+                        if e == d {
+                            flag = Some(flag.unwrap_or(nonblock));
+                        }
+                    }
+                }
+                _ => {}
+            }
+        }
+    }
+    None
+}
+
+pub(crate) fn descriptor_of(call: Call) -> Option<u32>
+    ensures { result ≡ descriptor_of call }
+{
+    match call {
+        Call::MqClose { d } => Some(d),
+        Call::MqSend { d, prio: _, len: _ } => Some(d),
+        Call::MqReceive { d, room: _ } => Some(d),
+        Call::MqGetattr { d } => Some(d),
+        Call::MqSetattr { d, nonblock: _ } => Some(d),
+        Call::MqNotify { d, value: _ } => Some(d),
+        Call::MqOpen { flags: _, attr: _ } => None,
+        Call::MqUnlink => None,
+        Call::NextNotice => None,
+        Call::Collect => None,
+    }
+}
+
+// Whether a call of process `p` at place `k` is made on queue `q`.
+pub(crate) fn is_on(journal: &Journal, k: u64, p: u32, call: Call, q: u64) -> bool
+    requires { k ≤ length journal.now.records }
+    ensures { result ≡ is_place q (called_queue (first k journal.now.records) p call) }
+{
+    match descriptor_of(call) {
+        Some(d) => match held(journal, k, p, d) {
+            Some(h) => h.queue == q,
+            None => false,
+        },
+        None => false,
+    }
+}
+
+pub(crate) fn attributes_given(call: Call) -> Attr
+    ensures { result ≡ attributes_given call }
+{
+    match call {
+        Call::MqOpen { flags: _, attr } => match attr {
+            Some(attr) => attr,
+            None => Attr {
+                maxmsg: 10,
+                msgsize: 8192,
+            },
+        },
+        _ => Attr {
+            maxmsg: 10,
+            msgsize: 8192,
+        },
+    }
+}
+
+// The entry at place `m`, where that lies before place `k`.
+pub(crate) fn entry_before(journal: &Journal, k: u64, m: u64) -> Option<Entry>
+    requires { k ≤ length journal.now.records }
+    ensures { result ≡ option_map (λ r. r.entry) (record_at (first k journal.now.records) m) }
+{
+    if m < k { journal.entry(m) } else { None }
+}
+
+// The attributes of queue `q`.
+pub(crate) fn attributes(journal: &Journal, k: u64, q: u64) -> Attr
+    requires { k ≤ length journal.now.records }
+    ensures { result ≡ attributes (first k journal.now.records) q }
+{
+    match entry_before(journal, k, q) {
+        Some(entry) => attributes_given(entry.call),
+        None => Attr {
+            maxmsg: 10,
+            msgsize: 8192,
+        },
+    }
+}
+
+// Whether queue `q` is bound to its name at place `k`.
+pub(crate) fn is_named(journal: &Journal, k: u64, q: u64) -> bool
+    requires place { q < k }
+    requires bound { k ≤ length journal.now.records }
+    ensures { result ≡ is_named (first k journal.now.records) q }
+{
+    let (_, name) = journal.record(q);
+    match bound_queue(journal, k, name) {
+        Some(bound) => bound == q,
+        None => false,
+    }
+}
+
+// How many queues exist at place `k`.
+pub(crate) fn alive_count(journal: &Journal, k: u64, tables: &Tables) -> u64
+    requires bound { k ≤ length journal.now.records }
+    requires mirror { TablesMirror (first k journal.now.records) tables.now }
+    ensures { result ≡ length (alive (first k journal.now.records)) }
+{
+    let mut count = 0;
+    for i in 0..k {
+        let (entry, _) = journal.record(i);
+        if creates(entry.call, entry.reply) {
+            if is_named(journal, k, i) || is_held(journal, k, tables, i) {
+                count += 1;
+            }
+        }
+    }
+    count
+}
+
+pub(crate) fn are_within_limits(attr: Option<Attr>) -> bool
+    ensures { result ≡ are_within_limits attr }
+{
+    match attr {
+        Some(attr) => 1 <= attr.maxmsg
+            && attr.maxmsg <= 4096
+            && 1 <= attr.msgsize
+            && attr.msgsize <= 65536,
+        None => true,
+    }
+}

@@ -1,0 +1,153 @@
+//! The checker's tables, which say what the definitions say of the entries so far: what each process has, and which messages
+//! were taken.
+ghost use Rattle.std.specs.Prelude.{◌≡◌, ◌+◌, ◌<◌, ◌≤◌, [], length, Some, None, ℕ, Bool};
+ghost use Rattle.std.specs.Option.{option_map, unwrap_or};
+ghost use Rattle.mq_model.specs.Record.{first};
+ghost use Rattle.mq_model.specs.Descriptors.{held, opened_queue, called_queue, lowest_free, is_held};
+ghost use Rattle.mq_model.specs.Messages.{least};
+ghost use Rattle.mq_model.specs.Waits.{open_wait, answered_by};
+ghost use Rattle.mq_model.specs.Owners.{waiting, OwnersMirror};
+ghost use Rattle.mq_model.specs.Answer.{Legal};
+ghost use Rattle.mq_checker.specs.CheckerTables.{TablesMirror};
+
+use mq_model::entries::{Call, Description, Entry, Reply};
+use mq_model::journals::Journal;
+use mq_model::owners::Owner;
+use crate::scan_names::{descriptor_of, opened_queue};
+use crate::taken;
+use mq_model::owners;
+
+// How many lines the table of processes has: process p's is at index p.
+const OWNERS: usize = 33;
+
+/// What each process has, and which messages were taken.
+#[derive(Clone, Copy)]
+pub(crate) struct Tables {
+    pub(crate) owners: [Owner; OWNERS],
+    pub(crate) marks: [bool; taken::PLACES],
+}
+
+// The lines of processes that have nothing.
+fn vacant() -> [Owner; OWNERS]
+    ensures mirror { OwnersMirror [] result }
+    ensures count { length result ≡ 33 }
+{
+    [Owner::free(); OWNERS]
+}
+
+// The tables of a journal without entries.
+pub(crate) fn start() -> Tables
+    ensures { TablesMirror [] result }
+{
+    Tables {
+        owners: vacant(),
+        marks: taken::unmarked(),
+    }
+}
+
+// What process `p` holds under `d` at place `k`.
+pub(crate) fn held(
+    journal: &Journal,
+    k: u64,
+    tables: &Tables,
+    p: u32,
+    d: u32,
+) -> Option<Description>
+    requires { TablesMirror (first k journal.now.records) tables.now }
+    ensures { result ≡ held (first k journal.now.records) p d }
+{
+    owners::held(&tables.owners, p, d)
+}
+
+// The lowest descriptor that process `p` does not hold at place `k`.
+pub(crate) fn lowest_free(journal: &Journal, k: u64, tables: &Tables, p: u32) -> Option<u32>
+    requires { TablesMirror (first k journal.now.records) tables.now }
+    ensures { result ≡ lowest_free (first k journal.now.records) p }
+{
+    owners::free_number(&tables.owners, p)
+}
+
+// Whether some process holds a descriptor of queue `q` at place `k`.
+pub(crate) fn is_held(journal: &Journal, k: u64, tables: &Tables, q: u64) -> bool
+    requires { TablesMirror (first k journal.now.records) tables.now }
+    ensures { result ≡ is_held (first k journal.now.records) q }
+{
+    owners::is_held(&tables.owners, q)
+}
+
+// The place of the open wait of process `p` at place `k`.
+pub(crate) fn wait(journal: &Journal, k: u64, tables: &Tables, p: u32) -> Option<u64>
+    requires { TablesMirror (first k journal.now.records) tables.now }
+    ensures { result ≡ open_wait (first k journal.now.records) p }
+{
+    match owners::wait(&tables.owners, p) {
+        None => None,
+        Some(wait) => Some(wait.place),
+    }
+}
+
+// The place of the entry that answers it.
+pub(crate) fn answer(journal: &Journal, k: u64, tables: &Tables, p: u32) -> Option<u64>
+    requires { TablesMirror (first k journal.now.records) tables.now }
+    ensures { result ≡ answered_by (first k journal.now.records) p }
+{
+    owners::answer(&tables.owners, p)
+}
+
+// The send, or receive, that waits the longest on queue `q` at place `k`.
+pub(crate) fn first_wait(
+    journal: &Journal,
+    k: u64,
+    tables: &Tables,
+    q: u64,
+    sends: bool,
+) -> Option<u64>
+    requires mirror { TablesMirror (first k journal.now.records) tables.now }
+    requires legal { Legal (first k journal.now.records) }
+    ensures { result ≡ least (waiting (first k journal.now.records) sends q) }
+{
+    match owners::first_wait(&tables.owners, q, sends) {
+        None => None,
+        Some((_, place)) => Some(place),
+    }
+}
+
+// The queue that a call is made on.
+fn called_queue(journal: &Journal, k: u64, tables: &Tables, p: u32, call: Call) -> Option<u64>
+    requires { TablesMirror (first k journal.now.records) tables.now }
+    ensures { result ≡ called_queue (first k journal.now.records) p call }
+{
+    match descriptor_of(call) {
+        Some(d) => match held(journal, k, tables, p, d) {
+            Some(h) => Some(h.queue),
+            None => None,
+        },
+        None => None,
+    }
+}
+
+// The queue that an entry opened, or that its call was made on.
+fn entry_queue(journal: &Journal, k: u64, tables: &Tables, entry: Entry, payload: &[u8]) -> u64
+    requires bound { k ≤ length journal.now.records }
+    requires mirror { TablesMirror (first k journal.now.records) tables.now }
+    ensures opened { (d : ℕ) (created : Bool) → entry.reply ≡ Reply.Opened d created → result ≡ opened_queue (first k journal.now.records) payload.now created }
+    ensures waits { entry.reply ≡ Reply.Waits → result ≡ unwrap_or (called_queue (first k journal.now.records) entry.process entry.call) 0 }
+{
+    match entry.reply {
+        Reply::Opened { d: _, created } => opened_queue(journal, k, payload, created),
+        _ => called_queue(journal, k, tables, entry.process, entry.call).unwrap_or(0),
+    }
+}
+
+// Notes the entry at place `k`, with which the journal is legal.
+pub(crate) fn note(journal: &Journal, k: u64, tables: &mut Tables)
+    requires place { k < length journal.now.records }
+    requires mirror { TablesMirror (first k journal.now.records) tables.old }
+    requires legal { Legal (first (k + 1) journal.now.records) }
+    ensures { TablesMirror (first (k + 1) journal.now.records) tables.new }
+{
+    let (entry, payload) = journal.record(k);
+    let queue = entry_queue(journal, k, tables, entry, payload);
+    taken::note(&mut tables.marks, k, entry.reply);
+    owners::note(&mut tables.owners, k, entry, queue);
+}

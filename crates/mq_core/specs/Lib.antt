@@ -1,0 +1,12 @@
+pub use Rattle.mq_model.specs.Fault
+pub use Rattle.mq_model.specs.Name
+pub use Rattle.mq_model.specs.Record
+pub use Rattle.mq_model.specs.Names
+pub use Rattle.mq_model.specs.Descriptors
+pub use Rattle.mq_model.specs.Messages
+pub use Rattle.mq_model.specs.Notices
+pub use Rattle.mq_model.specs.Waits
+pub use Rattle.mq_model.specs.Answer
+pub use Rattle.mq_model.specs.Owners
+pub use Rattle.mq_model.specs.OwnersNoted
+pub use Rattle.mq_laws.specs.Laws

@@ -1,0 +1,132 @@
+-- What a legal journal's sends, receives and collects held, what its receives got, and what others leave.
+use Rattle.std.proofs.Common.{◌≡◌, ℕ, ◌==◌, Bool, true, false, not, [], ◌∷◌, length, Option, Some, None, is_some, if◌then◌else◌, refl, sym, ◌∙◌, ap, arith}
+use Rattle.mq_model.specs.Record.{Past, first}
+use Rattle.mq_model.specs.Descriptors.{held, called_queue}
+use Rattle.mq_model.specs.Waits.{is_wait, open_wait, answered_by}
+use Rattle.mq_model.specs.Answer.{Legal, is_read_only, is_write_only, is_refused}
+use Rattle.mq_laws.specs.Laws.{message_given, GivesBest, HoldsDescriptors}
+use Rattle.mq_model.proofs.Places.{split}
+use Rattle.mq_model.proofs.Cases.{Says}
+use Rattle.mq_model.proofs.LegalReplies.{legal_says, got_says}
+use Rattle.mq_model.proofs.Prefixes.{record_at-below, length-first, first-all}
+use Rattle.mq_model.proofs.Frames.{answered_by-none}
+use Rattle.mq_model.proofs.OthersLeave.{open_wait-below}
+use Rattle.mq_laws.proofs.LegalPlaces.{legal-at, has-record, first-older, first-first}
+use Rattle.mq_laws.proofs.GivenOnce.{given-reply}
+use Rattle.mq_model.specs.declared.entries.Description.{Description}
+use Rattle.mq_model.specs.declared.entries.Call.{Call}
+use Rattle.mq_model.specs.declared.entries.Call.TheVariants.{MqSend, MqReceive}
+use Rattle.mq_model.specs.declared.entries.Reply.{Reply}
+use Rattle.mq_model.specs.declared.entries.Reply.TheVariants.{Opened, Queued, Handed, Waits, Got, Collected, Attrs, Notice, Done, Refused}
+
+called-receive : (past : Past) (p d room : ℕ) (call : Call) (h : Description) → call ≡ MqReceive d room → held past p d ≡ Some h → called_queue past p call ≡ Some h.queue
+called-receive past p d room call h c e = rw (c, e) refl
+
+-- what a receive got was the best message of its queue
+pub gives-best : (past : Past) → Legal past → GivesBest past
+gives-best past legal k m e =
+    let x = has-record message_given past k m e in
+    let at = legal-at past legal k x.r x.at in
+    let is = given-reply x.r.entry.reply m x.is in
+    let says : Says (first k past) x.r.entry.process x.r.entry.call (Got m is.0 is.1) = rw is.2 at (legal_says (first k past) x.r at.next) in
+    let got = got_says (first k past) x.r.entry.process x.r.entry.call m is.0 is.1 says in
+    let on : called_queue (first k past) x.r.entry.process x.r.entry.call ≡ Some got.2.queue = called-receive (first k past) x.r.entry.process got.0 got.1 x.r.entry.call got.2 got.3 got.4 in
+    (got.2.queue, record { r = x.r; at = x.at; on = on; gets = x.is }, got.6)
+
+-- descriptors ------------------------------------------------------------------------------------------------------------
+
+record IsHeldWith (past : Past) (p d : ℕ) (passes : Description → Bool) : Type 0 where
+  h : Description
+  held : held past p d ≡ Some h
+  access : passes h ≡ true
+
+not-false : (b : Bool) → b ≡ false → not b ≡ true
+not-false true e = absurd (cc)
+not-false false e = refl
+
+send-holds : (past : Past) (p d prio len : ℕ) (reply : Reply) → Says past p (MqSend d prio len) reply → is_refused reply ≡ false → IsHeldWith past p d (λ h. not (is_read_only h.access))
+send-holds past p d prio len (Refused f) says e = absurd (let bad : true ≡ false = e in cc)
+send-holds past p d prio len (Queued n) says e = record { h = says.0; held = says.1; access = not-false (is_read_only says.0.access) says.2.access }
+send-holds past p d prio len (Handed w) says e = record { h = says.0; held = says.1; access = not-false (is_read_only says.0.access) says.2.access }
+send-holds past p d prio len Waits says e = record { h = says.0; held = says.1; access = not-false (is_read_only says.0.access) says.2.access }
+send-holds past p d prio len (Opened x created) says e = absurd says.3
+send-holds past p d prio len (Got m a n) says e = absurd says.3
+send-holds past p d prio len (Collected by) says e = absurd says.3
+send-holds past p d prio len (Attrs s) says e = absurd says.3
+send-holds past p d prio len (Notice v) says e = absurd says.3
+send-holds past p d prio len Done says e = absurd says.3
+
+receive-holds : (past : Past) (p d room : ℕ) (reply : Reply) → Says past p (MqReceive d room) reply → is_refused reply ≡ false → IsHeldWith past p d (λ h. not (is_write_only h.access))
+receive-holds past p d room (Refused f) says e = absurd (let bad : true ≡ false = e in cc)
+receive-holds past p d room (Got m a n) says e = record { h = says.0; held = says.1; access = not-false (is_write_only says.0.access) says.2.access }
+receive-holds past p d room Waits says e = record { h = says.0; held = says.1; access = not-false (is_write_only says.0.access) says.2.access }
+receive-holds past p d room (Opened x created) says e = absurd says.3
+receive-holds past p d room (Queued n) says e = absurd says.3
+receive-holds past p d room (Handed w) says e = absurd says.3
+receive-holds past p d room (Collected by) says e = absurd says.3
+receive-holds past p d room (Attrs s) says e = absurd says.3
+receive-holds past p d room (Notice v) says e = absurd says.3
+receive-holds past p d room Done says e = absurd says.3
+
+is_wait-Waits : (reply : Reply) → is_wait reply ≡ true → reply ≡ Waits
+is_wait-Waits Waits e = refl
+is_wait-Waits (Opened d created) e = absurd (cc)
+is_wait-Waits (Queued n) e = absurd (cc)
+is_wait-Waits (Handed w) e = absurd (cc)
+is_wait-Waits (Got m a n) e = absurd (cc)
+is_wait-Waits (Collected by) e = absurd (cc)
+is_wait-Waits (Attrs s) e = absurd (cc)
+is_wait-Waits (Notice v) e = absurd (cc)
+is_wait-Waits Done e = absurd (cc)
+is_wait-Waits (Refused f) e = absurd (cc)
+
+-- a process that waits holds what it held where its wait began
+pub wait-holds : (past : Past) (p w : ℕ) → open_wait past p ≡ Some w → (d : ℕ) → held past p d ≡ held (first w past) p d
+wait-holds [] p w e d = absurd (cc)
+wait-holds (r ∷ past) p w e d = split (r.entry.process == p)
+    (λ own. let last : (if is_wait r.entry.reply then Some (length past) else None) ≡ Some w = rw own at e in
+    split (is_wait r.entry.reply)
+    (λ waits.
+    let here : Some (length past) ≡ Some w = rw waits at last in
+    let place : length past ≡ w = cc in
+    let is : r.entry.reply ≡ Waits = is_wait-Waits r.entry.reply waits in
+    let before : first w (r ∷ past) ≡ past = first-older past r w (omega arith) ∙ first-all past w (sym place) in
+    let now : held (r ∷ past) p d ≡ held past p d = rw (own, is) refl in
+    now ∙ ap (λ b. held b p d) (sym before))
+    (λ no. let bad : None ≡ Some w = rw no at last in absurd (cc)))
+    (λ other.
+    let old : open_wait past p ≡ Some w = rw other at e in
+    let lt = open_wait-below past p w old in
+    let before : first w (r ∷ past) ≡ first w past = first-older past r w (omega (arith, lt)) in
+    let now : held (r ∷ past) p d ≡ held past p d = rw other refl in
+    now ∙ wait-holds past p w old d ∙ ap (λ b. held b p d) (sym before))
+
+-- an answered process waits
+pub answered-waits : (past : Past) (p : ℕ) → is_some (answered_by past p) ≡ true → (w : ℕ) × (open_wait past p ≡ Some w)
+answered-waits past p t = by (open_wait past p) refl
+  where
+    by : (o : Option ℕ) → open_wait past p ≡ o → (w : ℕ) × (open_wait past p ≡ Some w)
+    by None is = absurd (let none = answered_by-none past p is in let bad : false ≡ true = rw none at t in cc)
+    by (Some w) is = (w, is)
+
+pub holds-descriptors : (past : Past) → Legal past → HoldsDescriptors past
+holds-descriptors past legal = record {
+  sends = λ k d prio len r e c not.
+      let at = legal-at past legal k r e in
+      let says : Says (first k past) r.entry.process (MqSend d prio len) r.entry.reply = rw c at (legal_says (first k past) r at.next) in
+      let x = send-holds (first k past) r.entry.process d prio len r.entry.reply says not in
+      record { h = x.h; held = x.held; access = x.access };
+  receives = λ k d room r e c not.
+      let at = legal-at past legal k r e in
+      let says : Says (first k past) r.entry.process (MqReceive d room) r.entry.reply = rw c at (legal_says (first k past) r at.next) in
+      let x = receive-holds (first k past) r.entry.process d room r.entry.reply says not in
+      record { h = x.h; held = x.held; access = x.access };
+  collects = λ k r e c.
+      let at = legal-at past legal k r e in
+      let turn : is_some (answered_by (first k past) r.entry.process) ≡ true = rw c at at.next.turn in
+      let x = answered-waits (first k past) r.entry.process turn in
+      let lt = open_wait-below (first k past) r.entry.process x.0 x.1 in
+      let below = record_at-below past k r e in
+      let same : first x.0 (first k past) ≡ first x.0 past = first-first past x.0 k (let long = length-first k past (omega (arith, below)) in omega (arith, lt, long)) in
+      (x.0, x.1, λ d. wait-holds (first k past) r.entry.process x.0 x.1 d ∙ ap (λ before. held before r.entry.process d) same);
+}

@@ -1,0 +1,12 @@
+pub mod LegalPlaces
+pub mod Refusals
+pub mod GivenOnce
+pub mod HeldLaws
+pub mod SentMessages
+pub mod Waiting
+pub mod WaitCauses
+pub mod GoneQueues
+pub mod SendingOrder
+pub mod WorkedJournals
+pub mod WorkedWaits
+pub mod WorkedRefusals

@@ -1,0 +1,116 @@
+-- A refused entry changes nothing.
+use Rattle.std.proofs.Common.{◌≡◌, ℕ, ◌==◌, Bool, true, false, List, [], ◌∷◌, length, Option, Some, None, is_none, refl, sym, ◌∙◌, ap, subst, arith, append-nil, eq-eqb}
+use Rattle.std.specs.Prelude.{IsTrue, pos, int_le, drop}
+use Rattle.std.specs.List.{find, list_all}
+use Rattle.mq_model.specs.Record.{Record, Past, first}
+use Rattle.mq_model.specs.Descriptors.{is_on}
+use Rattle.mq_model.specs.Messages.{is_in, present, best, goes_first, priority}
+use Rattle.mq_model.specs.Notices.{registration_after, registered, notices_given, values_notified}
+use Rattle.mq_model.specs.Waits.{open_wait, names_wait}
+use Rattle.mq_model.specs.Answer.{Legal, answer, may_call}
+use Rattle.mq_laws.specs.Refusals.{IsUnchanged, RefusalsChangeNothing}
+use Rattle.mq_model.proofs.Alive.{none-of}
+use Rattle.mq_model.proofs.Places.{split}
+use Rattle.mq_model.proofs.Prefixes.{first-more}
+use Rattle.mq_model.proofs.Frames.{KeepsNames, held-same, bound_queue-same, alive-same, created-below, open_wait-same, answered_by-step, keeps-refused}
+use Rattle.mq_model.proofs.Presence.{priority-older, present-below}
+use Rattle.mq_model.proofs.PresentFew.{attributes-older}
+use Rattle.mq_laws.proofs.LegalPlaces.{legal-at}
+use Rattle.mq_model.specs.declared.entries.Attr.{Attr}
+use Rattle.mq_model.specs.declared.entries.Call.{Call}
+use Rattle.mq_model.specs.declared.entries.Call.TheVariants.{MqOpen, MqClose, MqUnlink, MqSend, MqReceive, MqGetattr, MqSetattr, MqNotify, NextNotice, Collect}
+use Rattle.mq_model.specs.declared.entries.Registration.{Registration}
+use Rattle.mq_model.specs.declared.entries.Reply.{Reply}
+use Rattle.mq_model.specs.declared.entries.Reply.TheVariants.{Refused}
+use Rattle.mq_model.specs.declared.faults.Fault.{Fault}
+
+-- the record of a refused call
+abbrev refused : ℕ → Call → Fault → List ℕ → Record
+refused p call f payload = record { entry = record { process = p; call = call; reply = Refused f }; payload = payload }
+
+-- a call that is refused is no collect, so its process had no open wait
+idle : (past : Past) (p : ℕ) (call : Call) (f : Fault) (payload : List ℕ) → IsTrue (may_call past p call) → Refused f ≡ answer past p call payload → is_none (open_wait past p) ≡ true
+idle past p (MqOpen flags attr) f payload turn e = grind arith
+idle past p (MqClose d) f payload turn e = grind arith
+idle past p MqUnlink f payload turn e = grind arith
+idle past p (MqSend d prio len) f payload turn e = grind arith
+idle past p (MqReceive d room) f payload turn e = grind arith
+idle past p (MqGetattr d) f payload turn e = grind arith
+idle past p (MqSetattr d nonblock) f payload turn e = grind arith
+idle past p (MqNotify d value) f payload turn e = grind arith
+idle past p NextNotice f payload turn e = grind arith
+idle past p Collect f payload turn e = absurd (cc)
+
+-- tests that agree on the members of a list
+all-same : (s t : ℕ → Bool) (xs : List ℕ) → ((x : ℕ) → is_in xs x ≡ true → s x ≡ t x) → list_all s xs ≡ list_all t xs
+all-same s t [] same = refl
+all-same s t (x ∷ xs) same =
+    let here : s x ≡ t x = same x (rw (eq-eqb x x refl) refl) in
+    let rest : list_all s xs ≡ list_all t xs = all-same s t xs (λ y h. same y (split (x == y) (λ e. rw e refl) (λ n. rw (n, h) refl))) in
+    rw (here, rest) refl
+
+find-same : (s t : ℕ → Bool) (xs : List ℕ) → ((x : ℕ) → is_in xs x ≡ true → s x ≡ t x) → find s xs ≡ find t xs
+find-same s t [] same = refl
+find-same s t (x ∷ xs) same =
+    let here : s x ≡ t x = same x (rw (eq-eqb x x refl) refl) in
+    let rest : find s xs ≡ find t xs = find-same s t xs (λ y h. same y (split (x == y) (λ e. rw e refl) (λ n. rw (n, h) refl))) in
+    rw (here, rest) refl
+
+-- the order of messages that are present stays
+order-same : (past : Past) (r : Record) (q m n : ℕ) → is_in (present past q) m ≡ true → is_in (present past q) n ≡ true → goes_first (r ∷ past) m n ≡ goes_first past m n
+order-same past r q m n hm hn =
+    let em : priority (r ∷ past) m ≡ priority past m = priority-older past r m (present-below past q m hm) in
+    let en : priority (r ∷ past) n ≡ priority past n = priority-older past r n (present-below past q n hn) in
+    rw (em, en) refl
+
+best-same : (past : Past) (r : Record) (q : ℕ) → present (r ∷ past) q ≡ present past q → best (r ∷ past) q ≡ best past q
+best-same past r q same =
+    ap (λ xs. find (λ m. list_all (goes_first (r ∷ past) m) xs) xs) same
+    ∙ find-same _ _ (present past q) (λ m hm. all-same _ _ (present past q) (λ n hn. order-same past r q m n hm hn))
+
+-- no reply names a wait where it is a refusal
+names-none : (f : Fault) (o : Option ℕ) → names_wait (Refused f) o ≡ false
+names-none f None = refl
+names-none f (Some w) = refl
+
+-- a refusal ends no registration
+registered-kept : (on : Bool) (here p : ℕ) (call : Call) (f : Fault) (before : Option Registration) → registration_after on here (record { process = p; call = call; reply = Refused f }) before ≡ before
+registered-kept on here p call f None = refl
+registered-kept on here p call f (Some n) = refl
+
+-- a refused record of a process without an open wait
+unchanged : (past : Past) (p : ℕ) (call : Call) (f : Fault) (payload : List ℕ) → open_wait past p ≡ None → IsUnchanged past (refused p call f payload ∷ past)
+unchanged past p call f payload idle = record {
+  names = bound_queue-same past r keeps;
+  descriptors = held-same past r keeps;
+  queues = refl;
+  existing = alive-same past r keeps;
+  limits = λ q h. attributes-older past r q (created-below past q h);
+  accepted = λ q m. refl;
+  received = refl;
+  messages = λ q. refl;
+  priorities = λ q m h. priority-older past r m (present-below past q m h);
+  next_message = λ q. best-same past r q refl;
+  fullness = λ q h. ap (λ (a : Attr). int_le a.maxmsg (pos (length (present past q)))) (attributes-older past r q (created-below past q h));
+  sends = λ q. refl;
+  receives = λ q. refl;
+  waits = open_wait-same past r idle refl;
+  answers = λ k. answered_by-step past r idle k ∙ rw (names-none f (open_wait past k)) refl;
+  registrations = λ q. registered-kept (is_on past r.entry q) (length past) p call f (registered past q);
+  pending = λ k. ap (drop (notices_given past k)) (append-nil (values_notified past k));
+}
+  where
+    r : Record
+    r = refused p call f payload
+
+    keeps : KeepsNames past call (Refused f) payload
+    keeps = keeps-refused past call f payload
+
+pub refusals-change-nothing : (past : Past) → Legal past → RefusalsChangeNothing past
+refusals-change-nothing past legal k r f at is =
+    let x = legal-at past legal k r at in
+    let reply : Refused f ≡ answer (first k past) r.entry.process r.entry.call r.payload = sym is ∙ x.next.reply in
+    let free = none-of (open_wait (first k past) r.entry.process) (idle (first k past) r.entry.process r.entry.call f r.payload x.next.turn reply) in
+    let P : Reply → Type 0 = λ reply. IsUnchanged (first k past) (record { entry = record { process = r.entry.process; call = r.entry.call; reply = reply }; payload = r.payload } ∷ first k past) in
+    let here : IsUnchanged (first k past) (r ∷ first k past) = subst P (sym is) (unchanged (first k past) r.entry.process r.entry.call f r.payload free) in
+    subst (IsUnchanged (first k past)) (sym (first-more past k r at)) here

@@ -1,0 +1,362 @@
+-- Messages of one queue and one priority leave it in the order of their sends.
+use Rattle.std.proofs.Common.{◌≡◌, ◌≢◌, ℕ, ◌<◌, ◌≤◌, ◌==◌, Bool, true, false, ◌&&◌, ◌||◌, not, List, [], ◌∷◌, length, min, Option, Some, None, refl, sym, ◌∙◌, ap, subst, arith, eqb-true, eq-eqb, ne_eqb, ◌⊎◌, inl, inr}
+use Rattle.std.specs.Prelude.{ℤ, int_le, pos, negsuc, nat_lt, nat_le}
+use Rattle.std.specs.List.{list_all}
+use Rattle.std.specs.Option.{option_map, option_and_then, unwrap_or}
+use Rattle.std.proofs.lemmas.Bool.{and_parts, not-true}
+use Rattle.std.proofs.lemmas.Bool.Decides.{nat_tests}
+use Rattle.mq_model.specs.Record.{Record, Past, record_at, first}
+use Rattle.mq_model.specs.Names.{attributes}
+use Rattle.mq_model.specs.Descriptors.{called_queue, created, is_on}
+use Rattle.mq_model.specs.Messages.{is_in, with_place, is_accepted, is_send, queues, blocks_send, admits, blocked_sends, admitted_waits, waiting_sends, waiting_receives, entered, admitted, handed, taken, taken_by, present, is_full, priority, priority_given, goes_first, least}
+use Rattle.mq_model.specs.Answer.{Legal, IsLegalNext}
+use Rattle.mq_laws.specs.Laws.{message_given, IsTakenAt, LeavesInOrder}
+use Rattle.mq_model.proofs.Places.{split, clash, is_in-filter, find-in}
+use Rattle.mq_model.proofs.Cases.{Says}
+use Rattle.mq_model.proofs.LegalReplies.{legal_says, got_says}
+use Rattle.mq_model.proofs.Prefixes.{record_at-below, length-first, record_at-first}
+use Rattle.mq_model.proofs.Frames.{record_at-older}
+use Rattle.mq_model.proofs.NamedWaits.{least-in, blocked-once}
+use Rattle.mq_model.proofs.Waiters.{admits-least, in-filter}
+use Rattle.mq_laws.proofs.Waiting.{waiting-empty}
+use Rattle.mq_model.proofs.Steps.{without, filter-both}
+use Rattle.mq_model.proofs.Presence.{with-more, present-admitted, present-below}
+use Rattle.mq_model.proofs.PresentFew.{attributes-within, within-positive_maxmsg, called-on}
+use Rattle.mq_laws.proofs.WaitCauses.{waiting-full, waiting-created}
+use Rattle.mq_laws.proofs.LegalPlaces.{legal-at, has-record, has-here, first-first}
+use Rattle.mq_laws.proofs.GivenOnce.{given-reply, given-present, admitted-blocked}
+use Rattle.mq_laws.proofs.SentMessages.{IsSentTo, SentStatus, accepted-sent, admitted-sent, sent-status, is_sent}
+use Rattle.mq_laws.proofs.GoneQueues.{same-queue, sent-first}
+use Rattle.mq_model.specs.declared.entries.Call.{Call}
+use Rattle.mq_model.specs.declared.entries.Call.TheVariants.{MqOpen, MqClose, MqUnlink, MqSend, MqReceive, MqGetattr, MqSetattr, MqNotify, NextNotice, Collect}
+use Rattle.mq_model.specs.declared.entries.Reply.{Reply}
+use Rattle.mq_model.specs.declared.entries.Reply.TheVariants.{Opened, Queued, Handed, Waits, Got, Collected, Attrs, Notice, Done, Refused}
+
+abbrev rec : ℕ → Call → Reply → List ℕ → Record
+rec p call reply payload = record { entry = record { process = p; call = call; reply = reply }; payload = payload }
+
+least-le : (xs : List ℕ) (m k : ℕ) → least xs ≡ Some m → is_in xs k ≡ true → m ≤ k
+least-le [] m k e h = absurd (cc)
+least-le (x ∷ xs) m k e h = by (λ j f g. least-le xs j k f g) (least xs) refl e
+  where
+    by : ((j : ℕ) → least xs ≡ Some j → is_in xs k ≡ true → j ≤ k) → (o : Option ℕ) → least xs ≡ o → Some (min x (unwrap_or o x)) ≡ Some m → m ≤ k
+    by rest None f g =
+        let same : min x x ≡ m = cc in
+        split (x == k)
+        (λ t. let at : x ≡ k = eqb-true _ _ t in omega (arith, at, same))
+        (λ n. let there : is_in xs k ≡ true = rw n at h in absurd (nothing xs f there))
+      where
+        nothing : (xs : List ℕ) → least xs ≡ None → is_in xs k ≡ true → ⊥
+        nothing [] f there = cc
+        nothing (y ∷ ys) f there = cc
+    by rest (Some j) f g =
+        let same : min x j ≡ m = cc in
+        split (x == k)
+        (λ t. let at : x ≡ k = eqb-true _ _ t in omega (arith, at, same))
+        (λ n. let there : is_in xs k ≡ true = rw n at h in let le = rest j f there in omega (arith, le, same))
+
+-- where a send is queued its queue has room, and where one is handed over a receive waits
+queued-room : (past : Past) (p q : ℕ) (call : Call) (n : Option ℕ) → Says past p call (Queued n) → is_on past (record { process = p; call = call; reply = Queued n }) q ≡ true → is_full past q ≡ false
+queued-room past p q (MqSend d prio len) n says on = let same : says.0.queue ≡ q = called-on past p d q says.0 says.1 on in rw same at says.3.1
+queued-room past p q (MqOpen flags attr) n says on = absurd says
+queued-room past p q (MqClose d) n says on = absurd says.0
+queued-room past p q MqUnlink n says on = absurd says
+queued-room past p q (MqReceive d room) n says on = absurd says.3
+queued-room past p q (MqGetattr d) n says on = absurd says
+queued-room past p q (MqSetattr d nonblock) n says on = absurd says
+queued-room past p q (MqNotify d value) n says on = absurd says
+queued-room past p q NextNotice n says on = absurd (cc)
+queued-room past p q Collect n says on = absurd (cc)
+
+handed-waits : (past : Past) (p q : ℕ) (call : Call) (w : ℕ) → Says past p call (Handed w) → is_on past (record { process = p; call = call; reply = Handed w }) q ≡ true → is_in (waiting_receives past q) w ≡ true
+handed-waits past p q (MqSend d prio len) w says on = let same : says.0.queue ≡ q = called-on past p d q says.0 says.1 on in let P : ℕ → Type 0 = λ k. is_in (waiting_receives past k) w ≡ true in subst P same (least-in (waiting_receives past says.0.queue) w says.3)
+handed-waits past p q (MqOpen flags attr) w says on = absurd says
+handed-waits past p q (MqClose d) w says on = absurd says.0
+handed-waits past p q MqUnlink w says on = absurd says
+handed-waits past p q (MqReceive d room) w says on = absurd says.3
+handed-waits past p q (MqGetattr d) w says on = absurd says
+handed-waits past p q (MqSetattr d nonblock) w says on = absurd says
+handed-waits past p q (MqNotify d value) w says on = absurd says
+handed-waits past p q NextNotice w says on = absurd (cc)
+handed-waits past p q Collect w says on = absurd (cc)
+
+not-zero : (a : ℤ) → int_le (pos 1) a ≡ true → int_le a (pos 0) ≡ true → ⊥
+not-zero (pos k) h g = let low : 1 ≤ k = grind (arith, nat_tests) in let high : k ≤ 0 = grind (arith, nat_tests) in omega (arith, low, high)
+not-zero (negsuc k) h g = let bad : false ≡ true = h in cc
+
+-- where a receive waits no send waits
+pub not-both : (past : Past) → Legal past → (q v w : ℕ) → is_in (waiting_receives past q) v ≡ true → is_in (waiting_sends past q) w ≡ true → ⊥
+not-both past legal q v w h g =
+    let empty = waiting-empty past legal q v h in
+    let full : int_le (attributes past q).maxmsg (pos (length (present past q))) ≡ true = waiting-full past legal q w g in
+    let zero_full : int_le (attributes past q).maxmsg (pos 0) ≡ true = ap (λ xs. int_le (attributes past q).maxmsg (pos (length xs))) (sym empty) ∙ full in
+    not-zero (attributes past q).maxmsg (within-positive_maxmsg (attributes past q) (attributes-within past legal q (waiting-created past legal q w g))) zero_full
+
+accepted-below : (past : Past) (q n : ℕ) → is_accepted past q n ≡ true → n < length past
+accepted-below past q n h = let x = accepted-sent past q n h in record_at-below past n x.r x.at
+
+-- what waits behind a send that blocked
+waits-more : (past : Past) (p : ℕ) (call : Call) (payload : List ℕ) (q w : ℕ) → is_in (waiting_sends (rec p call Waits payload ∷ past) q) w ≡ true → (length past ≡ w) ⊎ (is_in (waiting_sends past q) w ≡ true)
+waits-more past p call payload q w h =
+    let parts = is_in-filter (λ v. not (is_in (admitted_waits past) v)) (blocked_sends (rec p call Waits payload ∷ past) q) w h in
+    split (is_send call && is_on past (record { process = p; call = call; reply = Waits }) q)
+    (λ t. let there : (length past == w || is_in (blocked_sends past q) w) ≡ true = rw t at parts.0 in
+    split (length past == w)
+    (λ e. inl (eqb-true _ _ e))
+    (λ n. let old : is_in (blocked_sends past q) w ≡ true = rw n at there in inr (in-filter (λ v. not (is_in (admitted_waits past) v)) (blocked_sends past q) w old parts.1)))
+    (λ f. let old : is_in (blocked_sends past q) w ≡ true = rw f at parts.0 in inr (in-filter (λ v. not (is_in (admitted_waits past) v)) (blocked_sends past q) w old parts.1))
+
+-- accepted messages were sent before the sends that wait
+abbrev Older : Past → ℕ → Type 0
+Older past q = (n w : ℕ) → is_accepted past q n ≡ true → is_in (waiting_sends past q) w ≡ true → n < w
+
+older-queued : (past : Past) → Legal past → (p : ℕ) (call : Call) (k : Option ℕ) (payload : List ℕ) (q : ℕ) → Says past p call (Queued k) → Older past q → Older (rec p call (Queued k) payload ∷ past) q
+older-queued past legal p call k payload q says before n w h g =
+    split (is_send call && is_on past (record { process = p; call = call; reply = Queued k }) q)
+    (λ t. let room = queued-room past p q call k says (and_parts (is_send call) (is_on past (record { process = p; call = call; reply = Queued k }) q) t).1 in
+    absurd (clash (is_full past q) (waiting-full past legal q w g) room))
+    (λ f. let old : is_accepted past q n ≡ true = rw f at h in before n w old g)
+
+older-handed : (past : Past) → Legal past → (p : ℕ) (call : Call) (v : ℕ) (payload : List ℕ) (q : ℕ) → Says past p call (Handed v) → Older past q → Older (rec p call (Handed v) payload ∷ past) q
+older-handed past legal p call v payload q says before n w h g =
+    split (is_send call && is_on past (record { process = p; call = call; reply = Handed v }) q)
+    (λ t. let waits = handed-waits past p q call v says (and_parts (is_send call) (is_on past (record { process = p; call = call; reply = Handed v }) q) t).1 in
+    absurd (not-both past legal q v w waits g))
+    (λ f. let old : is_accepted past q n ≡ true = rw f at h in before n w old g)
+
+older-waits : (past : Past) (p : ℕ) (call : Call) (payload : List ℕ) (q : ℕ) → Older past q → Older (rec p call Waits payload ∷ past) q
+older-waits past p call payload q before n w h g = by (waits-more past p call payload q w g)
+  where
+    by : (length past ≡ w) ⊎ (is_in (waiting_sends past q) w ≡ true) → n < w
+    by (inl same) = let lt = accepted-below past q n h in omega (arith, lt, same)
+    by (inr old) = before n w h old
+
+older-got : (past : Past) → Legal past → (p : ℕ) (call : Call) (m : ℕ) (a k : Option ℕ) (payload : List ℕ) (q : ℕ) → Says past p call (Got m a k) → Older past q → Older (rec p call (Got m a k) payload ∷ past) q
+older-got past legal p call m None k payload q says before n w h g = before n w h g
+older-got past legal p call m (Some v) k payload q says before n w h g =
+    let still : is_in (without v (waiting_sends past q)) w ≡ true = rw (← filter-both (λ j. v == j) (is_in (admitted_waits past)) (blocked_sends past q)) g in
+    let parts = is_in-filter (λ j. not (v == j)) (waiting_sends past q) w still in
+    split (is_in (blocked_sends past q) v)
+    (λ t.
+    let h' : ((v == n || is_in (admitted past q) n) || is_in (handed past q) n) ≡ true = rw t at h in
+    split (v == n)
+    (λ e. let first = admits-least past p call m (Some v) k says in
+    let waits = least-in (waiting_sends past first.0) v (sym first.1) in
+    let there = (is_in-filter (λ j. not (is_in (admitted_waits past) j)) (blocked_sends past first.0) v waits).0 in
+    let same : first.0 ≡ q = (blocked-once past true true first.0 q v there t).1 in
+    let P : ℕ → Type 0 = λ j. least (waiting_sends past j) ≡ Some v in
+    let le = least-le (waiting_sends past q) v w (subst P same (sym first.1)) parts.0 in
+    let ne : v ≢ w = λ x. clash (v == w) (eq-eqb v w x) (not-true _ parts.1) in
+    let here : v ≡ n = eqb-true _ _ e in
+    omega (arith, le, ne, here))
+    (λ f. let old : is_accepted past q n ≡ true = rw f at h' in before n w old parts.0))
+    (λ f. let old : is_accepted past q n ≡ true = rw f at h in before n w old parts.0)
+
+older-next : (past : Past) → Legal past → (p : ℕ) (call : Call) (reply : Reply) (payload : List ℕ) (q : ℕ) → Says past p call reply → Older past q → Older (rec p call reply payload ∷ past) q
+older-next past legal p call (Queued k) payload q says before = older-queued past legal p call k payload q says before
+older-next past legal p call (Handed v) payload q says before = older-handed past legal p call v payload q says before
+older-next past legal p call Waits payload q says before = older-waits past p call payload q before
+older-next past legal p call (Got m a k) payload q says before = older-got past legal p call m a k payload q says before
+older-next past legal p call (Opened d created) payload q says before = before
+older-next past legal p call (Collected b) payload q says before = before
+older-next past legal p call (Attrs s) payload q says before = before
+older-next past legal p call (Notice v) payload q says before = before
+older-next past legal p call Done payload q says before = before
+older-next past legal p call (Refused f) payload q says before = before
+
+pub accepted-older : (past : Past) → Legal past → (q n w : ℕ) → is_accepted past q n ≡ true → is_in (waiting_sends past q) w ≡ true → n < w
+accepted-older [] legal q n w h g = absurd (cc)
+accepted-older (r ∷ past) legal q n w h g = older-next past legal.0 r.entry.process r.entry.call r.entry.reply r.payload q (legal_says past r legal.1) (λ x y a b. accepted-older past legal.0 q x y a b) n w h g
+
+-- a blocked send that was admitted entered its queue
+admits-queues : (call : Call) (reply : Reply) (k : ℕ) → admits reply ≡ Some k → (queues call reply ≡ false) × (blocks_send call reply ≡ false)
+admits-queues call (Got m a n) k e = (refl, refl)
+admits-queues call (Opened d created) k e = absurd (cc)
+admits-queues call (Queued n) k e = absurd (cc)
+admits-queues call (Handed w) k e = absurd (cc)
+admits-queues call Waits k e = absurd (cc)
+admits-queues call (Collected b) k e = absurd (cc)
+admits-queues call (Attrs s) k e = absurd (cc)
+admits-queues call (Notice v) k e = absurd (cc)
+admits-queues call Done k e = absurd (cc)
+admits-queues call (Refused f) k e = absurd (cc)
+
+admitted-enters : (past : Past) → Legal past → (q m : ℕ) → is_in (blocked_sends past q) m ≡ true → is_in (admitted_waits past) m ≡ true → is_in (admitted past q) m ≡ true
+admitted-enters [] legal q m h g = absurd (cc)
+admitted-enters (r ∷ past) legal q m h g = by (λ a b. admitted-enters past legal.0 q m a b) (admits r.entry.reply) refl g
+  where
+    older : is_in (admitted_waits past) m ≡ true → is_in (blocked_sends past q) m ≡ true
+    older old =
+        let x = has-record (λ x. Some 0) past m 0 (ap (option_and_then (λ (x : Reply). Some 0)) (admitted-blocked past legal.0 m old)) in
+        let lt = record_at-below past m x.r x.at in
+        split (blocks_send r.entry.call r.entry.reply && is_on past r.entry q)
+        (λ t. let new : (length past == m || is_in (blocked_sends past q) m) ≡ true = rw t at h in
+        let other : (length past == m) ≡ false = ne_eqb (length past) m (λ e. omega (arith, lt, e)) in rw other at new)
+        (λ f. rw f at h)
+
+    enters : (is_in (blocked_sends past q) m ≡ true → is_in (admitted_waits past) m ≡ true → is_in (admitted past q) m ≡ true) → is_in (admitted_waits past) m ≡ true → is_in (admitted (r ∷ past) q) m ≡ true
+    enters rest old = with-more (entered past r.entry q) (admitted past q) m (rest (older old) old)
+
+    here : admits r.entry.reply ≡ Some m → is_in (admitted (r ∷ past) q) m ≡ true
+    here e =
+        let quiet = admits-queues r.entry.call r.entry.reply m e in
+        let blocked : is_in (blocked_sends past q) m ≡ true = rw quiet.1 at h in
+        rw (quiet.0, e, blocked) (rw (eq-eqb m m refl) refl)
+
+    by : (is_in (blocked_sends past q) m ≡ true → is_in (admitted_waits past) m ≡ true → is_in (admitted past q) m ≡ true) → (o : Option ℕ) → admits r.entry.reply ≡ o → is_in (with_place o (admitted_waits past)) m ≡ true → is_in (admitted (r ∷ past) q) m ≡ true
+    by rest None e g = enters rest g
+    by rest (Some k) e g = split (k == m)
+        (λ t. here (e ∙ ap Some (eqb-true _ _ t)))
+        (λ f. let old : is_in (admitted_waits past) m ≡ true = rw f at g in enters rest old)
+
+-- what became of a send to queue q behind which a later one was accepted
+abbrev Entered : Past → ℕ → ℕ → Type 0
+Entered past q m = (is_in (admitted past q) m ≡ true) ⊎ (is_in (taken past) m ≡ true)
+
+entered-unless : (past : Past) → Legal past → (q m : ℕ) → IsSentTo past q m → (is_in (waiting_sends past q) m ≡ true → ⊥) → Entered past q m
+entered-unless past legal q m x waits = by x.r.entry.reply x.reply (sent-status past q m x)
+  where
+    by : (reply : Reply) → is_sent reply ≡ true → SentStatus past q m reply → Entered past q m
+    by (Queued n) s z = inl (z.queued n refl)
+    by (Handed w) s z = inr (z.handed w refl)
+    by Waits s z = split (is_in (admitted_waits past) m)
+        (λ t. inl (admitted-enters past legal q m (z.waits refl) t))
+        (λ f. absurd (waits (in-filter (λ w. not (is_in (admitted_waits past) w)) (blocked_sends past q) m (z.waits refl) (rw f refl))))
+    by (Opened d created) s z = absurd (let bad : false ≡ true = s in cc)
+    by (Got k a n) s z = absurd (let bad : false ≡ true = s in cc)
+    by (Collected b) s z = absurd (let bad : false ≡ true = s in cc)
+    by (Attrs v) s z = absurd (let bad : false ≡ true = s in cc)
+    by (Notice v) s z = absurd (let bad : false ≡ true = s in cc)
+    by Done s z = absurd (let bad : false ≡ true = s in cc)
+    by (Refused f) s z = absurd (let bad : false ≡ true = s in cc)
+
+all-in : (t : ℕ → Bool) (xs : List ℕ) (m : ℕ) → list_all t xs ≡ true → is_in xs m ≡ true → t m ≡ true
+all-in t [] m all h = absurd (cc)
+all-in t (x ∷ xs) m all h =
+    let parts = and_parts (t x) (list_all t xs) all in
+    split (x == m)
+    (λ e. let same : x ≡ m = eqb-true _ _ e in rw (← same) parts.0)
+    (λ f. let rest : is_in xs m ≡ true = rw f at h in all-in t xs m parts.1 rest)
+
+not-first : (past : Past) (m n : ℕ) → m < n → priority past m ≡ priority past n → goes_first past n m ≡ true → ⊥
+not-first past m n lt same e = later (priority past m) (priority past n) lt same e
+  where
+    later : (a b : ℕ) → m < n → a ≡ b → (nat_lt a b || (b == a && nat_le n m)) ≡ true → ⊥
+    later a b lt same e = grind (arith, nat_tests)
+
+-- what was taken, an entry took
+pub taken-at : (past : Past) (m : ℕ) → is_in (taken past) m ≡ true → (j : ℕ) × (j < length past) × IsTakenAt past m j
+taken-at [] m h = absurd (cc)
+taken-at (r ∷ past) m h = by (λ old. taken-at past m old) (taken_by (length past) r.entry.reply) refl h
+  where
+    older : (j : ℕ) × (j < length past) × IsTakenAt past m j → (j : ℕ) × (j < length (r ∷ past)) × IsTakenAt (r ∷ past) m j
+    older x =
+        let lt = x.1 in
+        (x.0, omega (arith, lt), ap (λ (o : Option Record). option_and_then (taken_by x.0) (option_map (λ (s : Record). s.entry.reply) o)) (record_at-older past r x.0 lt) ∙ x.2)
+
+    by : (is_in (taken past) m ≡ true → (j : ℕ) × (j < length past) × IsTakenAt past m j) → (o : Option ℕ) → taken_by (length past) r.entry.reply ≡ o → is_in (with_place o (taken past)) m ≡ true → (j : ℕ) × (j < length (r ∷ past)) × IsTakenAt (r ∷ past) m j
+    by rest None e h = older (rest h)
+    by rest (Some k) e h = split (k == m)
+        (λ t. (length past, (omega arith), has-here (taken_by (length past)) past r m (e ∙ ap Some (eqb-true _ _ t))))
+        (λ f. let old : is_in (taken past) m ≡ true = rw f at h in older (rest old))
+
+priority-first : (past : Past) (k m : ℕ) → m < k → k ≤ length past → priority (first k past) m ≡ priority past m
+priority-first past k m lt le = ap (λ o. unwrap_or (option_map (λ (x : Record). priority_given x.entry.call) o) 0) (record_at-first past k m lt le)
+
+sent-back : (past : Past) (k q m : ℕ) → IsSentTo past q m → m < k → k ≤ length past → IsSentTo (first k past) q m
+sent-back past k q m x lt le = record {
+  r = x.r;
+  at = record_at-first past k m lt le ∙ x.at;
+  on = ap (λ b. called_queue b x.r.entry.process x.r.entry.call) (first-first past m k (omega (arith, lt))) ∙ x.on;
+  send = x.send;
+  reply = x.reply;
+}
+
+or-left : (b : Bool) → (true || b) ≡ true
+or-left b = refl
+
+-- before a message is taken, an earlier one of its queue and priority was taken
+taken-first : (past : Past) → Legal past → (r : Record) → IsLegalNext past r → (q m n : ℕ) → IsSentTo past q m → m < n → (n < length past → priority past m ≡ priority past n) →
+    (message_given r.entry.reply ≡ Some n) × (is_accepted past q n ≡ true) ⊎ (length past ≡ n) × ((v : ℕ) × (is_in (waiting_receives past q) v ≡ true)) → is_in (taken past) m ≡ true
+taken-first past legal r next q m n sent lt prio (inl x) =
+    let is = given-reply r.entry.reply n x.0 in
+    let says : Says past r.entry.process r.entry.call (Got n is.0 is.1) = rw is.2 at (legal_says past r next) in
+    let got = got_says past r.entry.process r.entry.call n is.0 is.1 says in
+    let there = find-in _ (present past got.2.queue) n got.6 in
+    let below = present-below past got.2.queue n there.0 in
+    let mine : got.2.queue ≡ q = same-queue past got.2.queue q n (admitted-sent past got.2.queue n (present-admitted past got.2.queue n there.0)) (accepted-sent past q n x.1) in
+    let P : ℕ → Type 0 = λ k. list_all (goes_first past n) (present past k) ≡ true in
+    let all : list_all (goes_first past n) (present past q) ≡ true = subst P mine there.1 in
+    by all below (entered-unless past legal q m sent (λ waits. let bad = accepted-older past legal q n m x.1 waits in omega (arith, lt, bad)))
+  where
+    by : list_all (goes_first past n) (present past q) ≡ true → n < length past → Entered past q m → is_in (taken past) m ≡ true
+    by all below (inr t) = t
+    by all below (inl entered) = split (is_in (taken past) m)
+        (λ t. t)
+        (λ f. let there = in-filter (λ k. not (is_in (taken past) k)) (admitted past q) m entered (rw f refl) in
+        absurd (not-first past m n lt (prio below) (all-in (goes_first past n) (present past q) m all there)))
+taken-first past legal r next q m n sent lt prio (inr x) =
+    by (entered-unless past legal q m sent (λ waits. not-both past legal q x.1.0 m x.1.1 waits))
+  where
+    by : Entered past q m → is_in (taken past) m ≡ true
+    by (inr t) = t
+    by (inl entered) = split (is_in (taken past) m)
+        (λ t. t)
+        (λ f. let there = in-filter (λ k. not (is_in (taken past) k)) (admitted past q) m entered (rw f refl) in
+        let empty = waiting-empty past legal q x.1.0 x.1.1 in
+        let bad : false ≡ true = ap (λ xs. is_in xs m) (sym empty) ∙ there in absurd (cc))
+
+-- the reply that takes a message: a receive's, or that of its own send
+taken-by-reply : (k m : ℕ) (reply : Reply) → taken_by k reply ≡ Some m → (message_given reply ≡ Some m) ⊎ ((k ≡ m) × ((w : ℕ) × (reply ≡ Handed w)))
+taken-by-reply k m (Got j a n) e = inl e
+taken-by-reply k m (Handed w) e = let same : k ≡ m = cc in inr (same, (w, refl))
+taken-by-reply k m (Opened d created) e = absurd (cc)
+taken-by-reply k m (Queued n) e = absurd (cc)
+taken-by-reply k m Waits e = absurd (cc)
+taken-by-reply k m (Collected b) e = absurd (cc)
+taken-by-reply k m (Attrs s) e = absurd (cc)
+taken-by-reply k m (Notice v) e = absurd (cc)
+taken-by-reply k m Done e = absurd (cc)
+taken-by-reply k m (Refused f) e = absurd (cc)
+
+back-taken : (past : Past) (k m j : ℕ) → j < k → k ≤ length past → IsTakenAt (first k past) m j → IsTakenAt past m j
+back-taken past k m j lt le e = ap (λ (o : Option Record). option_and_then (taken_by j) (option_map (λ (s : Record). s.entry.reply) o)) (sym (record_at-first past k j lt le)) ∙ e
+
+pub leaves-in-order : (past : Past) → Legal past → LeavesInOrder past
+leaves-in-order past legal q m n k hm hn lt prio e =
+    let x = has-record (taken_by k) past k n e in
+    let at = legal-at past legal k x.r x.at in
+    let below = record_at-below past k x.r x.at in
+    by at.before at.next below x.at (accepted-sent past q m hm) (accepted-sent past q n hn) (taken-by-reply k n x.r.entry.reply x.is)
+  where
+    found : k < length past → is_in (taken (first k past)) m ≡ true → (j : ℕ) × (j < k) × IsTakenAt past m j
+    found below t =
+        let x = taken-at (first k past) m t in
+        let long = length-first k past (omega (arith, below)) in
+        let sooner : x.0 < k = (let lt = x.1 in omega (arith, lt, long)) in
+        (x.0, sooner, back-taken past k m x.0 sooner (omega (arith, below)) x.2)
+
+    same-prio : k < length past → n < k → priority (first k past) m ≡ priority (first k past) n
+    same-prio below sooner = priority-first past k m (omega (arith, lt, sooner)) (omega (arith, below)) ∙ prio ∙ sym (priority-first past k n sooner (omega (arith, below)))
+
+    by : {r : Record} → Legal (first k past) → IsLegalNext (first k past) r → k < length past → record_at past k ≡ Some r → IsSentTo past q m → IsSentTo past q n → (message_given r.entry.reply ≡ Some n) ⊎ ((k ≡ n) × ((w : ℕ) × (r.entry.reply ≡ Handed w))) → (j : ℕ) × (j < k) × IsTakenAt past m j
+    by {r} before next below at sm sn (inl got) =
+        let there = given-present (first k past) r next n got in
+        let long = length-first k past (omega (arith, below)) in
+        let low = present-below (first k past) there.0 n there.1 in
+        let sooner : n < k = omega (arith, low, long) in
+        let entered = present-admitted (first k past) there.0 n there.1 in
+        let mine : there.0 ≡ q = same-queue past there.0 q n (sent-first past k there.0 n (admitted-sent (first k past) there.0 n entered) sooner (omega (arith, below))) sn in
+        let P : ℕ → Type 0 = λ i. is_in (admitted (first k past) i) n ≡ true in
+        let entered_q : is_in (admitted (first k past) q) n ≡ true = subst P mine entered in
+        let accepted : is_accepted (first k past) q n ≡ true = rw entered_q refl in
+        found below (taken-first (first k past) before r next q m n (sent-back past k q m sm (omega (arith, lt, sooner)) (omega (arith, below))) lt (λ _. same-prio below sooner) (inl (got, accepted)))
+    by {r} before next below at sm sn (inr here) =
+        let long = length-first k past (omega (arith, below)) in
+        let place = here.0 in
+        let one : Some sn.r ≡ Some r = sym sn.at ∙ ap (record_at past) (sym place) ∙ at in
+        let is : sn.r ≡ r = cc in
+        let on : called_queue (first k past) r.entry.process r.entry.call ≡ Some q = ap (λ b. called_queue (first b past) r.entry.process r.entry.call) place ∙ ap (λ (s : Record). called_queue (first n past) s.entry.process s.entry.call) (sym is) ∙ sn.on in
+        let says : Says (first k past) r.entry.process r.entry.call (Handed here.1.0) = rw here.1.1 at (legal_says (first k past) r next) in
+        let waits = handed-waits (first k past) r.entry.process q r.entry.call here.1.0 says (rw on (eq-eqb q q refl)) in
+        found below (taken-first (first k past) before r next q m n (sent-back past k q m sm (omega (arith, lt, place)) (omega (arith, below))) lt (λ short. absurd (omega (arith, short, long, place))) (inr (omega (arith, long, place), (here.1.0, waits))))

@@ -1,0 +1,183 @@
+-- The sends behind the messages of a queue.
+use Rattle.std.proofs.Common.{◌≡◌, ℕ, ◌==◌, Bool, true, false, ◌&&◌, ◌||◌, [], ◌∷◌, length, Option, Some, None, refl, sym, ◌∙◌, ap, subst, arith, eqb-true, eq-eqb}
+use Rattle.std.proofs.lemmas.Bool.{and_parts}
+use Rattle.mq_model.specs.Record.{Record, Past, record_at, first}
+use Rattle.mq_model.specs.Descriptors.{called_queue, is_on}
+use Rattle.mq_model.specs.Messages.{is_in, with_place, if_in, is_accepted, is_send, queues, hands_over, blocks_send, blocked_sends, admits, handed, admitted, entered, taken, taken_by}
+use Rattle.mq_model.proofs.Places.{split}
+use Rattle.mq_model.proofs.Prefixes.{record_at-below, first-all}
+use Rattle.mq_model.proofs.Frames.{record_at-older}
+use Rattle.mq_model.proofs.Steps.{if_in-inside}
+use Rattle.mq_model.proofs.Presence.{place-is, with-more}
+use Rattle.mq_laws.proofs.LegalPlaces.{first-older}
+use Rattle.mq_model.specs.declared.entries.Call.{Call}
+use Rattle.mq_model.specs.declared.entries.Reply.{Reply}
+use Rattle.mq_model.specs.declared.entries.Reply.TheVariants.{Opened, Queued, Handed, Waits, Got, Collected, Attrs, Notice, Done, Refused}
+
+-- replies of a send whose message is accepted at once or later
+abbrev pub is_sent : Reply → Bool
+is_sent (Queued n) = true
+is_sent (Handed w) = true
+is_sent Waits = true
+is_sent _ = false
+
+-- a send to queue q that was not refused stands at place m
+pub record IsSentTo (past : Past) (q m : ℕ) : Type 0 where
+  pub r : Record
+  pub at : record_at past m ≡ Some r
+  pub on : called_queue (first m past) r.entry.process r.entry.call ≡ Some q
+  pub send : is_send r.entry.call ≡ true
+  pub reply : is_sent r.entry.reply ≡ true
+
+pub sent-older : (past : Past) (r : Record) (q m : ℕ) → IsSentTo past q m → IsSentTo (r ∷ past) q m
+sent-older past r q m x =
+    let lt = record_at-below past m x.r x.at in
+    record {
+      r = x.r;
+      at = record_at-older past r m lt ∙ x.at;
+      on = ap (λ b. called_queue b x.r.entry.process x.r.entry.call) (first-older past r m (omega (arith, lt))) ∙ x.on;
+      send = x.send;
+      reply = x.reply;
+    }
+
+sent-newest : (past : Past) (r : Record) (q : ℕ) → is_on past r.entry q ≡ true → is_send r.entry.call ≡ true → is_sent r.entry.reply ≡ true → IsSentTo (r ∷ past) q (length past)
+sent-newest past r q on send reply = record {
+  r = r;
+  at = rw (eq-eqb (length past) (length past) refl) refl;
+  on = ap (λ b. called_queue b r.entry.process r.entry.call) (first-older past r (length past) (omega arith) ∙ first-all past (length past) refl) ∙ place-is (called_queue past r.entry.process r.entry.call) q on;
+  send = send;
+  reply = reply;
+}
+
+-- the replies by which a send's message enters, is handed over or waits
+queues-sent : (call : Call) (reply : Reply) → queues call reply ≡ true → (is_send call ≡ true) × (is_sent reply ≡ true)
+queues-sent call (Queued n) e = (e, refl)
+queues-sent call (Opened d created) e = absurd (let bad : false ≡ true = e in cc)
+queues-sent call (Handed w) e = absurd (let bad : false ≡ true = e in cc)
+queues-sent call Waits e = absurd (let bad : false ≡ true = e in cc)
+queues-sent call (Got m a n) e = absurd (let bad : false ≡ true = e in cc)
+queues-sent call (Collected b) e = absurd (let bad : false ≡ true = e in cc)
+queues-sent call (Attrs s) e = absurd (let bad : false ≡ true = e in cc)
+queues-sent call (Notice v) e = absurd (let bad : false ≡ true = e in cc)
+queues-sent call Done e = absurd (let bad : false ≡ true = e in cc)
+queues-sent call (Refused f) e = absurd (let bad : false ≡ true = e in cc)
+
+blocks-sent : (call : Call) (reply : Reply) → blocks_send call reply ≡ true → (is_send call ≡ true) × (is_sent reply ≡ true)
+blocks-sent call Waits e = (e, refl)
+blocks-sent call (Opened d created) e = absurd (let bad : false ≡ true = e in cc)
+blocks-sent call (Queued n) e = absurd (let bad : false ≡ true = e in cc)
+blocks-sent call (Handed w) e = absurd (let bad : false ≡ true = e in cc)
+blocks-sent call (Got m a n) e = absurd (let bad : false ≡ true = e in cc)
+blocks-sent call (Collected b) e = absurd (let bad : false ≡ true = e in cc)
+blocks-sent call (Attrs s) e = absurd (let bad : false ≡ true = e in cc)
+blocks-sent call (Notice v) e = absurd (let bad : false ≡ true = e in cc)
+blocks-sent call Done e = absurd (let bad : false ≡ true = e in cc)
+blocks-sent call (Refused f) e = absurd (let bad : false ≡ true = e in cc)
+
+hands-sent : (here : ℕ) (call : Call) (reply : Reply) → hands_over call reply ≡ true → (is_send call ≡ true) × (is_sent reply ≡ true) × (taken_by here reply ≡ Some here)
+hands-sent here call (Handed w) e = (e, refl, refl)
+hands-sent here call (Opened d created) e = absurd (let bad : false ≡ true = e in cc)
+hands-sent here call (Queued n) e = absurd (let bad : false ≡ true = e in cc)
+hands-sent here call Waits e = absurd (let bad : false ≡ true = e in cc)
+hands-sent here call (Got m a n) e = absurd (let bad : false ≡ true = e in cc)
+hands-sent here call (Collected b) e = absurd (let bad : false ≡ true = e in cc)
+hands-sent here call (Attrs s) e = absurd (let bad : false ≡ true = e in cc)
+hands-sent here call (Notice v) e = absurd (let bad : false ≡ true = e in cc)
+hands-sent here call Done e = absurd (let bad : false ≡ true = e in cc)
+hands-sent here call (Refused f) e = absurd (let bad : false ≡ true = e in cc)
+
+pub blocked-sent : (past : Past) (q m : ℕ) → is_in (blocked_sends past q) m ≡ true → IsSentTo past q m
+blocked-sent [] q m h = absurd (cc)
+blocked-sent (r ∷ past) q m h = split (blocks_send r.entry.call r.entry.reply && is_on past r.entry q)
+    (λ t. let new : (length past == m || is_in (blocked_sends past q) m) ≡ true = rw t at h in
+    let parts = and_parts (blocks_send r.entry.call r.entry.reply) (is_on past r.entry q) t in
+    let sent = blocks-sent r.entry.call r.entry.reply parts.0 in
+    split (length past == m)
+    (λ e. subst (IsSentTo (r ∷ past) q) (eqb-true _ _ e) (sent-newest past r q parts.1 sent.0 sent.1))
+    (λ n. sent-older past r q m (blocked-sent past q m (rw n at new))))
+    (λ f. sent-older past r q m (blocked-sent past q m (rw f at h)))
+
+pub admitted-sent : (past : Past) (q m : ℕ) → is_in (admitted past q) m ≡ true → IsSentTo past q m
+admitted-sent [] q m h = absurd (cc)
+admitted-sent (r ∷ past) q m h = by (λ old. admitted-sent past q m old) (entered past r.entry q) refl h
+  where
+    here : entered past r.entry q ≡ Some m → IsSentTo (r ∷ past) q m
+    here e = split (queues r.entry.call r.entry.reply && is_on past r.entry q)
+        (λ t. let is : Some (length past) ≡ Some m = rw t at e in let same : length past ≡ m = cc in
+        let parts = and_parts (queues r.entry.call r.entry.reply) (is_on past r.entry q) t in
+        let sent = queues-sent r.entry.call r.entry.reply parts.0 in
+        subst (IsSentTo (r ∷ past) q) same (sent-newest past r q parts.1 sent.0 sent.1))
+        (λ f. let is : if_in (blocked_sends past q) (admits r.entry.reply) ≡ Some m = rw f at e in
+        sent-older past r q m (blocked-sent past q m (if_in-inside (blocked_sends past q) (admits r.entry.reply) m is).0))
+
+    by : (is_in (admitted past q) m ≡ true → IsSentTo past q m) → (o : Option ℕ) → entered past r.entry q ≡ o → is_in (with_place o (admitted past q)) m ≡ true → IsSentTo (r ∷ past) q m
+    by rest None e h = sent-older past r q m (rest h)
+    by rest (Some k) e h = split (k == m)
+        (λ t. here (e ∙ ap Some (eqb-true _ _ t)))
+        (λ f. let old : is_in (admitted past q) m ≡ true = rw f at h in sent-older past r q m (rest old))
+
+pub handed-sent : (past : Past) (q m : ℕ) → is_in (handed past q) m ≡ true → IsSentTo past q m
+handed-sent [] q m h = absurd (cc)
+handed-sent (r ∷ past) q m h = split (hands_over r.entry.call r.entry.reply && is_on past r.entry q)
+    (λ t. let new : (length past == m || is_in (handed past q) m) ≡ true = rw t at h in
+    let parts = and_parts (hands_over r.entry.call r.entry.reply) (is_on past r.entry q) t in
+    let sent = hands-sent (length past) r.entry.call r.entry.reply parts.0 in
+    split (length past == m)
+    (λ e. subst (IsSentTo (r ∷ past) q) (eqb-true _ _ e) (sent-newest past r q parts.1 sent.0 sent.1))
+    (λ n. sent-older past r q m (handed-sent past q m (rw n at new))))
+    (λ f. sent-older past r q m (handed-sent past q m (rw f at h)))
+
+-- an accepted message was sent to its queue
+pub accepted-sent : (past : Past) (q m : ℕ) → is_accepted past q m ≡ true → IsSentTo past q m
+accepted-sent past q m h = split (is_in (admitted past q) m) (λ t. admitted-sent past q m t) (λ f. handed-sent past q m (rw f at h))
+
+-- a message that was handed over is taken
+pub handed-taken : (past : Past) (q m : ℕ) → is_in (handed past q) m ≡ true → is_in (taken past) m ≡ true
+handed-taken [] q m h = absurd (cc)
+handed-taken (r ∷ past) q m h = split (hands_over r.entry.call r.entry.reply && is_on past r.entry q)
+    (λ t. let new : (length past == m || is_in (handed past q) m) ≡ true = rw t at h in
+    let takes = (hands-sent (length past) r.entry.call r.entry.reply (and_parts (hands_over r.entry.call r.entry.reply) (is_on past r.entry q) t).0).2 in
+    split (length past == m)
+    (λ e. rw takes (rw e refl))
+    (λ n. with-more (taken_by (length past) r.entry.reply) (taken past) m (handed-taken past q m (rw n at new))))
+    (λ f. with-more (taken_by (length past) r.entry.reply) (taken past) m (handed-taken past q m (rw f at h)))
+
+-- what became of a send that was not refused
+pub record SentStatus (past : Past) (q m : ℕ) (reply : Reply) : Type 0 where
+  pub queued : (n : Option ℕ) → reply ≡ Queued n → is_in (admitted past q) m ≡ true
+  pub handed : (w : ℕ) → reply ≡ Handed w → is_in (taken past) m ≡ true
+  pub waits : reply ≡ Waits → is_in (blocked_sends past q) m ≡ true
+
+pub sent-status : (past : Past) (q m : ℕ) (x : IsSentTo past q m) → SentStatus past q m x.r.entry.reply
+sent-status [] q m x = absurd (let bad : None ≡ Some x.r = x.at in cc)
+sent-status (s ∷ past) q m x = split (m == length past)
+    (λ t.
+    let here : m ≡ length past = eqb-true _ _ t in
+    let same : Some s ≡ Some x.r = rw t at x.at in
+    let is : s ≡ x.r = cc in
+    let before : first m (s ∷ past) ≡ past = first-older past s m (omega (arith, here)) ∙ first-all past m here in
+    let on : called_queue past s.entry.process s.entry.call ≡ Some q = ap (λ b. called_queue b s.entry.process s.entry.call) (sym before) ∙ ap (λ (r : Record). called_queue (first m (s ∷ past)) r.entry.process r.entry.call) is ∙ x.on in
+    let send : is_send s.entry.call ≡ true = ap (λ (r : Record). is_send r.entry.call) is ∙ x.send in
+    let P : ℕ → Record → Type 0 = λ k r. SentStatus (s ∷ past) q k r.entry.reply in
+    subst (λ k. P k x.r) (sym here) (subst (P (length past)) is (newest on send)))
+    (λ f.
+    let old : record_at past m ≡ Some x.r = rw f at x.at in
+    let lt = record_at-below past m x.r old in
+    let y : IsSentTo past q m = record { r = x.r; at = old; on = ap (λ b. called_queue b x.r.entry.process x.r.entry.call) (sym (first-older past s m (omega (arith, lt)))) ∙ x.on; send = x.send; reply = x.reply } in
+    let z = sent-status past q m y in
+    record {
+      queued = λ n e. with-more (entered past s.entry q) (admitted past q) m (z.queued n e);
+      handed = λ w e. with-more (taken_by (length past) s.entry.reply) (taken past) m (z.handed w e);
+      waits = λ e. blocked-more (z.waits e);
+    })
+  where
+    blocked-more : is_in (blocked_sends past q) m ≡ true → is_in (blocked_sends (s ∷ past) q) m ≡ true
+    blocked-more h = split (blocks_send s.entry.call s.entry.reply && is_on past s.entry q)
+        (λ t. rw t (split (length past == m) (λ e. rw e refl) (λ n. rw (n, h) refl))) (λ f. rw f h)
+
+    newest : called_queue past s.entry.process s.entry.call ≡ Some q → is_send s.entry.call ≡ true → SentStatus (s ∷ past) q (length past) s.entry.reply
+    newest on send = record {
+      queued = λ n e. rw (e, send, on, eq-eqb q q refl) (rw (eq-eqb (length past) (length past) refl) refl);
+      handed = λ w e. rw e (rw (eq-eqb (length past) (length past) refl) refl);
+      waits = λ e. rw (e, send, on, eq-eqb q q refl) (rw (eq-eqb (length past) (length past) refl) refl);
+    }

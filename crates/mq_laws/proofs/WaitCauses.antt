@@ -1,0 +1,220 @@
+-- Where a send waits, its queue is full.
+use Rattle.std.proofs.Common.{◌≡◌, ℕ, suc, ◌<◌, ◌==◌, Bool, true, false, ◌&&◌, not, List, [], ◌∷◌, length, Option, Some, None, refl, sym, ◌∙◌, ap, subst, arith, eqb-true, eq-eqb, ne_eqb}
+use Rattle.std.specs.Prelude.{ℤ, int_le, pos, negsuc}
+use Rattle.std.specs.List.{filter}
+use Rattle.std.proofs.lemmas.Bool.{eqb-false, and_parts, false_from_ne_true}
+use Rattle.std.proofs.lemmas.Bool.Decides.{nat_tests}
+use Rattle.mq_model.specs.Record.{Record, Past}
+use Rattle.mq_model.specs.Names.{attributes}
+use Rattle.mq_model.specs.Descriptors.{called_queue, created, is_place, is_on}
+use Rattle.mq_model.specs.Messages.{is_in, with_place, if_in, queues, admits, blocked_sends, admitted_waits, waiting_sends, entered, admitted, taken, present, is_full, least}
+use Rattle.mq_model.specs.Answer.{Legal, IsLegalNext}
+use Rattle.mq_laws.specs.Laws.{WaitsForCause}
+use Rattle.mq_model.proofs.Places.{split, clash, is_in-filter, find-in}
+use Rattle.mq_model.proofs.Cases.{Says}
+use Rattle.mq_model.proofs.LegalReplies.{legal_says}
+use Rattle.mq_model.proofs.NamedWaits.{least-in}
+use Rattle.mq_laws.proofs.Waiting.{waiting-empty}
+use Rattle.mq_model.proofs.Steps.{without, filter-both, not-below, admitted-below, if_in-inside, present-queued_elsewhere}
+use Rattle.mq_model.proofs.Presence.{place-is, blocked-on, waiting-not_admitted, without-absent, present-got_here, present-got_elsewhere, present-handed, GotFacts}
+use Rattle.mq_model.proofs.PresentFew.{sent-created, present-few, called-on, called-created}
+use Rattle.mq_model.proofs.Frames.{created-below, attributes-older}
+use Rattle.mq_model.proofs.Waiters.{admits-least}
+use Rattle.mq_model.specs.declared.entries.Call.{Call}
+use Rattle.mq_model.specs.declared.entries.Call.TheVariants.{MqOpen, MqClose, MqUnlink, MqSend, MqReceive, MqGetattr, MqSetattr, MqNotify, NextNotice, Collect}
+use Rattle.mq_model.specs.declared.entries.Reply.{Reply}
+use Rattle.mq_model.specs.declared.entries.Reply.TheVariants.{Opened, Queued, Handed, Waits, Got, Collected, Attrs, Notice, Done, Refused}
+
+abbrev rec : ℕ → Call → Reply → List ℕ → Record
+rec p call reply payload = record { entry = record { process = p; call = call; reply = reply }; payload = payload }
+
+-- no place stands twice --------------------------------------------------------------------------------------------------
+
+abbrev pub is_distinct : List ℕ → Bool
+is_distinct [] = true
+is_distinct (x ∷ xs) = not (is_in xs x) && is_distinct xs
+
+distinct-filter : (t : ℕ → Bool) (xs : List ℕ) → is_distinct xs ≡ true → is_distinct (filter t xs) ≡ true
+distinct-filter t [] e = refl
+distinct-filter t (x ∷ xs) e =
+    let parts = and_parts (not (is_in xs x)) (is_distinct xs) e in
+    let out : is_in (filter t xs) x ≡ false = false_from_ne_true _ (λ h. let bad : is_in xs x ≡ true = (is_in-filter t xs x h).0 in let clashes : false ≡ true = rw bad at parts.0 in cc) in
+    split (t x) (λ y. rw (y, out) (distinct-filter t xs parts.1)) (λ n. rw n (distinct-filter t xs parts.1))
+
+distinct-with : (o : Option ℕ) (xs : List ℕ) → is_distinct xs ≡ true → ((k : ℕ) → o ≡ Some k → is_in xs k ≡ false) → is_distinct (with_place o xs) ≡ true
+distinct-with None xs e out = e
+distinct-with (Some k) xs e out = rw (out k refl) e
+
+-- the message that enters was in no queue before
+entered-fresh : (past : Past) → Legal past → (r : Record) → IsLegalNext past r → (q k : ℕ) → entered past r.entry q ≡ Some k → is_in (admitted past q) k ≡ false
+entered-fresh past legal r next q k e =
+    split (queues r.entry.call r.entry.reply && is_on past r.entry q)
+    (λ t. let here : Some (length past) ≡ Some k = rw t at e in let same : length past ≡ k = cc in rw (← same) (not-below (length past) (admitted past q) (admitted-below past q)))
+    (λ f. let there : if_in (blocked_sends past q) (admits r.entry.reply) ≡ Some k = rw f at e in
+    let inside = if_in-inside (blocked_sends past q) (admits r.entry.reply) k there in
+    by r.entry.reply (legal_says past r next) inside.1)
+  where
+    by : (reply : Reply) → Says past r.entry.process r.entry.call reply → admits reply ≡ Some k → is_in (admitted past q) k ≡ false
+    by (Got m a n) says e =
+        let first = admits-least past r.entry.process r.entry.call m a n says in
+        waiting-not_admitted past first.0 k q (least-in (waiting_sends past first.0) k (sym first.1 ∙ e))
+    by (Opened d created) says e = absurd (cc)
+    by (Queued n) says e = absurd (cc)
+    by (Handed w) says e = absurd (cc)
+    by Waits says e = absurd (cc)
+    by (Collected b) says e = absurd (cc)
+    by (Attrs s) says e = absurd (cc)
+    by (Notice v) says e = absurd (cc)
+    by Done says e = absurd (cc)
+    by (Refused f) says e = absurd (cc)
+
+admitted-distinct : (past : Past) → Legal past → (q : ℕ) → is_distinct (admitted past q) ≡ true
+admitted-distinct [] legal q = refl
+admitted-distinct (r ∷ past) legal q = distinct-with (entered past r.entry q) (admitted past q) (admitted-distinct past legal.0 q) (λ k e. entered-fresh past legal.0 r legal.1 q k e)
+
+pub present-distinct : (past : Past) → Legal past → (q : ℕ) → is_distinct (present past q) ≡ true
+present-distinct past legal q = distinct-filter (λ m. not (is_in (taken past) m)) (admitted past q) (admitted-distinct past legal q)
+
+-- one place of distinct ones fewer
+pub length-without : (m : ℕ) (xs : List ℕ) → is_distinct xs ≡ true → is_in xs m ≡ true → suc (length (without m xs)) ≡ length xs
+length-without m [] d h = absurd (cc)
+length-without m (x ∷ xs) d h =
+    let parts = and_parts (not (is_in xs x)) (is_distinct xs) d in
+    split (x == m)
+    (λ t. let same : x ≡ m = eqb-true _ _ t in
+    let out : is_in xs m ≡ false = split (is_in xs m) (λ y. let there : is_in xs x ≡ true = rw same y in let bad : false ≡ true = rw there at parts.0 in absurd (cc)) (λ n. n) in
+    rw (eq-eqb m x (sym same)) (ap suc (ap length (without-absent m xs out))))
+    (λ f. let rest : is_in xs m ≡ true = rw f at h in
+    rw (ne_eqb m x (λ e. eqb-false _ _ f (sym e))) (ap suc (length-without m xs parts.1 rest)))
+
+-- where a send waits -----------------------------------------------------------------------------------------------------
+
+abbrev FullWhereWaiting : Past → ℕ → Type 0
+FullWhereWaiting past q = (w : ℕ) → is_in (waiting_sends past q) w ≡ true → is_full past q ≡ true
+
+none-waits : (past : Past) (q : ℕ) → FullWhereWaiting past q → is_full past q ≡ false → (w : ℕ) → is_in (waiting_sends past q) w ≡ true → ⊥
+none-waits past q full room w h = clash (is_full past q) (full w h) room
+
+-- a waiting send stands in a queue that was created
+pub waiting-created : (past : Past) → Legal past → (q w : ℕ) → is_in (waiting_sends past q) w ≡ true → is_in (created past) q ≡ true
+waiting-created past legal q w h =
+    let blocked = (is_in-filter (λ w. not (is_in (admitted_waits past) w)) (blocked_sends past q) w h).0 in
+    sent-created past legal w q (blocked-on past q w blocked).to
+
+same-full : (past : Past) (r : Record) (q : ℕ) → q < length past → length (present (r ∷ past) q) ≡ length (present past q) → is_full past q ≡ true → is_full (r ∷ past) q ≡ true
+same-full past r q lt same full = rw (attributes-older past r q lt, same) full
+
+-- a record behind which the same sends wait and as many messages are present
+full-same : (past : Past) → Legal past → (r : Record) (q : ℕ) → FullWhereWaiting past q → waiting_sends (r ∷ past) q ≡ waiting_sends past q → length (present (r ∷ past) q) ≡ length (present past q) → FullWhereWaiting (r ∷ past) q
+full-same past legal r q before waits same w h =
+    let old : is_in (waiting_sends past q) w ≡ true = rw waits at h in
+    same-full past r q (created-below past q (waiting-created past legal q w old)) same (before w old)
+
+full-waits : (past : Past) → Legal past → (p : ℕ) (call : Call) (payload : List ℕ) (q : ℕ) → Says past p call Waits → FullWhereWaiting past q → FullWhereWaiting (rec p call Waits payload ∷ past) q
+full-waits past legal p (MqSend d prio len) payload q says before w h =
+    let r : Record = rec p (MqSend d prio len) Waits payload in
+    split (is_place q (called_queue past p (MqSend d prio len)))
+    (λ on. let same : says.0.queue ≡ q = called-on past p d q says.0 says.1 on in
+    let full : is_full past q ≡ true = rw same at says.3.1 in
+    same-full past r q (created-below past q (called-created past legal p q (MqSend d prio len) (place-is (called_queue past p (MqSend d prio len)) q on))) refl full)
+    (λ off. full-same past legal r q before (rw off refl) refl w h)
+full-waits past legal p (MqReceive d room) payload q says before w h = full-same past legal (rec p (MqReceive d room) Waits payload) q before refl refl w h
+full-waits past legal p (MqOpen flags attr) payload q says before w h = absurd says
+full-waits past legal p (MqClose d) payload q says before w h = absurd says.0
+full-waits past legal p MqUnlink payload q says before w h = absurd says
+full-waits past legal p (MqGetattr d) payload q says before w h = absurd says
+full-waits past legal p (MqSetattr d nonblock) payload q says before w h = absurd says
+full-waits past legal p (MqNotify d value) payload q says before w h = absurd says
+full-waits past legal p NextNotice payload q says before w h = absurd (cc)
+full-waits past legal p Collect payload q says before w h = absurd (cc)
+
+full-queued : (past : Past) → Legal past → (p : ℕ) (call : Call) (n : Option ℕ) (payload : List ℕ) (q : ℕ) → Says past p call (Queued n) → FullWhereWaiting past q → FullWhereWaiting (rec p call (Queued n) payload ∷ past) q
+full-queued past legal p (MqSend d prio len) n payload q says before w h =
+    split (is_place q (called_queue past p (MqSend d prio len)))
+    (λ on. let same : says.0.queue ≡ q = called-on past p d q says.0 says.1 on in
+    let room : is_full past q ≡ false = rw same at says.3.1 in
+    absurd (none-waits past q before room w h))
+    (λ off. full-same past legal (rec p (MqSend d prio len) (Queued n) payload) q before refl (ap length (present-queued_elsewhere past p d prio len q n payload off)) w h)
+full-queued past legal p (MqOpen flags attr) n payload q says before w h = absurd says
+full-queued past legal p (MqClose d) n payload q says before w h = absurd says.0
+full-queued past legal p MqUnlink n payload q says before w h = absurd says
+full-queued past legal p (MqReceive d room) n payload q says before w h = absurd says.3
+full-queued past legal p (MqGetattr d) n payload q says before w h = absurd says
+full-queued past legal p (MqSetattr d nonblock) n payload q says before w h = absurd says
+full-queued past legal p (MqNotify d value) n payload q says before w h = absurd says
+full-queued past legal p NextNotice n payload q says before w h = absurd (cc)
+full-queued past legal p Collect n payload q says before w h = absurd (cc)
+
+-- what waits behind a receive waited before it, and was not admitted
+pub waits-got : (past : Past) (p : ℕ) (call : Call) (m : ℕ) (a n : Option ℕ) (payload : List ℕ) (q w : ℕ) → is_in (waiting_sends (rec p call (Got m a n) payload ∷ past) q) w ≡ true → is_in (waiting_sends past q) w ≡ true
+waits-got past p call m None n payload q w h = h
+waits-got past p call m (Some v) n payload q w h =
+    let still : is_in (without v (waiting_sends past q)) w ≡ true = rw (← filter-both (λ k. v == k) (is_in (admitted_waits past)) (blocked_sends past q)) h in
+    (is_in-filter (λ k. not (v == k)) (waiting_sends past q) w still).0
+
+full-got : (past : Past) → Legal past → (p : ℕ) (call : Call) (m : ℕ) (a n : Option ℕ) (payload : List ℕ) (q : ℕ) → Says past p call (Got m a n) → FullWhereWaiting past q → FullWhereWaiting (rec p call (Got m a n) payload ∷ past) q
+full-got past legal p (MqReceive d room) m a n payload q says before w h =
+    let r : Record = rec p (MqReceive d room) (Got m a n) payload in
+    let old = waits-got past p (MqReceive d room) m a n payload q w h in
+    let lt = created-below past q (waiting-created past legal q w old) in
+    split (q == says.0.queue)
+    (λ t. let same : q ≡ says.0.queue = eqb-true _ _ t in
+    let P : ℕ → Type 0 = λ k. length (present (r ∷ past) k) ≡ length (present past k) in
+    let first : a ≡ least (waiting_sends past q) = rw same says.3.1 in
+    same-full past r q lt (subst P (sym same) (here a says.3.1 (no-none (least (waiting_sends past q)) a first refl old))) (before w old))
+    (λ f. same-full past r q lt (ap length (present-got_elsewhere past p (MqReceive d room) m a n payload says.0.queue q facts (eqb-false _ _ f))) (before w old))
+  where
+    facts : GotFacts past says.0.queue m a
+    facts = record { inside = (find-in _ (present past says.0.queue) m says.3.0).0; admitted = says.3.1 }
+
+    no-none : (o a : Option ℕ) → a ≡ o → least (waiting_sends past q) ≡ o → is_in (waiting_sends past q) w ≡ true → (v : ℕ) × (a ≡ Some v)
+    no-none (Some v) a e is there = (v, e)
+    no-none None a e is there = absurd (none (waiting_sends past q) is there)
+      where
+        none : (xs : List ℕ) → least xs ≡ None → is_in xs w ≡ true → ⊥
+        none [] is there = cc
+        none (x ∷ xs) is there = cc
+
+    here : (a : Option ℕ) → a ≡ least (waiting_sends past says.0.queue) → (v : ℕ) × (a ≡ Some v) → length (present (rec p (MqReceive d room) (Got m a n) payload ∷ past) says.0.queue) ≡ length (present past says.0.queue)
+    here (Some v) first some =
+        let inside = (find-in _ (present past says.0.queue) m says.3.0).0 in
+        ap length (present-got_here past legal p (MqReceive d room) m (Some v) n payload says.0.queue (record { inside = inside; admitted = first }))
+        ∙ length-without m (present past says.0.queue) (present-distinct past legal says.0.queue) inside
+    here None first some = absurd (let bad : None ≡ Some some.0 = some.1 in cc)
+full-got past legal p (MqOpen flags attr) m a n payload q says before w h = absurd says
+full-got past legal p (MqClose d) m a n payload q says before w h = absurd says.0
+full-got past legal p MqUnlink m a n payload q says before w h = absurd says
+full-got past legal p (MqSend d prio len) m a n payload q says before w h = absurd says.3
+full-got past legal p (MqGetattr d) m a n payload q says before w h = absurd says
+full-got past legal p (MqSetattr d nonblock) m a n payload q says before w h = absurd says
+full-got past legal p (MqNotify d value) m a n payload q says before w h = absurd says
+full-got past legal p NextNotice m a n payload q says before w h = absurd (cc)
+full-got past legal p Collect m a n payload q says before w h = absurd (cc)
+
+full-next : (past : Past) → Legal past → (p : ℕ) (call : Call) (reply : Reply) (payload : List ℕ) (q : ℕ) → Says past p call reply → FullWhereWaiting past q → FullWhereWaiting (rec p call reply payload ∷ past) q
+full-next past legal p call (Queued n) payload q says before = full-queued past legal p call n payload q says before
+full-next past legal p call (Got m a n) payload q says before = full-got past legal p call m a n payload q says before
+full-next past legal p call Waits payload q says before = full-waits past legal p call payload q says before
+full-next past legal p call (Handed w) payload q says before = full-same past legal (rec p call (Handed w) payload) q before refl (ap length (present-handed past p call w payload q))
+full-next past legal p call (Opened d created) payload q says before = full-same past legal (rec p call (Opened d created) payload) q before refl refl
+full-next past legal p call (Collected b) payload q says before = full-same past legal (rec p call (Collected b) payload) q before refl refl
+full-next past legal p call (Attrs s) payload q says before = full-same past legal (rec p call (Attrs s) payload) q before refl refl
+full-next past legal p call (Notice v) payload q says before = full-same past legal (rec p call (Notice v) payload) q before refl refl
+full-next past legal p call Done payload q says before = full-same past legal (rec p call Done payload) q before refl refl
+full-next past legal p call (Refused f) payload q says before = full-same past legal (rec p call (Refused f) payload) q before refl refl
+
+-- where a send waits, the queue is full
+pub waiting-full : (past : Past) → Legal past → (q w : ℕ) → is_in (waiting_sends past q) w ≡ true → is_full past q ≡ true
+waiting-full [] legal q w h = absurd (cc)
+waiting-full (r ∷ past) legal q w h = full-next past legal.0 r.entry.process r.entry.call r.entry.reply r.payload q (legal_says past r legal.1) (λ v e. waiting-full past legal.0 q v e) w h
+
+both-ways : (a : ℤ) (n : ℕ) → int_le (pos n) a ≡ true → int_le a (pos n) ≡ true → pos n ≡ a
+both-ways (pos k) n h g = let same : n ≡ k = grind (arith, nat_tests) in ap pos same
+both-ways (negsuc k) n h g = absurd (let bad : false ≡ true = h in cc)
+
+-- where a send waits, the queue holds as many messages as it may
+pub waits-for-cause : (past : Past) → Legal past → WaitsForCause past
+waits-for-cause past legal = record {
+  receives = λ q w h. waiting-empty past legal q w h;
+  sends = λ q w h. both-ways (attributes past q).maxmsg (length (present past q)) (present-few past legal q (waiting-created past legal q w h)) (waiting-full past legal q w h);
+}

@@ -1,0 +1,97 @@
+-- What every legal journal keeps, whoever made it, said of its queues.
+use Rattle.std.specs.Prelude.{ℕ, pos, ◌≡◌, ◌≢◌, ◌<◌, ◌≤◌, Bool, true, false, not, [], length, Option, Some, None}
+use Rattle.std.specs.Option.{option_map, option_and_then}
+use Rattle.mq_model.specs.Record.{Record, Past, record_at, first}
+use Rattle.mq_model.specs.Names.{attributes}
+use Rattle.mq_model.specs.Descriptors.{held, called_queue, created, alive}
+use Rattle.mq_model.specs.Messages.{is_in, is_accepted, taken_by, taken, present, priority, best, waiting_sends, waiting_receives}
+use Rattle.mq_model.specs.Notices.{notified}
+use Rattle.mq_model.specs.Waits.{open_wait, named_wait}
+use Rattle.mq_model.specs.Answer.{is_read_only, is_write_only, is_refused}
+use Rattle.mq_model.specs.declared.entries.Description.{Description}
+use Rattle.mq_model.specs.declared.entries.Call.TheVariants.{MqSend, MqReceive, Collect}
+use Rattle.mq_model.specs.declared.entries.Reply.{Reply}
+use Rattle.mq_model.specs.declared.entries.Reply.TheVariants.{Handed, Got, Collected}
+
+abbrev pub reply_at : Past → ℕ → Option Reply
+reply_at past k = option_map (λ r. r.entry.reply) (record_at past k)
+
+-- the message that a reply gives to its caller
+abbrev pub message_given : Reply → Option ℕ
+message_given (Got place admitted notified) = Some place
+message_given _ = None
+
+-- the place that a collect's reply gives, of the entry that answered the wait
+abbrev pub cause : Reply → Option ℕ
+cause (Collected by) = Some by
+cause _ = None
+
+-- the reply at place k has this part
+abbrev pub Has : (Reply → Option ℕ) → Past → ℕ → ℕ → Type 0
+Has part past k m = option_and_then part (reply_at past k) ≡ Some m
+
+-- no two replies have the same part
+abbrev pub IsOnce : (Reply → Option ℕ) → Past → Type 0
+IsOnce part past = (j k m : ℕ) → Has part past j m → Has part past k m → j ≡ k
+
+-- no message is given twice, none that was handed over is given, and each is given behind its send. No wait is named twice,
+-- no registration is notified twice, and no two collects have one cause
+pub record GivesOnce (past : Past) : Type 0 where
+  pub messages : IsOnce message_given past
+  pub not_handed : (k m w : ℕ) → Has message_given past k m → reply_at past m ≢ Some (Handed w)
+  pub earlier : (k m : ℕ) → Has message_given past k m → m < k
+  pub waits : IsOnce named_wait past
+  pub registrations : IsOnce notified past
+  pub causes : IsOnce cause past
+
+-- the receive at place k is on queue q, and got message m
+pub record IsReceivedAt (past : Past) (k q m : ℕ) : Type 0 where
+  pub r : Record
+  pub at : record_at past k ≡ Some r
+  pub on : called_queue (first k past) r.entry.process r.entry.call ≡ Some q
+  pub gets : message_given r.entry.reply ≡ Some m
+
+-- what a receive got was the best message of its queue before it
+abbrev pub GivesBest : Past → Type 0
+GivesBest past = (k m : ℕ) → Has message_given past k m → (q : ℕ) × IsReceivedAt past k q m × (best (first k past) q ≡ Some m)
+
+-- the entry at place k takes message m: it gives it to its caller, or hands it over
+abbrev pub IsTakenAt : Past → ℕ → ℕ → Type 0
+IsTakenAt past m k = option_and_then (taken_by k) (reply_at past k) ≡ Some m
+
+-- of two messages of one queue and one priority the earlier is taken first. So what one process sends with one priority
+-- leaves the queue in the order in which it was sent
+abbrev pub LeavesInOrder : Past → Type 0
+LeavesInOrder past = (q m n k : ℕ) → is_accepted past q m ≡ true → is_accepted past q n ≡ true → m < n → priority past m ≡ priority past n → IsTakenAt past n k → (j : ℕ) × (j < k) × IsTakenAt past m j
+
+-- process p held descriptor d before place k, with an access that passes
+pub record IsHeldAt (past : Past) (k p d : ℕ) (passes : Description → Bool) : Type 0 where
+  pub h : Description
+  pub held : held (first k past) p d ≡ Some h
+  pub access : passes h ≡ true
+
+-- each send and receive that was not refused held its descriptor with that access, and a process that waits holds what it
+-- held where its wait began
+pub record HoldsDescriptors (past : Past) : Type 0 where
+  pub sends : (k d prio len : ℕ) (r : Record) → record_at past k ≡ Some r → r.entry.call ≡ MqSend d prio len → is_refused r.entry.reply ≡ false → IsHeldAt past k r.entry.process d (λ h. not (is_read_only h.access))
+  pub receives : (k d room : ℕ) (r : Record) → record_at past k ≡ Some r → r.entry.call ≡ MqReceive d room → is_refused r.entry.reply ≡ false → IsHeldAt past k r.entry.process d (λ h. not (is_write_only h.access))
+  pub collects : (k : ℕ) (r : Record) → record_at past k ≡ Some r → r.entry.call ≡ Collect → (w : ℕ) × (open_wait (first k past) r.entry.process ≡ Some w) × ((d : ℕ) → held (first k past) r.entry.process d ≡ held (first w past) r.entry.process d)
+
+-- before place k queue q had been created and no longer existed
+pub record IsGoneAt (past : Past) (k q : ℕ) : Type 0 where
+  pub place : k ≤ length past
+  pub created : is_in (created (first k past)) q ≡ true
+  pub gone : is_in (alive (first k past)) q ≡ false
+
+-- a queue that ceased to exist never exists again, and none of its messages is taken from then on. So each accepted message
+-- was taken, or is present in its queue alone, which exists, or lost with it
+pub record EndsForGood (past : Past) : Type 0 where
+  pub never_again : (j k q : ℕ) → IsGoneAt past j q → j ≤ k → k ≤ length past → is_in (alive (first k past)) q ≡ false
+  pub none_taken : (j k q m : ℕ) → IsGoneAt past j q → j ≤ k → is_accepted past q m ≡ true → IsTakenAt past m k → ⊥
+  pub present_or_taken : (q m : ℕ) → is_accepted past q m ≡ true → is_in (present past q) m ≡ not (is_in (taken past) m)
+  pub in_one_queue : (q k m : ℕ) → is_accepted past q m ≡ true → is_in (present past k) m ≡ true → k ≡ q
+
+-- where a receive waits nothing is present, and where a send waits the queue holds mq_maxmsg messages
+pub record WaitsForCause (past : Past) : Type 0 where
+  pub receives : (q w : ℕ) → is_in (waiting_receives past q) w ≡ true → present past q ≡ []
+  pub sends : (q w : ℕ) → is_in (waiting_sends past q) w ≡ true → pos (length (present past q)) ≡ (attributes past q).maxmsg

@@ -1,0 +1,61 @@
+//! What every legal journal keeps, whoever made it. Each function does nothing and takes no time: its contract is the law.
+#![tactic(auto)]
+
+ghost use Rattle.mq_model.specs.Answer.{Legal};
+ghost use Rattle.mq_laws.specs.Laws.{GivesOnce, GivesBest, LeavesInOrder, HoldsDescriptors, EndsForGood, WaitsForCause};
+ghost use Rattle.mq_laws.specs.Refusals.{RefusalsChangeNothing};
+ghost use Rattle.mq_model.specs.Waits.{OthersLeave};
+
+use mq_model::journals::Journal;
+
+/// No message is given twice, none that was handed to a waiting receive is given again, and each is given behind its send.
+/// No wait is named by two entries, no registration is notified by two, and no two collects have one cause.
+pub fn gives_once(journal: &Journal)
+    requires { Legal journal.now.records }
+    ensures { GivesOnce journal.now.records }
+{}
+
+/// What a receive got was the best message of its queue before it: the oldest of the highest priority (`mq_receive`).
+pub fn gives_best(journal: &Journal)
+    requires { Legal journal.now.records }
+    ensures { GivesBest journal.now.records }
+{}
+
+/// Of two accepted messages of one queue and one priority the earlier is taken first. So what one process sends with one
+/// priority leaves the queue in the order in which it was sent (`mq_send`).
+pub fn leaves_in_order(journal: &Journal)
+    requires { Legal journal.now.records }
+    ensures { LeavesInOrder journal.now.records }
+{}
+
+/// Each send and receive that was not refused held its descriptor, with that access, and where a wait is collected its
+/// process still holds what it held where the wait began. So no closed descriptor sends or receives.
+pub fn holds_descriptors(journal: &Journal)
+    requires { Legal journal.now.records }
+    ensures { HoldsDescriptors journal.now.records }
+{}
+
+/// A queue that ceased to exist never exists again, and none of its messages is taken from then on (`mq_unlink`). So each
+/// accepted message was taken, or is present in its queue alone, or was lost with it.
+pub fn ends_for_good(journal: &Journal)
+    requires { Legal journal.now.records }
+    ensures { EndsForGood journal.now.records }
+{}
+
+/// Where a receive waits nothing is present, and where a send waits the queue holds `mq_maxmsg` messages.
+pub fn waits_for_cause(journal: &Journal)
+    requires { Legal journal.now.records }
+    ensures { WaitsForCause journal.now.records }
+{}
+
+/// What others do leaves the open wait of process `p` as it is, and an answered one answered.
+pub fn others_leave(journal: &Journal, p: u32)
+    ensures { OthersLeave journal.now.records p }
+{}
+
+/// A refused call changes nothing: after its entry each name, descriptor, queue, message, wait, registration and notice is what it was
+/// before it.
+pub fn refusals_change_nothing(journal: &Journal)
+    requires { Legal journal.now.records }
+    ensures { RefusalsChangeNothing journal.now.records }
+{}

@@ -1,5 +1,0 @@
-use Rattle.mq_model.proofs.Refusals.{refusals-change-nothing}
-use Rattle.mq_model.proofs.laws.refusals_change_nothing.Goals as goal
-
-pub returns : goal.returns
-returns c = refusals-change-nothing c.args.journal.now.records c.requires

@@ -1,6 +1,0 @@
-use Rattle.std.proofs.Common.{refl}
-use Rattle.mq_model.proofs.TablesKeep.{owners-vacant}
-use Rattle.mq_model.proofs.tables.vacant.Goals as goal
-
-pub returns : goal.returns
-returns c = record { mirror = owners-vacant c.free.result c.free.ensures; count = refl }
