@@ -1,8 +1,8 @@
 //! All bytes of an input.
-ghost use Rattle.std.specs.Prelude.{◌≡◌, ◌≤◌, ◌+◌, ℕ, List, IfOk, IfSome, OnErr, Some, length, take, vec_len};
+ghost use Rattle.std.specs.Prelude.{◌≡◌, ◌≤◌, ◌+◌, ℕ, List, IfOk, IfSome, IsErrOf, OnErr, Some, length, take, vec_len};
 ghost use Rattle.std.specs.Io.KnownBytes.{Consumes};
 ghost use Rattle.lines.specs.Faults.{read_fault_text};
-ghost use Rattle.lines.specs.declared.input.ReadFault.TheVariants.{NoMemory};
+ghost use Rattle.lines.specs.declared.input.ReadFault.TheVariants.{Failed, NoMemory};
 
 use std::alloc::{AllocError, Global};
 use std::error::Error;
@@ -43,12 +43,13 @@ impl From<AllocError> for ReadFault {
 const CHUNK: usize = 4096;
 
 /// The bytes of the input, up to the first that is one too many. Each read but the last gives a byte, so there are at most
-/// `most + 1` reads. What was read before a fault is lost.
+/// `most + 1` reads. What was read before a fault is lost. No read fails once `most + 1` bytes are there.
 pub fn read_all<R: Read>(alloc: Global, input: &mut R, most: usize) -> Result<Vec<u8>, ReadFault>
     ensures size { IfOk result (λ bytes. vec_len bytes ≤ most + 1) }
     ensures bytes { IfOk result (λ bytes. IfSome (R.remaining input.old) (λ all. bytes.items ≡ take (most + 1) all)) }
     ensures left { IfOk result (λ bytes. Consumes (R.remaining input.old) (R.remaining input.new) bytes.items) }
     ensures lost { OnErr result ((lost : List ℕ) × (length lost ≤ most + 1) × Consumes (R.remaining input.old) (R.remaining input.new) lost) }
+    ensures failed { IsErrOf result Failed → (lost : List ℕ) × (length lost ≤ most) × Consumes (R.remaining input.old) (R.remaining input.new) lost }
 {
     let mut bytes = Vec::new(alloc);
     let mut chunk = [0u8; CHUNK];

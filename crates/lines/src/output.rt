@@ -1,8 +1,8 @@
 //! Bytes to an output.
-ghost use Rattle.std.specs.Prelude.{OnOk, Some};
+ghost use Rattle.std.specs.Prelude.{OnErr, OnOk, Some};
 ghost use Rattle.std.specs.Io.KnownBytes.{Appends};
 ghost use Rattle.lines.specs.Faults.{write_failed_text};
-ghost use Rattle.lines.specs.Output.{AppendsPart};
+ghost use Rattle.lines.specs.Output.{AppendsPart, AppendsTooLittle};
 
 use std::error::Error;
 use std::fmt;
@@ -26,6 +26,7 @@ impl Error for WriteFailed {}
 pub fn write_all<W: Write>(output: &mut W, bytes: &[u8]) -> Result<(), WriteFailed>
     ensures whole { OnOk result (Appends (W.contents output.old) (W.contents output.new) bytes.now) }
     ensures part { AppendsPart (W.contents output.old) (W.contents output.new) bytes.now }
+    ensures failed { OnErr result (AppendsTooLittle (W.contents output.old) (W.contents output.new) bytes.now) }
 {
     let mut written = 0;
     while written < bytes.len() {

@@ -79,11 +79,12 @@ impl<L: Lock<Guarded>> Mq<L> {
     }
 
     /// Ends the queues and gives their journal, where all n processes are there; else everything comes back as it was.
-    /// Takes no memory, and never waits. Open waits are allowed.
+    /// Takes no memory, and never waits. Open waits are allowed. The journal has entries of the processes 1 to n alone.
     pub fn finish(self, processes: Vec<Process<L>>) -> Result<Journal, Missing<Mq<L>, Process<L>>>
         requires { All (λ p. p.lock ≡ self) processes.items }
         ensures all { (vec_len processes ≡ self.count) ↔ IsOk result }
         ensures legal { IfOk result (λ journal. Legal journal.records) }
+        ensures processes { IfOk result (λ journal. All (λ r. r.entry.process ≤ self.count) journal.records) }
         ensures grows { IfOk result (λ journal. All (λ p. Grows owner p.number p.left journal.records []) processes.items) }
         ensures back { IfErr result (λ m. (m.whole ≡ self) × (m.parts ≡ processes)) }
     {

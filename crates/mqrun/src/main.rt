@@ -1,25 +1,12 @@
 // Runs a script of message queue calls: standard input to standard output.
 #![tactic(auto)]
 
-mod calls;
-mod command;
-mod deal;
-mod fault;
-mod gate;
-mod line;
-mod phase;
-mod reply;
-mod run;
-mod script;
 #[cfg(test)]
 mod tests;
-mod text;
-mod turns;
 
 use fast_mutex::FastMutex;
-use gate::Plain;
 use mq::Guarded;
-use run::run_script;
+use mq_runner::{Plain, run_script};
 use std::io;
 use std::process::ExitCode;
 

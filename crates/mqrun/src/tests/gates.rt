@@ -1,8 +1,7 @@
 // Gates at which the processes of a phase meet.
 use super::Lamport;
-use crate::gate::Gate;
-use crate::run::run_script;
 use crossbeam_utils::Backoff;
+use mq_runner::{Gate, run_script};
 use std::sync::atomic::{AtomicU64, Ordering};
 use std::test::Fail;
 

@@ -1,4 +1,4 @@
-use Rattle.std.proofs.Common.{◌≡◌, ◌∙◌, map, ap, sym, []}
+use Rattle.std.proofs.Common.{◌≡◌, ◌≤◌, ◌∙◌, ◌∷◌, map, ap, sym, subst, []}
 use Rattle.std.specs.List.{All}
 use Rattle.std.proofs.lemmas.List.Elements.{All-same, All-map, All-weaker}
 use Rattle.fast_mutex.specs.Items.{Grows}
@@ -15,3 +15,9 @@ pub returns-clause-grows : goal.returns-clause-grows
 returns-clause-grows g c =
     All-same (λ t. Grows owner t.number t.left c.into_journal.result.records []) _ _ (sym c.seats_of.ensures.items)
     (All-map (λ t. Grows owner t.number t.left c.into_journal.result.records []) g.L.Lock.ticket c.seats_of.result.items (rw c.into_journal.ensures.value c.in-Ok.ensures.grows))
+
+pub returns-clause-processes : goal.returns-clause-processes
+returns-clause-processes g c =
+    let same : c.in-Ok.state.books.n ∷ [] ≡ c.args.self.count ∷ [] = c.in-Ok.ensures.fixed ∙ c.self.invariant.0 ∙ ap (λ t. t.count ∷ []) c.self.view_is in
+    let n : c.in-Ok.state.books.n ≡ c.args.self.count = cc in
+    subst (λ z. All (λ r. r.entry.process ≤ z) c.into_journal.result.records) n c.into_journal.ensures.processes

@@ -1,0 +1,5 @@
+pub mod Buffers
+pub mod KnownBytes
+pub mod Lists
+pub mod Taking
+pub mod Working

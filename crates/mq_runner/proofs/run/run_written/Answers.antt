@@ -1,0 +1,35 @@
+use Rattle.std.proofs.Common.{arith, ◌≡◌, length, map}
+use Rattle.std.proofs.lemmas.Grind.{common_steps}
+use Rattle.std.proofs.lemmas.List.Elements.{All-same}
+use Rattle.mq_runner.specs.Phase.{text_in}
+use Rattle.mq_runner.specs.Runs.{IsReady}
+use Rattle.mq_script.specs.Script.{said_calls}
+use Rattle.mq_runner.proofs.Taking.{all-unmap}
+use Rattle.mq_runner.proofs.Working.{all-ready, phase-done, same-lengths}
+use Rattle.mq_runner.proofs.run.run_written.Goals as goal
+
+pub run_phase-requires-after_bounds : goal.run_phase-requires-after_bounds
+run_phase-requires-after_bounds g c κs within =
+    let mq = c.args.mq.now in let shares = c.in_ok-shares.shares.items in
+    record { all = all-unmap (IsReady mq) (λ share. share.process) shares (All-same (IsReady mq) (map (λ share. share.process) shares) c.args.processes.items c.in_ok-shares.ensures.processes c.requires) }
+
+pub returns-clause-ready : goal.returns-clause-ready
+returns-clause-ready g c =
+    let mq = c.args.mq.now in let shares = c.in_ok-shares.shares.items in let workers = c.in_ok-workers.workers.items in
+    let ready = all-unmap (IsReady mq) (λ share. share.process) shares (All-same (IsReady mq) (map (λ share. share.process) shares) c.args.processes.items c.in_ok-shares.ensures.processes c.requires) in
+    All-same (IsReady mq) _ (map (λ worked. worked.process) workers) c.in_ok-processes.ensures (all-ready mq shares workers c.in_ok-workers.ensures ready)
+
+pub returns-clause-count : goal.returns-clause-count
+returns-clause-count g c =
+    let same : length c.in_ok-processes.processes.items ≡ length c.args.processes.items =
+    same-lengths c.in_ok-shares.shares.items c.in_ok-workers.workers.items c.args.processes.items c.in_ok-processes.processes.items c.in_ok-workers.ensures c.in_ok-shares.ensures.processes c.in_ok-processes.ensures in
+    grind (arith, common_steps)
+
+pub returns-clause-ran : goal.returns-clause-ran
+returns-clause-ran g c =
+    let shares = c.in_ok-shares.shares.items in let workers = c.in_ok-workers.workers.items in let text = c.in_ok-text.text.items in
+    let is : text ≡ text_in workers = rw c.as_slice.ensures.value at c.in_ok-text.ensures in (
+      text,
+      phase-done (said_calls c.args.calls.now) shares workers c.args.processes.items c.in_ok-processes.processes.items text c.in_ok-workers.ensures c.in_ok-shares.ensures.calls c.in_ok-shares.ensures.processes c.in_ok-processes.ensures is,
+      rw c.as_slice-2.ensures.value at c.in_ok-write_all.ensures.whole,
+    )

@@ -1,0 +1,48 @@
+-- Why a run ended before its end: what is printed, and the exit status.
+use Rattle.std.specs.Prelude.{◌≡◌, ℕ, List, codes, Result, Ok, Err}
+use Rattle.lines.specs.declared.input.ReadFault.{ReadFault}
+use Rattle.lines.specs.declared.input.ReadFault.TheVariants as read
+use Rattle.mq_script.specs.ScriptFault.{script_fault_text}
+use Rattle.mq_script.specs.declared.fault.ScriptFault.{ScriptFault}
+use Rattle.mq_script.specs.declared.fault.ScriptFault.TheVariants as script
+use Rattle.mq_runner.specs.declared.fault.RunFault.{RunFault}
+use Rattle.mq_runner.specs.declared.fault.RunFault.TheVariants.{BadCall, Input, Output, NoMemory}
+
+-- the line on the error stream
+abbrev pub fault_text : RunFault → List ℕ
+fault_text (BadCall line) = script_fault_text (script.BadCall line)
+fault_text Input = codes "input fault"
+fault_text Output = codes "output fault"
+fault_text NoMemory = codes "no memory"
+
+-- the exit status of the program
+abbrev pub exit_status : RunFault → ℕ
+exit_status (BadCall line) = 2
+exit_status Input = 3
+exit_status Output = 3
+exit_status NoMemory = 4
+
+-- why a run ends whose script was not read to its end
+abbrev pub of_read_fault : ReadFault → RunFault
+of_read_fault read.Failed = Input
+of_read_fault read.NoMemory = NoMemory
+
+-- why a run ends whose script was not read
+abbrev pub of_script_fault : ScriptFault → RunFault
+of_script_fault (script.BadCall line) = BadCall line
+of_script_fault script.NoMemory = NoMemory
+
+-- a fault that comes after the reading
+abbrev pub IsLate : RunFault → Type 0
+IsLate (BadCall line) = ⊥
+IsLate Input = ⊥
+IsLate Output = Unit {0}
+IsLate NoMemory = Unit {0}
+
+-- a run of a script that is at fault in this line: it says so, unless a read failed or memory ran out before
+abbrev pub StopsAt : ℕ → Result (Unit {0}) RunFault → Type 0
+StopsAt line (Err (BadCall k)) = k ≡ line
+StopsAt line (Err Input) = Unit {0}
+StopsAt line (Err NoMemory) = Unit {0}
+StopsAt line (Err Output) = ⊥
+StopsAt line (Ok done) = ⊥

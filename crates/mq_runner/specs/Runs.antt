@@ -1,0 +1,130 @@
+-- What the calls of a script leave. A process shows its ticket: its lock, its number, and the journal that it last left.
+use Rattle.std.specs.Prelude.{◌≡◌, ◌==◌, ◌++◌, ℕ, List, [], ◌∷◌, codes, filter, IsFalse, IsTrue, Option, Result, Ok, Err, ◌⊎◌, take}
+use Rattle.std.specs.List.{All}
+use Rattle.std.specs.Io.KnownBytes as known
+use Rattle.fast_mutex.specs.Items.{LockId, Ticket, Grows, tickets_from}
+use Rattle.mq.specs.Calls.{IsFree, Exits, OneCall, SendCall, WholeReceive, owner}
+use Rattle.mq.specs.Says.{attributes_says, done_says, notice_says, open_says}
+use Rattle.mq_model.specs.Answer.{Legal}
+use Rattle.mq_model.specs.Name.{has_name_form, is_name, is_short}
+use Rattle.mq_model.specs.Record.{Past, Record}
+use Rattle.mq_model.specs.declared.entries.Call.{Call}
+use Rattle.mq_model.specs.declared.entries.Call.TheVariants.{MqOpen, MqClose, MqUnlink, MqGetattr, MqSetattr, MqNotify, NextNotice}
+use Rattle.mq_model.specs.declared.entries.Reply.{Reply}
+use Rattle.mq_model.specs.declared.faults.Fault.{Fault}
+use Rattle.mq_model.specs.declared.faults.Fault.TheVariants.{Invalid, NameTooLong}
+use Rattle.mq_runner.specs.Buffer.{buffer_given}
+use Rattle.lines.specs.Words.{Word}
+use Rattle.mq_script.specs.ReplyLines.{reply_lines}
+use Rattle.mq_script.specs.Script.{Whole}
+use Rattle.mq_script.specs.declared.command.Command.{Command}
+use Rattle.mq_script.specs.declared.command.Command.TheVariants as command
+use Rattle.mq_script.specs.declared.line.ScriptCall.{ScriptCall}
+use Rattle.mq_script.specs.declared.reply.Outcome.{Outcome}
+use Rattle.mq_script.specs.declared.reply.Outcome.TheVariants as outcomes
+use Rattle.mq_script.specs.declared.reply.Answer.{Answer}
+
+-- the same process, of the same lock; the journal that it left may have grown
+pub record IsSameProcess (old new : Ticket Record) : Type 0 where
+  pub lock : new.lock ≡ old.lock
+  pub number : new.number ≡ old.number
+
+-- the process was made with this system, and has no open wait
+pub record IsReady (mq : LockId) (process : Ticket Record) : Type 0 where
+  pub made : process.lock ≡ mq
+  pub free : IsFree process
+
+-- what is printed of what a call returned
+abbrev pub outcome_by : {A : Type 0} → (A → Outcome) → Result A Fault → Outcome
+outcome_by shows (Ok value) = shows value
+outcome_by shows (Err fault) = outcomes.Refused fault
+
+-- a call was made, and this is printed of what it returned
+pub record Shows {A : Type 0} (shows : A → Outcome) (Called : Result A Fault → Type 0) (came : Outcome) : Type 0 where
+  pub result : Result A Fault
+  pub called : Called result
+  pub outcome : came ≡ outcome_by shows result
+
+-- a call on a name was made, or the name was refused before it
+pub record MakesNamed {A : Type 0} (says : Reply → Option (Result A Fault)) (shows : A → Outcome) (call : Call) (name : List ℕ) (old new : Ticket Record) (came : Outcome) : Type 0 where
+  pub made : IsTrue (is_name name) → Shows shows (OneCall says old new call name) came
+  pub too_long : IsTrue (has_name_form name) → IsFalse (is_short name) → (new ≡ old) × (came ≡ outcomes.Refused NameTooLong)
+  pub invalid : IsFalse (has_name_form name) → (new ≡ old) × (came ≡ outcomes.Refused Invalid)
+
+-- the process carried out the command, and this is printed of it. `before` is what the buffer held, `behind` what it holds
+abbrev pub Performs : Command Word → List ℕ → List ℕ → Ticket Record → Ticket Record → Outcome → Type 0
+Performs (command.Open name flags attr) before behind old new came = MakesNamed open_says outcomes.Opened (MqOpen flags attr) name old new came
+Performs (command.Close d) before behind old new came = Shows (λ _. outcomes.Done) (OneCall done_says old new (MqClose d) []) came
+Performs (command.Unlink name) before behind old new came = MakesNamed done_says (λ _. outcomes.Done) MqUnlink name old new came
+Performs (command.Send d prio message) before behind old new came = Shows (λ _. outcomes.Done) (SendCall old new d message prio) came
+Performs (command.Receive d room) before behind old new came = Shows outcomes.Got (WholeReceive old new d before behind) came
+Performs (command.Getattr d) before behind old new came = Shows outcomes.Attrs (OneCall attributes_says old new (MqGetattr d) []) came
+Performs (command.Setattr d nonblock) before behind old new came = Shows outcomes.Attrs (OneCall attributes_says old new (MqSetattr d nonblock) []) came
+Performs (command.Notify d value) before behind old new came = Shows (λ _. outcomes.Done) (OneCall done_says old new (MqNotify d value) []) came
+Performs command.Notice before behind old new came = Shows outcomes.Notice (OneCall notice_says old new NextNotice []) came
+Performs command.Exit before behind old new came = Shows (λ _. outcomes.Done) (Exits old new) came
+
+-- a process made these calls one behind the other, and this is what they came to
+abbrev pub RunsCalls : List (ScriptCall Word) → List Answer → Ticket Record → Ticket Record → Type 0
+RunsCalls [] [] old new = new ≡ old
+RunsCalls [] (answer ∷ answers) old new = ⊥
+RunsCalls (call ∷ calls) [] old new = ⊥
+RunsCalls (call ∷ calls) (answer ∷ answers) old new =
+    (mid : Ticket Record)
+    × Performs call.command (buffer_given call.command) answer.buffer.items old mid answer.outcome
+    × RunsCalls calls answers mid new
+
+-- the calls of process p
+abbrev pub calls_of : ℕ → List (ScriptCall Word) → List (ScriptCall Word)
+calls_of p calls = filter (λ call. call.process == p) calls
+
+-- a phase was run: each process made its calls in their order. The text has the replies of the first process, then of the next,
+-- and so on. In which order calls of different processes came is not said
+abbrev pub RunsPhase : List (ScriptCall Word) → List (Ticket Record) → List (Ticket Record) → List ℕ → Type 0
+RunsPhase calls [] [] text = text ≡ []
+RunsPhase calls [] (new ∷ after) text = ⊥
+RunsPhase calls (old ∷ before) [] text = ⊥
+RunsPhase calls (old ∷ before) (new ∷ after) text =
+    (answers : List Answer) × (rest : List ℕ)
+    × RunsCalls (calls_of old.number calls) answers old new
+    × IsSameProcess old new
+    × RunsPhase calls before after rest
+    × (text ≡ reply_lines old.number answers ++ rest)
+
+-- phases were run one behind the other
+abbrev pub RunsPhases : List (List (ScriptCall Word)) → List (Ticket Record) → List (Ticket Record) → List ℕ → Type 0
+RunsPhases [] before after text = (after ≡ before) × (text ≡ [])
+RunsPhases (calls ∷ phases) before after text =
+    (between : List (Ticket Record)) × (first : List ℕ) × (rest : List ℕ)
+    × RunsPhase calls before between first
+    × RunsPhases phases between after rest
+    × (text ≡ first ++ rest)
+
+-- some phases were run from the first on, and known bytes have grown by just their replies
+pub record RunsFront (phases : List (List (ScriptCall Word))) (before : List (Ticket Record)) (old new : Option (List ℕ)) : Type 0 where
+  pub count : ℕ
+  pub after : List (Ticket Record)
+  pub replies : List ℕ
+  pub ran : RunsPhases (take count phases) before after replies
+  pub written : known.Appends old new replies
+
+-- a script was run up to the end of a phase, or not begun: nothing else is written
+abbrev pub StopsBehindPhase : Whole → Option (List ℕ) → Option (List ℕ) → Type 0
+StopsBehindPhase script old new = (new ≡ old) ⊎ ((system : LockId) × RunsFront script.phases (tickets_from system 1 script.processes) old new)
+
+-- the line that ends a whole run
+abbrev pub last_line : List ℕ
+last_line = codes "history ok" ++ 10 ∷ []
+
+-- A script was run whole. Its processes, of one system, began with the empty journal and ran the phases, and known bytes have
+-- grown by the replies and the last line. There is one legal journal, which begins with what each process last left and has no
+-- further record of it: so of each process it has just the records that its calls left
+pub record RunsScript (script : Whole) (old new : Option (List ℕ)) : Type 0 where
+  pub system : LockId
+  pub processes : List (Ticket Record)
+  pub replies : List ℕ
+  pub ran : RunsPhases script.phases (tickets_from system 1 script.processes) processes replies
+  pub journal : Past
+  pub legal : Legal journal
+  pub grows : All (λ process. Grows owner process.number process.left journal []) processes
+  pub written : known.Appends old new (replies ++ last_line)

@@ -1,0 +1,155 @@
+//! The calls of commands, made by a process.
+ghost use Rattle.std.specs.Prelude.{◌≡◌, ℕ, [], length};
+ghost use Rattle.mq.specs.Calls.{IsFree, Exits, SendCall, WholeReceive};
+ghost use Rattle.mq.specs.Says.{attributes_says, done_says, notice_says, open_says};
+ghost use Rattle.mq_model.specs.declared.entries.Call.{Call};
+ghost use Rattle.mq_script.specs.Grammar.{said};
+ghost use Rattle.mq_script.specs.Replies.{HasMessage};
+ghost use Rattle.mq_runner.specs.Runs.{IsSameProcess, MakesNamed, Performs, Shows, outcome_by};
+ghost use Rattle.mq_script.specs.declared.reply.Outcome.TheVariants as outcomes;
+
+use mq_script::command::Command;
+use mq_script::reply::Outcome;
+use fast_mutex::Lock;
+use mq::{Guarded, Mq, Process};
+use mq_model::entries::{Attr, OpenFlags, Status};
+use mq_model::faults::Fault;
+use mq_model::names::Name;
+use std::sync::Wait;
+
+/// Makes the call of a command, which may block. A message that is received is put into the front of the buffer.
+pub fn perform<L: Lock<Guarded>, R: Wait>(
+    rt: &R,
+    mq: &Mq<L>,
+    process: &mut Process<L>,
+    command: &Command<&[u8]>,
+    buffer: &mut [u8],
+) -> Outcome
+    requires made { process.old.lock ≡ mq.now }
+    requires free { IsFree process.old }
+    ensures free { IsFree process.new }
+    ensures same { IsSameProcess process.old process.new }
+    ensures message { HasMessage result (length buffer.old) }
+    ensures performed { Performs (said command.now) buffer.old buffer.new process.old process.new result }
+{
+    match *command {
+        Command::Open { name, flags, attr } => open(rt, mq, process, name, flags, attr),
+        Command::Close { d } => done(process.close(rt, mq, d)),
+        Command::Unlink { name } => unlink(rt, mq, process, name),
+        Command::Send { d, prio, message } => done(process.send(rt, mq, d, message, prio)),
+        Command::Receive { d, room: _ } => receive(rt, mq, process, d, buffer),
+        Command::Getattr { d } => attributes(process.getattr(rt, mq, d)),
+        Command::Setattr { d, nonblock } => attributes(process.setattr(rt, mq, d, flag(nonblock))),
+        Command::Notify { d, value } => done(process.notify(rt, mq, d, value)),
+        Command::Notice => notice(process.next_notice(rt, mq)),
+        Command::Exit => done(process.exit(rt, mq)),
+    }
+}
+
+fn open<L: Lock<Guarded>, R: Wait>(
+    rt: &R,
+    mq: &Mq<L>,
+    process: &mut Process<L>,
+    name: &[u8],
+    flags: OpenFlags,
+    attr: Option<Attr>,
+) -> Outcome
+    requires made { process.old.lock ≡ mq.now }
+    requires free { IsFree process.old }
+    ensures free { IsFree process.new }
+    ensures same { IsSameProcess process.old process.new }
+    ensures message { (room : ℕ) → HasMessage result room }
+    ensures made { MakesNamed open_says outcomes.Opened (Call.MqOpen flags attr) name.now process.old process.new result }
+{
+    match Name::read(name) {
+        Ok(name) => opened(process.open(rt, mq, &name, flags, attr)),
+        Err(fault) => Outcome::Refused(fault),
+    }
+}
+
+fn unlink<L: Lock<Guarded>, R: Wait>(
+    rt: &R,
+    mq: &Mq<L>,
+    process: &mut Process<L>,
+    name: &[u8],
+) -> Outcome
+    requires made { process.old.lock ≡ mq.now }
+    requires free { IsFree process.old }
+    ensures free { IsFree process.new }
+    ensures same { IsSameProcess process.old process.new }
+    ensures message { (room : ℕ) → HasMessage result room }
+    ensures made { MakesNamed done_says (λ _. outcomes.Done) Call.MqUnlink name.now process.old process.new result }
+{
+    match Name::read(name) {
+        Ok(name) => done(process.unlink(rt, mq, &name)),
+        Err(fault) => Outcome::Refused(fault),
+    }
+}
+
+fn receive<L: Lock<Guarded>, R: Wait>(
+    rt: &R,
+    mq: &Mq<L>,
+    process: &mut Process<L>,
+    d: u32,
+    buffer: &mut [u8],
+) -> Outcome
+    requires made { process.old.lock ≡ mq.now }
+    requires free { IsFree process.old }
+    ensures free { IsFree process.new }
+    ensures same { IsSameProcess process.old process.new }
+    ensures message { HasMessage result (length buffer.old) }
+    ensures made { Shows outcomes.Got (WholeReceive process.old process.new d buffer.old buffer.new) result }
+{
+    match process.receive(rt, mq, d, buffer) {
+        Ok(received) => Outcome::Got(received),
+        Err(fault) => Outcome::Refused(fault),
+    }
+}
+
+// A setattr sets the flag alone.
+fn flag(nonblock: bool) -> Status
+    ensures { result.nonblock ≡ nonblock }
+{
+    Status {
+        nonblock,
+        maxmsg: 0,
+        msgsize: 0,
+        curmsgs: 0,
+    }
+}
+
+fn opened(returned: Result<u32, Fault>) -> Outcome
+    ensures { result ≡ outcome_by outcomes.Opened returned }
+{
+    match returned {
+        Ok(d) => Outcome::Opened(d),
+        Err(fault) => Outcome::Refused(fault),
+    }
+}
+
+fn done(returned: Result<(), Fault>) -> Outcome
+    ensures { result ≡ outcome_by (λ _. outcomes.Done) returned }
+{
+    match returned {
+        Ok(()) => Outcome::Done,
+        Err(fault) => Outcome::Refused(fault),
+    }
+}
+
+fn attributes(returned: Result<Status, Fault>) -> Outcome
+    ensures { result ≡ outcome_by outcomes.Attrs returned }
+{
+    match returned {
+        Ok(status) => Outcome::Attrs(status),
+        Err(fault) => Outcome::Refused(fault),
+    }
+}
+
+fn notice(returned: Result<Option<u64>, Fault>) -> Outcome
+    ensures { result ≡ outcome_by outcomes.Notice returned }
+{
+    match returned {
+        Ok(value) => Outcome::Notice(value),
+        Err(fault) => Outcome::Refused(fault),
+    }
+}

@@ -1,0 +1,15 @@
+//! Runs scripts of message queue calls, each process in a thread of its own.
+#![tactic(auto)]
+
+mod calls;
+mod deal;
+mod fault;
+mod gate;
+mod phase;
+mod run;
+mod text;
+mod turns;
+
+pub use fault::RunFault;
+pub use gate::{Gate, Plain};
+pub use run::run_script;

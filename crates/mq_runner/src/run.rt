@@ -1,0 +1,169 @@
+//! A script, from its bytes to the bytes of its replies.
+ghost use Rattle.std.specs.Prelude.{◌≡◌, ◌≤◌, ◌+◌, ◌↔◌, ℕ, List, IfErr, IfOk, IsErr, IsErrOf, IsOk, OnOk, Some, Ok, Err, length, take, vec_len};
+ghost use Rattle.std.specs.Io.KnownBytes.{Appends};
+ghost use Rattle.std.specs.List.{All};
+ghost use Rattle.mq_model.specs.Answer.{Legal};
+ghost use Rattle.mq_runner.specs.RunFault.{IsLate, StopsAt};
+ghost use Rattle.mq_runner.specs.Runs.{IsReady, RunsFront, RunsPhase, RunsPhases, RunsScript, StopsBehindPhase, last_line};
+ghost use Rattle.mq_script.specs.Script.{Whole, said_calls, said_phases, said_script, script_written};
+ghost use Rattle.mq_runner.specs.declared.fault.RunFault.TheVariants.{Input, NoMemory, Output};
+
+use crate::deal::{processes_of, shares_of};
+use crate::fault::RunFault;
+use crate::gate::Gate;
+use mq_script::line::ScriptCall;
+use crate::phase::run_phase;
+use mq_script::script::{MOST_BYTES, Script, read_script};
+use crate::text::text_of;
+use fast_mutex::Lock;
+use lines::input::read_all;
+use lines::output::write_all;
+use mq::{Guarded, Mq, Process};
+use mq_checker::checker::check_history;
+use mq_model::journals::Journal;
+use std::alloc::Global;
+use std::io::{Read, Write};
+use std::sync::Wait;
+use std::thread::Threads;
+
+/// Reads a script, checks it whole, makes its calls over the lock `L` and writes their replies, phase by phase. In a phase each
+/// process that has calls makes them in a thread of its own, and meets the gate before each.
+/// `RunFault::BadCall`: a line of the script is at fault. `RunFault::Input`, `RunFault::Output`: a read or a write failed.
+/// `RunFault::NoMemory`: a growth outside a call, or a thread, was refused; the replies of the phases before are written, and
+/// nothing of that phase.
+/// A script in which a call waits and is never answered does not end.
+pub fn run_script<L, S, R, W, G>(
+    rt: &S,
+    alloc: Global,
+    input: &mut R,
+    output: &mut W,
+    gate: &G,
+) -> Result<(), RunFault>
+where
+    L: Lock<Guarded> + Sync,
+    L::Seat: Send,
+    S: Threads + Wait + Sync,
+    R: Read,
+    W: Write,
+    G: Gate + Sync,
+    ensures input { IsErrOf result Input → W.contents output.new ≡ W.contents output.old }
+    ensures bad_call { (all : List ℕ) (line : ℕ) → R.remaining input.old ≡ Some all →
+        script_written (take (MOST_BYTES + 1) all) ≡ Err line →
+        StopsAt line result × (W.contents output.new ≡ W.contents output.old) }
+    ensures no_memory { (all : List ℕ) (script : Whole) → R.remaining input.old ≡ Some all →
+        script_written (take (MOST_BYTES + 1) all) ≡ Ok script → IsErrOf result NoMemory →
+        StopsBehindPhase script (W.contents output.old) (W.contents output.new) }
+    ensures done { (all : List ℕ) (script : Whole) → R.remaining input.old ≡ Some all →
+        script_written (take (MOST_BYTES + 1) all) ≡ Ok script →
+        OnOk result (RunsScript script (W.contents output.old) (W.contents output.new)) }
+{
+    let text = read_all(alloc, input, MOST_BYTES)?;
+    let script = read_script(alloc, text.as_slice())?;
+    run_phases::<L, S, W, G>(rt, alloc, &script, output, gate)
+}
+
+// Makes the calls of a script, and writes the replies of each phase behind it.
+fn run_phases<L, S, W, G>(
+    rt: &S,
+    alloc: Global,
+    script: &Script<'_>,
+    output: &mut W,
+    gate: &G,
+) -> Result<(), RunFault>
+where
+    L: Lock<Guarded> + Sync,
+    L::Seat: Send,
+    S: Threads + Wait + Sync,
+    W: Write,
+    G: Gate + Sync,
+    requires { (1 ≤ script.now.processes) × (script.now.processes ≤ 32) }
+    ensures fault { IfErr result IsLate }
+    ensures no_memory { IsErrOf result NoMemory → StopsBehindPhase (said_script script.now) (W.contents output.old) (W.contents output.new) }
+    ensures done { OnOk result (RunsScript (said_script script.now) (W.contents output.old) (W.contents output.new)) }
+{
+    let Ok((mq, processes)) = Mq::<L>::new(alloc, script.processes) else {
+        return Err(RunFault::NoMemory);
+    };
+    let phases = script.phases.as_slice();
+    let processes = run_written_phases(rt, alloc, &mq, output, gate, processes, phases)?;
+    let Ok(journal) = mq.finish(processes) else {
+        unreachable!()
+    };
+    // The journal of the queues is legal, so the checker accepts it.
+    write_last_line(output, &journal)?.unwrap();
+    Ok(())
+}
+
+// Runs phases one behind the other and writes the replies of each.
+fn run_written_phases<'s, L, S, W, G>(
+    rt: &'s S,
+    alloc: Global,
+    mq: &'s Mq<L>,
+    output: &mut W,
+    gate: &'s G,
+    mut processes: Vec<Process<L>>,
+    phases: &'s [Vec<ScriptCall<&'s [u8]>>],
+) -> Result<Vec<Process<L>>, RunFault>
+where
+    L: Lock<Guarded> + Sync,
+    L::Seat: Send,
+    S: Threads + Wait + Sync,
+    W: Write,
+    G: Gate + Sync,
+    requires { All (IsReady mq.now) processes.items }
+    ensures fault { IfErr result IsLate }
+    ensures no_memory { IsErrOf result NoMemory → RunsFront (said_phases phases.now) processes.items (W.contents output.old) (W.contents output.new) }
+    ensures ready { IfOk result (λ after. All (IsReady mq.now) after.items) }
+    ensures count { IfOk result (λ after. vec_len after ≡ vec_len processes) }
+    ensures ran { IfOk result (λ after. (replies : List ℕ) × RunsPhases (said_phases phases.now) processes.items after.items replies × Appends (W.contents output.old) (W.contents output.new) replies) }
+{
+    for calls in phases {
+        processes = run_written(rt, alloc, mq, output, gate, processes, calls.as_slice())?;
+    }
+    Ok(processes)
+}
+
+// Runs a phase and writes its replies.
+fn run_written<'s, L, S, W, G>(
+    rt: &'s S,
+    alloc: Global,
+    mq: &'s Mq<L>,
+    output: &mut W,
+    gate: &'s G,
+    processes: Vec<Process<L>>,
+    calls: &[ScriptCall<&'s [u8]>],
+) -> Result<Vec<Process<L>>, RunFault>
+where
+    L: Lock<Guarded> + Sync,
+    L::Seat: Send,
+    S: Threads + Wait + Sync,
+    W: Write,
+    G: Gate + Sync,
+    requires { All (IsReady mq.now) processes.items }
+    ensures fault { IfErr result IsLate }
+    ensures no_memory { IsErrOf result NoMemory → W.contents output.new ≡ W.contents output.old }
+    ensures ready { IfOk result (λ after. All (IsReady mq.now) after.items) }
+    ensures count { IfOk result (λ after. vec_len after ≡ vec_len processes) }
+    ensures ran { IfOk result (λ after. (text : List ℕ) × RunsPhase (said_calls calls.now) processes.items after.items text × Appends (W.contents output.old) (W.contents output.new) text) }
+{
+    let shares = shares_of(alloc, processes, calls)?;
+    let workers = run_phase(rt, alloc, mq, gate, shares)?;
+    let text = text_of(alloc, workers.as_slice())?;
+    let processes = processes_of(alloc, workers)?;
+    write_all(output, text.as_slice())?;
+    Ok(processes)
+}
+
+// Writes that the history is ok, where the checker accepts it; else nothing, and gives the first place that is not legal.
+fn write_last_line<W: Write>(output: &mut W, journal: &Journal) -> Result<Result<(), u64>, RunFault>
+    ensures fault { IfErr result (λ fault. fault ≡ Output) }
+    ensures checked { IfOk result (λ verdict. IsOk verdict ↔ Legal journal.now.records) }
+    ensures written { IfOk result (λ verdict. OnOk verdict (Appends (W.contents output.old) (W.contents output.new) last_line)) }
+    ensures silent { IfOk result (λ verdict. IsErr verdict → W.contents output.new ≡ W.contents output.old) }
+{
+    let verdict = check_history(journal);
+    if verdict.is_ok() {
+        write_all(output, b"history ok\n")?;
+    }
+    Ok(verdict)
+}

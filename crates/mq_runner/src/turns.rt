@@ -1,0 +1,46 @@
+//! What each process has to do in a phase, and what it came to.
+ghost use Rattle.std.specs.Prelude.{◌≡◌, ◌≤◌, [], IfOk, vec_len, vec_capacity};
+ghost use Rattle.mq_runner.specs.Buffer.{buffer_given};
+ghost use Rattle.mq_script.specs.Grammar.{said};
+
+use mq_script::command::Command;
+use mq_script::line::ScriptCall;
+use mq_script::reply::Answer;
+use std::alloc::{AllocError, Global};
+
+/// A call of a script with its buffer, which a receive fills.
+#[derive(Drop)]
+pub struct Turn<'s> {
+    pub call: ScriptCall<&'s [u8]>,
+    pub buffer: Vec<u8>,
+    ghost given: { buffer.items ≡ buffer_given (said call.command) },
+}
+
+/// A process with its calls of a phase, and the places of their answers.
+#[derive(Drop)]
+pub struct Share<'s, P> {
+    pub process: P,
+    pub turns: Vec<Turn<'s>>,
+    pub answers: Vec<Answer>,
+    ghost none: { answers.items ≡ [] },
+    ghost room: { vec_len turns ≤ vec_capacity answers },
+}
+
+/// A process that made its calls of a phase, with what they came to.
+#[derive(Drop)]
+pub struct Worked<P> {
+    pub process: P,
+    pub answers: Vec<Answer>,
+}
+
+/// A call with the buffer that it is given.
+pub fn turn_of<'s>(alloc: Global, call: ScriptCall<&'s [u8]>) -> Result<Turn<'s>, AllocError>
+    ensures { IfOk result (λ turn. turn.call ≡ call.entry) }
+{
+    let room = match call.command {
+        Command::Receive { d: _, room } => room,
+        _ => 0,
+    };
+    let buffer = vec![in alloc; 0; room]?;
+    Ok(Turn { call, buffer })
+}

@@ -1,0 +1,4 @@
+pub mod Lines
+pub mod ReplyLines
+pub mod ScriptLines
+pub mod WordCounts

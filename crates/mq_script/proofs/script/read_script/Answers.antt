@@ -1,0 +1,20 @@
+use Rattle.std.proofs.Common.{rules, arith, ◌≡◌, ◌∙◌}
+use Rattle.mq_script.specs.Phases.{whole_behind}
+use Rattle.mq_script.specs.Script.{Written, lines_of, processes_behind, said_line, with_line}
+use Rattle.mq_script.proofs.ScriptLines.{whole_behind-line}
+use Rattle.mq_script.proofs.script.read_script.Goals as goal
+
+pub loop-rest-preserved : goal.loop-rest-preserved
+loop-rest-preserved c =
+    let was = c.loop-rest.invariant in
+    let line = said_line c.in_ok-line.line in
+    let behind : c.processes_behind-processes.result ≡ processes_behind line c.loop-rest.processes = c.processes_behind-processes.ensures in
+    let same : (script : Written) → whole_behind c.add.new.self script ≡ whole_behind c.loop-rest.phases (with_line line script) = search rules in
+    let step = whole_behind-line c.loop-rest.phases c.add.new.self c.loop-rest.processes c.loop-rest.at c.in_ok-line.place c.first_line.result.0.now (lines_of c.first_line.result.1.now) line c.in_ok-line.ensures.read same in
+    let lines = c.first_line.ensures.lines in
+    record {
+      whole = rw behind (step ∙ (rw lines at was.whole));
+      lines = omega (arith, was.lines, c.in_ok-line.ensures.lines, c.in_ok-line.ensures.bytes.0, c.first_line.ensures.some);
+      bytes = c.in_ok-line.ensures.bytes.1;
+      count = rw behind c.in_ok-line.ensures.count;
+    }

@@ -1,0 +1,6 @@
+pub mod Grammar
+pub mod Phases
+pub mod Replies
+pub mod ReplyLines
+pub mod Script
+pub mod ScriptFault

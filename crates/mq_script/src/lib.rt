@@ -1,0 +1,9 @@
+//! Scripts of message queue calls: their grammar, and the text of their replies.
+#![tactic(auto)]
+
+pub mod command;
+pub mod fault;
+pub mod line;
+pub mod reply;
+pub mod script;
+pub mod text;

@@ -1,8 +1,0 @@
-use Rattle.std.proofs.Common.{◌≡◌, take}
-use Rattle.mqrun.specs.Phase.{calls_in}
-use Rattle.mqrun.specs.Runs.{calls_of}
-use Rattle.mqrun.specs.Script.{said_calls}
-use Rattle.mqrun.proofs.deal.turns_of.Given as goal
-
-abbrev pub invariant-loop-call : goal.invariant-loop-call
-invariant-loop-call l = calls_in l.turns.items ≡ calls_of l.process (said_calls (take l.call-index l.calls))

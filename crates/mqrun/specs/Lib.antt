@@ -1,9 +1,0 @@
-pub mod Buffer
-pub mod Grammar
-pub mod Members
-pub mod Phase
-pub mod Phases
-pub mod Replies
-pub mod RunFault
-pub mod Runs
-pub mod Script
