@@ -3,8 +3,10 @@ ghost use Rattle.std.specs.Prelude.{◌≡◌};
 ghost use Rattle.mq.specs.Calls.{IsFree};
 
 use mq::{Attr, FastMq, FastProcess, Fault, Name, OpenFlags};
+use std::alloc::Global;
+use std::io::Print;
 use std::sync::Wait;
-use std::thread::join;
+use std::thread::{Threads, join};
 
 /// How many jobs each consumer takes.
 const SHARE: u32 = 50;
@@ -14,7 +16,7 @@ fn produce<R: Wait>(rt: &R, mq: &FastMq, mut process: FastProcess, jobs: u32) ->
     requires made { process.lock ≡ mq.now }
     requires free { IsFree process }
 {
-    for job in 0..2 * SHARE {
+    'jobs: for job in 0..2 * SHARE {
         let prio = u32::from(job % 5 == 0);
         process.send(rt, mq, jobs, &job.to_le_bytes(), prio)?;
     }
@@ -30,15 +32,15 @@ fn consume<R: Wait>(rt: &R, mq: &FastMq, mut process: FastProcess) -> Result<u32
     let jobs = process.open(rt, mq, &name, OpenFlags::read_only(), None)?;
     let mut buf = [0; 4];
     let mut urgent = 0;
-    for _ in 0..SHARE {
+    'jobs: for _ in 0..SHARE {
         let received = process.receive(rt, mq, jobs, &mut buf)?;
         urgent += u32::from(received.prio > 0);
     }
     Ok(urgent)
 }
 
-pub fn run(rt: &HostRuntime) -> anyhow::Result<()> {
-    let (mq, mut processes) = FastMq::new(rt.alloc(), 3)?;
+pub fn run(rt: &(impl Print + Wait + Threads + Sync), alloc: Global) -> anyhow::Result<()> {
+    let (mq, mut processes) = FastMq::new(alloc, 3)?;
     let two = processes.pop().unwrap();
     let one = processes.pop().unwrap();
     let mut producer = processes.pop().unwrap();
@@ -54,17 +56,25 @@ pub fn run(rt: &HostRuntime) -> anyhow::Result<()> {
     let queues = &mq;
     let (sent, (first, second)) = join(
         rt,
-        move || requires { (producer.lock ≡ queues.now) × IsFree producer } { produce(rt, queues, producer, jobs) },
-        move || requires { (one.lock ≡ queues.now) × IsFree one × (two.lock ≡ queues.now) × IsFree two } {
+        move ||
+            requires { (producer.lock ≡ queues.now) × IsFree producer }
+        { produce(rt, queues, producer, jobs) },
+        move ||
+            requires { (one.lock ≡ queues.now) × IsFree one × (two.lock ≡ queues.now) × IsFree two }
+        {
             join(
                 rt,
-                move || requires { (one.lock ≡ queues.now) × IsFree one } { consume(rt, queues, one) },
-                move || requires { (two.lock ≡ queues.now) × IsFree two } { consume(rt, queues, two) },
+                move ||
+                    requires { (one.lock ≡ queues.now) × IsFree one }
+                { consume(rt, queues, one) },
+                move ||
+                    requires { (two.lock ≡ queues.now) × IsFree two }
+                { consume(rt, queues, two) },
             )
         },
     );
     sent?;
-    let urgent = first? + second?;
+    let urgent = u64::from(first?) + u64::from(second?);
     println!(rt; "{} jobs taken, {urgent} of them urgent", 2 * SHARE)?;
     Ok(())
 }

@@ -8,19 +8,23 @@ mod notice;
 mod one_process;
 mod waiting;
 
+use std::alloc::Global;
+use std::io::Print;
 use std::process::ExitCode;
+use std::sync::Wait;
+use std::thread::Threads;
 
-fn run_all(rt: &HostRuntime) -> anyhow::Result<()> {
-    one_process::run(rt)?;
-    by_priority::run(rt)?;
-    nonblocking::run(rt)?;
-    notice::run(rt)?;
-    waiting::run(rt)?;
-    journal::run(rt)
+fn run_all(rt: &(impl Print + Wait + Threads + Sync), alloc: Global) -> anyhow::Result<()> {
+    one_process::run(rt, alloc)?;
+    by_priority::run(rt, alloc)?;
+    nonblocking::run(rt, alloc)?;
+    notice::run(rt, alloc)?;
+    waiting::run(rt, alloc)?;
+    journal::run(rt, alloc)
 }
 
 fn main(rt: HostRuntime) -> ExitCode {
-    match run_all(&rt) {
+    match run_all(&rt, rt.alloc()) {
         Ok(()) => ExitCode::SUCCESS,
         Err(error) => {
             // Nothing is left to do where this line cannot be written.

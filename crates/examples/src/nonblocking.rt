@@ -1,8 +1,11 @@
 // Calls that never wait: a descriptor with O_NONBLOCK, and what each refusal is called.
 use mq::{Attr, FastMq, Fault, Name, OpenFlags};
+use std::alloc::Global;
+use std::io::Print;
+use std::sync::Wait;
 
-pub fn run(rt: &HostRuntime) -> anyhow::Result<()> {
-    let (mq, mut processes) = FastMq::new(rt.alloc(), 1)?;
+pub fn run(rt: &(impl Print + Wait), alloc: Global) -> anyhow::Result<()> {
+    let (mq, mut processes) = FastMq::new(alloc, 1)?;
     let mut process = processes.pop().unwrap();
 
     let name = Name::read(b"/poll")?;

@@ -1,8 +1,11 @@
 // One process: a queue of its own, and the best message first.
 use mq::{Attr, FastMq, Name, OpenFlags};
+use std::alloc::Global;
+use std::io::Print;
+use std::sync::Wait;
 
-pub fn run(rt: &HostRuntime) -> anyhow::Result<()> {
-    let (mq, mut processes) = FastMq::new(rt.alloc(), 1)?;
+pub fn run(rt: &(impl Print + Wait), alloc: Global) -> anyhow::Result<()> {
+    let (mq, mut processes) = FastMq::new(alloc, 1)?;
     let mut process = processes.pop().unwrap();
 
     let name = Name::read(b"/orders")?;
@@ -22,7 +25,7 @@ pub fn run(rt: &HostRuntime) -> anyhow::Result<()> {
 
     let mut buf = [0; 64];
     let received = process.receive(rt, &mq, orders, &mut buf)?;
-    let message = String::from_utf8_lossy(rt.alloc(), &buf[..received.len])?;
+    let message = String::from_utf8_lossy(alloc, &buf[..received.len])?;
     println!(rt; "{} (priority {})", message, received.prio)?;
     Ok(())
 }

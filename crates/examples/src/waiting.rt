@@ -1,8 +1,11 @@
 // A call that would wait, begun by a thread that does other work meanwhile.
 use mq::{Attr, Collected, FastMq, Name, OpenFlags};
+use std::alloc::Global;
+use std::io::Print;
+use std::sync::Wait;
 
-pub fn run(rt: &HostRuntime) -> anyhow::Result<()> {
-    let (mq, mut processes) = FastMq::new(rt.alloc(), 2)?;
+pub fn run(rt: &(impl Print + Wait), alloc: Global) -> anyhow::Result<()> {
+    let (mq, mut processes) = FastMq::new(alloc, 2)?;
     let mut sender = processes.pop().unwrap();
     let mut reader = processes.pop().unwrap();
 
