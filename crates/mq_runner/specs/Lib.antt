@@ -5,3 +5,4 @@ pub mod Members
 pub mod Phase
 pub mod RunFault
 pub mod Runs
+pub mod Stops

@@ -1,5 +1,5 @@
 -- What the calls of a script leave. A process shows its ticket: its lock, its number, and the journal that it last left.
-use Rattle.std.specs.Prelude.{◌≡◌, ◌==◌, ◌++◌, ℕ, List, [], ◌∷◌, codes, filter, IsFalse, IsTrue, Option, Result, Ok, Err, ◌⊎◌, take}
+use Rattle.std.specs.Prelude.{◌≡◌, ◌≤◌, ◌==◌, ◌++◌, ℕ, List, [], ◌∷◌, codes, filter, IsFalse, IsTrue, Option, Result, Ok, Err}
 use Rattle.std.specs.List.{All}
 use Rattle.std.specs.Io.KnownBytes as known
 use Rattle.fast_mutex.specs.Items.{LockId, Ticket, Grows, tickets_from}
@@ -100,31 +100,22 @@ RunsPhases (calls ∷ phases) before after text =
     × RunsPhases phases between after rest
     × (text ≡ first ++ rest)
 
--- some phases were run from the first on, and known bytes have grown by just their replies
-pub record RunsFront (phases : List (List (ScriptCall Word))) (before : List (Ticket Record)) (old new : Option (List ℕ)) : Type 0 where
-  pub count : ℕ
-  pub after : List (Ticket Record)
-  pub replies : List ℕ
-  pub ran : RunsPhases (take count phases) before after replies
-  pub written : known.Appends old new replies
-
--- a script was run up to the end of a phase, or not begun: nothing else is written
-abbrev pub StopsBehindPhase : Whole → Option (List ℕ) → Option (List ℕ) → Type 0
-StopsBehindPhase script old new = (new ≡ old) ⊎ ((system : LockId) × RunsFront script.phases (tickets_from system 1 script.processes) old new)
-
 -- the line that ends a whole run
 abbrev pub last_line : List ℕ
 last_line = codes "history ok" ++ 10 ∷ []
 
--- A script was run whole. Its processes, of one system, began with the empty journal and ran the phases, and known bytes have
--- grown by the replies and the last line. There is one legal journal, which begins with what each process last left and has no
--- further record of it: so of each process it has just the records that its calls left
+-- A script was run whole. Its processes are those of one system, which has as many as the script says. They began with the empty
+-- journal and ran the phases, and known bytes have grown by the replies and the last line. There is one legal journal, which begins
+-- with what each process last left and has no further record of it: so of each process it has just the records that its calls left,
+-- and of no other one any
 pub record RunsScript (script : Whole) (old new : Option (List ℕ)) : Type 0 where
   pub system : LockId
+  pub count : system.count ≡ script.processes
   pub processes : List (Ticket Record)
   pub replies : List ℕ
   pub ran : RunsPhases script.phases (tickets_from system 1 script.processes) processes replies
   pub journal : Past
   pub legal : Legal journal
+  pub owners : All (λ r. (1 ≤ owner r) × (owner r ≤ script.processes)) journal
   pub grows : All (λ process. Grows owner process.number process.left journal []) processes
   pub written : known.Appends old new (replies ++ last_line)

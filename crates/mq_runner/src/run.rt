@@ -1,12 +1,16 @@
 //! A script, from its bytes to the bytes of its replies.
-ghost use Rattle.std.specs.Prelude.{◌≡◌, ◌≤◌, ◌+◌, ◌↔◌, ℕ, List, IfErr, IfOk, IsErr, IsErrOf, IsOk, OnOk, Some, Ok, Err, length, take, vec_len};
-ghost use Rattle.std.specs.Io.KnownBytes.{Appends};
+ghost use Rattle.std.specs.Prelude.{◌≡◌, ◌≤◌, ◌+◌, ◌↔◌, ℕ, List, IfErr, IfOk, IsErr, IsErrOf, IsOk, OnErr, OnOk, Some, Ok, Err, length, take, vec_len};
+ghost use Rattle.std.specs.Io.KnownBytes.{Appends, Consumes};
 ghost use Rattle.std.specs.List.{All};
 ghost use Rattle.mq_model.specs.Answer.{Legal};
 ghost use Rattle.mq_runner.specs.RunFault.{IsLate, StopsAt};
-ghost use Rattle.mq_runner.specs.Runs.{IsReady, RunsFront, RunsPhase, RunsPhases, RunsScript, StopsBehindPhase, last_line};
+ghost use Rattle.fast_mutex.specs.Items.{Ticket};
+ghost use Rattle.lines.specs.Output.{AppendsTooLittle};
+ghost use Rattle.mq_model.specs.Record.{Record};
+ghost use Rattle.mq_runner.specs.Runs.{IsReady, RunsPhase, RunsPhases, RunsScript, last_line};
+ghost use Rattle.mq_runner.specs.Stops.{RunsFront, StopsBehindPhase, StopsInPhase, StopsInWrite};
 ghost use Rattle.mq_script.specs.Script.{Whole, said_calls, said_phases, said_script, script_written};
-ghost use Rattle.mq_runner.specs.declared.fault.RunFault.TheVariants.{Input, NoMemory, Output};
+ghost use Rattle.mq_runner.specs.declared.fault.RunFault.TheVariants.{BadCall, Input, NoMemory, Output};
 
 use crate::deal::{processes_of, shares_of};
 use crate::fault::RunFault;
@@ -28,9 +32,10 @@ use std::thread::Threads;
 
 /// Reads a script, checks it whole, makes its calls over the lock `L` and writes their replies, phase by phase. In a phase each
 /// process that has calls makes them in a thread of its own, and meets the gate before each.
-/// `RunFault::BadCall`: a line of the script is at fault. `RunFault::Input`, `RunFault::Output`: a read or a write failed.
-/// `RunFault::NoMemory`: a growth outside a call, or a thread, was refused; the replies of the phases before are written, and
-/// nothing of that phase.
+/// `RunFault::BadCall`: a line of the script is at fault, and this is the first one. `RunFault::Input`: a read failed, and
+/// nothing is written. `RunFault::Output`: a write failed; the replies of the phases before are written, and of what it was to
+/// write a front part. `RunFault::NoMemory`: a growth outside a call, or a thread, was refused; the replies of the phases before
+/// are written, and nothing of that phase.
 /// A script in which a call waits and is never answered does not end.
 pub fn run_script<L, S, R, W, G>(
     rt: &S,
@@ -47,12 +52,19 @@ where
     W: Write,
     G: Gate + Sync,
     ensures input { IsErrOf result Input → W.contents output.new ≡ W.contents output.old }
+    ensures unread { IsErrOf result Input →
+        (lost : List ℕ) × (length lost ≤ MOST_BYTES) × Consumes (R.remaining input.old) (R.remaining input.new) lost }
     ensures bad_call { (all : List ℕ) (line : ℕ) → R.remaining input.old ≡ Some all →
         script_written (take (MOST_BYTES + 1) all) ≡ Err line →
         StopsAt line result × (W.contents output.new ≡ W.contents output.old) }
+    ensures bad_call_only { (all : List ℕ) (line : ℕ) → R.remaining input.old ≡ Some all →
+        IsErrOf result (BadCall line) → script_written (take (MOST_BYTES + 1) all) ≡ Err line }
     ensures no_memory { (all : List ℕ) (script : Whole) → R.remaining input.old ≡ Some all →
         script_written (take (MOST_BYTES + 1) all) ≡ Ok script → IsErrOf result NoMemory →
         StopsBehindPhase script (W.contents output.old) (W.contents output.new) }
+    ensures output { (all : List ℕ) (script : Whole) → R.remaining input.old ≡ Some all →
+        script_written (take (MOST_BYTES + 1) all) ≡ Ok script → IsErrOf result Output →
+        StopsInWrite script (W.contents output.old) (W.contents output.new) }
     ensures done { (all : List ℕ) (script : Whole) → R.remaining input.old ≡ Some all →
         script_written (take (MOST_BYTES + 1) all) ≡ Ok script →
         OnOk result (RunsScript script (W.contents output.old) (W.contents output.new)) }
@@ -79,6 +91,7 @@ where
     requires { (1 ≤ script.now.processes) × (script.now.processes ≤ 32) }
     ensures fault { IfErr result IsLate }
     ensures no_memory { IsErrOf result NoMemory → StopsBehindPhase (said_script script.now) (W.contents output.old) (W.contents output.new) }
+    ensures output { IsErrOf result Output → StopsInWrite (said_script script.now) (W.contents output.old) (W.contents output.new) }
     ensures done { OnOk result (RunsScript (said_script script.now) (W.contents output.old) (W.contents output.new)) }
 {
     let Ok((mq, processes)) = Mq::<L>::new(alloc, script.processes) else {
@@ -113,6 +126,7 @@ where
     requires { All (IsReady mq.now) processes.items }
     ensures fault { IfErr result IsLate }
     ensures no_memory { IsErrOf result NoMemory → RunsFront (said_phases phases.now) processes.items (W.contents output.old) (W.contents output.new) }
+    ensures output { IsErrOf result Output → StopsInPhase (said_phases phases.now) processes.items (W.contents output.old) (W.contents output.new) }
     ensures ready { IfOk result (λ after. All (IsReady mq.now) after.items) }
     ensures count { IfOk result (λ after. vec_len after ≡ vec_len processes) }
     ensures ran { IfOk result (λ after. (replies : List ℕ) × RunsPhases (said_phases phases.now) processes.items after.items replies × Appends (W.contents output.old) (W.contents output.new) replies) }
@@ -142,6 +156,7 @@ where
     requires { All (IsReady mq.now) processes.items }
     ensures fault { IfErr result IsLate }
     ensures no_memory { IsErrOf result NoMemory → W.contents output.new ≡ W.contents output.old }
+    ensures output { IsErrOf result Output → (after : List (Ticket Record)) × (text : List ℕ) × RunsPhase (said_calls calls.now) processes.items after text × AppendsTooLittle (W.contents output.old) (W.contents output.new) text }
     ensures ready { IfOk result (λ after. All (IsReady mq.now) after.items) }
     ensures count { IfOk result (λ after. vec_len after ≡ vec_len processes) }
     ensures ran { IfOk result (λ after. (text : List ℕ) × RunsPhase (said_calls calls.now) processes.items after.items text × Appends (W.contents output.old) (W.contents output.new) text) }
@@ -157,6 +172,7 @@ where
 // Writes that the history is ok, where the checker accepts it; else nothing, and gives the first place that is not legal.
 fn write_last_line<W: Write>(output: &mut W, journal: &Journal) -> Result<Result<(), u64>, RunFault>
     ensures fault { IfErr result (λ fault. fault ≡ Output) }
+    ensures part { OnErr result (AppendsTooLittle (W.contents output.old) (W.contents output.new) last_line) }
     ensures checked { IfOk result (λ verdict. IsOk verdict ↔ Legal journal.now.records) }
     ensures written { IfOk result (λ verdict. OnOk verdict (Appends (W.contents output.old) (W.contents output.new) last_line)) }
     ensures silent { IfOk result (λ verdict. IsErr verdict → W.contents output.new ≡ W.contents output.old) }

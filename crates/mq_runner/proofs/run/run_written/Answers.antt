@@ -33,3 +33,13 @@ returns-clause-ran g c =
       phase-done (said_calls c.args.calls.now) shares workers c.args.processes.items c.in_ok-processes.processes.items text c.in_ok-workers.ensures c.in_ok-shares.ensures.calls c.in_ok-shares.ensures.processes c.in_ok-processes.ensures is,
       rw c.as_slice-2.ensures.value at c.in_ok-write_all.ensures.whole,
     )
+
+pub returns-in_err-write_all-clause-output : goal.returns-in_err-write_all-clause-output
+returns-in_err-write_all-clause-output g c = λ failed.
+    let shares = c.in_ok-shares.shares.items in let workers = c.in_ok-workers.workers.items in let text = c.in_ok-text.text.items in
+    let is : text ≡ text_in workers = rw c.as_slice.ensures.value at c.in_ok-text.ensures in (
+      c.in_ok-processes.processes.items,
+      text,
+      phase-done (said_calls c.args.calls.now) shares workers c.args.processes.items c.in_ok-processes.processes.items text c.in_ok-workers.ensures c.in_ok-shares.ensures.calls c.in_ok-shares.ensures.processes c.in_ok-processes.ensures is,
+      rw c.as_slice-2.ensures.value at c.in_err-write_all.ensures.failed,
+    )

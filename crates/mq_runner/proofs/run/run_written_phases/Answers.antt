@@ -1,12 +1,13 @@
-use Rattle.std.proofs.Common.{◌≡◌, ◌++◌, ◌∙◌, ap, sym, subst, Err, get_or, Vec, Global, Bor}
+use Rattle.std.proofs.Common.{◌≡◌, ◌++◌, ◌∙◌, ap, sym, subst, Err, drop, get_or, suc, take, Vec, Global, Bor}
 use Rattle.std.specs.Io.KnownBytes.{Appends}
 use Rattle.std.specs.List.{take-map}
 use Rattle.lines.specs.Words.{Word}
 use Rattle.mq_runner.specs.Runs.{RunsPhase, RunsPhases}
-use Rattle.mq_script.specs.Script.{said_calls}
-use Rattle.mq_runner.specs.declared.fault.RunFault.TheVariants.{NoMemory}
+use Rattle.mq_script.specs.Script.{said_calls, said_phases}
+use Rattle.mq_runner.specs.declared.fault.RunFault.TheVariants.{NoMemory, Output}
 use Rattle.mq_script.specs.declared.line.ScriptCall.{ScriptCall}
 use Rattle.mq_runner.proofs.KnownBytes.{Appends-then}
+use Rattle.mq_runner.proofs.Stopping.{appends-into, phases-split}
 use Rattle.mq_runner.proofs.Working.{phases-more}
 use Rattle.mq_runner.proofs.run.run_written_phases.Goals as goal
 
@@ -39,4 +40,25 @@ returns-in_err-processes-clause-no_memory g c = λ failed.
       replies = was.ran.0;
       ran = subst (λ calls. RunsPhases calls c.args.processes.items c.loop-calls.processes.items was.ran.0) (sym front) was.ran.1;
       written = subst (λ known. Appends (g.W.Write.contents c.args.output.now) known was.ran.0) (sym same) was.ran.2;
+    }
+
+pub returns-in_err-processes-clause-output : goal.returns-in_err-processes-clause-output
+returns-in_err-processes-clause-output g c = λ failed.
+    let was = c.loop-calls.invariant in let phases = c.args.phases.now in let i = c.loop-calls.calls-index in let d = c.calls-item.result in
+    let fault : c.in_err-processes.field-0.0 ≡ Output = sym (rw failed at c.from_residual.ensures.1) in
+    let stopped = c.run_written.ensures.output (c.in_err-processes.was ∙ ap Err fault) in
+    let calls : c.as_slice.result.now ≡ (get_or phases i d).items = c.as_slice.ensures.value ∙ ap (λ (v : Vec (ScriptCall (Bor Word)) Global). v.items) c.calls-item.is in
+    let last : RunsPhase (said_calls (get_or phases i d).items) c.loop-calls.processes.items stopped.0 stopped.1 = rw calls at stopped.2 in
+    record {
+      first = said_phases (take i phases);
+      last = said_calls (get_or phases i d).items;
+      later = said_phases (drop (suc i) phases);
+      are = phases-split phases i d c.loop-calls-test.true;
+      between = c.loop-calls.processes.items;
+      replies = was.ran.0;
+      ran = was.ran.1;
+      after = stopped.0;
+      text = stopped.1;
+      ran_last = last;
+      written = appends-into _ _ _ was.ran.0 stopped.1 was.ran.2 stopped.3;
     }

@@ -1,0 +1,19 @@
+-- The processes that have an entry in a legal journal.
+use Rattle.std.proofs.Common.{◌≡◌, ◌≤◌, ℕ, [], ◌∷◌, All, arith, rules}
+use Rattle.std.proofs.lemmas.Grind.{common_steps}
+use Rattle.std.proofs.lemmas.List.Elements.{All-nil, All-cons, All-head, All-tail}
+use Rattle.mq.specs.Calls.{owner}
+use Rattle.mq_model.specs.Answer.{IsLegalNext, Legal}
+use Rattle.mq_model.specs.Record.{Past, Record}
+
+owner-low : (past : Past) (r : Record) → IsLegalNext past r → 1 ≤ owner r
+owner-low past r legal = let both = legal.process in grind (arith, common_steps)
+
+-- all of them are from 1 to n, where none is above n
+pub owners-within : (n : ℕ) (past : Past) → Legal past → All (λ (r : Record). r.entry.process ≤ n) past → All (λ (r : Record). (1 ≤ owner r) × (owner r ≤ n)) past
+owners-within n [] legal most = All-nil (λ (r : Record). (1 ≤ owner r) × (owner r ≤ n))
+owners-within n (r ∷ past) legal most =
+    let Low : Record → Type 0 = λ r. r.entry.process ≤ n in
+    All-cons (λ (r : Record). (1 ≤ owner r) × (owner r ≤ n)) r past
+    (owner-low past r legal.1, All-head Low r past most)
+    (owners-within n past legal.0 (All-tail Low r past most))
