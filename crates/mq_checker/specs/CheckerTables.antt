@@ -1,5 +1,6 @@
 -- When the checker's tables are those of a journal.
-use Rattle.std.specs.Prelude.{◌≡◌, length}
+use Rattle.std.specs.Prelude.{◌≡◌, ◌+◌, length}
+use Rattle.mq_model.specs.Limits.{most_processes}
 use Rattle.mq_model.specs.Record.{Past}
 use Rattle.mq_model.specs.Owners.{OwnersMirror}
 use Rattle.mq_checker.specs.TakenTable.{TakenMirror}
@@ -8,5 +9,5 @@ use Rattle.mq_checker.specs.declared.tables.Tables.{Tables}
 -- the tables say what the definitions say of the journal
 pub record TablesMirror (past : Past) (tables : Tables) : Type 0 where
   pub owners : OwnersMirror past tables.owners
-  pub count : length tables.owners ≡ 33
+  pub count : length tables.owners ≡ most_processes + 1
   pub taken : TakenMirror past tables.marks

@@ -2,6 +2,7 @@
 #![tactic(auto, using(mq_model::proofs::Prefixes::prefixes))]
 
 ghost use Rattle.std.specs.Prelude.{◌≡◌, ◌+◌, ◌<◌, ◌≤◌, ◌&&◌, ◌↔◌, IsTrue, IsOk, IfErr, length, nat_le};
+ghost use Rattle.mq_model.specs.Limits.{most_processes};
 ghost use Rattle.mq_model.specs.Record.{first};
 ghost use Rattle.mq_model.specs.Answer.{is_refused, is_payload, may_call, Legal, IsFirstIllegal};
 ghost use Rattle.mq_checker.specs.CheckerTables.{TablesMirror};
@@ -9,6 +10,7 @@ ghost use Rattle.mq_checker.specs.CheckerTables.{TablesMirror};
 use mq_model::entries::{Call, Reply};
 use crate::expected::answer;
 use mq_model::journals::Journal;
+use mq_model::limits::PROCESSES;
 use mq_model::names::is_name;
 use crate::replies::is_same;
 use crate::tables;
@@ -46,9 +48,9 @@ fn may_call(journal: &Journal, k: u64, tables: &Tables, p: u32, call: Call) -> b
 }
 
 fn is_process(p: u32) -> bool
-    ensures { result ≡ (nat_le 1 p && nat_le p 32) }
+    ensures { result ≡ (nat_le 1 p && nat_le p most_processes) }
 {
-    1 <= p && p <= 32
+    1 <= p && p <= PROCESSES
 }
 
 fn all(process: bool, turn: bool, fits: bool, same: bool) -> bool

@@ -1,25 +1,53 @@
-//! What each call is answered by the entries before a place.
+//! What each call is answered by the entries before a place: the facts that its reply depends on, read off the tables and the
+//! entries, and the reply that the ladder of `mq_model` gives to them. Facts that no reply depends on are not read.
 #![tactic(auto, using(mq_model::proofs::Prefixes::prefixes))]
 
-ghost use Rattle.std.specs.Prelude.{◌≡◌, ◌≤◌, length, pos, int_lt, IsTrue, IfSome};
+ghost use Rattle.std.specs.Prelude.{◌≡◌, ◌≤◌, ◌==◌, ◌&&◌, length, IsTrue, IfSome, is_some, None, if◌then◌else◌};
 ghost use Rattle.mq_model.specs.Record.{first};
-ghost use Rattle.mq_model.specs.Descriptors.{held, created};
-ghost use Rattle.mq_model.specs.Messages.{is_in, present, is_full};
-ghost use Rattle.mq_model.specs.Names.{attributes};
-ghost use Rattle.mq_checker.specs.CheckerTables.{TablesMirror};
+ghost use Rattle.mq_model.specs.Descriptors.{held, created, alive, lowest_free};
+ghost use Rattle.mq_model.specs.Messages.{is_in, present, best, least, waiting_sends, waiting_receives};
+ghost use Rattle.mq_model.specs.Names.{attributes, bound_queue};
 ghost use Rattle.mq_model.specs.Notices.{registered_place};
-ghost use Rattle.mq_model.specs.Answer.{answer_open, answer_accepted, answer_send, answer_found, answer_receive, answer_attributes, answer_notify, answer, Legal};
+ghost use Rattle.mq_model.specs.Answer.{answer_open, answer_send, answer_receive, answer_attributes, answer_notify, status_facts, answer, Legal};
+ghost use Rattle.mq_checker.specs.CheckerTables.{TablesMirror};
 
-use mq_model::entries::{Access, Attr, Call, Description, OpenFlags, Reply, Status};
-use mq_model::faults::Fault;
-use mq_model::journals::Journal;
-use crate::scan_messages::{best, is_at_most, present_count};
-use crate::scan_names::{alive_count, are_within_limits, attributes, bound_queue};
+use crate::scan_messages::{best, present_count};
+use crate::scan_names::{alive_count, attributes, bound_queue};
 use crate::scan_notices::{next_notice, registered};
 use crate::tables;
 use crate::tables::Tables;
+use mq_model::entries::{Attr, Call, Description, OpenFlags, Reply};
+use mq_model::journals::Journal;
+use mq_model::ladder;
+use mq_model::ladder::{NotifyFacts, OpenFacts, ReceiveFacts, SendFacts, StatusFacts};
 
-pub(crate) fn answer_open(
+// How many queues exist, which counts where the name of an open is not bound.
+fn queues_unless(journal: &Journal, k: u64, tables: &Tables, bound: bool) -> u64
+    requires bound { k ≤ length journal.now.records }
+    requires mirror { TablesMirror (first k journal.now.records) tables.now }
+    ensures { result ≡ (if bound then 0 else length (alive (first k journal.now.records))) }
+{
+    if bound { 0 } else { alive_count(journal, k, tables) }
+}
+
+fn open_facts(journal: &Journal, k: u64, tables: &Tables, p: u32, name: &[u8]) -> OpenFacts
+    requires bound { k ≤ length journal.now.records }
+    requires mirror { TablesMirror (first k journal.now.records) tables.now }
+    ensures bound { result.bound ≡ is_some (bound_queue (first k journal.now.records) name.now) }
+    ensures free { result.free ≡ lowest_free (first k journal.now.records) p }
+    ensures queues { result.queues ≡ (if result.bound then 0 else length (alive (first k journal.now.records))) }
+{
+    let bound = bound_queue(journal, k, name).is_some();
+    let free = tables::lowest_free(journal, k, tables, p);
+    let queues = queues_unless(journal, k, tables, bound);
+    OpenFacts {
+        bound,
+        free,
+        queues,
+    }
+}
+
+fn answer_open(
     journal: &Journal,
     k: u64,
     tables: &Tables,
@@ -32,27 +60,11 @@ pub(crate) fn answer_open(
     requires mirror { TablesMirror (first k journal.now.records) tables.now }
     ensures { result ≡ answer_open (first k journal.now.records) p flags attr name.now }
 {
-    let bound = bound_queue(journal, k, name).is_some();
-    let free = tables::lowest_free(journal, k, tables, p);
-    if flags.create && flags.excl && bound {
-        return Reply::Refused(Fault::Exists);
-    }
-    if !flags.create && !bound {
-        return Reply::Refused(Fault::NoEntry);
-    }
-    if !bound && !are_within_limits(attr) {
-        return Reply::Refused(Fault::Invalid);
-    }
-    let Some(d) = free else {
-        return Reply::Refused(Fault::TooManyOpen);
-    };
-    if !bound && alive_count(journal, k, tables) >= 64 {
-        return Reply::Refused(Fault::NoSpace);
-    }
-    Reply::Opened { d, created: !bound }
+    let facts = open_facts(journal, k, tables, p, name);
+    ladder::open(flags, attr, facts)
 }
 
-pub(crate) fn registered_place(journal: &Journal, k: u64, q: u64) -> Option<u64>
+fn registered_place(journal: &Journal, k: u64, q: u64) -> Option<u64>
     requires { k ≤ length journal.now.records }
     ensures { result ≡ registered_place (first k journal.now.records) q }
 {
@@ -62,46 +74,32 @@ pub(crate) fn registered_place(journal: &Journal, k: u64, q: u64) -> Option<u64>
     }
 }
 
-// A send that nothing refuses, where the queue is full or not and holds so many messages.
-fn answer_accepted(
-    journal: &Journal,
-    k: u64,
-    q: u64,
-    waiting: Option<u64>,
-    full: bool,
-    count: u64,
-) -> Reply
-    requires bound { k ≤ length journal.now.records }
-    requires full { full ≡ is_full (first k journal.now.records) q }
-    requires count { count ≡ length (present (first k journal.now.records) q) }
-    ensures { result ≡ answer_accepted (first k journal.now.records) q waiting }
+// The place of the registration on queue `q`, which counts where something may be notified.
+fn registered_if(journal: &Journal, k: u64, q: u64, counts: bool) -> Option<u64>
+    requires { k ≤ length journal.now.records }
+    ensures { result ≡ (if counts then registered_place (first k journal.now.records) q else None) }
 {
-    match waiting {
-        Some(wait) => Reply::Handed { wait },
-        None => {
-            if full {
-                Reply::Waits
-            } else if count == 0 {
-                Reply::Queued {
-                    notified: registered_place(journal, k, q),
-                }
-            } else {
-                Reply::Queued { notified: None }
-            }
-        }
-    }
+    if counts { registered_place(journal, k, q) } else { None }
 }
 
-// How many messages are in queue `q`, and whether it holds as many as it may.
-fn fullness(journal: &Journal, k: u64, tables: &Tables, q: u64, maxmsg: i64) -> (u64, bool)
+fn send_facts(journal: &Journal, k: u64, tables: &Tables, h: Description) -> SendFacts
     requires bound { k ≤ length journal.now.records }
     requires mirror { TablesMirror (first k journal.now.records) tables.now }
-    requires maxmsg { maxmsg ≡ (attributes (first k journal.now.records) q).maxmsg }
-    ensures count { result.0 ≡ length (present (first k journal.now.records) q) }
-    ensures full { result.1 ≡ is_full (first k journal.now.records) q }
+    requires legal { Legal (first k journal.now.records) }
+    ensures description { result.description ≡ h }
+    ensures attributes { result.attributes ≡ attributes (first k journal.now.records) h.queue }
+    ensures count { result.count ≡ length (present (first k journal.now.records) h.queue) }
+    ensures waiting { result.waiting ≡ least (waiting_receives (first k journal.now.records) h.queue) }
+    ensures registered { result.registered ≡ (if result.count == 0 then registered_place (first k journal.now.records) h.queue else None) }
 {
-    let count = present_count(journal, k, &tables.marks, q);
-    (count, is_at_most(maxmsg, count))
+    let count = present_count(journal, k, &tables.marks, h.queue);
+    SendFacts {
+        description: h,
+        attributes: attributes(journal, k, h.queue),
+        count,
+        waiting: tables::first_wait(journal, k, tables, h.queue, false),
+        registered: registered_if(journal, k, h.queue, count == 0),
+    }
 }
 
 fn answer_send(
@@ -117,70 +115,53 @@ fn answer_send(
     requires legal { Legal (first k journal.now.records) }
     ensures { result ≡ answer_send (first k journal.now.records) held prio len }
 {
-    let Some(h) = held else {
-        return Reply::Refused(Fault::BadDescriptor);
-    };
-    if h.access == Access::Read {
-        return Reply::Refused(Fault::BadDescriptor);
+    match held {
+        None => ladder::send(prio, len, None),
+        Some(h) => {
+            let facts = send_facts(journal, k, tables, h);
+            ladder::send(prio, len, Some(facts))
+        }
     }
-    if prio >= 32768 {
-        return Reply::Refused(Fault::Invalid);
-    }
-    let attributes = attributes(journal, k, h.queue);
-    if is_below(attributes.msgsize, len) {
-        return Reply::Refused(Fault::MessageSize);
-    }
-    let (count, full) = fullness(journal, k, tables, h.queue, attributes.maxmsg);
-    if full && h.nonblock {
-        return Reply::Refused(Fault::Again);
-    }
-    let waiting = tables::first_wait(journal, k, tables, h.queue, false);
-    answer_accepted(journal, k, h.queue, waiting, full, count)
 }
 
-pub(crate) fn is_below(x: i64, n: u64) -> bool
-    ensures { result ≡ int_lt x (pos n) }
-{
-    i128::from(x) < i128::from(n)
-}
-
-pub(crate) fn is_above(x: i64, n: u64) -> bool
-    ensures { result ≡ int_lt (pos n) x }
-{
-    i128::from(n) < i128::from(x)
-}
-
-pub(crate) fn answer_found(
-    journal: &Journal,
-    k: u64,
-    tables: &Tables,
-    h: Description,
-    found: Option<u64>,
-    waiting: Option<u64>,
-) -> Reply
+// How many messages are in queue `q`, which counts where a send waits.
+fn count_if(journal: &Journal, k: u64, tables: &Tables, q: u64, waits: bool) -> u64
     requires bound { k ≤ length journal.now.records }
     requires mirror { TablesMirror (first k journal.now.records) tables.now }
-    ensures { result ≡ answer_found (first k journal.now.records) h found waiting }
+    ensures { result ≡ (if waits then length (present (first k journal.now.records) q) else 0) }
 {
-    let Some(place) = found else {
-        if h.nonblock {
-            return Reply::Refused(Fault::Again);
-        }
-        return Reply::Waits;
-    };
-    let notified = if waiting.is_some() && present_count(journal, k, &tables.marks, h.queue) == 1 {
-        registered_place(journal, k, h.queue)
+    if waits {
+        present_count(journal, k, &tables.marks, q)
     } else {
-        None
-    };
-    Reply::Got {
-        place,
-        admitted: waiting,
-        notified,
+        0
     }
 }
 
-pub(crate) fn answer_receive(
+fn receive_facts(journal: &Journal, k: u64, tables: &Tables, h: Description) -> ReceiveFacts
+    requires bound { k ≤ length journal.now.records }
+    requires mirror { TablesMirror (first k journal.now.records) tables.now }
+    requires legal { Legal (first k journal.now.records) }
+    ensures description { result.description ≡ h }
+    ensures attributes { result.attributes ≡ attributes (first k journal.now.records) h.queue }
+    ensures count { result.count ≡ (if is_some result.waiting then length (present (first k journal.now.records) h.queue) else 0) }
+    ensures best { result.best ≡ best (first k journal.now.records) h.queue }
+    ensures waiting { result.waiting ≡ least (waiting_sends (first k journal.now.records) h.queue) }
+    ensures registered { result.registered ≡ (if is_some result.waiting && result.count == 1 then registered_place (first k journal.now.records) h.queue else None) }
+{
+    let waiting = tables::first_wait(journal, k, tables, h.queue, true);
+    let waits = waiting.is_some();
+    let count = count_if(journal, k, tables, h.queue, waits);
+    ReceiveFacts {
+        description: h,
+        attributes: attributes(journal, k, h.queue),
+        count,
+        best: best(journal, k, &tables.marks, h.queue),
+        waiting,
+        registered: registered_if(journal, k, h.queue, waits && count == 1),
+    }
+}
+
+fn answer_receive(
     journal: &Journal,
     k: u64,
     tables: &Tables,
@@ -192,18 +173,13 @@ pub(crate) fn answer_receive(
     requires legal { Legal (first k journal.now.records) }
     ensures { result ≡ answer_receive (first k journal.now.records) held room }
 {
-    let Some(h) = held else {
-        return Reply::Refused(Fault::BadDescriptor);
-    };
-    if h.access == Access::Write {
-        return Reply::Refused(Fault::BadDescriptor);
+    match held {
+        None => ladder::receive(room, None),
+        Some(h) => {
+            let facts = receive_facts(journal, k, tables, h);
+            ladder::receive(room, Some(facts))
+        }
     }
-    if is_above(attributes(journal, k, h.queue).msgsize, room) {
-        return Reply::Refused(Fault::MessageSize);
-    }
-    let found = best(journal, k, &tables.marks, h.queue);
-    let waiting = tables::first_wait(journal, k, tables, h.queue, true);
-    answer_found(journal, k, tables, h, found, waiting)
 }
 
 // How many messages are in queue `q`.
@@ -225,20 +201,17 @@ fn answer_attributes(journal: &Journal, k: u64, tables: &Tables, held: Option<De
     requires mirror { TablesMirror (first k journal.now.records) tables.now }
     ensures { result ≡ answer_attributes (first k journal.now.records) held }
 {
-    let Some(h) = held else {
-        return Reply::Refused(Fault::BadDescriptor);
-    };
-    let attributes = attributes(journal, k, h.queue);
-    let count = few_present(journal, k, tables, h.queue);
-    Reply::Attrs(Status {
-        nonblock: h.nonblock,
-        maxmsg: attributes.maxmsg,
-        msgsize: attributes.msgsize,
-        curmsgs: count as i64,
-    })
+    match held {
+        None => ladder::status(None),
+        Some(h) => ladder::status(Some(StatusFacts {
+            description: h,
+            attributes: attributes(journal, k, h.queue),
+            count: few_present(journal, k, tables, h.queue),
+        })),
+    }
 }
 
-pub(crate) fn answer_notify(
+fn answer_notify(
     journal: &Journal,
     k: u64,
     p: u32,
@@ -248,27 +221,15 @@ pub(crate) fn answer_notify(
     requires { k ≤ length journal.now.records }
     ensures { result ≡ answer_notify (first k journal.now.records) p held value }
 {
-    let Some(h) = held else {
-        return Reply::Refused(Fault::BadDescriptor);
-    };
-    let registered = registered(journal, k, h.queue);
-    match value {
-        Some(_) => {
-            if registered.is_some() {
-                return Reply::Refused(Fault::Busy);
-            }
-            Reply::Done
-        }
-        None => match registered {
-            Some(n) => {
-                if n.process == p {
-                    Reply::Done
-                } else {
-                    Reply::Refused(Fault::Invalid)
-                }
-            }
-            None => Reply::Refused(Fault::Invalid),
-        },
+    match held {
+        None => ladder::notify(p, value, None),
+        Some(h) => ladder::notify(
+            p,
+            value,
+            Some(NotifyFacts {
+                registered: registered(journal, k, h.queue),
+            }),
+        ),
     }
 }
 
@@ -299,20 +260,8 @@ pub(crate) fn answer(
 {
     match call {
         Call::MqOpen { flags, attr } => answer_open(journal, k, tables, p, flags, attr, name),
-        Call::MqClose { d } => {
-            if tables::held(journal, k, tables, p, d).is_some() {
-                Reply::Done
-            } else {
-                Reply::Refused(Fault::BadDescriptor)
-            }
-        }
-        Call::MqUnlink => {
-            if bound_queue(journal, k, name).is_some() {
-                Reply::Done
-            } else {
-                Reply::Refused(Fault::NoEntry)
-            }
-        }
+        Call::MqClose { d } => ladder::close(tables::held(journal, k, tables, p, d)),
+        Call::MqUnlink => ladder::unlink(bound_queue(journal, k, name)),
         Call::MqSend { d, prio, len } => answer_send(
             journal,
             k,
@@ -328,13 +277,7 @@ pub(crate) fn answer(
             tables::held(journal, k, tables, p, d),
             room,
         ),
-        Call::MqGetattr { d } => answer_attributes(
-            journal,
-            k,
-            tables,
-            held_created(journal, k, tables, p, d),
-        ),
-        Call::MqSetattr { d, nonblock: _ } => answer_attributes(
+        Call::MqGetattr { d } | Call::MqSetattr { d, .. } => answer_attributes(
             journal,
             k,
             tables,

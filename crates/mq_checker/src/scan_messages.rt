@@ -1,7 +1,7 @@
 //! Messages and waiting calls, read off the entries before a place.
 #![tactic(auto, using(mq_model::proofs::Prefixes::prefixes))]
 
-ghost use Rattle.std.specs.Prelude.{◌≡◌, ◌<◌, ◌≤◌, IsFalse, List, ℕ, length, pos, int_le};
+ghost use Rattle.std.specs.Prelude.{◌≡◌, ◌<◌, ◌≤◌, IsFalse, List, ℕ, length};
 ghost use Rattle.mq_model.specs.Record.{first};
 ghost use Rattle.mq_model.specs.Messages.{is_send, is_in, queues, blocks_send, admits, blocked_sends, entered, taken, present, priority, goes_first, best};
 ghost use Rattle.mq_model.specs.OnePass.{better};
@@ -222,10 +222,4 @@ pub(crate) fn better(journal: &Journal, k: u64, m: u64, found: Option<u64>) -> u
         Some(n) => { if goes_first(journal, k, m, n) { m } else { n } }
         None => m,
     }
-}
-
-pub(crate) fn is_at_most(x: i64, n: u64) -> bool
-    ensures { result ≡ int_le x (pos n) }
-{
-    i128::from(x) <= i128::from(n)
 }

@@ -1,15 +1,16 @@
 //! Names, descriptors and queues, read off the entries before a place.
 #![tactic(auto, using(mq_model::proofs::Prefixes::prefixes))]
 
-ghost use Rattle.std.specs.Prelude.{◌≡◌, ◌<◌, ◌≤◌, length, int_le};
+ghost use Rattle.std.specs.Prelude.{◌≡◌, ◌<◌, ◌≤◌, length};
 ghost use Rattle.mq_model.specs.Record.{first, record_at};
 ghost use Rattle.std.specs.Option.{option_map};
-ghost use Rattle.mq_model.specs.Names.{is_open, is_unlink, creates, unlinks, bound_queue, attributes_given, attributes, are_within_limits};
+ghost use Rattle.mq_model.specs.Names.{is_open, is_unlink, creates, unlinks, bound_queue, attributes};
 ghost use Rattle.mq_model.specs.Descriptors.{opened_queue, held, descriptor_of, called_queue, is_place, is_named, alive};
 ghost use Rattle.mq_checker.specs.CheckerTables.{TablesMirror};
 
 use mq_model::entries::{Attr, Call, Description, Entry, Reply};
 use mq_model::journals::Journal;
+use mq_model::ladder::{DEFAULT_ATTRIBUTES, attributes_given};
 use crate::tables::{Tables, is_held};
 
 pub(crate) fn is_open(call: Call) -> bool
@@ -152,24 +153,6 @@ pub(crate) fn is_on(journal: &Journal, k: u64, p: u32, call: Call, q: u64) -> bo
     }
 }
 
-pub(crate) fn attributes_given(call: Call) -> Attr
-    ensures { result ≡ attributes_given call }
-{
-    match call {
-        Call::MqOpen { flags: _, attr } => match attr {
-            Some(attr) => attr,
-            None => Attr {
-                maxmsg: 10,
-                msgsize: 8192,
-            },
-        },
-        _ => Attr {
-            maxmsg: 10,
-            msgsize: 8192,
-        },
-    }
-}
-
 // The entry at place `m`, where that lies before place `k`.
 pub(crate) fn entry_before(journal: &Journal, k: u64, m: u64) -> Option<Entry>
     requires { k ≤ length journal.now.records }
@@ -185,10 +168,7 @@ pub(crate) fn attributes(journal: &Journal, k: u64, q: u64) -> Attr
 {
     match entry_before(journal, k, q) {
         Some(entry) => attributes_given(entry.call),
-        None => Attr {
-            maxmsg: 10,
-            msgsize: 8192,
-        },
+        None => DEFAULT_ATTRIBUTES,
     }
 }
 
@@ -221,16 +201,4 @@ pub(crate) fn alive_count(journal: &Journal, k: u64, tables: &Tables) -> u64
         }
     }
     count
-}
-
-pub(crate) fn are_within_limits(attr: Option<Attr>) -> bool
-    ensures { result ≡ are_within_limits attr }
-{
-    match attr {
-        Some(attr) => 1 <= attr.maxmsg
-            && attr.maxmsg <= 4096
-            && 1 <= attr.msgsize
-            && attr.msgsize <= 65536,
-        None => true,
-    }
 }

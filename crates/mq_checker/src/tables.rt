@@ -2,6 +2,7 @@
 //! were taken.
 ghost use Rattle.std.specs.Prelude.{◌≡◌, ◌+◌, ◌<◌, ◌≤◌, [], length, Some, None, ℕ, Bool};
 ghost use Rattle.std.specs.Option.{option_map, unwrap_or};
+ghost use Rattle.mq_model.specs.Limits.{most_processes};
 ghost use Rattle.mq_model.specs.Record.{first};
 ghost use Rattle.mq_model.specs.Descriptors.{held, opened_queue, called_queue, lowest_free, is_held};
 ghost use Rattle.mq_model.specs.Messages.{least};
@@ -12,13 +13,14 @@ ghost use Rattle.mq_checker.specs.CheckerTables.{TablesMirror};
 
 use mq_model::entries::{Call, Description, Entry, Reply};
 use mq_model::journals::Journal;
+use mq_model::limits::PROCESSES;
 use mq_model::owners::Owner;
 use crate::scan_names::{descriptor_of, opened_queue};
 use crate::taken;
 use mq_model::owners;
 
 // How many lines the table of processes has: process p's is at index p.
-const OWNERS: usize = 33;
+const OWNERS: usize = PROCESSES as usize + 1;
 
 /// What each process has, and which messages were taken.
 #[derive(Clone, Copy)]
@@ -30,7 +32,7 @@ pub(crate) struct Tables {
 // The lines of processes that have nothing.
 fn vacant() -> [Owner; OWNERS]
     ensures mirror { OwnersMirror [] result }
-    ensures count { length result ≡ 33 }
+    ensures count { length result ≡ most_processes + 1 }
 {
     [Owner::free(); OWNERS]
 }

@@ -3,7 +3,8 @@ use Rattle.std.proofs.Common.{◌≡◌, ℕ, ◌==◌, Bool, true, false, not, 
 use Rattle.mq_model.specs.Record.{Past, first}
 use Rattle.mq_model.specs.Descriptors.{held, called_queue}
 use Rattle.mq_model.specs.Waits.{is_wait, open_wait, answered_by}
-use Rattle.mq_model.specs.Answer.{Legal, is_read_only, is_write_only, is_refused}
+use Rattle.mq_model.specs.Ladder.{is_read_only, is_write_only}
+use Rattle.mq_model.specs.Answer.{Legal, is_refused}
 use Rattle.mq_laws.specs.Laws.{message_given, GivesBest, HoldsDescriptors}
 use Rattle.mq_model.proofs.Places.{split}
 use Rattle.mq_model.proofs.Cases.{Says}

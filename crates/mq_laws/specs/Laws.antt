@@ -7,7 +7,8 @@ use Rattle.mq_model.specs.Descriptors.{held, called_queue, created, alive}
 use Rattle.mq_model.specs.Messages.{is_in, is_accepted, taken_by, taken, present, priority, best, waiting_sends, waiting_receives}
 use Rattle.mq_model.specs.Notices.{notified}
 use Rattle.mq_model.specs.Waits.{open_wait, named_wait}
-use Rattle.mq_model.specs.Answer.{is_read_only, is_write_only, is_refused}
+use Rattle.mq_model.specs.Ladder.{is_read_only, is_write_only}
+use Rattle.mq_model.specs.Answer.{is_refused}
 use Rattle.mq_model.specs.declared.entries.Description.{Description}
 use Rattle.mq_model.specs.declared.entries.Call.TheVariants.{MqSend, MqReceive, Collect}
 use Rattle.mq_model.specs.declared.entries.Reply.{Reply}

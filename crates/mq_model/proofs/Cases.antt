@@ -8,10 +8,12 @@ use Rattle.mq_model.specs.Descriptors.{held, lowest_free, alive}
 use Rattle.mq_model.specs.Messages.{present, is_full, best, least, waiting_sends, waiting_receives}
 use Rattle.mq_model.specs.Notices.{registered, registered_place, notices}
 use Rattle.mq_model.specs.Waits.{answered_by}
-use Rattle.mq_model.specs.Answer.{answer, answer_open, answer_send, answer_accepted, answer_receive, answer_found, answer_attributes, answer_notify, is_read_only, is_write_only, is_of}
+use Rattle.mq_model.specs.Limits.{most_priorities, most_queues}
+use Rattle.mq_model.specs.Ladder.{is_read_only, is_write_only, is_of, accepted_reply, found_reply, close_reply}
+use Rattle.mq_model.specs.Answer.{answer, answer_open, answer_send, answer_receive, answer_attributes, answer_notify}
 use Rattle.mq_model.specs.declared.entries.Attr.{Attr}
 use Rattle.mq_model.specs.declared.entries.OpenFlags.{OpenFlags}
-use Rattle.mq_model.specs.declared.faults.Fault.TheVariants.{Again, BadDescriptor}
+use Rattle.mq_model.specs.declared.faults.Fault.TheVariants.{Again}
 use Rattle.mq_model.specs.declared.entries.Description.{Description}
 use Rattle.mq_model.specs.declared.entries.Call.{Call}
 use Rattle.mq_model.specs.declared.entries.Call.TheVariants.{MqOpen, MqClose, MqUnlink, MqSend, MqReceive, MqGetattr, MqSetattr, MqNotify, NextNotice, Collect}
@@ -24,12 +26,12 @@ either P true x y p q = p refl
 either P false x y p q = q refl
 
 -- what a reply says of the descriptor o that the call was made on
-pub record SendFacts (past : Past) (h : Description) (prio len : ℕ) : Type 0 where
+pub record MaySend (past : Past) (h : Description) (prio len : ℕ) : Type 0 where
   pub access : is_read_only h.access ≡ false
-  pub prio_allowed : nat_le 32768 prio ≡ false
+  pub prio_allowed : nat_le most_priorities prio ≡ false
   pub fits : int_lt (attributes past h.queue).msgsize (pos len) ≡ false
 
-pub record ReceiveFacts (past : Past) (h : Description) (room : ℕ) : Type 0 where
+pub record MayReceive (past : Past) (h : Description) (room : ℕ) : Type 0 where
   pub access : is_write_only h.access ≡ false
   pub fits : int_lt (pos room) (attributes past h.queue).msgsize ≡ false
 
@@ -67,10 +69,10 @@ AttrsReply (Refused fault) = Unit {0}
 AttrsReply reply = ⊥
 
 abbrev pub SendSays : Past → Option Description → ℕ → ℕ → Reply → Type 0
-SendSays past o prio len reply = Unless reply ((h : Description) × (o ≡ Some h) × SendFacts past h prio len × MessageReply past h reply)
+SendSays past o prio len reply = Unless reply ((h : Description) × (o ≡ Some h) × MaySend past h prio len × MessageReply past h reply)
 
 abbrev pub ReceiveSays : Past → Option Description → ℕ → Reply → Type 0
-ReceiveSays past o room reply = Unless reply ((h : Description) × (o ≡ Some h) × ReceiveFacts past h room × BestReply past h reply)
+ReceiveSays past o room reply = Unless reply ((h : Description) × (o ≡ Some h) × MayReceive past h room × BestReply past h reply)
 
 abbrev pub CloseSays : Option Description → Reply → Type 0
 CloseSays o reply = DoneReply reply × Unless reply ((h : Description) × (o ≡ Some h))
@@ -88,7 +90,7 @@ Says past p (MqNotify d value) reply = DoneReply reply
 Says past p NextNotice reply = reply ≡ Notice (slice_get (notices past p) 0)
 Says past p Collect reply = reply ≡ Collected (unwrap_or (answered_by past p) 0)
 
-message_says : (past : Past) (h : Description) (prio len : ℕ) (w : Option ℕ) → SendFacts past h prio len → least (waiting_receives past h.queue) ≡ w → (is_full past h.queue && h.nonblock) ≡ false → SendSays past (Some h) prio len (answer_accepted past h.queue w)
+message_says : (past : Past) (h : Description) (prio len : ℕ) (w : Option ℕ) → MaySend past h prio len → least (waiting_receives past h.queue) ≡ w → (is_full past h.queue && h.nonblock) ≡ false → SendSays past (Some h) prio len (accepted_reply w (is_full past h.queue) (if length (present past h.queue) == 0 then registered_place past h.queue else None))
 message_says past h prio len (Some w) facts first room = (h, refl, facts, first)
 message_says past h prio len None facts first room =
     either (SendSays past (Some h) prio len) (is_full past h.queue) Waits (Queued (if length (present past h.queue) == 0 then registered_place past h.queue else None))
@@ -100,12 +102,12 @@ send_says past None prio len = tt
 send_says past (Some h) prio len =
     let P = SendSays past (Some h) prio len in
     either P (is_read_only h.access) _ _ (λ _. tt) (λ access.
-    either P (nat_le 32768 prio) _ _ (λ _. tt) (λ allowed.
+    either P (nat_le most_priorities prio) _ _ (λ _. tt) (λ allowed.
     either P (int_lt (attributes past h.queue).msgsize (pos len)) _ _ (λ _. tt) (λ fits.
     either P (is_full past h.queue && h.nonblock) _ _ (λ _. tt) (λ room.
     message_says past h prio len (least (waiting_receives past h.queue)) (record { access = access; prio_allowed = allowed; fits = fits }) refl room))))
 
-best_says : (past : Past) (h : Description) (room : ℕ) (m : Option ℕ) → ReceiveFacts past h room → best past h.queue ≡ m → ReceiveSays past (Some h) room (answer_found past h m (least (waiting_sends past h.queue)))
+best_says : (past : Past) (h : Description) (room : ℕ) (m : Option ℕ) → MayReceive past h room → best past h.queue ≡ m → ReceiveSays past (Some h) room (found_reply h.nonblock m (least (waiting_sends past h.queue)) (if is_some (least (waiting_sends past h.queue)) && length (present past h.queue) == 1 then registered_place past h.queue else None))
 best_says past h room (Some m) facts found = (h, refl, facts, (found, refl, refl))
 best_says past h room None facts found = either (ReceiveSays past (Some h) room) h.nonblock (Refused Again) Waits (λ _. tt) (λ blocks. (h, refl, facts, (found, blocks)))
 
@@ -125,9 +127,9 @@ open_says past p flags attr name =
     either OpenReply (not flags.create && not bound) _ _ (λ _. tt) (λ _.
     either OpenReply (not bound && not (are_within_limits attr)) _ _ (λ _. tt) (λ _.
     either OpenReply (is_none free) _ _ (λ _. tt) (λ _.
-    either OpenReply (not bound && nat_le 64 (length (alive past))) _ _ (λ _. tt) (λ _. tt)))))
+    either OpenReply (not bound && nat_le most_queues (length (alive past))) _ _ (λ _. tt) (λ _. tt)))))
 
-close_says : (o : Option Description) → CloseSays o (if is_some o then Done else Refused BadDescriptor)
+close_says : (o : Option Description) → CloseSays o (close_reply o)
 close_says None = (tt, tt)
 close_says (Some h) = (tt, (h, refl))
 

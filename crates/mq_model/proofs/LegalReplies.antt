@@ -4,7 +4,7 @@ use Rattle.mq_model.specs.Record.{Record, Past}
 use Rattle.mq_model.specs.Descriptors.{held}
 use Rattle.mq_model.specs.Messages.{best}
 use Rattle.mq_model.specs.Answer.{IsLegalNext}
-use Rattle.mq_model.proofs.Cases.{Says, answer_says, ReceiveFacts}
+use Rattle.mq_model.proofs.Cases.{Says, answer_says, MayReceive}
 use Rattle.mq_model.specs.declared.entries.Description.{Description}
 use Rattle.mq_model.specs.declared.entries.Call.{Call}
 use Rattle.mq_model.specs.declared.entries.Call.TheVariants.{MqOpen, MqClose, MqUnlink, MqSend, MqReceive, MqGetattr, MqSetattr, MqNotify, NextNotice, Collect}
@@ -17,7 +17,7 @@ legal_says past r legal = let P = λ (y : Reply). Says past r.entry.process r.en
 
 -- a Got is the reply of a receive, and the message is the best of its queue
 pub got_says : (past : Past) (p : ℕ) (call : Call) (m : ℕ) (a n : Option ℕ) → Says past p call (Got m a n) →
-    (d : ℕ) × (room : ℕ) × (h : Description) × (call ≡ MqReceive d room) × (held past p d ≡ Some h) × ReceiveFacts past h room × (best past h.queue ≡ Some m)
+    (d : ℕ) × (room : ℕ) × (h : Description) × (call ≡ MqReceive d room) × (held past p d ≡ Some h) × MayReceive past h room × (best past h.queue ≡ Some m)
 got_says past p (MqOpen flags attr) m a n says = absurd says
 got_says past p (MqClose d) m a n says = absurd says.0
 got_says past p MqUnlink m a n says = absurd says

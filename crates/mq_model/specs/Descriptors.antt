@@ -2,6 +2,7 @@
 use Rattle.std.specs.Prelude.{ℕ, zero, suc, ◌+◌, Bool, false, ◌||◌, ◌==◌, List, [], ◌∷◌, length, Option, Some, None, is_none, is_some, if◌then◌else◌}
 use Rattle.std.specs.List.{list_any, filter, find}
 use Rattle.std.specs.Option.{option_map, option_and_then, unwrap_or}
+use Rattle.mq_model.specs.Limits.{most_descriptors}
 use Rattle.mq_model.specs.Record.{Past}
 use Rattle.mq_model.specs.Names.{creates, bound_queue, name_of}
 use Rattle.mq_model.specs.declared.entries.Description.{Description}
@@ -55,9 +56,9 @@ abbrev pub numbers_from : ℕ → ℕ → List ℕ
 numbers_from low zero = []
 numbers_from low (suc n) = low ∷ numbers_from (low + 1) n
 
--- the numbers that a descriptor may have, 0 to 15
+-- the numbers that a descriptor may have
 unfoldable pub descriptor_numbers : List ℕ
-descriptor_numbers = numbers_from 0 16
+descriptor_numbers = numbers_from 0 most_descriptors
 
 -- the lowest descriptor that process p does not hold
 abbrev pub lowest_free : Past → ℕ → Option ℕ

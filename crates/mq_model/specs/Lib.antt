@@ -1,9 +1,11 @@
+pub mod Limits
 pub mod Fault
 pub mod Name
 pub mod Record
 pub mod Stored
 pub mod Names
 pub mod Descriptors
+pub mod Ladder
 pub mod Messages
 pub mod Notices
 pub mod Waits

@@ -1,10 +1,11 @@
 -- The messages of a queue, and the calls that wait on it (mq_send, mq_receive).
-use Rattle.std.specs.Prelude.{ℕ, pos, Bool, true, false, ◌&&◌, ◌||◌, not, ◌==◌, nat_lt, nat_le, min, List, [], ◌∷◌, length, Option, Some, None, if◌then◌else◌, int_le}
+use Rattle.std.specs.Prelude.{ℕ, Bool, true, false, ◌&&◌, ◌||◌, not, ◌==◌, nat_lt, nat_le, min, List, [], ◌∷◌, length, Option, Some, None, if◌then◌else◌}
 use Rattle.std.specs.List.{list_any, list_all, filter, find}
 use Rattle.std.specs.Option.{option_map, unwrap_or}
 use Rattle.mq_model.specs.Record.{Past, record_at}
 use Rattle.mq_model.specs.Names.{attributes}
 use Rattle.mq_model.specs.Descriptors.{is_on}
+use Rattle.mq_model.specs.Ladder.{is_full_with}
 use Rattle.mq_model.specs.declared.entries.Entry.{Entry}
 use Rattle.mq_model.specs.declared.entries.Call.{Call}
 use Rattle.mq_model.specs.declared.entries.Call.TheVariants.{MqSend, MqReceive}
@@ -123,7 +124,7 @@ present past q = filter (λ m. not (is_in (taken past) m)) (admitted past q)
 
 -- the queue holds as many messages as it may
 abbrev pub is_full : Past → ℕ → Bool
-is_full past q = int_le (attributes past q).maxmsg (pos (length (present past q)))
+is_full past q = is_full_with (attributes past q) (length (present past q))
 
 abbrev pub priority_given : Call → ℕ
 priority_given (MqSend d prio len) = prio

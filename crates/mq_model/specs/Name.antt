@@ -1,6 +1,7 @@
 -- The form of a queue's name (mq_open).
-use Rattle.std.specs.Prelude.{ℕ, Bool, ◌&&◌, not, ◌==◌, nat_lt, nat_le, List, slice_index, drop, length}
+use Rattle.std.specs.Prelude.{ℕ, ◌+◌, Bool, ◌&&◌, not, ◌==◌, nat_lt, nat_le, List, slice_index, drop, length}
 use Rattle.std.specs.List.{list_all}
+use Rattle.mq_model.specs.Limits.{most_name_bytes}
 
 -- a byte that may stand behind the slash: neither a slash nor 0
 abbrev pub is_name_byte : ℕ → Bool
@@ -12,7 +13,7 @@ has_name_form bytes = nat_lt 1 (length bytes) && slice_index bytes 0 == 47 && li
 
 -- at most 255 bytes stand behind the slash
 abbrev pub is_short : List ℕ → Bool
-is_short bytes = nat_le (length bytes) 256
+is_short bytes = nat_le (length bytes) (most_name_bytes + 1)
 
 -- the bytes of a name
 abbrev pub is_name : List ℕ → Bool

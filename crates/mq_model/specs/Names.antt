@@ -2,6 +2,7 @@
 use Rattle.std.specs.Prelude.{ℕ, pos, Bool, true, false, ◌&&◌, List, [], ◌∷◌, length, Option, Some, None, if◌then◌else◌, int_le}
 use Rattle.std.specs.Str.{bytes_eq}
 use Rattle.std.specs.Option.{option_map, unwrap_or}
+use Rattle.mq_model.specs.Limits.{most_messages, most_message_bytes, default_messages, default_message_bytes}
 use Rattle.mq_model.specs.Record.{Past, record_at}
 use Rattle.mq_model.specs.declared.entries.Attr.{Attr}
 use Rattle.mq_model.specs.declared.entries.Call.{Call}
@@ -41,7 +42,7 @@ name_of past q = unwrap_or (option_map (λ r. r.payload) (record_at past q)) []
 
 -- the attributes of a queue that was created without any
 abbrev pub default_attributes : Attr
-default_attributes = record { maxmsg = pos 10; msgsize = pos 8192 }
+default_attributes = record { maxmsg = pos default_messages; msgsize = pos default_message_bytes }
 
 abbrev pub attributes_given : Call → Attr
 attributes_given (MqOpen flags (Some attr)) = attr
@@ -55,4 +56,4 @@ attributes past q = unwrap_or (option_map (λ r. attributes_given r.entry.call) 
 abbrev pub are_within_limits : Option Attr → Bool
 are_within_limits None = true
 are_within_limits (Some attr) =
-    int_le (pos 1) attr.maxmsg && int_le attr.maxmsg (pos 4096) && int_le (pos 1) attr.msgsize && int_le attr.msgsize (pos 65536)
+    int_le (pos 1) attr.maxmsg && int_le attr.maxmsg (pos most_messages) && int_le (pos 1) attr.msgsize && int_le attr.msgsize (pos most_message_bytes)

@@ -3,6 +3,7 @@
 use Rattle.std.specs.Prelude.{ℕ, zero, suc, ◌≡◌, ◌≤◌, Bool, true, false, ◌&&◌, not, ◌==◌, List, [], ◌∷◌, length, Option, Some, None, is_some, is_none, slice_get, replicate, set, if◌then◌else◌}
 use Rattle.std.specs.List.{count_by, list_any, position, find}
 use Rattle.std.specs.Option.{option_map, option_and_then, unwrap_or}
+use Rattle.mq_model.specs.Limits.{most_descriptors}
 use Rattle.mq_model.specs.Record.{Past}
 use Rattle.mq_model.specs.Descriptors.{held, is_place, with_nonblock, descriptor_numbers}
 use Rattle.mq_model.specs.Messages.{is_in, blocked_sends, blocked_receives, waiting_sends, waiting_receives}
@@ -86,7 +87,7 @@ abbrev pub is_held_in : List Owner → ℕ → Bool
 is_held_in owners q = list_any (holds q) owners
 
 abbrev pub free_owner : Owner
-free_owner = record { descriptors = replicate 16 None; wait = None; answer = None }
+free_owner = record { descriptors = replicate most_descriptors None; wait = None; answer = None }
 
 -- the blocked sends to a queue, or the blocked receives
 abbrev pub blocked : Past → Bool → ℕ → List ℕ
@@ -100,7 +101,7 @@ waiting past false q = waiting_receives past q
 
 -- the table says what the definitions say of the journal
 pub record OwnersMirror (past : Past) (owners : List Owner) : Type 0 where
-  pub slots : (p : ℕ) (o : Owner) → slice_get owners p ≡ Some o → length o.descriptors ≡ 16
+  pub slots : (p : ℕ) (o : Owner) → slice_get owners p ≡ Some o → length o.descriptors ≡ most_descriptors
   pub held : (p d : ℕ) → held_in owners p d ≡ held past p d
   pub waits : (p : ℕ) → option_map (λ w. w.place) (wait_in owners p) ≡ open_wait past p
   pub blocked : (p : ℕ) (w : OpenWait) → wait_in owners p ≡ Some w → is_in (blocked past w.sends w.queue) w.place ≡ true

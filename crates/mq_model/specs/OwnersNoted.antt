@@ -1,6 +1,7 @@
 -- What the table of processes becomes behind one more entry.
 use Rattle.std.specs.Prelude.{ℕ, ◌<◌, List, Option, Some, None}
 use Rattle.std.specs.Option.{option_and_then}
+use Rattle.mq_model.specs.Limits.{most_descriptors}
 use Rattle.mq_model.specs.Descriptors.{description}
 use Rattle.mq_model.specs.Messages.{is_send}
 use Rattle.mq_model.specs.Owners.{with_wait, with_answer, with_slot, with_flag, waiter_in}
@@ -38,16 +39,16 @@ noted owners here p call (Got place admitted notified) q = with_answer_at owners
 noted owners here p call _ q = owners
 
 abbrev pub FitsDone : Call → Type 0
-FitsDone (MqClose d) = d < 16
+FitsDone (MqClose d) = d < most_descriptors
 FitsDone _ = Unit {0}
 
 abbrev pub FitsAttributes : Call → Type 0
-FitsAttributes (MqSetattr d nonblock) = d < 16
+FitsAttributes (MqSetattr d nonblock) = d < most_descriptors
 FitsAttributes _ = Unit {0}
 
--- a descriptor that the entry changes has one of the sixteen numbers
+-- a descriptor that the entry changes has a number that a descriptor may have
 abbrev pub FitsSlots : Call → Reply → Type 0
-FitsSlots call (Opened d created) = d < 16
+FitsSlots call (Opened d created) = d < most_descriptors
 FitsSlots call Done = FitsDone call
 FitsSlots call (Attrs status) = FitsAttributes call
 FitsSlots call _ = Unit {0}

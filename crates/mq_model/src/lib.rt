@@ -4,6 +4,8 @@
 pub mod entries;
 pub mod faults;
 pub mod journals;
+pub mod ladder;
+pub mod limits;
 pub mod names;
 pub mod owners;
 pub mod registrations;

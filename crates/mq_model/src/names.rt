@@ -4,11 +4,12 @@ ghost use Rattle.std.specs.List.{list_all};
 ghost use Rattle.mq_model.specs.Name.{is_name_byte, is_name, has_name_form};
 
 use crate::faults::Fault;
+use crate::limits;
 use arrayvec::ArrayVec;
 use std::marker::Model;
 
 /// How many bytes a name has at most, with its slash.
-pub const NAME_CAPACITY: usize = 256;
+pub const NAME_CAPACITY: usize = limits::NAME_BYTES + 1;
 
 /// The name of a queue: a slash, then 1 to 255 bytes without a slash and without 0 (`mq_open`).
 #[derive(Debug, Drop)]

@@ -7,9 +7,7 @@ ghost use Rattle.mq_model.specs.Descriptors.{is_place};
 ghost use Rattle.mq_model.specs.Messages.{is_send};
 
 use crate::entries::{Call, Description, Entry, Reply};
-
-/// How many descriptors a process has at most (`OPEN_MAX` of this profile).
-pub const DESCRIPTORS: usize = 16;
+use crate::limits::DESCRIPTORS;
 
 /// A call that blocked: its place, its queue, and whether it is a send.
 #[derive(Clone, Copy, Debug, PartialEq, Eq)]
@@ -301,7 +299,7 @@ pub fn note(owners: &mut [Owner], here: u64, entry: Entry, queue: u64)
 pub fn free_number(owners: &[Owner], p: u32) -> Option<u32>
     ensures { result ≡ free_number_in owners.now p }
 {
-    for d in 0..16u32 {
+    for d in 0..DESCRIPTORS as u32 {
         if held(owners, p, d).is_none() {
             return Some(d);
         }
@@ -313,7 +311,7 @@ pub fn free_number(owners: &[Owner], p: u32) -> Option<u32>
 pub fn lowest_held(owners: &[Owner], p: u32) -> Option<u32>
     ensures { result ≡ lowest_held_in owners.now p }
 {
-    for d in 0..16u32 {
+    for d in 0..DESCRIPTORS as u32 {
         if held(owners, p, d).is_some() {
             return Some(d);
         }

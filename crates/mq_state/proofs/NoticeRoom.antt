@@ -21,7 +21,8 @@ use Rattle.mq_state.specs.Slots.{Slots}
 use Rattle.mq_state.specs.QueueShown.{QueueShown}
 use Rattle.mq_state.specs.InboxShown.{InboxShown}
 use Rattle.mq_state.specs.Inboxes.{room_in}
-use Rattle.mq_state.specs.Queues.{queue_in, registration_in, registrations_in, is_registered_by, changed, without_queue, reregistered, renewed, released, may_free, noted_queues, fresh, is_named_in, QueuesMirror}
+use Rattle.mq_model.specs.Ladder.{is_of}
+use Rattle.mq_state.specs.Queues.{queue_in, registration_in, registrations_in, changed, without_queue, reregistered, renewed, released, may_free, noted_queues, fresh, is_named_in, QueuesMirror}
 use Rattle.mq_model.specs.Owners.{is_held_in}
 use Rattle.mq_state.specs.Tables.{HasNoticeRoom, HasRoomToRegister, entry_queue, notices_brought, with_fresh}
 use Rattle.mq_state.proofs.QueuesKeep.{rec, renewed-registration}
@@ -31,9 +32,9 @@ use Rattle.mq_state.proofs.TablesKeep.{IsNotified, queued-notified, got-notified
 abbrev one_if : Bool → ℕ
 one_if b = cond b 1 0
 
-registrations-cons : (x : QueueShown) (queues : List QueueShown) (p : ℕ) → registrations_in (x ∷ queues) p ≡ one_if (is_registered_by p x.registration) + registrations_in queues p
+registrations-cons : (x : QueueShown) (queues : List QueueShown) (p : ℕ) → registrations_in (x ∷ queues) p ≡ one_if (is_of p x.registration) + registrations_in queues p
 unfolding registrations_in
-registrations-cons x queues p = sum_by-cons (λ (y : QueueShown). one_if (is_registered_by p y.registration)) x queues
+registrations-cons x queues p = sum_by-cons (λ (y : QueueShown). one_if (is_of p y.registration)) x queues
 
 pub registrations-none : (p : ℕ) → registrations_in [] p ≡ 0
 unfolding registrations_in
@@ -41,7 +42,7 @@ registrations-none p = refl
 
 few : (queues : List QueueShown) (p : ℕ) → registrations_in queues p ≤ length queues
 unfolding registrations_in
-few queues p = count_by-le-length (λ (y : QueueShown). is_registered_by p y.registration) queues
+few queues p = count_by-le-length (λ (y : QueueShown). is_of p y.registration) queues
 
 -- a queue with a registration counts for its process
 pub registered-counts : (queues : List QueueShown) (q : ℕ) (n : Registration) → registration_in queues q ≡ Some n → 0 < registrations_in queues n.process
@@ -49,13 +50,13 @@ unfolding registration_in queue_in
 registered-counts [] q n e = absurd (cc)
 registered-counts (x ∷ queues) q n e = split (x.place == q)
     (λ t. let here : x.registration ≡ Some n = rw t at e in
-    let mine : one_if (is_registered_by n.process x.registration) ≡ 1 = rw (here, eq-eqb n.process n.process refl) refl in
+    let mine : one_if (is_of n.process x.registration) ≡ 1 = rw (here, eq-eqb n.process n.process refl) refl in
     let c = registrations-cons x queues n.process in omega (arith, c, mine))
     (λ f. let rest = registered-counts queues q n (rw f at e) in let c = registrations-cons x queues n.process in omega (arith, c, rest))
 
 -- one registration behind an entry -----------------------------------------------------------------------------------------
 
-unless-fewer : (ended : Registration → Bool) (o : Option Registration) (p : ℕ) → one_if (is_registered_by p (unless ended o)) ≤ one_if (is_registered_by p o)
+unless-fewer : (ended : Registration → Bool) (o : Option Registration) (p : ℕ) → one_if (is_of p (unless ended o)) ≤ one_if (is_of p o)
 unless-fewer ended None p = omega arith
 unless-fewer ended (Some n) p = split (ended n) (λ t. rw t (omega arith)) (λ f. rw f (omega arith))
 
@@ -63,10 +64,10 @@ unless-fewer ended (Some n) p = split (ended n) (λ t. rw t (omega arith)) (λ f
 abbrev MakesNone : ℕ → Entry → ℕ → Type 0
 MakesNone here e p = (n : Registration) → registration_of here e.process e.call e.reply ≡ Some n → n.process ≢ p
 
-after-fewer : (on : Bool) (here : ℕ) (e : Entry) (before : Option Registration) (p : ℕ) → MakesNone here e p → one_if (is_registered_by p (registration_after on here e before)) ≤ one_if (is_registered_by p before)
+after-fewer : (on : Bool) (here : ℕ) (e : Entry) (before : Option Registration) (p : ℕ) → MakesNone here e p → one_if (is_of p (registration_after on here e before)) ≤ one_if (is_of p before)
 after-fewer on here e before p none = by (registration_of here e.process e.call e.reply) none
   where
-    by : (o : Option Registration) → ((n : Registration) → o ≡ Some n → n.process ≢ p) → one_if (is_registered_by p (or_else (only_if on o) (unless (ends on e) before))) ≤ one_if (is_registered_by p before)
+    by : (o : Option Registration) → ((n : Registration) → o ≡ Some n → n.process ≢ p) → one_if (is_of p (or_else (only_if on o) (unless (ends on e) before))) ≤ one_if (is_of p before)
     by None none = unless-fewer (ends on e) before p
     by (Some n) none = split on
         (λ t. rw t (let other : (n.process == p) ≡ false = ne_eqb n.process p (none n refl) in rw other (omega arith)))
@@ -87,11 +88,11 @@ unfolding registration_in queue_in
 map-notified q here e [] n none stands is = absurd (cc)
 map-notified q here e (x ∷ queues) n none stands is = split (x.place == q)
     (λ t. let there : x.registration ≡ Some n = rw t at stands in
-    let before : one_if (is_registered_by n.process x.registration) ≡ 1 = rw (there, eq-eqb n.process n.process refl) refl in
+    let before : one_if (is_of n.process x.registration) ≡ 1 = rw (there, eq-eqb n.process n.process refl) refl in
     let ended : ends (q == x.place) e n ≡ true = rw (is, eq-eqb n.place n.place refl) refl in
     let over : unless (ends (q == x.place) e) x.registration ≡ None = rw (there, ended) refl in
     let after : registration_after (q == x.place) here e x.registration ≡ None = made (q == x.place) (unless (ends (q == x.place) e) x.registration) over in
-    let none_left : one_if (is_registered_by n.process (registration_after (q == x.place) here e x.registration)) ≡ 0 = ap (λ o. one_if (is_registered_by n.process o)) after in
+    let none_left : one_if (is_of n.process (registration_after (q == x.place) here e x.registration)) ≡ 0 = ap (λ o. one_if (is_of n.process o)) after in
     let rest = map-fewer q here e queues n.process (none n.process) in
     omega (arith, before, none_left, rest, registrations-cons x queues n.process, registrations-cons (reregistered q here e x) (map (reregistered q here e) queues) n.process))
     (λ f. let rest = map-notified q here e queues n none (rw f at stands) is in
@@ -108,8 +109,8 @@ map-notified q here e (x ∷ queues) n none stands is = split (x.place == q)
 registrations-changed : (f : QueueShown → QueueShown) (queues : List QueueShown) (q p : ℕ) → ((x : QueueShown) → (f x).registration ≡ x.registration) → registrations_in (changed f queues q) p ≡ registrations_in queues p
 registrations-changed f [] q p same = refl
 registrations-changed f (x ∷ queues) q p same = split (x.place == q)
-    (λ t. rw t (registrations-cons (f x) queues p ∙ ap (λ o. one_if (is_registered_by p o) + registrations_in queues p) (same x) ∙ sym (registrations-cons x queues p)))
-    (λ n. rw n (registrations-cons x (changed f queues q) p ∙ ap (λ m. one_if (is_registered_by p x.registration) + m) (registrations-changed f queues q p same) ∙ sym (registrations-cons x queues p)))
+    (λ t. rw t (registrations-cons (f x) queues p ∙ ap (λ o. one_if (is_of p o) + registrations_in queues p) (same x) ∙ sym (registrations-cons x queues p)))
+    (λ n. rw n (registrations-cons x (changed f queues q) p ∙ ap (λ m. one_if (is_of p x.registration) + m) (registrations-changed f queues q p same) ∙ sym (registrations-cons x queues p)))
 
 registrations-without : (queues : List QueueShown) (q p : ℕ) → registrations_in (without_queue queues q) p ≤ registrations_in queues p
 unfolding without_queue
@@ -129,7 +130,7 @@ registrations-released owners freed queues q p = split (freed && not (is_named_i
 registrations-fresh : (brought : Option Slots) (here : ℕ) (queues : List QueueShown) (p : ℕ) → registrations_in (with_fresh brought here queues) p ≡ registrations_in queues p
 unfolding registrations_in
 registrations-fresh None here queues p = refl
-registrations-fresh (Some o) here queues p = let e = sum_by_push (λ (y : QueueShown). one_if (is_registered_by p y.registration)) queues (fresh here o.room) in omega (arith, e)
+registrations-fresh (Some o) here queues p = let e = sum_by_push (λ (y : QueueShown). one_if (is_of p y.registration)) queues (fresh here o.room) in omega (arith, e)
 
 -- but for the registrations that the entry makes and ends no process has more
 noted-fewer : (brought : Option Slots) (owners : List Owner) (here : ℕ) (e : Entry) (q prio : ℕ) (queues : List QueueShown) (p : ℕ) → registrations_in (with_fresh brought here (noted_queues owners here e q prio queues)) p ≤ registrations_in (map (reregistered q here e) queues) p

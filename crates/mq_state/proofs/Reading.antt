@@ -1,6 +1,5 @@
 -- What is read off the tables is what the definitions say.
 use Rattle.std.proofs.Common.{◌≡◌, ℕ, suc, ◌==◌, Bool, true, false, ◌&&◌, ◌||◌, not, List, [], ◌∷◌, ◌++◌, length, map, reverse, Option, Some, None, is_some, is_none, refl, sym, ◌∙◌, ap, arith, eqb-true, eq-eqb}
-use Rattle.std.specs.Prelude.{pos, int_le, int_lt, nat_le}
 use Rattle.std.specs.List.{filter, find, list_all}
 use Rattle.std.specs.Str.{bytes_eq}
 use Rattle.std.specs.Option.{option_map}
@@ -8,17 +7,12 @@ use Rattle.std.proofs.lemmas.Bool.{and_parts, false_from_ne_true}
 use Rattle.std.proofs.lemmas.Slice.Eq.{bytes_eq-Decides}
 use Rattle.std.proofs.lemmas.Grind.{common_steps}
 use Rattle.mq_model.specs.Record.{Past}
-use Rattle.mq_model.specs.Names.{creates, bound_queue, attributes, name_of}
+use Rattle.mq_model.specs.Names.{creates, bound_queue, name_of}
 use Rattle.mq_model.specs.Descriptors.{lowest_free, lowest_held, alive, created, is_named, descriptor_numbers}
-use Rattle.mq_model.specs.Messages.{is_in, present, best, goes_first, least, is_full}
-use Rattle.mq_model.specs.Notices.{registered, registered_place}
-use Rattle.mq_model.specs.Answer.{answer_open, answer_send, answer_receive}
-use Rattle.mq_model.specs.Owners.{free_number_in, lowest_held_in, OwnersMirror, waiting}
+use Rattle.mq_model.specs.Messages.{is_in, present, best, goes_first}
+use Rattle.mq_model.specs.Notices.{registered}
+use Rattle.mq_model.specs.Owners.{free_number_in, lowest_held_in, OwnersMirror}
 use Rattle.mq_model.specs.declared.owners.Owner.{Owner}
-use Rattle.mq_model.specs.declared.entries.Attr.{Attr}
-use Rattle.mq_model.specs.declared.entries.OpenFlags.{OpenFlags}
-use Rattle.mq_model.specs.declared.entries.Status.{Status}
-use Rattle.mq_model.specs.declared.entries.Description.{Description}
 use Rattle.mq_model.proofs.Places.{split, clash, is_in-filter}
 use Rattle.mq_model.proofs.Frames.{created-below}
 use Rattle.mq_model.proofs.Best.{find-test}
@@ -27,7 +21,6 @@ use Rattle.mq_state.specs.declared.order.Slot.{Slot}
 use Rattle.mq_state.specs.SlotOrder.{best_slot, goes_first as slot_first}
 use Rattle.mq_state.specs.QueueShown.{QueueShown}
 use Rattle.mq_state.specs.Queues.{queue_in, slots_in, registration_in, bound_in, slot_of, slots_of, QueuesMirror}
-use Rattle.mq_state.specs.Decided.{decided_open, decided_send, decided_receive, status_of}
 use Rattle.mq_state.proofs.QueueLines.{queue_in-place}
 use Rattle.mq_state.proofs.QueuesKeep.{alive-line, length-slots_of, in-append, in-reverse, reverse-cons}
 use Rattle.mq_state.proofs.QueuesNoted.{bound-alive}
@@ -199,60 +192,3 @@ length-reverse xs = grind (arith, common_steps)
 
 pub many-read : (past : Past) (queues : List QueueShown) → QueuesMirror past queues → length queues ≡ length (alive past)
 many-read past queues m = sym (length-map (λ (x : QueueShown). x.place) queues) ∙ ap length m.places ∙ length-reverse (alive past)
-
--- the replies ------------------------------------------------------------------------------------------------------------
-
-pub open-read : (past : Past) (owners : List Owner) (queues : List QueueShown) → OwnersMirror past owners → QueuesMirror past queues → (p : ℕ) (flags : OpenFlags) (attr : Option Attr) (name : List ℕ) →
-    decided_open flags attr (is_some (bound_in past queues name)) (free_number_in owners p) (nat_le 64 (length queues)) ≡ answer_open past p flags attr name
-open-read past owners queues om qm p flags attr name = rw (bound-read past queues qm name, free-read past owners om p, many-read past queues qm) refl
-
-pub send-read : (past : Past) (queues : List QueueShown) → QueuesMirror past queues → (h : Description) (prio len : ℕ) → is_in (alive past) h.queue ≡ true →
-    decided_send h.access h.nonblock prio (int_lt (attributes past h.queue).msgsize (pos len)) (int_le (attributes past h.queue).maxmsg (pos (length (slots_in queues h.queue)))) (least (waiting past false h.queue)) (length (slots_in queues h.queue) == 0) (registered_place past h.queue)
-    ≡ answer_send past (Some h) prio len
-send-read past queues m h prio len alive_at = rw (count-read past queues m h.queue alive_at) (by (least (waiting past false h.queue)) refl)
-  where
-    by : (o : Option ℕ) → least (waiting past false h.queue) ≡ o → decided_send h.access h.nonblock prio (int_lt (attributes past h.queue).msgsize (pos len)) (is_full past h.queue) (least (waiting past false h.queue)) (length (present past h.queue) == 0) (registered_place past h.queue) ≡ answer_send past (Some h) prio len
-    by None e = rw e refl
-    by (Some w) e = rw e refl
-
-pub receive-read : (past : Past) (queues : List QueueShown) → QueuesMirror past queues → (h : Description) (room : ℕ) → is_in (alive past) h.queue ≡ true →
-    decided_receive h.access h.nonblock (int_lt (pos room) (attributes past h.queue).msgsize) (best past h.queue) (least (waiting past true h.queue)) (length (slots_in queues h.queue) == 1) (registered_place past h.queue)
-    ≡ answer_receive past (Some h) room
-receive-read past queues m h room alive_at = rw (count-read past queues m h.queue alive_at) (by (best past h.queue) refl)
-  where
-    by : (o : Option ℕ) → best past h.queue ≡ o → decided_receive h.access h.nonblock (int_lt (pos room) (attributes past h.queue).msgsize) (best past h.queue) (least (waiting past true h.queue)) (length (present past h.queue) == 1) (registered_place past h.queue) ≡ answer_receive past (Some h) room
-    by None e = rw e refl
-    by (Some m) e = rw e refl
-
-pub status-is : (past : Past) (h : Description) (s : Status) → s.nonblock ≡ h.nonblock → s.maxmsg ≡ (attributes past h.queue).maxmsg → s.msgsize ≡ (attributes past h.queue).msgsize → s.curmsgs ≡ pos (length (present past h.queue)) → s ≡ status_of past h
-status-is past h s a b c d =
-    ap (λ x. (let t : Status = record { nonblock = x; maxmsg = s.maxmsg; msgsize = s.msgsize; curmsgs = s.curmsgs } in t)) a
-    ∙ ap (λ x. (let t : Status = record { nonblock = h.nonblock; maxmsg = x; msgsize = s.msgsize; curmsgs = s.curmsgs } in t)) b
-    ∙ ap (λ x. (let t : Status = record { nonblock = h.nonblock; maxmsg = (attributes past h.queue).maxmsg; msgsize = x; curmsgs = s.curmsgs } in t)) c
-    ∙ ap (λ x. (let t : Status = record { nonblock = h.nonblock; maxmsg = (attributes past h.queue).maxmsg; msgsize = (attributes past h.queue).msgsize; curmsgs = x } in t)) d
-
--- the same, over what was read
-pub send-is : (past : Past) (queues : List QueueShown) → QueuesMirror past queues → (h : Description) (prio len : ℕ) → is_in (alive past) h.queue ≡ true → (a : Attr) (n : ℕ) (long full : Bool) (wait place : Option ℕ) →
-    a ≡ attributes past h.queue → n ≡ length (slots_in queues h.queue) → long ≡ int_lt a.msgsize (pos len) → full ≡ int_le a.maxmsg (pos n) → wait ≡ least (waiting past false h.queue) → place ≡ registered_place past h.queue →
-    decided_send h.access h.nonblock prio long full wait (n == 0) place ≡ answer_send past (Some h) prio len
-send-is past queues m h prio len alive_at a n long full wait place ea en el ef ew ep =
-    let l : long ≡ int_lt (attributes past h.queue).msgsize (pos len) = el ∙ ap (λ (b : Attr). int_lt b.msgsize (pos len)) ea in
-    let f : full ≡ int_le (attributes past h.queue).maxmsg (pos (length (slots_in queues h.queue))) = ef ∙ ap (λ (b : Attr). int_le b.maxmsg (pos n)) ea ∙ ap (λ k. int_le (attributes past h.queue).maxmsg (pos k)) en in
-    ap (λ b. decided_send h.access h.nonblock prio b full wait (n == 0) place) l
-    ∙ ap (λ b. decided_send h.access h.nonblock prio (int_lt (attributes past h.queue).msgsize (pos len)) b wait (n == 0) place) f
-    ∙ ap (λ o. decided_send h.access h.nonblock prio (int_lt (attributes past h.queue).msgsize (pos len)) (int_le (attributes past h.queue).maxmsg (pos (length (slots_in queues h.queue)))) o (n == 0) place) ew
-    ∙ ap (λ k. decided_send h.access h.nonblock prio (int_lt (attributes past h.queue).msgsize (pos len)) (int_le (attributes past h.queue).maxmsg (pos (length (slots_in queues h.queue)))) (least (waiting past false h.queue)) (k == 0) place) en
-    ∙ ap (λ o. decided_send h.access h.nonblock prio (int_lt (attributes past h.queue).msgsize (pos len)) (int_le (attributes past h.queue).maxmsg (pos (length (slots_in queues h.queue)))) (least (waiting past false h.queue)) (length (slots_in queues h.queue) == 0) o) ep
-    ∙ send-read past queues m h prio len alive_at
-
-pub receive-is : (past : Past) (queues : List QueueShown) → QueuesMirror past queues → (h : Description) (room : ℕ) → is_in (alive past) h.queue ≡ true → (a : Attr) (n : ℕ) (short : Bool) (found wait place : Option ℕ) →
-    a ≡ attributes past h.queue → n ≡ length (slots_in queues h.queue) → short ≡ int_lt (pos room) a.msgsize → found ≡ best past h.queue → wait ≡ least (waiting past true h.queue) → place ≡ registered_place past h.queue →
-    decided_receive h.access h.nonblock short found wait (n == 1) place ≡ answer_receive past (Some h) room
-receive-is past queues m h room alive_at a n short found wait place ea en es ef ew ep =
-    let s : short ≡ int_lt (pos room) (attributes past h.queue).msgsize = es ∙ ap (λ (b : Attr). int_lt (pos room) b.msgsize) ea in
-    ap (λ b. decided_receive h.access h.nonblock b found wait (n == 1) place) s
-    ∙ ap (λ o. decided_receive h.access h.nonblock (int_lt (pos room) (attributes past h.queue).msgsize) o wait (n == 1) place) ef
-    ∙ ap (λ o. decided_receive h.access h.nonblock (int_lt (pos room) (attributes past h.queue).msgsize) (best past h.queue) o (n == 1) place) ew
-    ∙ ap (λ k. decided_receive h.access h.nonblock (int_lt (pos room) (attributes past h.queue).msgsize) (best past h.queue) (least (waiting past true h.queue)) (k == 1) place) en
-    ∙ ap (λ o. decided_receive h.access h.nonblock (int_lt (pos room) (attributes past h.queue).msgsize) (best past h.queue) (least (waiting past true h.queue)) (length (slots_in queues h.queue) == 1) o) ep
-    ∙ receive-read past queues m h room alive_at

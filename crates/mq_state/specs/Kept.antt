@@ -12,13 +12,17 @@ pub record Kept : Type 0 where
   pub records : Past
   pub n : ℕ
 
+-- the tables are those of the journal
+abbrev pub Mirrors : Shown → Tables → Type 0
+Mirrors j t = TablesMirror j.records t.n t.owners.items t.queues.items t.inboxes.items
+
 -- the journal is legal and has entries of the first n processes alone, the tables are those of the journal, and there is
 -- room for the collect entry of each open wait and for the notice of each registration
 pub record IsKeptBy (j : Shown) (t : Tables) : Type 0 where
   pub legal : Legal j.records
   pub few : t.n ≤ 32
   pub processes : AreAtMost t.n j.records
-  pub mirror : TablesMirror j.records t.n t.owners.items t.queues.items t.inboxes.items
+  pub mirror : Mirrors j t
   pub room : waits_count t.owners.items ≤ j.entry_room
   pub notice_room : HasNoticeRoom t.queues.items t.inboxes.items
 

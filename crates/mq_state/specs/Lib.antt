@@ -6,7 +6,6 @@ pub mod Queues
 pub mod QueueModel
 pub mod InboxShown
 pub mod InboxModel
-pub mod Decided
 pub mod Tables
 pub mod Inboxes
 pub mod Kept

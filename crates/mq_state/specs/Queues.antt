@@ -9,6 +9,7 @@ use Rattle.mq_model.specs.Names.{attributes, name_of}
 use Rattle.mq_model.specs.Descriptors.{alive, is_named}
 use Rattle.mq_model.specs.Messages.{present, priority, priority_given}
 use Rattle.mq_model.specs.Notices.{registered, registration_after}
+use Rattle.mq_model.specs.Ladder.{is_of}
 use Rattle.mq_model.specs.Owners.{is_held_in}
 use Rattle.mq_model.specs.declared.owners.Owner.{Owner}
 use Rattle.mq_model.specs.declared.entries.Registration.{Registration}
@@ -30,13 +31,9 @@ slots_in queues q = unwrap_or (option_map (λ x. x.slots) (queue_in queues q)) [
 unfoldable pub registration_in : List QueueShown → ℕ → Option Registration
 registration_in queues q = option_and_then (λ x. x.registration) (queue_in queues q)
 
-abbrev pub is_registered_by : ℕ → Option Registration → Bool
-is_registered_by p None = false
-is_registered_by p (Some n) = n.process == p
-
 -- how many queues process p is registered on
 unfoldable pub registrations_in : List QueueShown → ℕ → ℕ
-registrations_in queues p = count_by (λ x. is_registered_by p x.registration) queues
+registrations_in queues p = count_by (λ x. is_of p x.registration) queues
 
 unfoldable pub is_named_in : List QueueShown → ℕ → Bool
 is_named_in queues q = unwrap_or (option_map (λ x. x.named) (queue_in queues q)) false

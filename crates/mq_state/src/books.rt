@@ -11,7 +11,7 @@ ghost use Rattle.mq_state.specs.Buffers.{filled, collected, collected_into, coll
 ghost use Rattle.mq_state.specs.Kept.{IsKeptBy};
 
 use crate::buffers;
-use crate::collected::Collected;
+use crate::collected::{Collected, received};
 use crate::tables::Tables;
 use mq_model::entries::{Attr, Call, OpenFlags, Reply, Status};
 use mq_model::faults::Fault;
@@ -271,7 +271,7 @@ fn outcome(journal: &Journal, call: Call, by: u64, buf: &mut [u8]) -> Collected
     match call {
         Call::MqReceive { .. } => {
             buffers::put_message(journal, by, buf);
-            Collected::Got(buffers::received(journal, by))
+            Collected::Got(received(journal, by))
         }
         _ => Collected::Sent,
     }

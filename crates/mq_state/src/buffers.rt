@@ -1,9 +1,9 @@
 //! Messages in the journal, and the buffers that they are put into.
 ghost use Rattle.std.specs.Prelude.{◌≡◌, ◌≤◌, length};
 ghost use Rattle.mq_model.specs.Messages.{priority};
-ghost use Rattle.mq_state.specs.Buffers.{message_at, with_front, filled, Fits, received_at};
+ghost use Rattle.mq_state.specs.Buffers.{message_at, with_front, filled, Fits};
 
-use mq_model::entries::{Received, Reply};
+use mq_model::entries::Reply;
 use mq_model::journals::Journal;
 
 /// The priority of the message that was sent at a place.
@@ -38,19 +38,5 @@ pub fn fill(journal: &Journal, reply: Reply, buf: &mut [u8])
     } = reply
     {
         put_message(journal, place, buf);
-    }
-}
-
-/// The length and the priority of the message that was sent at a place.
-pub fn received(journal: &Journal, place: u64) -> Received
-    ensures { result ≡ received_at journal.now.records place }
-{
-    let len = match journal.payload(place) {
-        Some(message) => message.len(),
-        None => 0,
-    };
-    Received {
-        len,
-        prio: priority_at(journal, place),
     }
 }

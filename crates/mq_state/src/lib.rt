@@ -2,12 +2,11 @@
 #![tactic(auto)]
 
 pub mod books;
-pub mod buffers;
+mod buffers;
 pub mod collected;
-pub mod decided;
-pub mod notices;
-pub mod order;
-pub mod queues;
-pub mod tables;
+mod notices;
+mod order;
+mod queues;
+mod tables;
 #[cfg(test)]
 mod tests;

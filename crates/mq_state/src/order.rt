@@ -1,7 +1,8 @@
 //! The order of one queue: which of its messages is received next.
-ghost use Rattle.std.specs.Prelude.{◌≡◌, ◌<◌, ◌≤◌, ◌+◌, ◌-◌, ◌^◌, [], ◌∷◌, length, IfOk, IfSome, IsSome, IsTrue, ◌↔◌, filter, not, ◌==◌, Some, None, vec_capacity};
+ghost use Rattle.std.specs.Prelude.{◌≡◌, ◌<◌, ◌≤◌, ◌+◌, ◌-◌, ◌^◌, [], ◌∷◌, length, IfOk, IfSome, IsSome, IsTrue, ◌↔◌, filter, not, ◌==◌, Some, None, vec_capacity, pos, int_le, true};
 ghost use Rattle.std.specs.Option.{option_map};
 
+use mq_model::entries::Attr;
 use std::alloc::{AllocError, Global};
 use std::marker::Model;
 
@@ -29,7 +30,18 @@ impl Model for Order {
     ghost view = { shown };
 }
 
-ghost use Rattle.mq_state.specs.SlotOrder.{goes_first, best_slot, without};
+ghost use Rattle.mq_state.specs.SlotOrder.{goes_first, best_slot, without, slots_for};
+
+/// How many messages a queue with these attributes holds at most: `maxmsg`, which is positive in a queue that exists, else 0.
+pub fn slots_for(attributes: Attr) -> usize
+    ensures value { result ≡ slots_for attributes }
+    ensures enough { int_le attributes.maxmsg (pos result) ≡ true }
+{
+    if attributes.maxmsg <= 0 {
+        return 0;
+    }
+    attributes.maxmsg as usize
+}
 
 // Of these two a is received first, or they are one.
 fn goes_first(a: Slot, b: Slot) -> bool

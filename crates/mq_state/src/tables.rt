@@ -1,32 +1,26 @@
-//! The tables beside the journal, the replies that they give, and how they note an entry.
+//! The tables beside the journal, and how they note an entry.
 ghost use Rattle.std.specs.Prelude.{◌≡◌, ◌<◌, ◌≤◌, ◌+◌, IfOk, OnOk, OnErr, IsSome, Some, None, IsTrue, ℕ, length, [], pos, int_le, map, replicate};
 ghost use Rattle.mq_model.specs.declared.entries.Registration.{Registration};
-ghost use Rattle.mq_model.specs.Descriptors.{held, lowest_held, alive};
-ghost use Rattle.mq_model.specs.Messages.{is_in, best, least};
-ghost use Rattle.mq_model.specs.Notices.{registered, registered_place, gives_notice};
-ghost use Rattle.mq_model.specs.Answer.{Legal, answer, answer_attributes, answer_send, answer_receive};
-ghost use Rattle.mq_model.specs.Owners.{waiting, waits_count, free_owner};
+ghost use Rattle.mq_model.specs.Descriptors.{held};
+ghost use Rattle.mq_model.specs.Notices.{gives_notice};
+ghost use Rattle.mq_model.specs.Owners.{waits_count, free_owner};
 ghost use Rattle.std.specs.Option.{option_map, unwrap_or};
 ghost use Rattle.mq_model.specs.Names.{bound_queue};
 ghost use Rattle.mq_state.specs.Tables.{entry_queue, admitted_priority};
-ghost use Rattle.mq_state.specs.Decided.{decided_notify, status_of};
-ghost use Rattle.mq_model.specs.Waits.{open_wait, answered_by};
+ghost use Rattle.mq_state.specs.Kept.{Mirrors};
 
 mod calls;
+mod facts;
 
 use crate::notices::Inbox;
 use crate::order::Order;
 use crate::queues::Queue;
-use crate::{buffers, decided, notices, queues};
-use mq_model::entries::{Attr, Call, Description, Entry, OpenFlags, Reply, Status};
-use mq_model::faults::Fault;
+use crate::{buffers, notices, queues};
+use mq_model::entries::{Call, Entry, Reply};
 use mq_model::journals::Journal;
 use mq_model::owners::Owner;
 use mq_model::{owners, registrations};
 use std::alloc::{AllocError, Global};
-
-/// How many queues exist at most.
-const MOST_QUEUES: usize = 64;
 
 /// What each process has, process p's line and inbox at index p, and the queues that exist.
 #[derive(Debug, Drop)]
@@ -65,213 +59,9 @@ impl Tables {
         self.n
     }
 
-    // The reply to an open.
-    fn answer_open(
-        &self,
-        journal: &Journal,
-        p: u32,
-        name: &[u8],
-        flags: OpenFlags,
-        attr: Option<Attr>,
-    ) -> Reply
-        requires mirror { TablesMirror journal.now.records self.now.n self.now.owners.items self.now.queues.items self.now.inboxes.items }
-        requires legal { Legal journal.now.records }
-        ensures { result ≡ answer journal.now.records p (Call.MqOpen flags attr) name.now }
-    {
-        let bound = queues::bound(journal, &self.queues, name).is_some();
-        let free = owners::free_number(&self.owners, p);
-        let many = self.queues.len() >= MOST_QUEUES;
-        decided::open(flags, attr, bound, free, many)
-    }
-
-    // The reply to a close.
-    fn answer_close(&self, journal: &Journal, p: u32, d: u32) -> Reply
-        requires mirror { TablesMirror journal.now.records self.now.n self.now.owners.items self.now.queues.items self.now.inboxes.items }
-        ensures { result ≡ answer journal.now.records p (Call.MqClose d) [] }
-    {
-        match owners::held(&self.owners, p, d) {
-            Some(_) => Reply::Done,
-            None => Reply::Refused(Fault::BadDescriptor),
-        }
-    }
-
-    // The reply to an unlink.
-    fn answer_unlink(&self, journal: &Journal, p: u32, name: &[u8]) -> Reply
-        requires mirror { TablesMirror journal.now.records self.now.n self.now.owners.items self.now.queues.items self.now.inboxes.items }
-        requires legal { Legal journal.now.records }
-        ensures { result ≡ answer journal.now.records p Call.MqUnlink name.now }
-    {
-        match queues::bound(journal, &self.queues, name) {
-            Some(_) => Reply::Done,
-            None => Reply::Refused(Fault::NoEntry),
-        }
-    }
-
-    // The attributes of a description and its queue.
-    fn status(&self, journal: &Journal, h: Description) -> Status
-        requires mirror { TablesMirror journal.now.records self.now.n self.now.owners.items self.now.queues.items self.now.inboxes.items }
-        requires legal { Legal journal.now.records }
-        requires alive { IsTrue (is_in (alive journal.now.records) h.queue) }
-        ensures { result ≡ status_of journal.now.records h }
-    {
-        let attributes = decided::attributes(journal, h.queue);
-        let count = queues::message_count(&self.queues, h.queue);
-        decided::status(attributes, h.nonblock, count)
-    }
-
-    // The reply to a getattr, and to a setattr.
-    fn answer_attributes(&self, journal: &Journal, p: u32, d: u32) -> Reply
-        requires mirror { TablesMirror journal.now.records self.now.n self.now.owners.items self.now.queues.items self.now.inboxes.items }
-        requires legal { Legal journal.now.records }
-        ensures { result ≡ answer_attributes journal.now.records (held journal.now.records p d) }
-    {
-        match owners::held(&self.owners, p, d) {
-            Some(h) => Reply::Attrs(self.status(journal, h)),
-            None => Reply::Refused(Fault::BadDescriptor),
-        }
-    }
-
-    // The reply to a notify on a description.
-    fn answer_registration(&self, journal: &Journal, p: u32, q: u64, value: Option<u64>) -> Reply
-        requires mirror { TablesMirror journal.now.records self.now.n self.now.owners.items self.now.queues.items self.now.inboxes.items }
-        requires legal { Legal journal.now.records }
-        requires alive { IsTrue (is_in (alive journal.now.records) q) }
-        ensures { result ≡ decided_notify p (registered journal.now.records q) value }
-    {
-        decided::notify(p, queues::registration(&self.queues, q), value)
-    }
-
-    // The reply to a notify.
-    fn answer_notify(&self, journal: &Journal, p: u32, d: u32, value: Option<u64>) -> Reply
-        requires mirror { TablesMirror journal.now.records self.now.n self.now.owners.items self.now.queues.items self.now.inboxes.items }
-        requires legal { Legal journal.now.records }
-        ensures { result ≡ answer journal.now.records p (Call.MqNotify d value) [] }
-    {
-        match owners::held(&self.owners, p, d) {
-            Some(h) => self.answer_registration(journal, p, h.queue, value),
-            None => Reply::Refused(Fault::BadDescriptor),
-        }
-    }
-
-    // The reply to a look for the oldest notice.
-    fn answer_next_notice(&self, journal: &Journal, p: u32) -> Reply
-        requires mirror { TablesMirror journal.now.records self.now.n self.now.owners.items self.now.queues.items self.now.inboxes.items }
-        requires legal { Legal journal.now.records }
-        ensures { result ≡ answer journal.now.records p Call.NextNotice [] }
-    {
-        Reply::Notice(notices::first(&self.inboxes, p))
-    }
-
-    // The place of the registration that stands on queue q.
-    fn registered_place(&self, journal: &Journal, q: u64) -> Option<u64>
-        requires mirror { TablesMirror journal.now.records self.now.n self.now.owners.items self.now.queues.items self.now.inboxes.items }
-        requires legal { Legal journal.now.records }
-        requires alive { IsTrue (is_in (alive journal.now.records) q) }
-        ensures { result ≡ registered_place journal.now.records q }
-    {
-        match queues::registration(&self.queues, q) {
-            None => None,
-            Some(n) => Some(n.place),
-        }
-    }
-
-    // The place of the send, or receive, that waits the longest on queue q.
-    fn first_wait(&self, journal: &Journal, q: u64, sends: bool) -> Option<u64>
-        requires mirror { TablesMirror journal.now.records self.now.n self.now.owners.items self.now.queues.items self.now.inboxes.items }
-        requires legal { Legal journal.now.records }
-        requires few { self.now.n ≤ 32 }
-        ensures { result ≡ least (waiting journal.now.records sends q) }
-    {
-        match owners::first_wait(&self.owners, q, sends) {
-            None => None,
-            Some((_, place)) => Some(place),
-        }
-    }
-
-    // The reply to a send on a description.
-    fn answer_send_on(&self, journal: &Journal, h: Description, prio: u32, len: u64) -> Reply
-        requires mirror { TablesMirror journal.now.records self.now.n self.now.owners.items self.now.queues.items self.now.inboxes.items }
-        requires legal { Legal journal.now.records }
-        requires alive { IsTrue (is_in (alive journal.now.records) h.queue) }
-        requires few { self.now.n ≤ 32 }
-        ensures { result ≡ answer_send journal.now.records (Some h) prio len }
-    {
-        let attributes = decided::attributes(journal, h.queue);
-        let count = queues::message_count(&self.queues, h.queue);
-        let long = decided::is_too_long(attributes, len);
-        let full = decided::is_full(attributes, count);
-        let wait = self.first_wait(journal, h.queue, false);
-        let registered = self.registered_place(journal, h.queue);
-        decided::send(
-            h.access,
-            h.nonblock,
-            prio,
-            long,
-            full,
-            wait,
-            count == 0,
-            registered,
-        )
-    }
-
-    // The reply to a send.
-    fn answer_send(&self, journal: &Journal, p: u32, d: u32, prio: u32, len: u64) -> Reply
-        requires mirror { TablesMirror journal.now.records self.now.n self.now.owners.items self.now.queues.items self.now.inboxes.items }
-        requires legal { Legal journal.now.records }
-        requires few { self.now.n ≤ 32 }
-        ensures { result ≡ answer journal.now.records p (Call.MqSend d prio len) [] }
-    {
-        match owners::held(&self.owners, p, d) {
-            Some(h) => self.answer_send_on(journal, h, prio, len),
-            None => Reply::Refused(Fault::BadDescriptor),
-        }
-    }
-
-    // The best message of queue q.
-    fn best(&self, journal: &Journal, q: u64) -> Option<u64>
-        requires mirror { TablesMirror journal.now.records self.now.n self.now.owners.items self.now.queues.items self.now.inboxes.items }
-        requires legal { Legal journal.now.records }
-        requires alive { IsTrue (is_in (alive journal.now.records) q) }
-        ensures { result ≡ best journal.now.records q }
-    {
-        match queues::best(&self.queues, q) {
-            None => None,
-            Some(slot) => Some(slot.place),
-        }
-    }
-
-    // The reply to a receive on a description.
-    fn answer_receive_on(&self, journal: &Journal, h: Description, room: u64) -> Reply
-        requires mirror { TablesMirror journal.now.records self.now.n self.now.owners.items self.now.queues.items self.now.inboxes.items }
-        requires legal { Legal journal.now.records }
-        requires alive { IsTrue (is_in (alive journal.now.records) h.queue) }
-        requires few { self.now.n ≤ 32 }
-        ensures { result ≡ answer_receive journal.now.records (Some h) room }
-    {
-        let short = decided::is_too_short(room, decided::attributes(journal, h.queue));
-        let best = self.best(journal, h.queue);
-        let wait = self.first_wait(journal, h.queue, true);
-        let only = queues::message_count(&self.queues, h.queue) == 1;
-        let registered = self.registered_place(journal, h.queue);
-        decided::receive(h.access, h.nonblock, short, best, wait, only, registered)
-    }
-
-    // The reply to a receive.
-    fn answer_receive(&self, journal: &Journal, p: u32, d: u32, room: u64) -> Reply
-        requires mirror { TablesMirror journal.now.records self.now.n self.now.owners.items self.now.queues.items self.now.inboxes.items }
-        requires legal { Legal journal.now.records }
-        requires few { self.now.n ≤ 32 }
-        ensures { result ≡ answer journal.now.records p (Call.MqReceive d room) [] }
-    {
-        match owners::held(&self.owners, p, d) {
-            Some(h) => self.answer_receive_on(journal, h, room),
-            None => Reply::Refused(Fault::BadDescriptor),
-        }
-    }
-
     // The queue of the descriptor that a call names, or the place of its entry.
     fn descriptor_queue(&self, journal: &Journal, p: u32, d: u32) -> u64
-        requires mirror { TablesMirror journal.now.records self.now.n self.now.owners.items self.now.queues.items self.now.inboxes.items }
+        requires mirror { Mirrors journal.now self.now }
         ensures { result ≡ unwrap_or (option_map (λ h. h.queue) (held journal.now.records p d)) (length journal.now.records) }
     {
         match owners::held(&self.owners, p, d) {
@@ -282,10 +72,10 @@ impl Tables {
 
     // The queue that a name is bound to, or the place of the entry.
     fn named_queue(&self, journal: &Journal, name: &[u8]) -> u64
-        requires mirror { TablesMirror journal.now.records self.now.n self.now.owners.items self.now.queues.items self.now.inboxes.items }
+        requires mirror { Mirrors journal.now self.now }
         ensures { result ≡ unwrap_or (bound_queue journal.now.records name.now) (length journal.now.records) }
     {
-        match queues::bound(journal, &self.queues, name) {
+        match self.bound(journal, name) {
             Some(q) => q,
             None => journal.len(),
         }
@@ -293,7 +83,7 @@ impl Tables {
 
     // The queue that an entry is made on.
     fn entry_queue(&self, journal: &Journal, p: u32, call: Call, name: &[u8]) -> u64
-        requires mirror { TablesMirror journal.now.records self.now.n self.now.owners.items self.now.queues.items self.now.inboxes.items }
+        requires mirror { Mirrors journal.now self.now }
         ensures { result ≡ entry_queue journal.now.records p call name.now }
     {
         match call {

@@ -9,12 +9,13 @@ ghost use Rattle.mq_state.specs.Buffers.{filled};
 ghost use Rattle.mq_state.specs.Tables.{entry_queue, HasRoomToRegister, BringsOrder};
 ghost use Rattle.mq_state.specs.Kept.{IsKeptBy, HasEntryRoom};
 
-use crate::order::Order;
+use crate::order::{Order, slots_for};
 use crate::tables::Tables;
-use crate::{buffers, decided, notices};
+use crate::{buffers, notices};
 use mq_model::entries::{Attr, Call, Entry, OpenFlags, Reply};
 use mq_model::faults::Fault;
 use mq_model::journals::Journal;
+use mq_model::ladder::attributes_given;
 use mq_model::owners;
 use std::alloc::{AllocError, Global};
 
@@ -128,10 +129,7 @@ impl Tables {
                 d: _,
                 created: true,
             } => {
-                let room = decided::slots_for(decided::attributes_given(Call::MqOpen {
-                    flags,
-                    attr,
-                }));
+                let room = slots_for(attributes_given(Call::MqOpen { flags, attr }));
                 self.queues.reserve(1)?;
                 let order = Order::new(self.alloc, room)?;
                 Ok(Some(order))
