@@ -12,8 +12,7 @@ use crossbeam_utils::Backoff;
 use fast_mutex::Lock;
 use mq_model::entries::{Received, Reply};
 use mq_model::faults::Fault;
-use mq_state::buffers::received;
-use mq_state::collected::Collected;
+use mq_state::collected::{Collected, received};
 use std::sync::Wait;
 
 impl<L: Lock<Guarded>> Process<L> {
