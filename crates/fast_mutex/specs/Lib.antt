@@ -1,3 +1,4 @@
 pub mod Items
 pub mod Word
+pub mod Marks
 pub mod Fast

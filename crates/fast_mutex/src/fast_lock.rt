@@ -8,7 +8,7 @@ ghost use Rattle.fast_mutex.specs.Fast.{ticket_of, stay_of};
 ghost use Rattle.fast_mutex.specs.declared.lock.Path.TheVariants.{Fast};
 
 use crate::fast::{FastInside, FastMutex, FastSeat};
-use crate::lock::{Lock, Missing, Path};
+use crate::lock::{Lock, Look, Missing, Path};
 use crate::logged::Logged;
 use crossbeam_utils::Backoff;
 use lamport_core::At;
@@ -84,5 +84,11 @@ impl<S: Logged + Drop> Lock<S> for FastMutex<S> {
         ensures back { IfErr result (λ m. (m.whole ≡ self) × (m.parts ≡ seats)) }
     {
         self.gather(seats)
+    }
+}
+
+impl<S: Logged + Drop> Look<S> for FastMutex<S> {
+    fn answered(&self, seat: &mut FastSeat<S>) -> bool {
+        self.look(seat)
     }
 }

@@ -10,6 +10,6 @@ mod tests;
 mod word;
 
 pub use fast::{FastInside, FastMutex, FastSeat, Walk};
-pub use lock::{Lock, Missing, Path};
+pub use lock::{Lock, Look, Missing, Path};
 pub use logged::Logged;
 pub use word::{WordInside, WordLock, WordSeat};

@@ -1,5 +1,5 @@
 //! The contract of a lock: what a process finds when it enters, and what it owes when it leaves.
-ghost use Rattle.std.specs.Prelude.{◌≡◌, ◌≤◌, ◌↔◌, ℕ, true, false, List, [], map, length, IfOk, IfErr, IsOk};
+ghost use Rattle.std.specs.Prelude.{◌≡◌, ◌≤◌, ◌↔◌, ◌||◌, ℕ, true, false, List, [], map, length, IfOk, IfErr, IsOk};
 ghost use Rattle.std.specs.List.{All};
 ghost use Rattle.fast_mutex.specs.Items.{LockId, Ticket, tickets_from, Grows, GrowsBy};
 
@@ -86,4 +86,15 @@ pub trait Lock<S: Logged>: Sized + Drop {
         ensures fixed { IfOk result (λ s. S.fixed s ≡ (id self).fixed) }
         ensures grows { IfOk result (λ s. All (λ t. Grows S.owner (ticket t).number (ticket t).left (S.items s) []) seats.items) }
         ensures back { IfErr result (λ m. (m.whole ≡ self) × (m.parts ≡ seats)) };
+}
+
+/// A look from outside at whether the wait of a seat's process is answered, by one load. It never waits.
+pub trait Look<S: Logged>: Lock<S> {
+    /// Where it is true, the seat is told. Who was told stays so until its next stay, and where the list that it last
+    /// left answers its wait, the look is true.
+    fn answered(&self, seat: &mut Self::Seat) -> bool
+        requires { (Self.ticket seat.old).lock ≡ Self.id self.now }
+        ensures ticket { Self.ticket seat.new ≡ record (Self.ticket seat.old) { told = (Self.ticket seat.old).told || result } }
+        ensures again { (Self.ticket seat.old).told ≡ true → result ≡ true }
+        ensures left { S.is_answered (Self.ticket seat.old).number (Self.ticket seat.old).left ≡ true → result ≡ true };
 }

@@ -35,6 +35,11 @@ impl Logged for Notes {
         false
     }
 
+    #[tactic(auto, unfolding(crate::specs::Marks::answer_bits))]
+    fn answers(&self) -> u32 {
+        0
+    }
+
     ghost nobody = { λ p. refl };
 
     ghost stays = { λ p more before others h. h };

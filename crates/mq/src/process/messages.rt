@@ -9,7 +9,7 @@ use crate::guarded::Guarded;
 use crate::stays::{come, depart};
 use crate::system::Mq;
 use crossbeam_utils::Backoff;
-use fast_mutex::Lock;
+use fast_mutex::{Lock, Look};
 use mq_model::entries::{Received, Reply};
 use mq_model::faults::Fault;
 use mq_state::buffers::received;
@@ -81,6 +81,7 @@ impl<L: Lock<Guarded>> Process<L> {
         ensures same { IfNone result (buf.new ≡ buf.old) }
         ensures some { IfSome result (λ outcome. Collects self.old self.new outcome buf.old buf.new) }
         ensures free { IfSome result (λ outcome. IsFree self.new) }
+        ensures told { self.old.told ≡ true → IsSome result }
     {
         let (process, inside, mut state) = come(rt, mq, &mut self.seat);
         let outcome = state.books.collect(process, buf);
@@ -93,8 +94,32 @@ impl<L: Lock<Guarded>> Process<L> {
             None => None,
         }
     }
+}
 
-    // Enters again and again until the wait is answered.
+impl<L: Look<Guarded>> Process<L> {
+    ghost use Rattle.std.specs.Prelude.{◌≡◌, ◌≢◌, ◌≤◌, ◌||◌, Bool, true, false, Some, None, IsSome, IfSome, IfNone, Ok, length, []};
+    ghost use Rattle.mq_model.specs.Answer.{Legal};
+    ghost use Rattle.mq_model.specs.declared.entries.Call.{Call};
+    ghost use Rattle.mq_state.specs.Buffers.{waiting_room};
+    ghost use Rattle.mq.specs.Calls.{IsFree, SendCall, WholeReceive, Collects};
+
+    /// Whether the open wait is answered, by one look from outside the lock, which never waits. Where it is true, the next
+    /// `collect` is Some. It is false without an open wait.
+    pub fn answered(&mut self, mq: &Mq<L>) -> bool
+        requires made { self.old.lock ≡ mq.now }
+        ensures ticket { self.new ≡ record self.old { told = self.old.told || result } }
+        ensures free { waiting_room self.old.left self.old.number ≡ None → result ≡ false }
+    {
+        if self.waits.is_none() {
+            return false;
+        }
+        let Some(seat) = &mut self.seat else {
+            unreachable!()
+        };
+        mq.lock().answered(seat)
+    }
+
+    // Looks again and again until the wait is answered, and enters then.
     fn await_outcome<R: Wait>(&mut self, rt: &R, mq: &Mq<L>, buf: &mut [u8]) -> Collected
         requires made { self.old.lock ≡ mq.now }
         requires wait { IsSome (waiting_room self.old.left self.old.number) }
@@ -104,13 +129,16 @@ impl<L: Lock<Guarded>> Process<L> {
         ensures free { IsFree self.new }
     {
         let backoff = Backoff::new();
-        'tries: for _ in rt.forever() {
-            if let Some(outcome) = self.collect(rt, mq, buf) {
-                return outcome;
+        'looks: for _ in rt.forever() {
+            if self.answered(mq) {
+                break;
             }
             backoff.snooze();
         }
-        unreachable!()
+        match self.collect(rt, mq, buf) {
+            Some(outcome) => outcome,
+            None => unreachable!(),
+        }
     }
 
     /// Sends a message of that priority (`mq_send`). Where the queue is full it waits until the message is admitted, unless the
