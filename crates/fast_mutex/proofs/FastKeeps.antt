@@ -21,7 +21,7 @@ use Rattle.fast_mutex.specs.Marks.{flag, mark_in, has, answer_bits, Course, Mark
 use Rattle.fast_mutex.specs.declared.word.view.About.{About}
 use Rattle.fast_mutex.specs.declared.fast.view.Plan.{Plan}
 use Rattle.fast_mutex.specs.declared.fast.view.View.{View}
-use Rattle.fast_mutex.specs.Fast.{is_inside, IsSafeWorld, seat_view, plan_of, no_plan, number_in, view_told, view_planned, view_marked, list_in, Comes, MayCome, Shows, IsReady, IsLook, IsMark, view_of_first, view_of_others, joint_view, spent_view, first_view, Stands, Fits, KeepsRule, after_store, after_load, point_admitted, point_refused, word_stored, value_stored, word_loaded, IsStore, IsLoad, IsTest, view_left, IsLeave, ticket_of, slots_at}
+use Rattle.fast_mutex.specs.Fast.{is_inside, IsSafeWorld, seat_view, plan_of, no_plan, number_in, view_told, view_planned, view_marked, list_in, Comes, MayCome, Shows, IsReady, IsLook, IsMark, view_of_first, view_of_others, joint_view, spent_view, first_view, Stands, Fits, KeepsRule, stores_line, loads_line, tests_line, after_store, after_load, point_admitted, point_refused, word_stored, value_stored, word_loaded, IsStore, IsLoad, IsTest, view_left, IsLeave, ticket_of, slots_at}
 use Rattle.fast_mutex.proofs.Sums.{views_stay, in_length, once_same, total_same, sum_over-set, one_in_sum, two_in_sum, times_here, times_other, sum_over-append, times-append, each-append, new_claims_once, length-new_claims, grows_none}
 use Rattle.fast_mutex.proofs.WordKeeps.{good_new_claims, good_more, good_grows}
 use Rattle.fast_mutex.proofs.FastWorld.{moved_here, moved_else, inside_point, not_true, raises_rest, raises_start, lowers_back, lowers_slow, lowers_leaving, sets_x, sets_y, leaves_world, loads_test_y, loads_await_y, loads_slow_await, loads_flag, admits_fast, refuses_fast, admits_slow, refuses_slow, others_outside, found_nobody, starting_world, sets_mark, mark_loaded}
@@ -160,13 +160,13 @@ module _ {S I : Type 0} (shows : S → List I) (fixes : S → List ℕ) (owner :
       }
 
   -- a line that stores, and neither enters nor leaves
-  stores : (slots id k word v : ℕ) (old : At) (found : List I) (fixed : Fixed) (l : List I) (more : List (Claim I)) (plan : Plan I) → word ≡ word_stored k old → v ≡ value_stored k old → is_inside old ≡ false → is_inside (after_store old) ≡ false
+  stores : (slots id k word v : ℕ) (old : At) (found : List I) (fixed : Fixed) (l : List I) (more : List (Claim I)) (plan : Plan I) → stores_line old ≡ true → word ≡ word_stored k old → v ≡ value_stored k old → is_inside old ≡ false → is_inside (after_store old) ≡ false
       → ((words marks : List ℕ) (at : ℕ → At) → IsSafeWorld about.count words marks at → at k ≡ old → IsProcess about.count k → IsSafeWorld about.count (set words word v) marks (moved_to at k (after_store old)))
       → Allows Rule slots id (seat old k found fixed l more plan, []) word (λ _. v) (λ _. IsStore (step slots word v 0 none) (seat old k found fixed l more plan, []) v)
-  stores slots id k word v old found fixed l more plan on_word with_value out out' line s r len at small =
+  stores slots id k word v old found fixed l more plan is_line on_word with_value out out' line s r len at small =
       let mine : Fit r.at r.course (seat old k found fixed l more plan) = r.seats id _ at in
       let world = line s.words r.course.marks r.at r.world mine.stands.0 (number_good k fixed r.course.now l mine.good.0) in
-      (seat (after_store old) k found fixed l more plan, keeps, tt, quiet s r id k old (after_store old) found fixed l more plan at out out' (set s.words word v) world, record { on = (on_word, with_value, refl); stores = with_value; goes = refl })
+      (seat (after_store old) k found fixed l more plan, keeps, tt, quiet s r id k old (after_store old) found fixed l more plan at out out' (set s.words word v) world, record { line = is_line; on = (on_word, with_value, refl); stores = with_value; goes = refl })
 
   set_back : (ws : List ℕ) (i : ℕ) → set ws i (get_or ws i 0) ≡ ws
   set_back [] i = refl
@@ -174,24 +174,24 @@ module _ {S I : Type 0} (shows : S → List I) (fixes : S → List ℕ) (owner :
   set_back (w ∷ ws) (suc i) = λ j. w ∷ set_back ws i j
 
   -- a line that loads, and admits nobody
-  loads : (slots id k word : ℕ) (old : At) (found : List I) (fixed : Fixed) (l : List I) (more : List (Claim I)) (plan : Plan I) → word ≡ word_loaded old → is_inside old ≡ false → ((v : ℕ) → is_inside (after_load fixed.0 old v) ≡ false)
+  loads : (slots id k word : ℕ) (old : At) (found : List I) (fixed : Fixed) (l : List I) (more : List (Claim I)) (plan : Plan I) → loads_line old ≡ true → word ≡ word_loaded old → is_inside old ≡ false → ((v : ℕ) → is_inside (after_load fixed.0 old v) ≡ false)
       → ((words marks : List ℕ) (at : ℕ → At) → IsSafeWorld about.count words marks at → at k ≡ old → IsSafeWorld about.count words marks (moved_to at k (after_load about.count old (get_or words word 0))))
       → Allows Rule slots id (seat old k found fixed l more plan, []) word (λ n. n) (IsLoad (step slots word 0 0 none) (seat old k found fixed l more plan, []))
-  loads slots id k word old found fixed l more plan on_word out out' line s r len at small =
+  loads slots id k word old found fixed l more plan is_line on_word out out' line s r len at small =
       let mine : Fit r.at r.course (seat old k found fixed l more plan) = r.seats id _ at in
       let v : ℕ = get_or s.words word 0 in
       let count : fixed.0 ≡ about.count = ap (λ z. z.0) mine.good.0.0 in
       let P : ℕ → Type 0 = λ n. IsSafeWorld about.count s.words r.course.marks (moved_to r.at k (after_load n old v)) in
       let world = subst P (sym count) (line s.words r.course.marks r.at r.world mine.stands.0) in
       let next = quiet s r id k old (after_load fixed.0 old v) found fixed l more plan at out (out' v) s.words world in
-      (seat (after_load fixed.0 old v) k found fixed l more plan, keeps, tt, subst (λ ws. Rule record { words = ws; homes = s.homes; views = set s.views id (seat (after_load fixed.0 old v) k found fixed l more plan) }) (sym (set_back s.words word)) next, record { on = (on_word, refl, refl); goes = refl })
+      (seat (after_load fixed.0 old v) k found fixed l more plan, keeps, tt, subst (λ ws. Rule record { words = ws; homes = s.homes; views = set s.views id (seat (after_load fixed.0 old v) k found fixed l more plan) }) (sym (set_back s.words word)) next, record { line = is_line; on = (on_word, refl, refl); goes = refl })
 
   -- a line that loads, and admits a seat that finds its number
-  tests : (slots id k word : ℕ) (old : At) (found : List I) (fixed : Fixed) (l : List I) (plan : Plan I) → word ≡ word_loaded old → is_inside old ≡ false → is_inside (point_admitted old) ≡ true → is_inside (point_refused old) ≡ false
+  tests : (slots id k word : ℕ) (old : At) (found : List I) (fixed : Fixed) (l : List I) (plan : Plan I) → tests_line old ≡ true → word ≡ word_loaded old → is_inside old ≡ false → is_inside (point_admitted old) ≡ true → is_inside (point_refused old) ≡ false
       → ((words marks : List ℕ) (at : ℕ → At) → IsSafeWorld about.count words marks at → get_or words word 0 ≡ k → at k ≡ old → IsSafeWorld about.count words marks (moved_to at k (point_admitted old)))
       → ((words marks : List ℕ) (at : ℕ → At) → IsSafeWorld about.count words marks at → get_or words word 0 ≢ k → at k ≡ old → IsSafeWorld about.count words marks (moved_to at k (point_refused old)))
       → Allows Rule slots id (seat old k found fixed l [] plan, []) word (λ n. n) (IsTest shows fixes owner answered (step slots word 0 0 none) (seat old k found fixed l [] plan, []))
-  tests slots id k word old found fixed l plan on_word out is out' hit miss s r len at small =
+  tests slots id k word old found fixed l plan is_line on_word out is out' hit miss s r len at small =
       let mine : Fit r.at r.course (seat old k found fixed l [] plan) = r.seats id _ at in
       let v : ℕ = get_or s.words word 0 in
       let back : s.words ≡ set s.words word v = sym (set_back s.words word) in
@@ -206,6 +206,7 @@ module _ {S I : Type 0} (shows : S → List I) (fixes : S → List ℕ) (owner :
         ap (λ h. get_elem? h 0) home.1,
         subst (λ ws. Rule record { words = ws; homes = set s.homes 0 none; views = set s.views id (seat (point_admitted old) k (shows st) fixed l [] (plan_of (shows st) [] plan.told)) }) back (enters s r id k old (point_admitted old) found fixed l [] plan at is nobody st home.1 home.2 s.words world),
         record {
+          line = is_line;
           on = (on_word, refl, refl);
           refused = λ ne. absurd (ne e);
           admitted = λ _. (
@@ -222,7 +223,7 @@ module _ {S I : Type 0} (shows : S → List I) (fixes : S → List ℕ) (owner :
         keeps,
         tt,
         subst (λ ws. Rule record { words = ws; homes = s.homes; views = set s.views id (seat (point_refused old) k found fixed l [] plan) }) back (quiet s r id k old (point_refused old) found fixed l [] plan at out out' s.words world),
-        record { on = (on_word, refl, refl); refused = λ _. refl; admitted = λ e. absurd (ne e) },
+        record { line = is_line; on = (on_word, refl, refl); refused = λ _. refl; admitted = λ e. absurd (ne e) },
       ))
 
   -- while k is inside, no other seat is
@@ -281,7 +282,7 @@ module _ {S I : Type 0} (shows : S → List I) (fixes : S → List ℕ) (owner :
   -- the store of 0 to y
   leaves : (slots id k : ℕ) (p : At) (found : List I) (fixed : Fixed) (l : List I) (more : List (Claim I)) (plan : Plan I) (st : S) → is_inside p ≡ true → GrowsBy owner k found (shows st) → fixes st ≡ fixed.1 → Shows answered fixed.0 found plan (shows st)
       → Allows Rule slots id (seat p k found fixed l more plan, (0, Some st) ∷ []) 1 (λ _. 0) (λ _. IsLeave shows (step slots 1 0 0 none) (seat p k found fixed l more plan, (0, Some st) ∷ []) 0)
-  leaves slots id k p found fixed l more plan st is adds same shown s r len at small = (seat Leaving k (shows st) fixed (shows st) more no_plan, gives, tt, left_home s r id k p found fixed l more plan st is adds same shown at, record { on = (refl, refl, refl); stores = refl; goes = refl })
+  leaves slots id k p found fixed l more plan st is adds same shown s r len at small = (seat Leaving k (shows st) fixed (shows st) more no_plan, gives, tt, left_home s r id k p found fixed l more plan st is adds same shown at, record { inside = is; on = (refl, refl, refl); stores = refl; goes = refl })
 
   -- the one seat of a new table
   only_first : (id : ℕ) (v : View I) → get_elem? (first_view {I = I} fixes about ∷ []) id ≡ some v → v ≡ first_view fixes about
@@ -391,7 +392,7 @@ module _ {S I : Type 0} (shows : S → List I) (fixes : S → List ℕ) (owner :
     keeps,
     tt,
     marks_home s r stays id k p found fixed l plan st q is adds may low high at,
-    record { process = q; on = (refl, refl, refl); stores = refl; goes = refl },
+    record { inside = is; process = q; on = (refl, refl, refl); stores = refl; goes = refl },
   )
 
   -- who was told, or is now, has its word at 1
@@ -436,7 +437,7 @@ module _ {S I : Type 0} (shows : S → List I) (fixes : S → List ℕ) (owner :
         keeps,
         tt,
         subst (λ ws. Rule record { words = ws; homes = s.homes; views = set s.views id (view_told (word == 1) v) }) (sym (set_back s.words (fixed.0 + 1 + k))) next,
-        record { on = (refl, refl, refl); goes = refl; again = λ t. is ∙ mine.told refl t; left = λ a. is ∙ shown_left answered about.count owner stays r.at r.course r.comes r.marked k out number.0 number.1 l mine.good.0.3 a },
+        record { rests = refl; on = (refl, refl, refl); goes = refl; again = λ t. is ∙ mine.told refl t; left = λ a. is ∙ shown_left answered about.count owner stays r.at r.course r.comes r.marked k out number.0 number.1 l mine.good.0.3 a },
       )
 
   -- the first claim goes to a new seat
@@ -526,64 +527,64 @@ module _ {S I : Type 0} (shows : S → List I) (fixes : S → List ℕ) (owner :
   abbrev me_at : At → ℕ → List I → Fixed → List I → Plan I → Me (Opt S) (View I)
   me_at p k found fixed l plan = (seat p k found fixed l [] plan, [])
 
-  stores_at : (slots id k word v : ℕ) (old : At) (me : Me (Opt S) (View I)) (found : List I) (fixed : Fixed) (l : List I) (plan : Plan I) → word ≡ word_stored k old → v ≡ value_stored k old → is_inside old ≡ false → is_inside (after_store old) ≡ false
+  stores_at : (slots id k word v : ℕ) (old : At) (me : Me (Opt S) (View I)) (found : List I) (fixed : Fixed) (l : List I) (plan : Plan I) → stores_line old ≡ true → word ≡ word_stored k old → v ≡ value_stored k old → is_inside old ≡ false → is_inside (after_store old) ≡ false
       → ((words marks : List ℕ) (at : ℕ → At) → IsSafeWorld about.count words marks at → at k ≡ old → IsProcess about.count k → IsSafeWorld about.count (set words word v) marks (moved_to at k (after_store old)))
       → me ≡ me_at old k found fixed l plan → Allows Rule slots id me word (λ _. v) (λ _. IsStore (step slots word v 0 none) me v)
-  stores_at slots id k word v old me found fixed l plan on_word with_value out out' line e = let P : Me (Opt S) (View I) → Type 0 = λ m. Allows Rule slots id m word (λ _. v) (λ _. IsStore (step slots word v 0 none) m v) in
-      subst P (sym e) (stores slots id k word v old found fixed l [] plan on_word with_value out out' line)
+  stores_at slots id k word v old me found fixed l plan is_line on_word with_value out out' line e = let P : Me (Opt S) (View I) → Type 0 = λ m. Allows Rule slots id m word (λ _. v) (λ _. IsStore (step slots word v 0 none) m v) in
+      subst P (sym e) (stores slots id k word v old found fixed l [] plan is_line on_word with_value out out' line)
 
-  loads_at : (slots id k word : ℕ) (old : At) (me : Me (Opt S) (View I)) (found : List I) (fixed : Fixed) (l : List I) (plan : Plan I) → word ≡ word_loaded old → is_inside old ≡ false → ((v : ℕ) → is_inside (after_load fixed.0 old v) ≡ false)
+  loads_at : (slots id k word : ℕ) (old : At) (me : Me (Opt S) (View I)) (found : List I) (fixed : Fixed) (l : List I) (plan : Plan I) → loads_line old ≡ true → word ≡ word_loaded old → is_inside old ≡ false → ((v : ℕ) → is_inside (after_load fixed.0 old v) ≡ false)
       → ((words marks : List ℕ) (at : ℕ → At) → IsSafeWorld about.count words marks at → at k ≡ old → IsSafeWorld about.count words marks (moved_to at k (after_load about.count old (get_or words word 0))))
       → me ≡ me_at old k found fixed l plan → Allows Rule slots id me word (λ n. n) (IsLoad (step slots word 0 0 none) me)
-  loads_at slots id k word old me found fixed l plan on_word out out' line e = let P : Me (Opt S) (View I) → Type 0 = λ m. Allows Rule slots id m word (λ n. n) (IsLoad (step slots word 0 0 none) m) in
-      subst P (sym e) (loads slots id k word old found fixed l [] plan on_word out out' line)
+  loads_at slots id k word old me found fixed l plan is_line on_word out out' line e = let P : Me (Opt S) (View I) → Type 0 = λ m. Allows Rule slots id m word (λ n. n) (IsLoad (step slots word 0 0 none) m) in
+      subst P (sym e) (loads slots id k word old found fixed l [] plan is_line on_word out out' line)
 
-  tests_at : (slots id k word : ℕ) (old : At) (me : Me (Opt S) (View I)) (found : List I) (fixed : Fixed) (l : List I) (plan : Plan I) → word ≡ word_loaded old → is_inside old ≡ false → is_inside (point_admitted old) ≡ true → is_inside (point_refused old) ≡ false
+  tests_at : (slots id k word : ℕ) (old : At) (me : Me (Opt S) (View I)) (found : List I) (fixed : Fixed) (l : List I) (plan : Plan I) → tests_line old ≡ true → word ≡ word_loaded old → is_inside old ≡ false → is_inside (point_admitted old) ≡ true → is_inside (point_refused old) ≡ false
       → ((words marks : List ℕ) (at : ℕ → At) → IsSafeWorld about.count words marks at → get_or words word 0 ≡ k → at k ≡ old → IsSafeWorld about.count words marks (moved_to at k (point_admitted old)))
       → ((words marks : List ℕ) (at : ℕ → At) → IsSafeWorld about.count words marks at → get_or words word 0 ≢ k → at k ≡ old → IsSafeWorld about.count words marks (moved_to at k (point_refused old)))
       → me ≡ me_at old k found fixed l plan → Allows Rule slots id me word (λ n. n) (IsTest shows fixes owner answered (step slots word 0 0 none) me)
-  tests_at slots id k word old me found fixed l plan on_word out is out' hit miss e = let P : Me (Opt S) (View I) → Type 0 = λ m. Allows Rule slots id m word (λ n. n) (IsTest shows fixes owner answered (step slots word 0 0 none) m) in
-      subst P (sym e) (tests slots id k word old found fixed l plan on_word out is out' hit miss)
+  tests_at slots id k word old me found fixed l plan is_line on_word out is out' hit miss e = let P : Me (Opt S) (View I) → Type 0 = λ m. Allows Rule slots id m word (λ n. n) (IsTest shows fixes owner answered (step slots word 0 0 none) m) in
+      subst P (sym e) (tests slots id k word old found fixed l plan is_line on_word out is out' hit miss)
 
   -- Each line of the algorithm, for the seat of a walk.
   module _ (slots id k : ℕ) (me : Me (Opt S) (View I)) (found : List I) (fixed : Fixed) (l : List I) (plan : Plan I) where
     raises_rest_at : me ≡ me_at Rest k found fixed l plan → Allows Rule slots id me (k + 1) (λ _. 1) (λ _. IsStore (step slots (k + 1) 1 0 none) me 1)
-    raises_rest_at = stores_at slots id k (k + 1) 1 Rest me found fixed l plan refl refl refl refl (λ ws ms at w e p. raises_rest about.count ws ms at w k e p)
+    raises_rest_at = stores_at slots id k (k + 1) 1 Rest me found fixed l plan refl refl refl refl refl (λ ws ms at w e p. raises_rest about.count ws ms at w k e p)
 
     raises_start_at : me ≡ me_at Start k found fixed l plan → Allows Rule slots id me (k + 1) (λ _. 1) (λ _. IsStore (step slots (k + 1) 1 0 none) me 1)
-    raises_start_at = stores_at slots id k (k + 1) 1 Start me found fixed l plan refl refl refl refl (λ ws ms at w e p. raises_start about.count ws ms at w k e p)
+    raises_start_at = stores_at slots id k (k + 1) 1 Start me found fixed l plan refl refl refl refl refl (λ ws ms at w e p. raises_start about.count ws ms at w k e p)
 
     pub raises_at : (old : At) → (old ≡ Rest) ⊎ (old ≡ Start) → me ≡ (seat old k found fixed l [] plan, slots_at old) → Allows Rule slots id me (k + 1) (λ _. 1) (λ _. IsStore (step slots (k + 1) 1 0 none) me 1)
     raises_at old is e = let P : At → Type 0 = λ p. me ≡ (seat p k found fixed l [] plan, slots_at p) in
         ⊎_elim (λ q. raises_rest_at (subst P q e)) (λ q. raises_start_at (subst P q e)) is
 
     pub lowers_back_at : me ≡ me_at BackB k found fixed l plan → Allows Rule slots id me (k + 1) (λ _. 0) (λ _. IsStore (step slots (k + 1) 0 0 none) me 0)
-    lowers_back_at = stores_at slots id k (k + 1) 0 BackB me found fixed l plan refl refl refl refl (λ ws ms at w e p. lowers_back about.count ws ms at w k e p)
+    lowers_back_at = stores_at slots id k (k + 1) 0 BackB me found fixed l plan refl refl refl refl refl (λ ws ms at w e p. lowers_back about.count ws ms at w k e p)
 
     pub lowers_slow_at : me ≡ me_at SlowB k found fixed l plan → Allows Rule slots id me (k + 1) (λ _. 0) (λ _. IsStore (step slots (k + 1) 0 0 none) me 0)
-    lowers_slow_at = stores_at slots id k (k + 1) 0 SlowB me found fixed l plan refl refl refl refl (λ ws ms at w e p. lowers_slow about.count ws ms at w k e p)
+    lowers_slow_at = stores_at slots id k (k + 1) 0 SlowB me found fixed l plan refl refl refl refl refl (λ ws ms at w e p. lowers_slow about.count ws ms at w k e p)
 
     pub lowers_leaving_at : me ≡ me_at Leaving k found fixed l plan → Allows Rule slots id me (k + 1) (λ _. 0) (λ _. IsStore (step slots (k + 1) 0 0 none) me 0)
-    lowers_leaving_at = stores_at slots id k (k + 1) 0 Leaving me found fixed l plan refl refl refl refl (λ ws ms at w e p. lowers_leaving about.count ws ms at w k e p)
+    lowers_leaving_at = stores_at slots id k (k + 1) 0 Leaving me found fixed l plan refl refl refl refl refl (λ ws ms at w e p. lowers_leaving about.count ws ms at w k e p)
 
     pub sets_x_at : me ≡ me_at SetX k found fixed l plan → Allows Rule slots id me 0 (λ _. k) (λ _. IsStore (step slots 0 k 0 none) me k)
-    sets_x_at = stores_at slots id k 0 k SetX me found fixed l plan refl refl refl refl (λ ws ms at w e p. sets_x about.count ws ms at w k e)
+    sets_x_at = stores_at slots id k 0 k SetX me found fixed l plan refl refl refl refl refl (λ ws ms at w e p. sets_x about.count ws ms at w k e)
 
     pub sets_y_at : me ≡ me_at SetY k found fixed l plan → Allows Rule slots id me 1 (λ _. k) (λ _. IsStore (step slots 1 k 0 none) me k)
-    sets_y_at = stores_at slots id k 1 k SetY me found fixed l plan refl refl refl refl (λ ws ms at w e p. sets_y about.count ws ms at w k e)
+    sets_y_at = stores_at slots id k 1 k SetY me found fixed l plan refl refl refl refl refl (λ ws ms at w e p. sets_y about.count ws ms at w k e)
 
     pub loads_test_y_at : me ≡ me_at TestY k found fixed l plan → Allows Rule slots id me 1 (λ n. n) (IsLoad (step slots 1 0 0 none) me)
-    loads_test_y_at = loads_at slots id k 1 TestY me found fixed l plan refl refl
+    loads_test_y_at = loads_at slots id k 1 TestY me found fixed l plan refl refl refl
         (λ v. let B : Bool → Type 0 = λ b. is_inside (cond b SetY BackB) ≡ false in elim (eqb v 0) as B [ true ↦ refl | false ↦ refl ])
         (λ ws ms at w e. loads_test_y about.count ws ms at w k e)
 
     pub loads_await_y_at : me ≡ me_at AwaitY k found fixed l plan → Allows Rule slots id me 1 (λ n. n) (IsLoad (step slots 1 0 0 none) me)
-    loads_await_y_at = loads_at slots id k 1 AwaitY me found fixed l plan refl refl
+    loads_await_y_at = loads_at slots id k 1 AwaitY me found fixed l plan refl refl refl
         (λ v. let B : Bool → Type 0 = λ b. is_inside (cond b Start AwaitY) ≡ false in elim (eqb v 0) as B [ true ↦ refl | false ↦ refl ])
         (λ ws ms at w e. loads_await_y about.count ws ms at w k e)
 
     pub loads_slow_await_at : me ≡ me_at SlowAwait k found fixed l plan → Allows Rule slots id me 1 (λ n. n) (IsLoad (step slots 1 0 0 none) me)
-    loads_slow_await_at = loads_at slots id k 1 SlowAwait me found fixed l plan refl refl
+    loads_slow_await_at = loads_at slots id k 1 SlowAwait me found fixed l plan refl refl refl
         (λ v. let B : Bool → Type 0 = λ b. is_inside (cond b Start SlowAwait) ≡ false in elim (eqb v 0) as B [ true ↦ refl | false ↦ refl ])
         (λ ws ms at w e. loads_slow_await about.count ws ms at w k e)
 
@@ -593,13 +594,13 @@ module _ {S I : Type 0} (shows : S → List I) (fixes : S → List ℕ) (owner :
     scan_outside j false false = refl
 
     pub loads_flag_at : (j : ℕ) → me ≡ me_at (Scan j) k found fixed l plan → Allows Rule slots id me (j + 1) (λ n. n) (IsLoad (step slots (j + 1) 0 0 none) me)
-    loads_flag_at j = loads_at slots id k (j + 1) (Scan j) me found fixed l plan refl refl (λ v. scan_outside j (eqb v 1) (eqb j fixed.0)) (λ ws ms at w e. loads_flag about.count ws ms at w k j e)
+    loads_flag_at j = loads_at slots id k (j + 1) (Scan j) me found fixed l plan refl refl refl (λ v. scan_outside j (eqb v 1) (eqb j fixed.0)) (λ ws ms at w e. loads_flag about.count ws ms at w k j e)
 
     pub tests_x_at : me ≡ me_at TestX k found fixed l plan → Allows Rule slots id me 0 (λ n. n) (IsTest shows fixes owner answered (step slots 0 0 0 none) me)
-    tests_x_at = tests_at slots id k 0 TestX me found fixed l plan refl refl refl refl (λ ws ms at w is e. admits_fast about.count ws ms at w k is e) (λ ws ms at w ne e. refuses_fast about.count ws ms at w k ne e)
+    tests_x_at = tests_at slots id k 0 TestX me found fixed l plan refl refl refl refl refl (λ ws ms at w is e. admits_fast about.count ws ms at w k is e) (λ ws ms at w ne e. refuses_fast about.count ws ms at w k ne e)
 
     pub tests_y_at : me ≡ me_at SlowY k found fixed l plan → Allows Rule slots id me 1 (λ n. n) (IsTest shows fixes owner answered (step slots 1 0 0 none) me)
-    tests_y_at = tests_at slots id k 1 SlowY me found fixed l plan refl refl refl refl (λ ws ms at w is e. admits_slow about.count ws ms at w k is e) (λ ws ms at w ne e. refuses_slow about.count ws ms at w k ne e)
+    tests_y_at = tests_at slots id k 1 SlowY me found fixed l plan refl refl refl refl refl (λ ws ms at w is e. admits_slow about.count ws ms at w k is e) (λ ws ms at w ne e. refuses_slow about.count ws ms at w k ne e)
 
     pub leaves_at : (p : At) (st : S) → me ≡ (seat p k found fixed l [] plan, (0, Some st) ∷ []) → is_inside p ≡ true → GrowsBy owner k found (shows st) → fixes st ≡ fixed.1 → Shows answered fixed.0 found plan (shows st)
         → Allows Rule slots id me 1 (λ _. 0) (λ _. IsLeave shows (step slots 1 0 0 none) me 0)

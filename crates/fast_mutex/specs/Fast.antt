@@ -131,7 +131,18 @@ module _ {S I : Type 0} (shows : S → List I) (fixes : S → List ℕ) (owner :
     pub once : (k : ℕ) → sum_over (λ (v : View I). times k v.claims) s.views ≤ 1
     pub total : sum_over (λ (v : View I). length v.claims) s.views ≡ about.count
 
--- The lines that store, but for the store of 0 to y: the word and the value that process k stores, and the point after.
+-- The lines that store, but for the store of 0 to y: their points, the word and the value that process k stores, and
+-- the point after. At other points no line stores, and what these say there is asked by nobody.
+abbrev pub stores_line : At → Bool
+stores_line Rest = true
+stores_line Start = true
+stores_line SetX = true
+stores_line BackB = true
+stores_line SetY = true
+stores_line SlowB = true
+stores_line Leaving = true
+stores_line p = false
+
 abbrev pub word_stored : ℕ → At → ℕ
 word_stored k SetX = 0
 word_stored k SetY = 1
@@ -154,7 +165,20 @@ after_store SlowB = Scan 1
 after_store Leaving = Rest
 after_store p = p
 
--- The lines that load: the word, and the point after a line that admits nobody, by what it found.
+-- The lines that load: the points of those that admit nobody and of those that may, the word, and the point after a
+-- line that admits nobody, by what it found.
+abbrev pub loads_line : At → Bool
+loads_line TestY = true
+loads_line AwaitY = true
+loads_line (Scan j) = true
+loads_line SlowAwait = true
+loads_line p = false
+
+abbrev pub tests_line : At → Bool
+tests_line TestX = true
+tests_line SlowY = true
+tests_line p = false
+
 abbrev pub word_loaded : At → ℕ
 word_loaded TestX = 0
 word_loaded (Scan j) = j + 1
@@ -187,12 +211,14 @@ module _ {S I : Type 0} where
   -- A line that stores, and is not the store of 0 to y. What a store tells as found is the value stored. Any other
   -- access tells the word that it found, and no seat could show that this is the value.
   pub record IsStore (t : Step (Opt S)) (me : Me (Opt S) (View I)) (found : ℕ) (me' : Me (Opt S) (View I)) : Type 0 where
+    pub line : stores_line me.0.at ≡ true
     pub on : IsOn t (word_stored (number_in me.0.claims) me.0.at) (value_stored (number_in me.0.claims) me.0.at)
     pub stores : found ≡ value_stored (number_in me.0.claims) me.0.at
     pub goes : me' ≡ (view_at (after_store me.0.at) me.0, me.1)
 
   -- a line that loads, and admits nobody
   pub record IsLoad (t : Step (Opt S)) (me : Me (Opt S) (View I)) (found : ℕ) (me' : Me (Opt S) (View I)) : Type 0 where
+    pub line : loads_line me.0.at ≡ true
     pub on : IsOn t (word_loaded me.0.at) 0
     pub goes : me' ≡ (view_at (after_load me.0.fixed.0 me.0.at found) me.0, me.1)
 
@@ -200,6 +226,7 @@ module _ {S I : Type 0} (answered : ℕ → List I → Bool) where
   -- The load of the own word s, outside: the seat is told where the word is 1. Who was told before finds 1, and so does
   -- whose wait is answered in the list that it left.
   pub record IsLook (t : Step (Opt S)) (me : Me (Opt S) (View I)) (found : ℕ) (me' : Me (Opt S) (View I)) : Type 0 where
+    pub rests : me.0.at ≡ Rest
     pub on : IsOn t (me.0.fixed.0 + 1 + number_in me.0.claims) 0
     pub goes : me' ≡ (view_told (found == 1) me.0, me.1)
     pub again : me.0.plan.told ≡ true → found ≡ 1
@@ -209,6 +236,7 @@ module _ {S I : Type 0} (shows : S → List I) (fixes : S → List ℕ) (owner :
   -- A line that loads, and admits a seat exactly where it finds its number: the seat then has the state, whose list has
   -- grown from the one that it left by others' items. Where the seat was told, the list answers its wait.
   pub record IsTest (t : Step (Opt S)) (me : Me (Opt S) (View I)) (found : ℕ) (me' : Me (Opt S) (View I)) : Type 0 where
+    pub line : tests_line me.0.at ≡ true
     pub on : IsOn t (word_loaded me.0.at) 0
     pub refused : found ≢ number_in me.0.claims → me' ≡ (view_at (point_refused me.0.at) me.0, me.1)
     pub admitted : found ≡ number_in me.0.claims → (st : S) × (me' ≡ (view_inside (point_admitted me.0.at) (shows st) me.0, (0, Some st) ∷ [])) × (fixes st ≡ me.0.fixed.1)
@@ -223,6 +251,7 @@ module _ {S I : Type 0} (shows : S → List I) where
 
   -- the store of a word s, inside, with the state in its slot
   pub record IsMark (answered : ℕ → List I → Bool) (t : Step (Opt S)) (me : Me (Opt S) (View I)) (found : ℕ) (me' : Me (Opt S) (View I)) : Type 0 where
+    pub inside : is_inside me.0.at ≡ true
     pub process : ℕ
     pub on : IsOn t (me.0.fixed.0 + 1 + process) (flag (answered process (list_in me.1)))
     pub stores : found ≡ flag (answered process (list_in me.1))
@@ -236,6 +265,7 @@ module _ {S I : Type 0} (shows : S → List I) where
 
   -- the store of 0 to y
   pub record IsLeave (t : Step (Opt S)) (me : Me (Opt S) (View I)) (found : ℕ) (me' : Me (Opt S) (View I)) : Type 0 where
+    pub inside : is_inside me.0.at ≡ true
     pub on : IsOn t 1 0
     pub stores : found ≡ 0
     pub goes : me' ≡ (view_left me me.1, [])
