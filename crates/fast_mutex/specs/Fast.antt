@@ -1,7 +1,7 @@
 -- The rule of Lamport's lock, and what each step on its words tells.
 -- The words are x, y and the flags b[1] to b[n]. Words and points are a world that keeps the condition of
 -- `lamport_core`, and the state is at home exactly where no process is inside.
-use Rattle.std.specs.Prelude.{◌≡◌, ◌≢◌, ◌==◌, ◌||◌, ◌⊎◌, ℕ, zero, suc, ◌+◌, ◌-◌, ◌≤◌, Bool, true, false, cond, List, [], ◌∷◌, ◌++◌, length, take, slice_index, Option as Opt, Some, None}
+use Rattle.std.specs.Prelude.{◌≡◌, ◌≢◌, ◌==◌, ◌||◌, ◌⊎◌, ℕ, zero, suc, ◌+◌, ◌≤◌, Bool, true, false, cond, List, [], ◌∷◌, ◌++◌, length, slice_index, Option as Opt, Some, None}
 use Rattle.std.specs.List.{AllByRecursion as Each}
 use Rattle.std.specs.Coded.{×_prop, le_prop, Coded-set, coded_ℕ}
 use mathlib.Core.Option.{none, some}
@@ -14,7 +14,7 @@ use Rattle.lamport_core.specs.Safe.{Safe}
 use Rattle.lamport_core.specs.Line.{IsCounted}
 use Rattle.lamport_core.specs.declared.At.{At}
 use Rattle.lamport_core.specs.declared.At.TheVariants.{Rest, Start, SetX, TestY, BackB, AwaitY, SetY, TestX, SlowB, Scan, SlowY, SlowAwait, Fast, Slow, Leaving}
-use Rattle.fast_mutex.specs.Items.{Ticket, Grows, GrowsBy, items_of}
+use Rattle.fast_mutex.specs.Items.{Ticket, Grows, GrowsBy}
 use Rattle.fast_mutex.specs.Word.{Claim, Fixed, IsGood, lock_id, made_with, new_claims, first_claim, other_claims, claims_after, last_left, sum_over, times}
 use Rattle.fast_mutex.specs.Marks.{flag, mark_in, has, Course, Marked}
 use Rattle.fast_mutex.specs.declared.word.view.About.{About}
@@ -315,14 +315,6 @@ module _ {S I : Type 0} (shows : S → List I) (fixes : S → List ℕ) where
 module _ {I : Type 0} where
   abbrev pub state_at : At → List I → Fixed → Opt (List I × List ℕ)
   state_at p found fixed = cond (is_inside p) (Some (found, fixed.1)) None
-
-  -- what stands in front of `before` in `after`
-  abbrev pub front : List I → List I → List I
-  front after before = take (length after - length before) after
-
-  -- the list found has grown by nothing of k's own; as `Grows`, in a form that has one proof
-  abbrev pub HasGrown : (I → ℕ) → ℕ → List I → List I → Type 0
-  HasGrown owner k left found = (front found left ++ left ≡ found) × (items_of owner k (front found left) ≡ [])
 
 -- the count of the steps of a pass is one fact at each point, which a ghost field has to know
 pub counted_prop : (n : ℕ) (p : At) (k : ℕ) → IsProp (IsCounted n p k)

@@ -8,9 +8,9 @@ ghost use Rattle.std.specs.List.{All};
 ghost use Rattle.lamport_core.specs.Line.{IsLine, IsCounted, one_more, pass_steps};
 ghost use Rattle.lamport_core.specs.declared.At.TheVariants.{Rest, Start, SetX, TestY, BackB, AwaitY, SetY, TestX, SlowB, Scan, SlowY, SlowAwait, Fast, Slow, Leaving};
 ghost use Rattle.fast_mutex.specs.Items.{new_ticket, tickets_from, Grows, GrowsBy};
-ghost use Rattle.fast_mutex.specs.Word.{last_left, lock_id, made_with, new_claims};
+ghost use Rattle.fast_mutex.specs.Word.{last_left, lock_id, made_with, new_claims, HasGrown};
 ghost use Rattle.fast_mutex.specs.Marks.{flag, answer_bits};
-ghost use Rattle.fast_mutex.specs.Fast.{seat_view, no_plan, view_planned, view_marked, list_in, IsReady, Shows, first_view, is_inside, slots_at, state_shown, state_at, HasGrown, counted_prop, ticket_of, stay_of, IsSeatOf};
+ghost use Rattle.fast_mutex.specs.Fast.{seat_view, no_plan, view_planned, view_marked, list_in, IsReady, Shows, first_view, is_inside, slots_at, state_shown, state_at, counted_prop, ticket_of, stay_of, IsSeatOf};
 
 use crate::lock::Missing;
 use crate::logged::Logged;
@@ -52,8 +52,9 @@ pub struct FastSeat<S: Logged> {
     ghost alone: { seat.me ≡ (seat_view Rest seat.me.0.found seat.me.0.fixed ((number, last_left seat.me.0.claims) ∷ []) seat.me.0.plan, []) },
 }
 
-/// An entry that is taken step by step. It holds the state once it is inside, and has to be spent by
-/// `FastMutex::admitted`.
+/// An entry that is taken step by step. It holds the state once it is inside, for `FastMutex::admitted`. One that is
+/// dropped can keep all others out, as one that is not taken further.
+#[derive(Drop)]
 pub struct Walk<S: Logged> {
     number: u32,
     at: At,

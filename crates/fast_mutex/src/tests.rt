@@ -3,7 +3,7 @@ ghost use Rattle.std.specs.Prelude.{◌≡◌, ℕ, List, [], ◌∷◌, false, 
 ghost use Rattle.fast_mutex.specs.Items.{Grows, tickets_from};
 ghost use Rattle.fast_mutex.specs.Word.{ticket_of, lock_id, made_with};
 
-use crate::{Lock, Logged, Missing, Path, WordLock, WordSeat};
+use crate::{Enter, Lock, Logged, Missing, Path, WordLock, WordSeat};
 use std::alloc::{AllocError, Global};
 use std::sync::Wait;
 use std::thread::{Threads, join};

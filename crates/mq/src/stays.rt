@@ -6,7 +6,7 @@ ghost use Rattle.mq.specs.Calls.{Came, ticket_of, owner};
 
 use crate::guarded::Guarded;
 use crate::system::Mq;
-use fast_mutex::Lock;
+use fast_mutex::{Enter, Lock};
 use std::sync::Wait;
 
 /// Enters with the seat of a process, and says which process it is.
