@@ -9,15 +9,15 @@ use crate::guarded::Guarded;
 use crate::stays::{come, depart};
 use crate::system::Mq;
 use crossbeam_utils::Backoff;
-use fast_mutex::{Lock, Look};
+use fast_mutex::Look;
 use mq_model::entries::{Received, Reply};
 use mq_model::faults::Fault;
 use mq_state::buffers::received;
 use mq_state::collected::Collected;
 use std::sync::Wait;
 
-impl<L: Lock<Guarded>> Process<L> {
-    ghost use Rattle.std.specs.Prelude.{◌≡◌, ◌≢◌, ◌≤◌, Bool, true, false, Some, None, IsSome, IfSome, IfNone, Ok, length, []};
+impl<L: Look<Guarded>> Process<L> {
+    ghost use Rattle.std.specs.Prelude.{◌≡◌, ◌≢◌, ◌≤◌, ◌||◌, Bool, true, false, Some, None, IsSome, IfSome, IfNone, Ok, length, []};
     ghost use Rattle.mq_model.specs.Answer.{Legal};
     ghost use Rattle.mq_model.specs.declared.entries.Call.{Call};
     ghost use Rattle.mq_state.specs.Buffers.{waiting_room};
@@ -94,14 +94,6 @@ impl<L: Lock<Guarded>> Process<L> {
             None => None,
         }
     }
-}
-
-impl<L: Look<Guarded>> Process<L> {
-    ghost use Rattle.std.specs.Prelude.{◌≡◌, ◌≢◌, ◌≤◌, ◌||◌, Bool, true, false, Some, None, IsSome, IfSome, IfNone, Ok, length, []};
-    ghost use Rattle.mq_model.specs.Answer.{Legal};
-    ghost use Rattle.mq_model.specs.declared.entries.Call.{Call};
-    ghost use Rattle.mq_state.specs.Buffers.{waiting_room};
-    ghost use Rattle.mq.specs.Calls.{IsFree, SendCall, WholeReceive, Collects};
 
     /// Whether the open wait is answered, by one look from outside the lock, which never waits. Where it is true, the next
     /// `collect` is Some. It is false without an open wait.
