@@ -14,6 +14,7 @@ use mq_state::collected::Collected;
 use std::alloc::Global;
 use std::process::Abort;
 use std::sync::Wait;
+use std::time::Clock;
 
 mod calls;
 mod threads;
@@ -72,7 +73,7 @@ fn open_queue<L: Look<Guarded>, R: Wait>(
 }
 
 // A send that is refused a growth is made once more.
-fn send<L: Look<Guarded>, R: Wait>(
+fn send<L: Look<Guarded>, R: Wait + Clock>(
     rt: &R,
     mq: &Mq<L>,
     p: &mut Process<L>,
@@ -90,7 +91,7 @@ fn send<L: Look<Guarded>, R: Wait>(
     }
 }
 
-fn receive<L: Look<Guarded>, R: Wait>(
+fn receive<L: Look<Guarded>, R: Wait + Clock>(
     rt: &R,
     mq: &Mq<L>,
     p: &mut Process<L>,
@@ -187,7 +188,7 @@ fn finish<L: Look<Guarded>>(
 }
 
 /// Sends and receives of one process, and the journal at the end.
-fn in_order<L: Look<Guarded>, R: Wait + Abort>(rt: &R, alloc: Global) -> Option<Journal> {
+fn in_order<L: Look<Guarded>, R: Wait + Clock + Abort>(rt: &R, alloc: Global) -> Option<Journal> {
     let Pair { mq, mut one, two } = make_pair::<L>(alloc)?;
     assert_eq!(rt; one.number(), 1);
     assert_eq!(rt; two.number(), 2);
@@ -205,7 +206,7 @@ fn in_order<L: Look<Guarded>, R: Wait + Abort>(rt: &R, alloc: Global) -> Option<
 }
 
 /// What two processes in one thread are told where both wait in turn.
-fn both_wait<L: Look<Guarded>, R: Wait + Abort>(rt: &R, alloc: Global) -> Option<Journal> {
+fn both_wait<L: Look<Guarded>, R: Wait + Clock + Abort>(rt: &R, alloc: Global) -> Option<Journal> {
     let Pair {
         mq,
         mut one,

@@ -6,15 +6,16 @@ ghost use Rattle.mq.specs.Calls.{wait_begun};
 
 use super::Process;
 use crate::guarded::Guarded;
+use crate::pause::Pause;
 use crate::stays::{come, depart};
 use crate::system::Mq;
-use crossbeam_utils::Backoff;
 use fast_mutex::Look;
 use mq_model::entries::{Received, Reply};
 use mq_model::faults::Fault;
 use mq_state::buffers::received;
 use mq_state::collected::Collected;
 use std::sync::Wait;
+use std::time::Clock;
 
 impl<L: Look<Guarded>> Process<L> {
     ghost use Rattle.std.specs.Prelude.{◌≡◌, ◌≢◌, ◌≤◌, ◌||◌, Bool, true, false, Some, None, IsSome, IfSome, IfNone, Ok, length, []};
@@ -112,7 +113,12 @@ impl<L: Look<Guarded>> Process<L> {
     }
 
     // Looks again and again until the wait is answered, and enters then.
-    fn await_outcome<R: Wait>(&mut self, rt: &R, mq: &Mq<L>, buf: &mut [u8]) -> Collected
+    fn await_outcome<R: Wait + Clock>(
+        &mut self,
+        rt: &R,
+        mq: &Mq<L>,
+        buf: &mut [u8],
+    ) -> Collected
         requires made { self.old.lock ≡ mq.now }
         requires wait { IsSome (waiting_room self.old.left self.old.number) }
         requires room { IfSome (waiting_room self.old.left self.old.number) (λ room. room ≤ length buf.old) }
@@ -120,12 +126,12 @@ impl<L: Look<Guarded>> Process<L> {
         ensures some { Collects self.old self.new result buf.old buf.new }
         ensures free { IsFree self.new }
     {
-        let backoff = Backoff::new();
+        let mut pause = Pause::new();
         'looks: for _ in rt.forever() {
             if self.answered(mq) {
                 break;
             }
-            backoff.snooze();
+            pause.pass(rt);
         }
         match self.collect(rt, mq, buf) {
             Some(outcome) => outcome,
@@ -135,7 +141,7 @@ impl<L: Look<Guarded>> Process<L> {
 
     /// Sends a message of that priority (`mq_send`). Where the queue is full it waits until the message is admitted, unless the
     /// descriptor does not block. Refused with `BadDescriptor`, `Invalid`, `MessageSize`, `Again` or `NoMemory`.
-    pub fn send<R: Wait>(
+    pub fn send<R: Wait + Clock>(
         &mut self,
         rt: &R,
         mq: &Mq<L>,
@@ -160,7 +166,7 @@ impl<L: Look<Guarded>> Process<L> {
 
     /// Receives the oldest message of the highest priority into the front of the buffer (`mq_receive`). Where there is none it
     /// waits for one, unless the descriptor does not block. Refused with `BadDescriptor`, `MessageSize`, `Again` or `NoMemory`.
-    pub fn receive<R: Wait>(
+    pub fn receive<R: Wait + Clock>(
         &mut self,
         rt: &R,
         mq: &Mq<L>,

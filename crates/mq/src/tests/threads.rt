@@ -11,11 +11,12 @@ use std::alloc::Global;
 use std::process::Abort;
 use std::sync::Wait;
 use std::thread::{Threads, join};
+use std::time::Clock;
 
 const MESSAGES: u8 = 200;
 
 // Sends as many messages, each with its number, through a queue that holds two.
-fn send_all<L: Look<Guarded>, R: Wait>(rt: &R, mq: &Mq<L>, mut p: Process<L>) -> (Process<L>, bool)
+fn send_all<L: Look<Guarded>, R: Wait + Clock>(rt: &R, mq: &Mq<L>, mut p: Process<L>) -> (Process<L>, bool)
     requires made { p.lock ≡ mq.now }
     requires free { IsFree p }
     ensures made { result.0.lock ≡ p.lock }
@@ -29,7 +30,7 @@ fn send_all<L: Look<Guarded>, R: Wait>(rt: &R, mq: &Mq<L>, mut p: Process<L>) ->
 }
 
 // Receives as many messages, and sees that they come in the order of their numbers.
-fn receive_all<L: Look<Guarded>, R: Wait>(
+fn receive_all<L: Look<Guarded>, R: Wait + Clock>(
     rt: &R,
     mq: &Mq<L>,
     mut p: Process<L>,
@@ -48,7 +49,7 @@ fn receive_all<L: Look<Guarded>, R: Wait>(
 }
 
 /// One process sends and the other receives, each in a thread of its own, and the journal at the end.
-fn side_by_side<L: Look<Guarded> + Sync, R: Wait + Threads + Abort + Sync>(
+fn side_by_side<L: Look<Guarded> + Sync, R: Wait + Clock + Threads + Abort + Sync>(
     rt: &R,
     alloc: Global,
 ) -> Option<Journal>
