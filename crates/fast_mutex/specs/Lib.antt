@@ -2,3 +2,4 @@ pub mod Items
 pub mod Word
 pub mod Marks
 pub mod Fast
+pub mod Bells

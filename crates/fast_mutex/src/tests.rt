@@ -8,6 +8,7 @@ use std::alloc::{AllocError, Global};
 use std::sync::Wait;
 use std::thread::{Threads, join};
 
+mod looks;
 mod threads;
 mod walks;
 

@@ -217,10 +217,14 @@ fn both_wait<L: Look<Guarded>, R: Wait + Clock + Abort>(rt: &R, alloc: Global) -
     assert_eq!(rt; open_queue(rt, &mq, &mut two, OPEN, 1), Ok(0));
     assert_eq!(rt; start_receive(rt, &mq, &mut one, &mut buf), Ok(None));
     assert_eq!(rt; one.waiting(), Some(8));
+    assert!(rt; !one.answered(&mq));
     assert_eq!(rt; collect(rt, &mq, &mut one, &mut buf), None);
     assert_eq!(rt; send(rt, &mq, &mut two, b"hi", 4), Ok(()));
+    assert!(rt; one.answered(&mq));
+    assert!(rt; one.answered(&mq));
     let outcome = Some(Collected::Got(Received { len: 2, prio: 4 }));
     assert_eq!(rt; collect(rt, &mq, &mut one, &mut buf), outcome);
+    assert!(rt; !one.answered(&mq));
     assert_eq!(rt; buf, [b'h', b'i', 0, 0, 0, 0, 0, 0]);
     assert_eq!(rt; start_send(rt, &mq, &mut two, b"a"), Ok(true));
     assert_eq!(rt; start_send(rt, &mq, &mut two, b"b"), Ok(false));
