@@ -1,8 +1,8 @@
 -- Each line of Lamport's algorithm, taken on the words: where words and points are a world that keeps the condition,
 -- they are one after the line. Each cites the law of its line.
-use Rattle.std.proofs.Common.{◌≡◌, ◌≢◌, ◌<◌, ◌≤◌, ◌+◌, ◌-◌, ℕ, zero, suc, eqb, cond, Bool, true, false, List, [], ◌∷◌, set, take, replicate, get_or, length, length-set, refl, sym, ap, ◌∙◌, subst, inl, inr, ⊎_elim, arith, get_or-set_same, get_or-set_other, eq-eqb, ne_eqb}
+use Rattle.std.proofs.Common.{◌≡◌, ◌≢◌, ◌<◌, ◌≤◌, ◌+◌, ◌-◌, ◌*◌, ℕ, zero, suc, eqb, cond, Bool, true, false, List, [], ◌∷◌, ◌++◌, set, take, replicate, get_or, length, length-set, refl, sym, ap, ◌∙◌, subst, inl, inr, ⊎_elim, arith, get_or-set_same, get_or-set_other, eq-eqb, ne_eqb}
 use Rattle.std.specs.List.{AllByRecursion as Each}
-use Rattle.std.proofs.lemmas.List.{length-take-le}
+use Rattle.std.proofs.lemmas.List.{set-append_left, set-append_right, get_or_append_left, get_or-append_right, take-replicate, replicate-append-replicate, length-replicate}
 use Rattle.lamport_core.specs.State.{IsProcess, IsInsidePoint, after_TestX, after_SlowY}
 use Rattle.lamport_core.specs.Safe.{Safe, Moves, Sets, IsPoint, moved_to}
 use Rattle.lamport_core.proofs.Steps
@@ -10,6 +10,7 @@ use Rattle.lamport_core.proofs.Along.{moves_to, one_inside_at, admitted_alone}
 use Rattle.lamport_core.proofs.Worlds.{rest_safe}
 use Rattle.lamport_core.specs.declared.At.{At}
 use Rattle.lamport_core.specs.declared.At.TheVariants.{Rest, Start, SetX, TestY, BackB, AwaitY, SetY, TestX, SlowB, Scan, SlowY, SlowAwait, Fast, Slow, Leaving}
+use Rattle.fast_mutex.specs.Marks.{mark_in}
 use Rattle.fast_mutex.specs.Fast.{is_inside, flag_in, IsSafeWorld, after_store, after_load}
 
 pub moved_here : (at : ℕ → At) (k : ℕ) (q : At) → moved_to at k q k ≡ q
@@ -56,46 +57,62 @@ flag_sets flags (suc m) v t some wide is = let place : suc m - 1 ≡ m = omega a
     there flags m v zero ne = refl
     there flags m v (suc l) ne = let other : l ≢ m = (λ e. ne (omega arith)) in ap (λ w. eqb w 1) (get_or-set_other flags m l v 0 other)
 
-set_flag_word : (x y : ℕ) (flags : List ℕ) (k v : ℕ) → 0 < k → set (x ∷ y ∷ flags) (k + 1) v ≡ x ∷ y ∷ set flags (k - 1) v
-set_flag_word x y flags k v some = let e : k + 1 ≡ suc (suc (k - 1)) = omega arith in ap (λ i. set (x ∷ y ∷ flags) i v) e
+set_flag_word : (x y : ℕ) (flags marks : List ℕ) (k v : ℕ) → 0 < k → k ≤ length flags → set (x ∷ y ∷ flags ++ marks) (k + 1) v ≡ x ∷ y ∷ set flags (k - 1) v ++ marks
+set_flag_word x y flags marks k v some wide = let e : k + 1 ≡ suc (suc (k - 1)) = omega arith in
+    ap (λ i. set (x ∷ y ∷ flags ++ marks) i v) e ∙ ap (λ l. x ∷ y ∷ l) (set-append_left flags marks (k - 1) v (omega arith))
 
 -- the flag of process j as the word that is loaded
-flag_loaded : (x y : ℕ) (flags : List ℕ) (j v : ℕ) → 0 < j → get_or (x ∷ y ∷ flags) (j + 1) 0 ≡ v → flag_in flags j ≡ eqb v 1
-flag_loaded x y flags zero v some is = absurd (omega arith)
-flag_loaded x y flags (suc m) v some is = let place : suc m + 1 ≡ suc (suc m) = omega arith in
-    let word : get_or flags m 0 ≡ v = ap (λ i. get_or (x ∷ y ∷ flags) i 0) (sym place) ∙ is in ap (λ w. eqb w 1) word
+flag_loaded : (x y : ℕ) (flags marks : List ℕ) (j v : ℕ) → 0 < j → j ≤ length flags → get_or (x ∷ y ∷ flags ++ marks) (j + 1) 0 ≡ v → flag_in flags j ≡ eqb v 1
+flag_loaded x y flags marks zero v some wide is = absurd (omega arith)
+flag_loaded x y flags marks (suc m) v some wide is = let place : suc m + 1 ≡ suc (suc m) = omega arith in
+    let word : get_or flags m 0 ≡ v = sym (get_or_append_left flags marks 0 m (omega arith)) ∙ ap (λ i. get_or (x ∷ y ∷ flags ++ marks) i 0) (sym place) ∙ is in ap (λ w. eqb w 1) word
 
-module _ (n : ℕ) (words : List ℕ) (at : ℕ → At) (w : IsSafeWorld n words at) (k : ℕ) where
+-- a store to the word s of process p, which is behind all flags
+set_mark_word : (x y n : ℕ) (flags marks : List ℕ) (p v : ℕ) → length flags ≡ n → 1 ≤ p → set (x ∷ y ∷ flags ++ marks) (n + 1 + p) v ≡ x ∷ y ∷ flags ++ set marks (p - 1) v
+set_mark_word x y n flags marks p v wide some =
+    let e : n + 1 + p ≡ suc (suc (n + (p - 1))) = omega arith in
+    let d : n + (p - 1) - n ≡ p - 1 = omega arith in
+    ap (λ i. set (x ∷ y ∷ flags ++ marks) i v) e ∙ ap (λ l. x ∷ y ∷ l) (set-append_right flags marks n (n + (p - 1)) v wide (omega arith) ∙ ap (λ i. flags ++ set marks i v) d)
+
+-- the word s of process p as the word that is loaded
+mark_word : (x y n : ℕ) (flags marks : List ℕ) (p : ℕ) → length flags ≡ n → 1 ≤ p → get_or (x ∷ y ∷ flags ++ marks) (n + 1 + p) 0 ≡ mark_in marks p
+mark_word x y n flags marks zero wide some = absurd (omega arith)
+mark_word x y n flags marks (suc m) wide some =
+    let e : n + 1 + suc m ≡ suc (suc (n + m)) = omega arith in
+    let d : n + m - n ≡ m = omega arith in
+    ap (λ i. get_or (x ∷ y ∷ flags ++ marks) i 0) e ∙ (get_or-append_right flags marks n (n + m) 0 wide (omega arith) ∙ ap (λ i. get_or marks i 0) d)
+
+module _ (n : ℕ) (words marks : List ℕ) (at : ℕ → At) (w : IsSafeWorld n words marks at) (k : ℕ) where
   -- b[k] := v
   stores_flag : (P : At) (v : ℕ) (t : Bool) → at k ≡ P → IsProcess n k → eqb v 1 ≡ t
       → ((b' : ℕ → Bool) → Moves k P (after_store P) at (moved_to at k (after_store P)) → Sets k t (flag_in w.flags) b' → Safe n w.x w.y b' (moved_to at k (after_store P)))
-      → IsSafeWorld n (set words (k + 1) v) (moved_to at k (after_store P))
+      → IsSafeWorld n (set words (k + 1) v) marks (moved_to at k (after_store P))
   stores_flag P v t e p is law = let wide : length w.flags ≡ n = w.wide in record {
     x = w.x;
     y = w.y;
     flags = set w.flags (k - 1) v;
-    is = ap (λ ws. set ws (k + 1) v) w.is ∙ set_flag_word w.x w.y w.flags k v p.0;
+    is = ap (λ ws. set ws (k + 1) v) w.is ∙ set_flag_word w.x w.y w.flags marks k v p.0 (omega (arith, p.1));
     wide = length-set w.flags (k - 1) v ∙ w.wide;
     safe = law (flag_in (set w.flags (k - 1) v)) (moves_to at k P (after_store P) e) (flag_sets w.flags k v t p.0 (omega (arith, p.1)) is);
   }
 
-  pub raises_rest : at k ≡ Rest → IsProcess n k → IsSafeWorld n (set words (k + 1) 1) (moved_to at k SetX)
+  pub raises_rest : at k ≡ Rest → IsProcess n k → IsSafeWorld n (set words (k + 1) 1) marks (moved_to at k SetX)
   raises_rest e p = stores_flag Rest 1 true e p refl (λ b' m f. Steps.at_Rest n w.x w.y k _ b' at _ w.safe p m f)
 
-  pub raises_start : at k ≡ Start → IsProcess n k → IsSafeWorld n (set words (k + 1) 1) (moved_to at k SetX)
+  pub raises_start : at k ≡ Start → IsProcess n k → IsSafeWorld n (set words (k + 1) 1) marks (moved_to at k SetX)
   raises_start e p = stores_flag Start 1 true e p refl (λ b' m f. Steps.at_Start n w.x w.y k _ b' at _ w.safe m f)
 
-  pub lowers_back : at k ≡ BackB → IsProcess n k → IsSafeWorld n (set words (k + 1) 0) (moved_to at k AwaitY)
+  pub lowers_back : at k ≡ BackB → IsProcess n k → IsSafeWorld n (set words (k + 1) 0) marks (moved_to at k AwaitY)
   lowers_back e p = stores_flag BackB 0 false e p refl (λ b' m f. Steps.at_BackB n w.x w.y k _ b' at _ w.safe m f)
 
-  pub lowers_slow : at k ≡ SlowB → IsProcess n k → IsSafeWorld n (set words (k + 1) 0) (moved_to at k (Scan 1))
+  pub lowers_slow : at k ≡ SlowB → IsProcess n k → IsSafeWorld n (set words (k + 1) 0) marks (moved_to at k (Scan 1))
   lowers_slow e p = stores_flag SlowB 0 false e p refl (λ b' m f. Steps.at_SlowB n w.x w.y k _ b' at _ w.safe m f)
 
-  pub lowers_leaving : at k ≡ Leaving → IsProcess n k → IsSafeWorld n (set words (k + 1) 0) (moved_to at k Rest)
+  pub lowers_leaving : at k ≡ Leaving → IsProcess n k → IsSafeWorld n (set words (k + 1) 0) marks (moved_to at k Rest)
   lowers_leaving e p = stores_flag Leaving 0 false e p refl (λ b' m f. Steps.at_Leaving n w.x w.y k _ b' at _ w.safe m f)
 
   -- x := k
-  pub sets_x : at k ≡ SetX → IsSafeWorld n (set words 0 k) (moved_to at k TestY)
+  pub sets_x : at k ≡ SetX → IsSafeWorld n (set words 0 k) marks (moved_to at k TestY)
   sets_x e = record {
     x = k;
     y = w.y;
@@ -106,7 +123,7 @@ module _ (n : ℕ) (words : List ℕ) (at : ℕ → At) (w : IsSafeWorld n words
   }
 
   -- y := k
-  pub sets_y : at k ≡ SetY → IsSafeWorld n (set words 1 k) (moved_to at k TestX)
+  pub sets_y : at k ≡ SetY → IsSafeWorld n (set words 1 k) marks (moved_to at k TestX)
   sets_y e = record {
     x = w.x;
     y = k;
@@ -117,7 +134,7 @@ module _ (n : ℕ) (words : List ℕ) (at : ℕ → At) (w : IsSafeWorld n words
   }
 
   -- y := 0
-  clears_y : (P : At) → at k ≡ P → (Moves k P Leaving at (moved_to at k Leaving) → Safe n w.x 0 (flag_in w.flags) (moved_to at k Leaving)) → IsSafeWorld n (set words 1 0) (moved_to at k Leaving)
+  clears_y : (P : At) → at k ≡ P → (Moves k P Leaving at (moved_to at k Leaving) → Safe n w.x 0 (flag_in w.flags) (moved_to at k Leaving)) → IsSafeWorld n (set words 1 0) marks (moved_to at k Leaving)
   clears_y P e law = record {
     x = w.x;
     y = 0;
@@ -127,11 +144,11 @@ module _ (n : ℕ) (words : List ℕ) (at : ℕ → At) (w : IsSafeWorld n words
     safe = law (moves_to at k P Leaving e);
   }
 
-  pub leaves_world : IsInsidePoint (at k) → IsSafeWorld n (set words 1 0) (moved_to at k Leaving)
+  pub leaves_world : IsInsidePoint (at k) → IsSafeWorld n (set words 1 0) marks (moved_to at k Leaving)
   leaves_world h = ⊎_elim (λ e. clears_y Fast e (λ m. Steps.at_Fast n w.x w.y k _ at _ w.safe m)) (λ e. clears_y Slow e (λ m. Steps.at_Slow n w.x w.y k _ at _ w.safe m)) h
 
   -- a load changes no word
-  loads : (Q : At) → Safe n w.x w.y (flag_in w.flags) (moved_to at k Q) → IsSafeWorld n words (moved_to at k Q)
+  loads : (Q : At) → Safe n w.x w.y (flag_in w.flags) (moved_to at k Q) → IsSafeWorld n words marks (moved_to at k Q)
   loads Q h = record { x = w.x; y = w.y; flags = w.flags; is = w.is; wide = w.wide; safe = h }
 
   x_is : get_or words 0 0 ≡ w.x
@@ -140,58 +157,68 @@ module _ (n : ℕ) (words : List ℕ) (at : ℕ → At) (w : IsSafeWorld n words
   y_is : get_or words 1 0 ≡ w.y
   y_is = ap (λ ws. get_or ws 1 0) w.is
 
-  pub loads_test_y : at k ≡ TestY → IsSafeWorld n words (moved_to at k (after_load n TestY (get_or words 1 0)))
+  pub loads_test_y : at k ≡ TestY → IsSafeWorld n words marks (moved_to at k (after_load n TestY (get_or words 1 0)))
   loads_test_y e = loads _ (Steps.at_TestY n w.x w.y k _ at _ w.safe (get_or words 1 0) (sym y_is) (moves_to at k TestY _ e))
 
-  pub loads_await_y : at k ≡ AwaitY → IsSafeWorld n words (moved_to at k (after_load n AwaitY (get_or words 1 0)))
+  pub loads_await_y : at k ≡ AwaitY → IsSafeWorld n words marks (moved_to at k (after_load n AwaitY (get_or words 1 0)))
   loads_await_y e = loads _ (Steps.at_AwaitY n w.x w.y k _ at _ w.safe (get_or words 1 0) (sym y_is) (moves_to at k AwaitY _ e))
 
-  pub loads_slow_await : at k ≡ SlowAwait → IsSafeWorld n words (moved_to at k (after_load n SlowAwait (get_or words 1 0)))
+  pub loads_slow_await : at k ≡ SlowAwait → IsSafeWorld n words marks (moved_to at k (after_load n SlowAwait (get_or words 1 0)))
   loads_slow_await e = loads _ (Steps.at_SlowAwait n w.x w.y k _ at _ w.safe (get_or words 1 0) (sym y_is) (moves_to at k SlowAwait _ e))
 
-  pub loads_flag : (j : ℕ) → at k ≡ Scan j → IsSafeWorld n words (moved_to at k (after_load n (Scan j) (get_or words (j + 1) 0)))
+  pub loads_flag : (j : ℕ) → at k ≡ Scan j → IsSafeWorld n words marks (moved_to at k (after_load n (Scan j) (get_or words (j + 1) 0)))
   loads_flag j e =
       let p : IsProcess n j = subst (IsPoint n) e (w.safe.point k) in
       let v : ℕ = get_or words (j + 1) 0 in
-      let is : flag_in w.flags j ≡ eqb v 1 = flag_loaded w.x w.y w.flags j v p.0 (ap (λ ws. get_or ws (j + 1) 0) (sym w.is)) in
+      let is : flag_in w.flags j ≡ eqb v 1 = let wide : length w.flags ≡ n = w.wide in flag_loaded w.x w.y w.flags marks j v p.0 (omega (arith, p.1)) (ap (λ ws. get_or ws (j + 1) 0) (sym w.is)) in
       loads _ (Steps.at_Scan n w.x w.y k _ at _ w.safe j (eqb v 1) is (moves_to at k (Scan j) _ e))
 
-  loads_x : (v : ℕ) → get_or words 0 0 ≡ v → at k ≡ TestX → IsSafeWorld n words (moved_to at k (after_TestX k v))
+  loads_x : (v : ℕ) → get_or words 0 0 ≡ v → at k ≡ TestX → IsSafeWorld n words marks (moved_to at k (after_TestX k v))
   loads_x v is e = loads _ (Steps.at_TestX n w.x w.y k _ at _ w.safe v (sym x_is ∙ is) (moves_to at k TestX _ e))
 
-  loads_slow_y : (v : ℕ) → get_or words 1 0 ≡ v → at k ≡ SlowY → IsSafeWorld n words (moved_to at k (after_SlowY k v))
+  loads_slow_y : (v : ℕ) → get_or words 1 0 ≡ v → at k ≡ SlowY → IsSafeWorld n words marks (moved_to at k (after_SlowY k v))
   loads_slow_y v is e = loads _ (Steps.at_SlowY n w.x w.y k _ at _ w.safe v (sym y_is ∙ is) (moves_to at k SlowY _ e))
 
   -- the load of x that finds k, and that finds another number
-  pub admits_fast : get_or words 0 0 ≡ k → at k ≡ TestX → IsSafeWorld n words (moved_to at k Fast)
-  admits_fast is e = let P : Bool → Type 0 = λ t. IsSafeWorld n words (moved_to at k (cond t Fast SlowB)) in subst P (eq-eqb k k refl) (loads_x k is e)
+  pub admits_fast : get_or words 0 0 ≡ k → at k ≡ TestX → IsSafeWorld n words marks (moved_to at k Fast)
+  admits_fast is e = let P : Bool → Type 0 = λ t. IsSafeWorld n words marks (moved_to at k (cond t Fast SlowB)) in subst P (eq-eqb k k refl) (loads_x k is e)
 
-  pub refuses_fast : get_or words 0 0 ≢ k → at k ≡ TestX → IsSafeWorld n words (moved_to at k SlowB)
-  refuses_fast ne e = let P : Bool → Type 0 = λ t. IsSafeWorld n words (moved_to at k (cond t Fast SlowB)) in subst P (ne_eqb (get_or words 0 0) k ne) (loads_x _ refl e)
+  pub refuses_fast : get_or words 0 0 ≢ k → at k ≡ TestX → IsSafeWorld n words marks (moved_to at k SlowB)
+  refuses_fast ne e = let P : Bool → Type 0 = λ t. IsSafeWorld n words marks (moved_to at k (cond t Fast SlowB)) in subst P (ne_eqb (get_or words 0 0) k ne) (loads_x _ refl e)
 
   -- the same of the load of y at SlowY
-  pub admits_slow : get_or words 1 0 ≡ k → at k ≡ SlowY → IsSafeWorld n words (moved_to at k Slow)
-  admits_slow is e = let P : Bool → Type 0 = λ t. IsSafeWorld n words (moved_to at k (cond t Slow SlowAwait)) in subst P (eq-eqb k k refl) (loads_slow_y k is e)
+  pub admits_slow : get_or words 1 0 ≡ k → at k ≡ SlowY → IsSafeWorld n words marks (moved_to at k Slow)
+  admits_slow is e = let P : Bool → Type 0 = λ t. IsSafeWorld n words marks (moved_to at k (cond t Slow SlowAwait)) in subst P (eq-eqb k k refl) (loads_slow_y k is e)
 
-  pub refuses_slow : get_or words 1 0 ≢ k → at k ≡ SlowY → IsSafeWorld n words (moved_to at k SlowAwait)
-  refuses_slow ne e = let P : Bool → Type 0 = λ t. IsSafeWorld n words (moved_to at k (cond t Slow SlowAwait)) in subst P (ne_eqb (get_or words 1 0) k ne) (loads_slow_y _ refl e)
+  pub refuses_slow : get_or words 1 0 ≢ k → at k ≡ SlowY → IsSafeWorld n words marks (moved_to at k SlowAwait)
+  refuses_slow ne e = let P : Bool → Type 0 = λ t. IsSafeWorld n words marks (moved_to at k (cond t Slow SlowAwait)) in subst P (ne_eqb (get_or words 1 0) k ne) (loads_slow_y _ refl e)
 
   -- at most one process is inside
   pub others_outside : is_inside (at k) ≡ true → (j : ℕ) → j ≢ k → is_inside (at j) ≡ false
   others_outside i j ne = not_true (is_inside (at j)) (λ h. ne (one_inside_at n w.x w.y _ at w.safe j k (inside_point (at j) h) (inside_point (at k) i)))
 
+-- the words s are no part of the condition
+module _ (n : ℕ) (words marks : List ℕ) (at : ℕ → At) (w : IsSafeWorld n words marks at) where
+  pub sets_mark : (p v : ℕ) → 1 ≤ p → IsSafeWorld n (set words (n + 1 + p) v) (set marks (p - 1) v) at
+  sets_mark p v some = record {
+    x = w.x;
+    y = w.y;
+    flags = w.flags;
+    is = ap (λ ws. set ws (n + 1 + p) v) w.is ∙ set_mark_word w.x w.y n w.flags marks p v w.wide some;
+    wide = w.wide;
+    safe = w.safe;
+  }
+
+  pub mark_loaded : (p : ℕ) → 1 ≤ p → get_or words (n + 1 + p) 0 ≡ mark_in marks p
+  mark_loaded p some = ap (λ ws. get_or ws (n + 1 + p) 0) w.is ∙ mark_word w.x w.y n w.flags marks p w.wide some
+
 -- whom a step admits found nobody inside
-pub found_nobody : (n : ℕ) (words : List ℕ) (at : ℕ → At) (k : ℕ) (P Q : At) → IsSafeWorld n words (moved_to at k Q) → at k ≡ P → is_inside P ≡ false → is_inside Q ≡ true → (j : ℕ) → is_inside (at j) ≡ false
-found_nobody n words at k P Q w e out i j = not_true (is_inside (at j)) (λ h.
+pub found_nobody : (n : ℕ) (words marks : List ℕ) (at : ℕ → At) (k : ℕ) (P Q : At) → IsSafeWorld n words marks (moved_to at k Q) → at k ≡ P → is_inside P ≡ false → is_inside Q ≡ true → (j : ℕ) → is_inside (at j) ≡ false
+found_nobody n words marks at k P Q w e out i j = not_true (is_inside (at j)) (λ h.
     admitted_alone n w.x w.y _ at _ k P Q w.safe (moves_to at k P Q e) (outside_point P out) (inside_point Q i) j (inside_point (at j) h))
 
 -- at the start each word is 0 and each process at rest
 module _ where
-  take_zeros : (n : ℕ) (zs : List ℕ) → Each (λ (z : ℕ). z ≡ 0) zs → Each (λ (z : ℕ). z ≡ 0) (take n zs)
-  take_zeros zero zs h = tt
-  take_zeros (suc n) [] h = tt
-  take_zeros (suc n) (z ∷ zs) h = (h.0, take_zeros n zs h.1)
-
   zeros_at : (zs : List ℕ) (k : ℕ) → Each (λ (z : ℕ). z ≡ 0) zs → get_or zs k 0 ≡ 0
   zeros_at [] k h = refl
   zeros_at (z ∷ zs) zero h = h.0
@@ -205,12 +232,17 @@ module _ where
   all_zeros zero = tt
   all_zeros (suc n) = (refl, all_zeros n)
 
-  pub starting_world : (n : ℕ) → n ≤ 32 → IsSafeWorld n (take (n + 2) (replicate 34 0)) (λ _. Rest)
-  starting_world n few = let two : n + 2 ≡ suc (suc n) = omega arith in record {
+  pub starting_world : (n : ℕ) → n ≤ 32 → IsSafeWorld n (take (2 * n + 2) (replicate 66 0)) (replicate n 0) (λ _. Rest)
+  starting_world n few = let two : 2 * n + 2 ≡ suc (suc (n + n)) = omega arith in record {
     x = 0;
     y = 0;
-    flags = take n (replicate 32 0);
-    is = ap (λ m. take m (replicate 34 0)) two;
-    wide = length-take-le n (replicate 32 0) few;
-    safe = rest_safe n 0 0 _ _ (λ i. refl) (flags_down (take n (replicate 32 0)) (take_zeros n (replicate 32 0) (all_zeros 32)));
+    flags = replicate n 0;
+    is = take-replicate (2 * n + 2) 66 0 (omega arith) ∙ ap (λ m. replicate m 0) two ∙ ap (λ l. 0 ∷ 0 ∷ l) (sym (replicate-append-replicate n n 0));
+    wide = length-replicate n 0;
+    safe = rest_safe n 0 0 _ _ (λ i. refl) (flags_down (replicate n 0) (all_zeros n));
   }
+
+  -- each word s is 0
+  pub marks_down : (n p : ℕ) → mark_in (replicate n 0) p ≡ 0
+  marks_down n zero = refl
+  marks_down n (suc m) = zeros_at (replicate n 0) m (all_zeros n)

@@ -2,4 +2,5 @@ pub mod Sums
 pub mod Stays
 pub mod WordKeeps
 pub mod FastWorld
+pub mod MarksKeep
 pub mod FastKeeps

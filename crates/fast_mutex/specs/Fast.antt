@@ -1,7 +1,7 @@
 -- The rule of Lamport's lock, and what each step on its words tells.
 -- The words are x, y and the flags b[1] to b[n]. Words and points are a world that keeps the condition of
 -- `lamport_core`, and the state is at home exactly where no process is inside.
-use Rattle.std.specs.Prelude.{◌≡◌, ◌≢◌, ◌==◌, ℕ, zero, suc, ◌+◌, ◌-◌, ◌≤◌, Bool, true, false, cond, List, [], ◌∷◌, ◌++◌, length, take, slice_index, Option as Opt, Some, None}
+use Rattle.std.specs.Prelude.{◌≡◌, ◌≢◌, ◌==◌, ◌||◌, ◌⊎◌, ℕ, zero, suc, ◌+◌, ◌≤◌, Bool, true, false, cond, List, [], ◌∷◌, ◌++◌, length, slice_index, Option as Opt, Some, None}
 use Rattle.std.specs.List.{AllByRecursion as Each}
 use Rattle.std.specs.Coded.{×_prop, le_prop, Coded-set, coded_ℕ}
 use mathlib.Core.Option.{none, some}
@@ -14,9 +14,11 @@ use Rattle.lamport_core.specs.Safe.{Safe}
 use Rattle.lamport_core.specs.Line.{IsCounted}
 use Rattle.lamport_core.specs.declared.At.{At}
 use Rattle.lamport_core.specs.declared.At.TheVariants.{Rest, Start, SetX, TestY, BackB, AwaitY, SetY, TestX, SlowB, Scan, SlowY, SlowAwait, Fast, Slow, Leaving}
-use Rattle.fast_mutex.specs.Items.{Ticket, Grows, items_of}
+use Rattle.fast_mutex.specs.Items.{Ticket, Grows, GrowsBy}
 use Rattle.fast_mutex.specs.Word.{Claim, Fixed, IsGood, lock_id, made_with, new_claims, first_claim, other_claims, claims_after, last_left, sum_over, times}
+use Rattle.fast_mutex.specs.Marks.{flag, mark_in, has, Course, Marked}
 use Rattle.fast_mutex.specs.declared.word.view.About.{About}
+use Rattle.fast_mutex.specs.declared.fast.view.Plan.{Plan}
 use Rattle.fast_mutex.specs.declared.fast.view.View.{View}
 
 -- a process at this point is inside
@@ -30,41 +32,60 @@ abbrev pub flag_in : List ℕ → ℕ → Bool
 flag_in flags zero = false
 flag_in flags (suc k) = slice_index flags k == 1
 
--- these words, and n processes at these points, are a world that keeps the condition
-pub record IsSafeWorld (n : ℕ) (words : List ℕ) (at : ℕ → At) : Type 0 where
+-- these words, the last of which are the words s, and n processes at these points are a world that keeps the condition
+pub record IsSafeWorld (n : ℕ) (words marks : List ℕ) (at : ℕ → At) : Type 0 where
   pub x : ℕ
   pub y : ℕ
   pub flags : List ℕ
-  pub is : words ≡ x ∷ y ∷ flags
+  pub is : words ≡ x ∷ y ∷ flags ++ marks
   pub wide : length flags ≡ n
   pub safe : Safe n x y (flag_in flags) at
 
 -- views
 module _ {I : Type 0} where
-  abbrev pub seat_view : At → List I → Fixed → List (Claim I) → View I
-  seat_view at found fixed claims = record { at = at; found = found; fixed = fixed; claims = claims }
+  abbrev pub plan_of : List I → List ℕ → Bool → Plan I
+  plan_of next stored told = record { next = next; stored = stored; told = told }
+
+  -- of a seat that is outside, and was not told
+  abbrev pub no_plan : Plan I
+  no_plan = plan_of [] [] false
+
+  abbrev pub seat_view : At → List I → Fixed → List (Claim I) → Plan I → View I
+  seat_view at found fixed claims plan = record { at = at; found = found; fixed = fixed; claims = claims; plan = plan }
 
   -- the seat goes on to a point
   abbrev pub view_at : At → View I → View I
-  view_at p v = seat_view p v.found v.fixed v.claims
+  view_at p v = seat_view p v.found v.fixed v.claims v.plan
 
   -- the seat goes inside, and finds this list
   abbrev pub view_inside : At → List I → View I → View I
-  view_inside p found v = seat_view p found v.fixed v.claims
+  view_inside p found v = seat_view p found v.fixed v.claims (plan_of found [] v.plan.told)
+
+  -- a look told the seat what the word shows
+  abbrev pub view_told : Bool → View I → View I
+  view_told shown v = seat_view v.at v.found v.fixed v.claims (plan_of v.plan.next v.plan.stored (v.plan.told || shown))
+
+  -- the view of who stored the word s of process p as the list `given` has it
+  abbrev pub view_marked : ℕ → List I → View I → View I
+  view_marked p given v = seat_view v.at v.found v.fixed v.claims (plan_of given (p ∷ v.plan.stored) v.plan.told)
+
+  -- the seat has another plan
+  abbrev pub view_planned : Plan I → View I → View I
+  view_planned plan v = seat_view v.at v.found v.fixed v.claims plan
 
   -- a seat splits: one goes on with the first claim, one with the others
   abbrev pub view_of_first : View I → View I
-  view_of_first v = seat_view Rest v.found v.fixed (first_claim v.claims)
+  view_of_first v = seat_view Rest v.found v.fixed (first_claim v.claims) no_plan
 
   abbrev pub view_of_others : View I → View I
-  view_of_others v = seat_view Rest v.found v.fixed (other_claims v.claims)
+  view_of_others v = seat_view Rest v.found v.fixed (other_claims v.claims) no_plan
 
   -- one seat takes in another, which is then spent
   abbrev pub joint_view : View I → View I → View I
-  joint_view v w = seat_view Rest v.found v.fixed (w.claims ++ v.claims)
+  joint_view v w = seat_view Rest v.found v.fixed (w.claims ++ v.claims) no_plan
 
   abbrev pub spent_view : View I
-  spent_view = seat_view Rest [] (0, []) []
+  spent_view = seat_view Rest [] (0, []) [] no_plan
 
   -- the number of the seat
   abbrev pub number_in : List (Claim I) → ℕ
@@ -74,34 +95,54 @@ module _ {I : Type 0} where
 module _ {S I : Type 0} (fixes : S → List ℕ) where
   -- the first seat has the claims of all
   abbrev pub first_view : About S → View I
-  first_view about = seat_view Rest [] (made_with fixes about) (new_claims 1 about.count)
+  first_view about = seat_view Rest [] (made_with fixes about) (new_claims 1 about.count) no_plan
 
 -- the rule
-module _ {S I : Type 0} (shows : S → List I) (fixes : S → List ℕ) (owner : I → ℕ) (about : About S) where
+module _ {S I : Type 0} (shows : S → List I) (fixes : S → List ℕ) (owner : I → ℕ) (answered : ℕ → List I → Bool) (about : About S) where
   -- the process of the seat stands at its point, and those joined to it at Rest
   abbrev pub Stands : (ℕ → At) → At → List (Claim I) → Type 0
   Stands at p [] = p ≡ Rest
   Stands at p (c ∷ cs) = (at c.0 ≡ p) × Each (λ (d : Claim I). at d.0 ≡ Rest) cs
 
-  -- Who is inside found the current list. Each claim's number is that of a process, and the current list is the
-  -- claim's with items of others in front.
-  pub record Fits (at : ℕ → At) (now : List I) (v : View I) : Type 0 where
+  -- Who is inside found the current list, and knows the list to come and the words that it stored. Who is outside and
+  -- was told has its word at 1. Each claim's number is that of a process, and the current list is the claim's with items of others in front.
+  pub record Fits (at : ℕ → At) (course : Course I) (v : View I) : Type 0 where
     pub stands : Stands at v.at v.claims
-    pub found : is_inside v.at ≡ true → v.found ≡ now
-    pub good : Each (IsGood shows fixes owner about v.fixed now) v.claims
+    pub found : is_inside v.at ≡ true → v.found ≡ course.now
+    pub planned : is_inside v.at ≡ true → (v.plan.next ≡ course.next) × (v.plan.stored ≡ course.done)
+    pub told : is_inside v.at ≡ false → v.plan.told ≡ true → mark_in course.marks (number_in v.claims) ≡ 1
+    pub good : Each (IsGood shows fixes owner about v.fixed course.now) v.claims
 
-  -- `at` has the points of the processes, and `now` is the current list
+  -- the list to come is the current one, or that with items of the process inside in front
+  abbrev pub Comes : (ℕ → At) → Course I → Type 0
+  Comes at c = (c.next ≡ c.now) ⊎ ((k : ℕ) × (is_inside (at k) ≡ true) × GrowsBy owner k c.now c.next)
+
+  -- `at` has the points of the processes, and `course` the current list, the list to come and the words s
   pub record KeepsRule (s : State (Opt S) (View I)) : Type 0 where
     pub at : ℕ → At
-    pub world : IsSafeWorld about.count s.words at
-    pub now : List I
-    pub home : ((i : ℕ) → is_inside (at i) ≡ false) → (st : S) × (s.homes ≡ some (Some st) ∷ []) × (shows st ≡ now) × (fixes st ≡ fixes about.state.value)
+    pub course : Course I
+    pub world : IsSafeWorld about.count s.words course.marks at
+    pub home : ((i : ℕ) → is_inside (at i) ≡ false) → (st : S) × (s.homes ≡ some (Some st) ∷ []) × (shows st ≡ course.now) × (fixes st ≡ fixes about.state.value)
     pub away : (i : ℕ) → is_inside (at i) ≡ true → (s.homes ≡ none ∷ []) × (id : ℕ) × (v : View I) × (get_elem? s.views id ≡ some v) × (is_inside v.at ≡ true)
-    pub seats : (id : ℕ) (v : View I) → get_elem? s.views id ≡ some v → Fits at now v
+    pub comes : Comes at course
+    pub idle : ((i : ℕ) → is_inside (at i) ≡ false) → course.done ≡ []
+    pub marked : Marked answered about.count course
+    pub seats : (id : ℕ) (v : View I) → get_elem? s.views id ≡ some v → Fits at course v
     pub once : (k : ℕ) → sum_over (λ (v : View I). times k v.claims) s.views ≤ 1
     pub total : sum_over (λ (v : View I). length v.claims) s.views ≡ about.count
 
--- The lines that store, but for the store of 0 to y: the word and the value that process k stores, and the point after.
+-- The lines that store, but for the store of 0 to y: their points, the word and the value that process k stores, and
+-- the point after. At other points no line stores, and what these say there is asked by nobody.
+abbrev pub stores_line : At → Bool
+stores_line Rest = true
+stores_line Start = true
+stores_line SetX = true
+stores_line BackB = true
+stores_line SetY = true
+stores_line SlowB = true
+stores_line Leaving = true
+stores_line p = false
+
 abbrev pub word_stored : ℕ → At → ℕ
 word_stored k SetX = 0
 word_stored k SetY = 1
@@ -124,7 +165,20 @@ after_store SlowB = Scan 1
 after_store Leaving = Rest
 after_store p = p
 
--- The lines that load: the word, and the point after a line that admits nobody, by what it found.
+-- The lines that load: the points of those that admit nobody and of those that may, the word, and the point after a
+-- line that admits nobody, by what it found.
+abbrev pub loads_line : At → Bool
+loads_line TestY = true
+loads_line AwaitY = true
+loads_line (Scan j) = true
+loads_line SlowAwait = true
+loads_line p = false
+
+abbrev pub tests_line : At → Bool
+tests_line TestX = true
+tests_line SlowY = true
+tests_line p = false
+
 abbrev pub word_loaded : At → ℕ
 word_loaded TestX = 0
 word_loaded (Scan j) = j + 1
@@ -157,43 +211,91 @@ module _ {S I : Type 0} where
   -- A line that stores, and is not the store of 0 to y. What a store tells as found is the value stored. Any other
   -- access tells the word that it found, and no seat could show that this is the value.
   pub record IsStore (t : Step (Opt S)) (me : Me (Opt S) (View I)) (found : ℕ) (me' : Me (Opt S) (View I)) : Type 0 where
+    pub line : stores_line me.0.at ≡ true
     pub on : IsOn t (word_stored (number_in me.0.claims) me.0.at) (value_stored (number_in me.0.claims) me.0.at)
     pub stores : found ≡ value_stored (number_in me.0.claims) me.0.at
     pub goes : me' ≡ (view_at (after_store me.0.at) me.0, me.1)
 
   -- a line that loads, and admits nobody
   pub record IsLoad (t : Step (Opt S)) (me : Me (Opt S) (View I)) (found : ℕ) (me' : Me (Opt S) (View I)) : Type 0 where
+    pub line : loads_line me.0.at ≡ true
     pub on : IsOn t (word_loaded me.0.at) 0
     pub goes : me' ≡ (view_at (after_load me.0.fixed.0 me.0.at found) me.0, me.1)
 
-module _ {S I : Type 0} (shows : S → List I) (fixes : S → List ℕ) (owner : I → ℕ) where
-  -- a line that loads, and admits a seat exactly where it finds its number: the seat then has the state, whose list has grown from the one that it left by others' items
+module _ {S I : Type 0} (answered : ℕ → List I → Bool) where
+  -- The load of the own word s, outside: the seat is told where the word is 1. Who was told before finds 1, and so does
+  -- whose wait is answered in the list that it left.
+  pub record IsLook (t : Step (Opt S)) (me : Me (Opt S) (View I)) (found : ℕ) (me' : Me (Opt S) (View I)) : Type 0 where
+    pub rests : me.0.at ≡ Rest
+    pub on : IsOn t (me.0.fixed.0 + 1 + number_in me.0.claims) 0
+    pub goes : me' ≡ (view_told (found == 1) me.0, me.1)
+    pub again : me.0.plan.told ≡ true → found ≡ 1
+    pub left : answered (number_in me.0.claims) (last_left me.0.claims) ≡ true → found ≡ 1
+
+module _ {S I : Type 0} (shows : S → List I) (fixes : S → List ℕ) (owner : I → ℕ) (answered : ℕ → List I → Bool) where
+  -- A line that loads, and admits a seat exactly where it finds its number: the seat then has the state, whose list has
+  -- grown from the one that it left by others' items. Where the seat was told, the list answers its wait.
   pub record IsTest (t : Step (Opt S)) (me : Me (Opt S) (View I)) (found : ℕ) (me' : Me (Opt S) (View I)) : Type 0 where
+    pub line : tests_line me.0.at ≡ true
     pub on : IsOn t (word_loaded me.0.at) 0
     pub refused : found ≢ number_in me.0.claims → me' ≡ (view_at (point_refused me.0.at) me.0, me.1)
     pub admitted : found ≡ number_in me.0.claims → (st : S) × (me' ≡ (view_inside (point_admitted me.0.at) (shows st) me.0, (0, Some st) ∷ [])) × (fixes st ≡ me.0.fixed.1)
-        × Grows owner (number_in me.0.claims) (last_left me.0.claims) (shows st) []
+        × Grows owner (number_in me.0.claims) (last_left me.0.claims) (shows st) [] × (me.0.plan.told ≡ true → answered (number_in me.0.claims) (shows st) ≡ true)
 
 module _ {S I : Type 0} (shows : S → List I) where
+  -- the list of the state that a seat has in its slot
+  abbrev pub list_in : List (ℕ × Opt S) → List I
+  list_in [] = []
+  list_in ((i, None) ∷ slots) = []
+  list_in ((i, Some st) ∷ slots) = shows st
+
+  -- the store of a word s, inside, with the state in its slot
+  pub record IsMark (answered : ℕ → List I → Bool) (t : Step (Opt S)) (me : Me (Opt S) (View I)) (found : ℕ) (me' : Me (Opt S) (View I)) : Type 0 where
+    pub inside : is_inside me.0.at ≡ true
+    pub process : ℕ
+    pub on : IsOn t (me.0.fixed.0 + 1 + process) (flag (answered process (list_in me.1)))
+    pub stores : found ≡ flag (answered process (list_in me.1))
+    pub goes : me' ≡ (view_marked process (list_in me.1) me.0, me.1)
+
   -- the view of who has put back the state in its slot
   abbrev pub view_left : Me (Opt S) (View I) → List (ℕ × Opt S) → View I
   view_left me [] = me.0
   view_left me ((i, None) ∷ slots) = me.0
-  view_left me ((i, Some st) ∷ slots) = seat_view Leaving (shows st) me.0.fixed (claims_after (shows st) me.0.claims)
+  view_left me ((i, Some st) ∷ slots) = seat_view Leaving (shows st) me.0.fixed (claims_after (shows st) me.0.claims) no_plan
 
   -- the store of 0 to y
   pub record IsLeave (t : Step (Opt S)) (me : Me (Opt S) (View I)) (found : ℕ) (me' : Me (Opt S) (View I)) : Type 0 where
+    pub inside : is_inside me.0.at ≡ true
     pub on : IsOn t 1 0
     pub stores : found ≡ 0
     pub goes : me' ≡ (view_left me me.1, [])
 
+-- giving the state back
+module _ {I : Type 0} (answered : ℕ → List I → Bool) where
+  -- a list may be the one to come: the first store of a stay fixes it
+  abbrev pub MayCome : Plan I → List I → Type 0
+  MayCome plan given = (given ≡ plan.next) ⊎ (plan.stored ≡ [])
+
+  -- the words of n processes show the list that is given back, those that this stay did not store too
+  abbrev pub Shows : ℕ → List I → Plan I → List I → Type 0
+  Shows n found plan given = MayCome plan given × ((q : ℕ) → 1 ≤ q → q ≤ n → has q plan.stored ≡ false → answered q found ≡ answered q given)
+
+module _ {S I : Type 0} (shows : S → List I) (fixes : S → List ℕ) (owner : I → ℕ) (answered : ℕ → List I → Bool) where
+  -- the seat of one process is inside, and has in its slot the state to give back, whose list has grown by its own items
+  pub record IsReady (me : Me (Opt S) (View I)) : Type 0 where
+    pub inside : is_inside me.0.at ≡ true
+    pub alone : me.0.claims ≡ (number_in me.0.claims, last_left me.0.claims) ∷ []
+    pub full : (st : S) × (me.1 ≡ (0, Some st) ∷ []) × (fixes st ≡ me.0.fixed.1)
+    pub adds : GrowsBy owner (number_in me.0.claims) me.0.found (list_in shows me.1)
+    pub may : MayCome answered me.0.plan (list_in shows me.1)
+
 module _ {S I : Type 0} where
   -- what the seat of process k knows, outside and inside
   abbrev pub ticket_of : ℕ → Seat (Opt S) (View I) → Ticket I
-  ticket_of k s = record { lock = lock_id s.table_id s.me.0.fixed; number = k; left = last_left s.me.0.claims; told = false }
+  ticket_of k s = record { lock = lock_id s.table_id s.me.0.fixed; number = k; left = last_left s.me.0.claims; told = s.me.0.plan.told }
 
   abbrev pub stay_of : ℕ → Seat (Opt S) (View I) → Ticket I
-  stay_of k s = record { lock = lock_id s.table_id s.me.0.fixed; number = k; left = s.me.0.found; told = false }
+  stay_of k s = record { lock = lock_id s.table_id s.me.0.fixed; number = k; left = s.me.0.found; told = s.me.0.plan.told }
 
 -- the seat is one of the lock that has this table
 module _ {S I : Type 0} (fixes : S → List ℕ) where
@@ -213,14 +315,6 @@ module _ {S I : Type 0} (shows : S → List I) (fixes : S → List ℕ) where
 module _ {I : Type 0} where
   abbrev pub state_at : At → List I → Fixed → Opt (List I × List ℕ)
   state_at p found fixed = cond (is_inside p) (Some (found, fixed.1)) None
-
-  -- what stands in front of `before` in `after`
-  abbrev pub front : List I → List I → List I
-  front after before = take (length after - length before) after
-
-  -- the list found has grown by nothing of k's own; as `Grows`, in a form that has one proof
-  abbrev pub HasGrown : (I → ℕ) → ℕ → List I → List I → Type 0
-  HasGrown owner k left found = (front found left ++ left ≡ found) × (items_of owner k (front found left) ≡ [])
 
 -- the count of the steps of a pass is one fact at each point, which a ghost field has to know
 pub counted_prop : (n : ℕ) (p : At) (k : ℕ) → IsProp (IsCounted n p k)

@@ -1,3 +1,5 @@
 pub mod Items
 pub mod Word
+pub mod Marks
 pub mod Fast
+pub mod Bells

@@ -1,15 +1,16 @@
 //! Lamport's lock: Algorithm 2 of "A Fast Mutual Exclusion Algorithm" (1987) over atomic words. In this module alone
 //! its words are touched, and each line of the algorithm touches one word, by one load or one store.
 //!
-//! Word 0 is x, word 1 is y, and word i + 1 is the flag b[i] of process i, 1 where it is true. The state lies in the
-//! one slot of the table.
-ghost use Rattle.std.specs.Prelude.{◌≡◌, ◌<◌, ◌≤◌, ◌+◌, ◌-◌, ◌⊎◌, ◌^◌, ◌↔◌, ℕ, List, [], ◌∷◌, true, false, Some, None, map, length, suc, vec_len, vec_capacity, IfOk, IfErr, IsOk};
+//! Of n processes, word 0 is x, word 1 is y, word i + 1 is the flag b[i] of process i, 1 where it is true, and word
+//! n + 1 + i is s[i], 1 where the wait of process i is answered. The state lies in the one slot of the table.
+ghost use Rattle.std.specs.Prelude.{◌≡◌, ◌<◌, ◌≤◌, ◌+◌, ◌-◌, ◌*◌, ◌||◌, ◌⊎◌, ◌^◌, ◌↔◌, ℕ, List, [], ◌∷◌, true, false, Some, None, map, length, suc, vec_len, vec_capacity, IfOk, IfErr, IsOk};
 ghost use Rattle.std.specs.List.{All};
 ghost use Rattle.lamport_core.specs.Line.{IsLine, IsCounted, one_more, pass_steps};
 ghost use Rattle.lamport_core.specs.declared.At.TheVariants.{Rest, Start, SetX, TestY, BackB, AwaitY, SetY, TestX, SlowB, Scan, SlowY, SlowAwait, Fast, Slow, Leaving};
 ghost use Rattle.fast_mutex.specs.Items.{new_ticket, tickets_from, Grows, GrowsBy};
-ghost use Rattle.fast_mutex.specs.Word.{last_left, lock_id, made_with, new_claims};
-ghost use Rattle.fast_mutex.specs.Fast.{seat_view, first_view, is_inside, slots_at, state_shown, state_at, HasGrown, counted_prop, ticket_of, stay_of, IsSeatOf};
+ghost use Rattle.fast_mutex.specs.Word.{last_left, lock_id, made_with, new_claims, HasGrown};
+ghost use Rattle.fast_mutex.specs.Marks.{flag, answer_bits};
+ghost use Rattle.fast_mutex.specs.Fast.{seat_view, no_plan, view_planned, view_marked, list_in, IsReady, Shows, first_view, is_inside, slots_at, state_shown, state_at, counted_prop, ticket_of, stay_of, IsSeatOf};
 
 use crate::lock::Missing;
 use crate::logged::Logged;
@@ -22,7 +23,7 @@ use std::snapshot::Snapshot;
 mod rule;
 mod view;
 
-use rule::{DealsFirst, FastRule, Leaves, Loads, Stores, TakesIn, Tests};
+use rule::{DealsFirst, FastRule, Leaves, Loads, Looks, Marks, Stores, TakesIn, Tests};
 use view::View;
 
 const X: usize = 0;
@@ -39,7 +40,7 @@ type TableSeat<S> = Seat<Option<S>, View<<S as Logged>::Item>>;
 pub struct FastMutex<S: Logged> {
     table: Table<Option<S>, View<S::Item>, About<S>, FastRule<S>, Global>,
     count: u32,
-    ghost shape: { (table.shared.table_id.words ≡ count + 2) × (table.shared.table_id.slots ≡ 1) × (count ≡ table.shared.key.count) × (1 ≤ count) × (count ≤ 32) },
+    ghost shape: { (table.shared.table_id.words ≡ 2 * count + 2) × (table.shared.table_id.slots ≡ 1) × (count ≡ table.shared.key.count) × (1 ≤ count) × (count ≤ 32) },
 }
 
 /// The right of one process to enter a `FastMutex`. The process is at rest.
@@ -48,11 +49,12 @@ pub struct FastSeat<S: Logged> {
     number: u32,
     seat: Seat<Option<S>, View<S::Item>>,
     ghost range: { (1 ≤ number) × (number ≤ seat.me.0.fixed.0) },
-    ghost alone: { seat.me ≡ (seat_view Rest seat.me.0.found seat.me.0.fixed ((number, last_left seat.me.0.claims) ∷ []), []) },
+    ghost alone: { seat.me ≡ (seat_view Rest seat.me.0.found seat.me.0.fixed ((number, last_left seat.me.0.claims) ∷ []) seat.me.0.plan, []) },
 }
 
-/// An entry that is taken step by step. It holds the state once it is inside, and has to be spent by
-/// `FastMutex::admitted`.
+/// An entry that is taken step by step. It holds the state once it is inside, for `FastMutex::admitted`. One that is
+/// dropped can keep all others out, as one that is not taken further.
+#[derive(Drop)]
 pub struct Walk<S: Logged> {
     number: u32,
     at: At,
@@ -60,9 +62,11 @@ pub struct Walk<S: Logged> {
     state: Option<S>,
     seat: Seat<Option<S>, View<S::Item>>,
     ghost range: { (1 ≤ number) × (number ≤ seat.me.0.fixed.0) },
-    ghost alone: { seat.me ≡ (seat_view at seat.me.0.found seat.me.0.fixed ((number, last_left seat.me.0.claims) ∷ []), slots_at at) },
+    ghost alone: { seat.me ≡ (seat_view at seat.me.0.found seat.me.0.fixed ((number, last_left seat.me.0.claims) ∷ []) seat.me.0.plan, slots_at at) },
     ghost held: { state_shown S.items S.fixed state ≡ state_at at seat.me.0.found seat.me.0.fixed },
     ghost grown: { is_inside at ≡ true → HasGrown S.owner number (last_left seat.me.0.claims) seat.me.0.found },
+    ghost unstored: { is_inside at ≡ true → seat.me.0.plan.stored ≡ [] },
+    ghost told: { is_inside at ≡ true → seat.me.0.plan.told ≡ true → S.is_answered number seat.me.0.found ≡ true },
     ghost entering: { at ≡ Leaving → ⊥ },
     ghost counted: { IsCounted seat.me.0.fixed.0 at steps } by { counted_prop seat.me.0.fixed.0 at steps },
 }
@@ -72,10 +76,13 @@ pub struct FastInside<S: Logged> {
     number: u32,
     at: At,
     steps: u64,
+    answers: u32,
     seat: Seat<Option<S>, View<S::Item>>,
     ghost range: { (1 ≤ number) × (number ≤ seat.me.0.fixed.0) },
     ghost is_in: { is_inside at ≡ true },
-    ghost alone: { seat.me ≡ (seat_view at seat.me.0.found seat.me.0.fixed ((number, last_left seat.me.0.claims) ∷ []), (0, None) ∷ []) },
+    ghost unstored: { seat.me.0.plan.stored ≡ [] },
+    ghost known: { answers ≡ answer_bits (λ p. S.is_answered p seat.me.0.found) 1 32 },
+    ghost alone: { seat.me ≡ (seat_view at seat.me.0.found seat.me.0.fixed ((number, last_left seat.me.0.claims) ∷ []) seat.me.0.plan, (0, None) ∷ []) },
     ghost counted: { IsCounted seat.me.0.fixed.0 at steps } by { counted_prop seat.me.0.fixed.0 at steps },
 }
 
@@ -355,6 +362,7 @@ impl<S: Logged> FastMutex<S> {
         ensures stay { stay_of result.0.number result.0.seat ≡ record (ticket_of walk.number walk.seat) { left = S.items result.1 } }
         ensures fixed { S.fixed result.1 ≡ (ticket_of walk.number walk.seat).lock.fixed }
         ensures grows { Grows S.owner walk.number (ticket_of walk.number walk.seat).left (S.items result.1) [] }
+        ensures told { (ticket_of walk.number walk.seat).told ≡ true → S.is_answered walk.number (S.items result.1) ≡ true }
         ensures number { (1 ≤ walk.number) × (walk.number ≤ (ticket_of walk.number walk.seat).lock.count) }
         ensures steps { (result.0.at ≡ walk.at) × (result.0.steps ≡ walk.steps) }
     {
@@ -366,11 +374,13 @@ impl<S: Logged> FastMutex<S> {
             seat,
         } = walk;
         let Some(state) = state else { unreachable!() };
+        let answers = state.answers();
         (
             FastInside {
                 number,
                 at,
                 steps,
+                answers,
                 seat,
             },
             state,
@@ -378,22 +388,79 @@ impl<S: Logged> FastMutex<S> {
     }
 }
 
+// The words s.
+impl<S: Logged> FastMutex<S> {
+    // s[process] := 1 where the list that is given back answers its wait, else 0
+    fn set_mark(&self, mut seat: TableSeat<S>, process: u32, mark: u64) -> TableSeat<S>
+        requires lock { IsSeatOf S.fixed self.now.table.shared.table_id self.now.table.shared.key seat }
+        requires ready { IsReady S.items S.fixed S.owner S.is_answered seat.me }
+        requires process { (1 ≤ process) × (process ≤ self.now.count) }
+        requires mark { mark ≡ flag (S.is_answered process (list_in S.items seat.me.1)) }
+        ensures own { (result.table_id ≡ seat.table_id) × (result.id ≡ seat.id) }
+        ensures view { result.me ≡ (view_marked process (list_in S.items seat.me.1) seat.me.0, seat.me.1) }
+    {
+        let word = self.count as usize + 1 + process as usize;
+        self.table.shared.store::<Marks<S>>(&mut seat, word, mark);
+        seat
+    }
+
+    // Stores the word s of each process whose answer is not the same after the stay as before it.
+    fn set_marks(&self, mut seat: TableSeat<S>, before: u32, after: u32) -> TableSeat<S>
+        requires lock { IsSeatOf S.fixed self.now.table.shared.table_id self.now.table.shared.key seat }
+        requires ready { IsReady S.items S.fixed S.owner S.is_answered seat.me }
+        requires before { before ≡ answer_bits (λ p. S.is_answered p seat.me.0.found) 1 32 }
+        requires after { after ≡ answer_bits (λ p. S.is_answered p (list_in S.items seat.me.1)) 1 32 }
+        ensures own { (result.table_id ≡ seat.table_id) × (result.id ≡ seat.id) }
+        ensures view { result.me ≡ (view_planned result.me.0.plan seat.me.0, seat.me.1) }
+        ensures ready { IsReady S.items S.fixed S.owner S.is_answered result.me }
+        ensures shows { Shows S.is_answered seat.me.0.fixed.0 seat.me.0.found result.me.0.plan (list_in S.items seat.me.1) }
+    {
+        let mut old = before;
+        let mut new = after;
+        let mut process = 1;
+        while old != new && process <= self.count {
+            if old % 2 != new % 2 {
+                seat = self.set_mark(seat, process, (new % 2) as u64);
+            }
+            old /= 2;
+            new /= 2;
+            process += 1;
+        }
+        seat
+    }
+
+    // load s[i], outside
+    pub(crate) fn look(&self, seat: &mut FastSeat<S>) -> bool
+        requires { IsSeatOf S.fixed self.now.table.shared.table_id self.now.table.shared.key seat.old.seat }
+        ensures ticket { ticket_of seat.new.number seat.new.seat ≡ record (ticket_of seat.old.number seat.old.seat) { told = (ticket_of seat.old.number seat.old.seat).told || result } }
+        ensures again { (ticket_of seat.old.number seat.old.seat).told ≡ true → result ≡ true }
+        ensures left { S.is_answered seat.old.number (ticket_of seat.old.number seat.old.seat).left ≡ true → result ≡ true }
+    {
+        let word = self.count as usize + 1 + seat.number as usize;
+        let found = self.table.shared.load::<Looks<S>>(&mut seat.seat, word);
+        found == 1
+    }
+}
+
 // The bodies of the lock's calls, which `fast_lock` names.
 impl<S: Logged> FastMutex<S> {
-    // y := 0, and then b[i] := false
+    // the words s that change, y := 0, and then b[i] := false
     pub(crate) fn depart(&self, inside: FastInside<S>, state: S) -> FastSeat<S>
         requires lock { IsSeatOf S.fixed self.now.table.shared.table_id self.now.table.shared.key inside.seat }
         requires fixed { S.fixed state ≡ S.fixed self.now.table.shared.key.state.value }
         requires grows { GrowsBy S.owner inside.number inside.seat.me.0.found (S.items state) }
-        ensures { ticket_of result.number result.seat ≡ record (stay_of inside.number inside.seat) { left = S.items state } }
+        ensures { ticket_of result.number result.seat ≡ record (stay_of inside.number inside.seat) { left = S.items state; told = false } }
     {
         let FastInside {
             number,
             at: _,
             steps: _,
+            answers,
             mut seat,
         } = inside;
+        let after = state.answers();
         self.put_in(&mut seat, state);
+        let mut seat = self.set_marks(seat, answers, after);
         self.table.shared.store::<Leaves<S>>(&mut seat, Y, 0);
         let flag = number as usize + 1;
         self.table.shared.store::<Stores>(&mut seat, flag, 0);
@@ -442,8 +509,8 @@ impl<S: Logged> FastMutex<S> {
             state: Snapshot::of(&state),
         };
         slots.push_reserved(Some(state));
-        let words = [0u64; 34];
-        match Table::new(alloc, &words[..count as usize + 2], slots, &about) {
+        let words = [0u64; 66];
+        match Table::new(alloc, &words[..2 * count as usize + 2], slots, &about) {
             Ok((table, first)) => Ok((FastMutex { table, count }, first)),
             Err(Refused { mut slots }) => {
                 let Some(Some(state)) = slots.pop() else {
@@ -459,9 +526,9 @@ impl<S: Logged> FastMutex<S> {
     fn deal_one(&self, first: &mut TableSeat<S>, number: u32) -> FastSeat<S>
         requires own { first.old.table_id ≡ self.now.table.shared.table_id }
         requires number { (1 ≤ number) × (number ≤ self.now.count) }
-        requires claims { first.old.me ≡ (seat_view Rest [] (made_with S.fixed self.now.table.shared.key) (new_claims number (suc (self.now.count - number))), []) }
+        requires claims { first.old.me ≡ (seat_view Rest [] (made_with S.fixed self.now.table.shared.key) (new_claims number (suc (self.now.count - number))) no_plan, []) }
         ensures own { first.new.table_id ≡ first.old.table_id }
-        ensures claims { first.new.me ≡ (seat_view Rest [] (made_with S.fixed self.now.table.shared.key) (new_claims (number + 1) (self.now.count - number)), []) }
+        ensures claims { first.new.me ≡ (seat_view Rest [] (made_with S.fixed self.now.table.shared.key) (new_claims (number + 1) (self.now.count - number)) no_plan, []) }
         ensures ticket { ticket_of result.number result.seat ≡ new_ticket (lock_id self.now.table.shared.table_id (made_with S.fixed self.now.table.shared.key)) number }
     {
         let seat = self.table.shared.split_seat::<DealsFirst>(first);
@@ -518,7 +585,7 @@ impl<S: Logged> FastMutex<S> {
         requires some { 0 < vec_len seats }
         requires own { All (λ s. IsSeatOf S.fixed self.now.table.shared.table_id self.now.table.shared.key s.seat) seats.items }
         ensures own { result.table_id ≡ self.now.table.shared.table_id }
-        ensures claims { result.me ≡ (seat_view Rest result.me.0.found (made_with S.fixed self.now.table.shared.key) (map (λ s. (s.number, last_left s.seat.me.0.claims)) seats.items), []) }
+        ensures claims { result.me ≡ (seat_view Rest result.me.0.found (made_with S.fixed self.now.table.shared.key) (map (λ s. (s.number, last_left s.seat.me.0.claims)) seats.items) result.me.0.plan, []) }
     {
         let Some(
             FastSeat {

@@ -4,25 +4,29 @@ ghost use Rattle.std.specs.List.{All};
 ghost use Rattle.lamport_core.specs.declared.At.TheVariants.{Fast as FastAt, Slow as SlowAt};
 ghost use Rattle.fast_mutex.specs.Items.{Grows};
 ghost use Rattle.fast_mutex.specs.Word.{lock_id, made_with};
-ghost use Rattle.fast_mutex.specs.Fast.{ticket_of, stay_of};
+ghost use Rattle.fast_mutex.specs.Fast.{is_inside, ticket_of, stay_of};
 ghost use Rattle.fast_mutex.specs.declared.lock.Path.TheVariants.{Fast};
 
-use crate::fast::{FastInside, FastMutex, FastSeat};
-use crate::lock::{Lock, Missing, Path};
+use crate::fast::{FastInside, FastMutex, FastSeat, Walk};
+use crate::lock::{Lock, Look, Missing, Path};
 use crate::logged::Logged;
-use crossbeam_utils::Backoff;
 use lamport_core::At;
 use std::alloc::{AllocError, Global};
-use std::sync::Wait;
 
 impl<S: Logged + Drop> Lock<S> for FastMutex<S> {
     type Seat = FastSeat<S>;
+
+    type Walk = Walk<S>;
 
     type Inside = FastInside<S>;
 
     ghost id = { λ l. lock_id l.table.shared.table_id (made_with S.fixed l.table.shared.key) };
 
     ghost ticket = { λ s. ticket_of s.number s.seat };
+
+    ghost walking = { λ w. ticket_of w.number w.seat };
+
+    ghost is_in = { λ w. is_inside w.at };
 
     ghost stay = { λ s. stay_of s.number s.seat };
 
@@ -38,19 +42,27 @@ impl<S: Logged + Drop> Lock<S> for FastMutex<S> {
         FastMutex::number_of(seat)
     }
 
-    /// Step by step. It backs off where the algorithm waits: for y to be 0, and in the scan of the flags.
-    fn enter<R: Wait>(&self, rt: &R, seat: FastSeat<S>) -> (FastInside<S>, S) {
-        let mut walk = self.begin(seat);
-        let backoff = Backoff::new();
-        for _ in rt.forever() {
-            walk = self.step(walk);
-            match FastMutex::at(&walk) {
-                At::Fast | At::Slow => return FastMutex::admitted(walk),
-                At::AwaitY | At::Scan(_) | At::SlowAwait => backoff.snooze(),
-                _ => {}
-            }
+    fn begin(&self, seat: FastSeat<S>) -> Walk<S> {
+        FastMutex::begin(self, seat)
+    }
+
+    /// One line. It does not move at `At::AwaitY`, `At::Scan` and `At::SlowAwait`, while the algorithm waits there.
+    fn step(&self, walk: Walk<S>) -> (Walk<S>, bool) {
+        let before = FastMutex::at(&walk);
+        let walk = FastMutex::step(self, walk);
+        let has_moved = FastMutex::at(&walk) != before;
+        (walk, has_moved)
+    }
+
+    fn is_admitted(walk: &Walk<S>) -> bool {
+        match FastMutex::at(walk) {
+            At::Fast | At::Slow => true,
+            _ => false,
         }
-        unreachable!()
+    }
+
+    fn admitted(walk: Walk<S>) -> (FastInside<S>, S) {
+        FastMutex::admitted(walk)
     }
 
     /// `Path::Fast` exactly where the walk came in at `At::Fast`.
@@ -84,5 +96,11 @@ impl<S: Logged + Drop> Lock<S> for FastMutex<S> {
         ensures back { IfErr result (λ m. (m.whole ≡ self) × (m.parts ≡ seats)) }
     {
         self.gather(seats)
+    }
+}
+
+impl<S: Logged + Drop> Look<S> for FastMutex<S> {
+    fn answered(&self, seat: &mut FastSeat<S>) -> bool {
+        self.look(seat)
     }
 }

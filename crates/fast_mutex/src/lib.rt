@@ -1,6 +1,7 @@
 //! Locks that hand a state from process to process, and say what each finds when it enters.
 #![tactic(auto)]
 
+mod enter;
 mod fast;
 mod fast_lock;
 mod lock;
@@ -9,7 +10,8 @@ mod logged;
 mod tests;
 mod word;
 
+pub use enter::Enter;
 pub use fast::{FastInside, FastMutex, FastSeat, Walk};
-pub use lock::{Lock, Missing, Path};
+pub use lock::{Lock, Look, Missing, Path};
 pub use logged::Logged;
-pub use word::{WordInside, WordLock, WordSeat};
+pub use word::{WordInside, WordLock, WordSeat, WordWalk};

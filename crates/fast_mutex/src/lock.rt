@@ -1,11 +1,10 @@
 //! The contract of a lock: what a process finds when it enters, and what it owes when it leaves.
-ghost use Rattle.std.specs.Prelude.{◌≡◌, ◌≤◌, ◌↔◌, ℕ, true, false, List, [], map, length, IfOk, IfErr, IsOk};
+ghost use Rattle.std.specs.Prelude.{◌≡◌, ◌≤◌, ◌↔◌, ◌||◌, ℕ, Bool, true, false, List, [], map, length, IfOk, IfErr, IsOk};
 ghost use Rattle.std.specs.List.{All};
 ghost use Rattle.fast_mutex.specs.Items.{LockId, Ticket, tickets_from, Grows, GrowsBy};
 
 use crate::logged::Logged;
 use std::alloc::{AllocError, Global};
-use std::sync::Wait;
 
 /// How a process got in, in the words of Lamport, "A Fast Mutual Exclusion Algorithm" (1987).
 #[derive(Clone, Copy, Debug, PartialEq, Eq)]
@@ -27,10 +26,15 @@ pub struct Missing<L, T> {
 ///
 /// While a process is outside, others put items of their own in front of the state's list, and nothing else happens to it.
 /// So who enters finds the list that it last left, with items of others alone in front.
+/// An entry is a walk of single steps, none of which waits; [`Enter`](crate::Enter) takes them until the walk has come in.
 /// No call says that a process that waits ever gets in, or who is next.
 pub trait Lock<S: Logged>: Sized + Drop {
     /// The right of one process to enter. A seat that is dropped is lost, and the lock can then not be finished.
     type Seat: Drop;
+
+    /// An entry that is taken step by step. It holds the state once it has come in. A walk that is not taken further, or is
+    /// dropped, can keep all others out.
+    type Walk: Drop;
 
     /// One stay of a process inside, which `leave` has to spend.
     type Inside;
@@ -40,6 +44,12 @@ pub trait Lock<S: Logged>: Sized + Drop {
 
     // what a seat knows
     ghost ticket: { Self.Seat → Ticket S.Item };
+
+    // what a walk knows: the ticket of its seat
+    ghost walking: { Self.Walk → Ticket S.Item };
+
+    // whether a walk has come in
+    ghost is_in: { Self.Walk → Bool };
 
     // what who is inside knows: its `left` is the list found
     ghost stay: { Self.Inside → Ticket S.Item };
@@ -57,14 +67,31 @@ pub trait Lock<S: Logged>: Sized + Drop {
     fn number(seat: &Self::Seat) -> u32
         ensures { result ≡ (ticket seat.now).number };
 
-    /// Waits until nobody else is inside, and takes the state.
-    fn enter<R: Wait>(&self, rt: &R, seat: Self::Seat) -> (Self::Inside, S)
+    /// An entry that has not begun. It touches no word.
+    fn begin(&self, seat: Self::Seat) -> Self::Walk
         requires { (ticket seat).lock ≡ id self.now }
-        ensures stay { stay result.0 ≡ record (ticket seat) { left = S.items result.1 } }
-        ensures fixed { S.fixed result.1 ≡ (id self.now).fixed }
-        ensures grows { Grows S.owner (ticket seat).number (ticket seat).left (S.items result.1) [] }
-        ensures told { (ticket seat).told ≡ true → S.is_answered (ticket seat).number (S.items result.1) ≡ true }
-        ensures number { (1 ≤ (ticket seat).number) × ((ticket seat).number ≤ (id self.now).count) };
+        ensures ticket { walking result ≡ ticket seat }
+        ensures outside { is_in result ≡ false };
+
+    /// The next step of an entry: one atomic step on one word. It never waits. Gives the walk, and whether it has moved: else
+    /// what it waits for was not there, and it is worth backing off.
+    fn step(&self, walk: Self::Walk) -> (Self::Walk, bool)
+        requires lock { (walking walk).lock ≡ id self.now }
+        requires outside { is_in walk ≡ false }
+        ensures { walking result.0 ≡ walking walk };
+
+    /// Whether the walk has come in.
+    fn is_admitted(walk: &Self::Walk) -> bool
+        ensures { result ≡ is_in walk.now };
+
+    /// The walk that has come in, as a stay and the state.
+    fn admitted(walk: Self::Walk) -> (Self::Inside, S)
+        requires { is_in walk ≡ true }
+        ensures stay { stay result.0 ≡ record (walking walk) { left = S.items result.1 } }
+        ensures fixed { S.fixed result.1 ≡ (walking walk).lock.fixed }
+        ensures grows { Grows S.owner (walking walk).number (walking walk).left (S.items result.1) [] }
+        ensures told { (walking walk).told ≡ true → S.is_answered (walking walk).number (S.items result.1) ≡ true }
+        ensures number { (1 ≤ (walking walk).number) × ((walking walk).number ≤ (walking walk).lock.count) };
 
     /// How this stay was entered. Each lock says which paths it has.
     fn path(inside: &Self::Inside) -> Path;
@@ -86,4 +113,15 @@ pub trait Lock<S: Logged>: Sized + Drop {
         ensures fixed { IfOk result (λ s. S.fixed s ≡ (id self).fixed) }
         ensures grows { IfOk result (λ s. All (λ t. Grows S.owner (ticket t).number (ticket t).left (S.items s) []) seats.items) }
         ensures back { IfErr result (λ m. (m.whole ≡ self) × (m.parts ≡ seats)) };
+}
+
+/// A look from outside at whether the wait of a seat's process is answered, by one load. It never waits.
+pub trait Look<S: Logged>: Lock<S> {
+    /// Where it is true, the seat is told. Who was told stays so until its next stay, and where the list that it last
+    /// left answers its wait, the look is true.
+    fn answered(&self, seat: &mut Self::Seat) -> bool
+        requires { (Self.ticket seat.old).lock ≡ Self.id self.now }
+        ensures ticket { Self.ticket seat.new ≡ record (Self.ticket seat.old) { told = (Self.ticket seat.old).told || result } }
+        ensures again { (Self.ticket seat.old).told ≡ true → result ≡ true }
+        ensures left { S.is_answered (Self.ticket seat.old).number (Self.ticket seat.old).left ≡ true → result ≡ true };
 }

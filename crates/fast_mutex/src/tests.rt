@@ -3,11 +3,12 @@ ghost use Rattle.std.specs.Prelude.{◌≡◌, ℕ, List, [], ◌∷◌, false, 
 ghost use Rattle.fast_mutex.specs.Items.{Grows, tickets_from};
 ghost use Rattle.fast_mutex.specs.Word.{ticket_of, lock_id, made_with};
 
-use crate::{Lock, Logged, Missing, Path, WordLock, WordSeat};
+use crate::{Enter, Lock, Logged, Missing, Path, WordLock, WordSeat};
 use std::alloc::{AllocError, Global};
 use std::sync::Wait;
 use std::thread::{Threads, join};
 
+mod looks;
 mod threads;
 mod walks;
 
@@ -33,6 +34,11 @@ impl Logged for Notes {
 
     fn answered(&self, _process: u32) -> bool {
         false
+    }
+
+    #[tactic(auto, unfolding(crate::specs::Marks::answer_bits))]
+    fn answers(&self) -> u32 {
+        0
     }
 
     ghost nobody = { λ p. refl };

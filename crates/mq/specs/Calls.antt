@@ -155,3 +155,4 @@ pub record Came (old : Ticket Record) (system : LockId) (stay : Ticket Record) (
   pub n : books.n ≡ system.count
   pub found : stay.left ≡ books.records
   pub grows : Grows owner old.number old.left books.records []
+  pub told : old.told ≡ true → is_answered books.records old.number ≡ true

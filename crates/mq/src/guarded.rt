@@ -1,5 +1,6 @@
 //! The state that the lock guards.
-ghost use Rattle.std.specs.Prelude.{◌∷◌, [], refl};
+ghost use Rattle.std.specs.Prelude.{◌≡◌, ◌∷◌, [], refl};
+ghost use Rattle.fast_mutex.specs.Marks.{flag};
 
 use fast_mutex::Logged;
 use mq_model::entries::Entry;
@@ -49,7 +50,23 @@ impl Logged for Guarded {
         self.books.answered(process)
     }
 
+    fn answers(&self) -> u32 {
+        let mut bits = 0;
+        let mut process = 32;
+        while process > 0 {
+            bits = 2 * bits + bit(self.books.answered(process));
+            process -= 1;
+        }
+        bits
+    }
+
     ghost nobody = { λ p. refl };
 
     ghost stays = { answered-stays };
+}
+
+fn bit(is_set: bool) -> u32
+    ensures { result ≡ flag is_set }
+{
+    if is_set { 1 } else { 0 }
 }

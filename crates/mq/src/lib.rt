@@ -7,6 +7,7 @@
 
 mod asking;
 mod guarded;
+mod pause;
 mod process;
 mod stays;
 mod system;

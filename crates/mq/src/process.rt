@@ -15,7 +15,7 @@ use crate::asking::{ask, ask_by_name};
 use crate::guarded::Guarded;
 use crate::stays::{come, depart};
 use crate::system::Mq;
-use fast_mutex::Lock;
+use fast_mutex::Look;
 use mq_model::entries::{Attr, Call, OpenFlags, Reply, Status};
 use mq_model::faults::Fault;
 use mq_model::names::Name;
@@ -24,12 +24,12 @@ use std::sync::Wait;
 
 /// One process. Contracts see its lock, its number, and the journal that it last left.
 #[derive(Drop)]
-pub struct Process<L: Lock<Guarded>> {
+pub struct Process<L: Look<Guarded>> {
     seat: Option<L::Seat>,
     waits: Option<usize>,
 }
 
-impl<L: Lock<Guarded>> Model for Process<L> {
+impl<L: Look<Guarded>> Model for Process<L> {
     ghost use Rattle.std.specs.Prelude.{◌≡◌, IsSome};
     ghost use Rattle.fast_mutex.specs.Items.{Ticket};
     ghost use Rattle.mq_model.specs.Record.{Record};
@@ -43,7 +43,7 @@ impl<L: Lock<Guarded>> Model for Process<L> {
     ghost invariant = { λ p. IsSome p.seat × (p.waits ≡ waiting_room (ticket_of L.ticket p.seat).left (ticket_of L.ticket p.seat).number) };
 }
 
-pub(crate) fn process_of<L: Lock<Guarded>>(seat: L::Seat) -> Process<L>
+pub(crate) fn process_of<L: Look<Guarded>>(seat: L::Seat) -> Process<L>
     requires { (L.ticket seat).left ≡ [] }
     ensures { result ≡ L.ticket seat }
 {
@@ -53,13 +53,13 @@ pub(crate) fn process_of<L: Lock<Guarded>>(seat: L::Seat) -> Process<L>
     }
 }
 
-pub(crate) fn seat_of<L: Lock<Guarded>>(process: Process<L>) -> L::Seat
+pub(crate) fn seat_of<L: Look<Guarded>>(process: Process<L>) -> L::Seat
     ensures { L.ticket result ≡ process }
 {
     process.seat.unwrap()
 }
 
-impl<L: Lock<Guarded>> Process<L> {
+impl<L: Look<Guarded>> Process<L> {
     ghost use Rattle.std.specs.Prelude.{◌≡◌, ◌≢◌, ◌≤◌, Bool, true, false, Some, None, IsSome, IfSome, IfNone, OnSome, Ok, length, [], is_some};
     ghost use Rattle.mq_model.specs.Waits.{open_wait};
     ghost use Rattle.mq_model.specs.declared.entries.Call.{Call};

@@ -6,11 +6,11 @@ ghost use Rattle.mq.specs.Calls.{Came, ticket_of, owner};
 
 use crate::guarded::Guarded;
 use crate::system::Mq;
-use fast_mutex::Lock;
+use fast_mutex::{Enter, Look};
 use std::sync::Wait;
 
 /// Enters with the seat of a process, and says which process it is.
-pub(crate) fn come<L: Lock<Guarded>, R: Wait>(
+pub(crate) fn come<L: Look<Guarded>, R: Wait>(
     rt: &R,
     mq: &Mq<L>,
     seat: &mut Option<L::Seat>,
@@ -26,7 +26,7 @@ pub(crate) fn come<L: Lock<Guarded>, R: Wait>(
 }
 
 /// Leaves, and puts the seat back.
-pub(crate) fn depart<L: Lock<Guarded>>(
+pub(crate) fn depart<L: Look<Guarded>>(
     mq: &Mq<L>,
     seat: &mut Option<L::Seat>,
     inside: L::Inside,

@@ -8,7 +8,7 @@ ghost use Rattle.mq.specs.Calls.{owner};
 
 use crate::guarded::Guarded;
 use crate::process::{Process, process_of, seat_of};
-use fast_mutex::{Lock, Missing};
+use fast_mutex::{Look, Missing};
 use mq_model::faults::Fault;
 use mq_model::journals::Journal;
 use mq_state::books::Books;
@@ -25,14 +25,14 @@ struct Room<T> {
 
 /// Message queues that processes share, over a lock. Contracts see which lock it is, with the number of processes.
 #[derive(Drop)]
-pub struct Mq<L: Lock<Guarded>> {
+pub struct Mq<L: Look<Guarded>> {
     lock: L,
     n: u32,
     // Nothing ever locks it: threads share an `Mq`, and seats go from thread to thread but are not shared.
     room: Mutex<Room<L::Seat>>,
 }
 
-impl<L: Lock<Guarded>> Model for Mq<L> {
+impl<L: Look<Guarded>> Model for Mq<L> {
     ghost use Rattle.std.specs.Prelude.{◌≡◌, ◌∷◌, [], ◌≤◌};
     ghost use Rattle.fast_mutex.specs.Items.{LockId};
 
@@ -43,7 +43,7 @@ impl<L: Lock<Guarded>> Model for Mq<L> {
     ghost invariant = { λ q. ((L.id q.lock).fixed ≡ (L.id q.lock).count ∷ []) × (q.n ≡ (L.id q.lock).count) × (q.n ≤ 32) };
 }
 
-impl<L: Lock<Guarded>> Mq<L> {
+impl<L: Look<Guarded>> Mq<L> {
     ghost use Rattle.std.specs.Prelude.{◌≡◌, ◌≤◌, ◌<◌, ◌⊎◌, ◌↔◌, ◌∷◌, [], map, length, Err, IfOk, IfErr, IsOk, vec_len, vec_capacity};
     ghost use Rattle.std.specs.List.{All};
     ghost use Rattle.fast_mutex.specs.Items.{Grows, tickets_from};
@@ -112,7 +112,7 @@ impl<L: Lock<Guarded>> Mq<L> {
 }
 
 // The processes of these seats, in their order.
-fn processes_of<L: Lock<Guarded>>(
+fn processes_of<L: Look<Guarded>>(
     seats: Vec<L::Seat>,
     mut processes: Vec<Process<L>>,
 ) -> Vec<Process<L>>
@@ -129,7 +129,7 @@ fn processes_of<L: Lock<Guarded>>(
 }
 
 // The seats of these processes, in their order.
-fn seats_of<L: Lock<Guarded>>(processes: Vec<Process<L>>, mut seats: Vec<L::Seat>) -> Vec<L::Seat>
+fn seats_of<L: Look<Guarded>>(processes: Vec<Process<L>>, mut seats: Vec<L::Seat>) -> Vec<L::Seat>
     requires empty { seats.items ≡ [] }
     requires room { vec_len processes ≤ vec_capacity seats }
     ensures items { map L.ticket result.items ≡ processes.items }

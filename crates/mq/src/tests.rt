@@ -4,7 +4,7 @@ ghost use Rattle.mq_state.specs.Buffers.{waiting_room};
 ghost use Rattle.mq.specs.Calls.{IsFree};
 
 use crate::{Guarded, Mq, Process};
-use fast_mutex::{FastMutex, Lock, Missing, WordLock};
+use fast_mutex::{FastMutex, Look, Missing};
 use mq_checker::checker::check_history;
 use mq_model::entries::{Access, Attr, OpenFlags, Received, Reply};
 use mq_model::faults::Fault;
@@ -14,6 +14,7 @@ use mq_state::collected::Collected;
 use std::alloc::Global;
 use std::process::Abort;
 use std::sync::Wait;
+use std::time::Clock;
 
 mod calls;
 mod threads;
@@ -32,14 +33,14 @@ const OPEN: OpenFlags = OpenFlags {
 
 /// Queues for two processes, and those.
 #[derive(Drop)]
-struct Pair<L: Lock<Guarded>> {
+struct Pair<L: Look<Guarded>> {
     mq: Mq<L>,
     one: Process<L>,
     two: Process<L>,
 }
 
 // One growth may be refused from outside.
-fn make_pair<L: Lock<Guarded>>(alloc: Global) -> Option<Pair<L>>
+fn make_pair<L: Look<Guarded>>(alloc: Global) -> Option<Pair<L>>
     ensures { IfSome result (λ p. (p.one.lock ≡ p.mq) × IsFree p.one × (p.two.lock ≡ p.mq) × IsFree p.two) }
 {
     let (mq, mut processes) = match Mq::<L>::new(alloc, 2) {
@@ -51,7 +52,7 @@ fn make_pair<L: Lock<Guarded>>(alloc: Global) -> Option<Pair<L>>
     Some(Pair { mq, one, two })
 }
 
-fn open_queue<L: Lock<Guarded>, R: Wait>(
+fn open_queue<L: Look<Guarded>, R: Wait>(
     rt: &R,
     mq: &Mq<L>,
     p: &mut Process<L>,
@@ -72,7 +73,7 @@ fn open_queue<L: Lock<Guarded>, R: Wait>(
 }
 
 // A send that is refused a growth is made once more.
-fn send<L: Lock<Guarded>, R: Wait>(
+fn send<L: Look<Guarded>, R: Wait + Clock>(
     rt: &R,
     mq: &Mq<L>,
     p: &mut Process<L>,
@@ -90,7 +91,7 @@ fn send<L: Lock<Guarded>, R: Wait>(
     }
 }
 
-fn receive<L: Lock<Guarded>, R: Wait>(
+fn receive<L: Look<Guarded>, R: Wait + Clock>(
     rt: &R,
     mq: &Mq<L>,
     p: &mut Process<L>,
@@ -107,7 +108,7 @@ fn receive<L: Lock<Guarded>, R: Wait>(
     }
 }
 
-fn start_send<L: Lock<Guarded>, R: Wait>(
+fn start_send<L: Look<Guarded>, R: Wait>(
     rt: &R,
     mq: &Mq<L>,
     p: &mut Process<L>,
@@ -125,7 +126,7 @@ fn start_send<L: Lock<Guarded>, R: Wait>(
     }
 }
 
-fn start_receive<L: Lock<Guarded>, R: Wait>(
+fn start_receive<L: Look<Guarded>, R: Wait>(
     rt: &R,
     mq: &Mq<L>,
     p: &mut Process<L>,
@@ -142,7 +143,7 @@ fn start_receive<L: Lock<Guarded>, R: Wait>(
 }
 
 // What the open wait came to, if there is one and it is answered.
-fn collect<L: Lock<Guarded>, R: Wait>(
+fn collect<L: Look<Guarded>, R: Wait>(
     rt: &R,
     mq: &Mq<L>,
     p: &mut Process<L>,
@@ -158,7 +159,7 @@ fn collect<L: Lock<Guarded>, R: Wait>(
 }
 
 // The end without a process: the queues come back.
-fn finish_early<L: Lock<Guarded>>(alloc: Global, mq: Mq<L>) -> Option<Mq<L>>
+fn finish_early<L: Look<Guarded>>(alloc: Global, mq: Mq<L>) -> Option<Mq<L>>
     ensures { IfSome result (λ m. m ≡ mq) }
 {
     match mq.finish(Vec::new(alloc)) {
@@ -168,7 +169,7 @@ fn finish_early<L: Lock<Guarded>>(alloc: Global, mq: Mq<L>) -> Option<Mq<L>>
 }
 
 // The journal at the end.
-fn finish<L: Lock<Guarded>>(
+fn finish<L: Look<Guarded>>(
     alloc: Global,
     mq: Mq<L>,
     one: Process<L>,
@@ -187,7 +188,7 @@ fn finish<L: Lock<Guarded>>(
 }
 
 /// Sends and receives of one process, and the journal at the end.
-fn in_order<L: Lock<Guarded>, R: Wait + Abort>(rt: &R, alloc: Global) -> Option<Journal> {
+fn in_order<L: Look<Guarded>, R: Wait + Clock + Abort>(rt: &R, alloc: Global) -> Option<Journal> {
     let Pair { mq, mut one, two } = make_pair::<L>(alloc)?;
     assert_eq!(rt; one.number(), 1);
     assert_eq!(rt; two.number(), 2);
@@ -205,7 +206,7 @@ fn in_order<L: Lock<Guarded>, R: Wait + Abort>(rt: &R, alloc: Global) -> Option<
 }
 
 /// What two processes in one thread are told where both wait in turn.
-fn both_wait<L: Lock<Guarded>, R: Wait + Abort>(rt: &R, alloc: Global) -> Option<Journal> {
+fn both_wait<L: Look<Guarded>, R: Wait + Clock + Abort>(rt: &R, alloc: Global) -> Option<Journal> {
     let Pair {
         mq,
         mut one,
@@ -216,10 +217,14 @@ fn both_wait<L: Lock<Guarded>, R: Wait + Abort>(rt: &R, alloc: Global) -> Option
     assert_eq!(rt; open_queue(rt, &mq, &mut two, OPEN, 1), Ok(0));
     assert_eq!(rt; start_receive(rt, &mq, &mut one, &mut buf), Ok(None));
     assert_eq!(rt; one.waiting(), Some(8));
+    assert!(rt; !one.answered(&mq));
     assert_eq!(rt; collect(rt, &mq, &mut one, &mut buf), None);
     assert_eq!(rt; send(rt, &mq, &mut two, b"hi", 4), Ok(()));
+    assert!(rt; one.answered(&mq));
+    assert!(rt; one.answered(&mq));
     let outcome = Some(Collected::Got(Received { len: 2, prio: 4 }));
     assert_eq!(rt; collect(rt, &mq, &mut one, &mut buf), outcome);
+    assert!(rt; !one.answered(&mq));
     assert_eq!(rt; buf, [b'h', b'i', 0, 0, 0, 0, 0, 0]);
     assert_eq!(rt; start_send(rt, &mq, &mut two, b"a"), Ok(true));
     assert_eq!(rt; start_send(rt, &mq, &mut two, b"b"), Ok(false));
@@ -261,8 +266,6 @@ fn expect_replies<R: Abort>(rt: &R, journal: &Journal) {
 #[test]
 fn two_processes_in_one_thread_wait_for_each_other(rt: HostRuntime) {
     let alloc = rt.alloc();
-    let journal = both_wait::<WordLock<Guarded>, _>(&rt, alloc).expect(&rt, "memory");
-    expect_replies(&rt, &journal);
     let journal = both_wait::<FastMutex<Guarded>, _>(&rt, alloc).expect(&rt, "memory");
     expect_replies(&rt, &journal);
 }
@@ -293,8 +296,6 @@ fn expect_order<R: Abort>(rt: &R, alloc: Global, journal: &Journal) {
 #[test]
 fn messages_of_one_priority_leave_in_sending_order(rt: HostRuntime) {
     let alloc = rt.alloc();
-    let journal = in_order::<WordLock<Guarded>, _>(&rt, alloc).expect(&rt, "memory");
-    expect_order(&rt, alloc, &journal);
     let journal = in_order::<FastMutex<Guarded>, _>(&rt, alloc).expect(&rt, "memory");
     expect_order(&rt, alloc, &journal);
 }

@@ -12,7 +12,7 @@ pub struct FastRule<S> {
 impl<S: Logged> TableRule<Option<S>, View<S::Item>, About<S>> for FastRule<S> {
     ghost use Rattle.fast_mutex.specs.Fast.{KeepsRule, first_view};
 
-    ghost holds = { KeepsRule S.items S.fixed S.owner };
+    ghost holds = { KeepsRule S.items S.fixed S.owner S.is_answered };
 
     ghost first = { first_view S.fixed };
 }
@@ -43,7 +43,29 @@ pub struct Tests<S> {
 impl<S: Logged> Play<Option<S>, View<S::Item>> for Tests<S> {
     ghost use Rattle.fast_mutex.specs.Fast.{IsTest};
 
-    ghost then = { IsTest S.items S.fixed S.owner };
+    ghost then = { IsTest S.items S.fixed S.owner S.is_answered };
+}
+
+/// The load of the own word s, outside.
+pub struct Looks<S> {
+    of: PhantomData<S>,
+}
+
+impl<S: Logged> Play<Option<S>, View<S::Item>> for Looks<S> {
+    ghost use Rattle.fast_mutex.specs.Fast.{IsLook};
+
+    ghost then = { IsLook S.is_answered };
+}
+
+/// The store of a word s, inside, with the state in its slot.
+pub struct Marks<S> {
+    of: PhantomData<S>,
+}
+
+impl<S: Logged> Play<Option<S>, View<S::Item>> for Marks<S> {
+    ghost use Rattle.fast_mutex.specs.Fast.{IsMark};
+
+    ghost then = { IsMark S.items S.is_answered };
 }
 
 /// The store of 0 to y, which gives the state back.

@@ -11,7 +11,7 @@ use super::Process;
 use crate::guarded::Guarded;
 use crate::stays::{come, depart};
 use crate::system::Mq;
-use fast_mutex::Lock;
+use fast_mutex::Look;
 use mq_model::entries::Reply;
 use mq_model::faults::Fault;
 use mq_state::books::Books;
@@ -54,7 +54,7 @@ fn close_all(books: &mut Books, p: u32) -> Result<(), Fault>
     Ok(())
 }
 
-impl<L: Lock<Guarded>> Process<L> {
+impl<L: Look<Guarded>> Process<L> {
     ghost use Rattle.std.specs.Prelude.{◌≡◌};
     ghost use Rattle.mq.specs.Calls.{IsFree, Exits};
 

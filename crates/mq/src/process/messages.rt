@@ -6,17 +6,18 @@ ghost use Rattle.mq.specs.Calls.{wait_begun};
 
 use super::Process;
 use crate::guarded::Guarded;
+use crate::pause::Pause;
 use crate::stays::{come, depart};
 use crate::system::Mq;
-use crossbeam_utils::Backoff;
-use fast_mutex::Lock;
+use fast_mutex::Look;
 use mq_model::entries::{Received, Reply};
 use mq_model::faults::Fault;
 use mq_state::collected::{Collected, received};
 use std::sync::Wait;
+use std::time::Clock;
 
-impl<L: Lock<Guarded>> Process<L> {
-    ghost use Rattle.std.specs.Prelude.{◌≡◌, ◌≢◌, ◌≤◌, Bool, true, false, Some, None, IsSome, IfSome, IfNone, Ok, length, []};
+impl<L: Look<Guarded>> Process<L> {
+    ghost use Rattle.std.specs.Prelude.{◌≡◌, ◌≢◌, ◌≤◌, ◌||◌, Bool, true, false, Some, None, IsSome, IfSome, IfNone, Ok, length, []};
     ghost use Rattle.mq_model.specs.Answer.{Legal};
     ghost use Rattle.mq_model.specs.declared.entries.Call.{Call};
     ghost use Rattle.mq_state.specs.Buffers.{waiting_room};
@@ -80,6 +81,7 @@ impl<L: Lock<Guarded>> Process<L> {
         ensures same { IfNone result (buf.new ≡ buf.old) }
         ensures some { IfSome result (λ outcome. Collects self.old self.new outcome buf.old buf.new) }
         ensures free { IfSome result (λ outcome. IsFree self.new) }
+        ensures told { self.old.told ≡ true → IsSome result }
     {
         let (process, inside, mut state) = come(rt, mq, &mut self.seat);
         let outcome = state.books.collect(process, buf);
@@ -93,8 +95,29 @@ impl<L: Lock<Guarded>> Process<L> {
         }
     }
 
-    // Enters again and again until the wait is answered.
-    fn await_outcome<R: Wait>(&mut self, rt: &R, mq: &Mq<L>, buf: &mut [u8]) -> Collected
+    /// Whether the open wait is answered, by one look from outside the lock, which never waits. Where it is true, the next
+    /// `collect` is Some. It is false without an open wait.
+    pub fn answered(&mut self, mq: &Mq<L>) -> bool
+        requires made { self.old.lock ≡ mq.now }
+        ensures ticket { self.new ≡ record self.old { told = self.old.told || result } }
+        ensures free { waiting_room self.old.left self.old.number ≡ None → result ≡ false }
+    {
+        if self.waits.is_none() {
+            return false;
+        }
+        let Some(seat) = &mut self.seat else {
+            unreachable!()
+        };
+        mq.lock().answered(seat)
+    }
+
+    // Looks again and again until the wait is answered, and enters then.
+    fn await_outcome<R: Wait + Clock>(
+        &mut self,
+        rt: &R,
+        mq: &Mq<L>,
+        buf: &mut [u8],
+    ) -> Collected
         requires made { self.old.lock ≡ mq.now }
         requires wait { IsSome (waiting_room self.old.left self.old.number) }
         requires room { IfSome (waiting_room self.old.left self.old.number) (λ room. room ≤ length buf.old) }
@@ -102,19 +125,22 @@ impl<L: Lock<Guarded>> Process<L> {
         ensures some { Collects self.old self.new result buf.old buf.new }
         ensures free { IsFree self.new }
     {
-        let backoff = Backoff::new();
-        'tries: for _ in rt.forever() {
-            if let Some(outcome) = self.collect(rt, mq, buf) {
-                return outcome;
+        let mut pause = Pause::new();
+        'looks: for _ in rt.forever() {
+            if self.answered(mq) {
+                break;
             }
-            backoff.snooze();
+            pause.pass(rt);
         }
-        unreachable!()
+        match self.collect(rt, mq, buf) {
+            Some(outcome) => outcome,
+            None => unreachable!(),
+        }
     }
 
     /// Sends a message of that priority (`mq_send`). Where the queue is full it waits until the message is admitted, unless the
     /// descriptor does not block. Refused with `BadDescriptor`, `Invalid`, `MessageSize`, `Again` or `NoMemory`.
-    pub fn send<R: Wait>(
+    pub fn send<R: Wait + Clock>(
         &mut self,
         rt: &R,
         mq: &Mq<L>,
@@ -139,7 +165,7 @@ impl<L: Lock<Guarded>> Process<L> {
 
     /// Receives the oldest message of the highest priority into the front of the buffer (`mq_receive`). Where there is none it
     /// waits for one, unless the descriptor does not block. Refused with `BadDescriptor`, `MessageSize`, `Again` or `NoMemory`.
-    pub fn receive<R: Wait>(
+    pub fn receive<R: Wait + Clock>(
         &mut self,
         rt: &R,
         mq: &Mq<L>,

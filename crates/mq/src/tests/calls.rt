@@ -4,13 +4,14 @@ ghost use Rattle.mq.specs.Calls.{IsFree};
 
 use super::{CREATE, OPEN, Pair, make_pair};
 use crate::{Guarded, Mq, Process};
-use fast_mutex::{FastMutex, Lock, WordLock};
+use fast_mutex::{FastMutex, Look};
 use mq_model::entries::{Attr, Received, Status};
 use mq_model::faults::Fault;
 use mq_model::names::Name;
 use std::alloc::Global;
 use std::process::Abort;
 use std::sync::Wait;
+use std::time::Clock;
 
 const EMPTY: Status = Status {
     nonblock: false,
@@ -34,7 +35,7 @@ fn refusal<T: Copy>(outcome: Result<T, Fault>) -> Result<Option<Fault>, Fault> {
 }
 
 // A registration is notified once, by a message that comes to the empty queue.
-fn notices<L: Lock<Guarded>, R: Wait + Abort>(
+fn notices<L: Look<Guarded>, R: Wait + Clock + Abort>(
     rt: &R,
     mq: &Mq<L>,
     p: &mut Process<L>,
@@ -53,7 +54,7 @@ fn notices<L: Lock<Guarded>, R: Wait + Abort>(
 }
 
 // Where nothing is present, a descriptor with the flag refuses a receive.
-fn flags<L: Lock<Guarded>, R: Wait + Abort>(
+fn flags<L: Look<Guarded>, R: Wait + Clock + Abort>(
     rt: &R,
     mq: &Mq<L>,
     p: &mut Process<L>,
@@ -74,7 +75,7 @@ fn flags<L: Lock<Guarded>, R: Wait + Abort>(
 }
 
 // A queue lives on without descriptors until its unlink.
-fn ends<L: Lock<Guarded>, R: Wait + Abort>(
+fn ends<L: Look<Guarded>, R: Wait + Abort>(
     rt: &R,
     mq: &Mq<L>,
     p: &mut Process<L>,
@@ -97,7 +98,10 @@ fn ends<L: Lock<Guarded>, R: Wait + Abort>(
 }
 
 /// Calls of one process, up to the first that is refused memory.
-fn each_call<L: Lock<Guarded>, R: Wait + Abort>(rt: &R, alloc: Global) -> Result<(), Fault> {
+fn each_call<L: Look<Guarded>, R: Wait + Clock + Abort>(
+    rt: &R,
+    alloc: Global,
+) -> Result<(), Fault> {
     let Some(
         Pair {
             mq,
@@ -120,7 +124,7 @@ fn each_call<L: Lock<Guarded>, R: Wait + Abort>(rt: &R, alloc: Global) -> Result
 }
 
 // A run that is refused a growth is made once more.
-fn expect_each<L: Lock<Guarded>, R: Wait + Abort>(rt: &R, alloc: Global) {
+fn expect_each<L: Look<Guarded>, R: Wait + Clock + Abort>(rt: &R, alloc: Global) {
     let outcome = match each_call::<L, R>(rt, alloc) {
         Err(Fault::NoMemory) => each_call::<L, R>(rt, alloc),
         outcome => outcome,
@@ -130,6 +134,5 @@ fn expect_each<L: Lock<Guarded>, R: Wait + Abort>(rt: &R, alloc: Global) {
 
 #[test]
 fn each_call_that_never_waits_answers_with_ample_memory(rt: HostRuntime) {
-    expect_each::<WordLock<Guarded>, _>(&rt, rt.alloc());
     expect_each::<FastMutex<Guarded>, _>(&rt, rt.alloc());
 }

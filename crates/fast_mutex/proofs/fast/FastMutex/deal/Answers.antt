@@ -3,7 +3,7 @@ use Rattle.std.proofs.lemmas.List.{nil_from_length}
 use Rattle.fast_mutex.specs.Items.{LockId, new_ticket, tickets_from}
 use Rattle.lamport_core.specs.declared.At.TheVariants.{Rest}
 use Rattle.fast_mutex.specs.Word.{Fixed, new_claims, made_with, lock_id}
-use Rattle.fast_mutex.specs.Fast.{seat_view, ticket_of}
+use Rattle.fast_mutex.specs.Fast.{seat_view, no_plan, ticket_of}
 use Rattle.fast_mutex.proofs.WordKeeps.{tickets_pushed}
 use Rattle.fast_mutex.proofs.FastKeeps.{last_ticket}
 use Rattle.fast_mutex.proofs.fast.FastMutex.deal.Goals as goal
@@ -15,7 +15,7 @@ loop-number-init g c =
     let z : length c.args.seats.items ≡ 0 = omega arith in
     let none_yet : c.args.seats.items ≡ [] = nil_from_length c.args.seats.items z in record {
       own = c.requires.first.0;
-      claims = c.requires.first.1 ∙ ap (λ (k : ℕ). (seat_view Rest [] F (new_claims 1 k), [])) n;
+      claims = c.requires.first.1 ∙ ap (λ (k : ℕ). (seat_view Rest [] F (new_claims 1 k) no_plan, [])) n;
       low = omega arith;
       high = omega (arith, c.args.self.now.shape);
       many = omega arith;
@@ -32,7 +32,7 @@ loop-number-preserved g c =
     let b : n - k ≡ suc (n - (k + 1)) = omega arith in
     let d : k + 1 - 1 ≡ k = omega arith in record {
       own = c.deal_one-seat.ensures.own ∙ c.loop-number.invariant.own;
-      claims = c.deal_one-seat.ensures.claims ∙ ap (λ (p : ℕ). (seat_view Rest [] F (new_claims (k + 1) p), [])) b;
+      claims = c.deal_one-seat.ensures.claims ∙ ap (λ (p : ℕ). (seat_view Rest [] F (new_claims (k + 1) p) no_plan, [])) b;
       low = omega arith;
       high = omega arith;
       many = search rules;

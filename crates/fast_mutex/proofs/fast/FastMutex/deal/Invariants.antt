@@ -2,13 +2,13 @@ use Rattle.std.proofs.Common.{◌≡◌, ◌≤◌, ◌-◌, suc, [], map, vec_l
 use Rattle.fast_mutex.specs.Items.{tickets_from}
 use Rattle.lamport_core.specs.declared.At.TheVariants.{Rest}
 use Rattle.fast_mutex.specs.Word.{new_claims, made_with, lock_id}
-use Rattle.fast_mutex.specs.Fast.{seat_view, ticket_of}
+use Rattle.fast_mutex.specs.Fast.{seat_view, no_plan, ticket_of}
 use Rattle.fast_mutex.proofs.fast.FastMutex.deal.Given as goal
 
 abbrev pub invariant-loop-number : goal.invariant-loop-number
 invariant-loop-number g l = record {
   own : l.first.table_id ≡ l.self.table.shared.table_id;
-  claims : l.first.me ≡ (seat_view Rest [] (made_with g.S.Logged.fixed l.self.table.shared.key) (new_claims l.number (suc (l.self.count - l.number))), []);
+  claims : l.first.me ≡ (seat_view Rest [] (made_with g.S.Logged.fixed l.self.table.shared.key) (new_claims l.number (suc (l.self.count - l.number))) no_plan, []);
   low : 1 ≤ l.number;
   high : l.number ≤ l.self.count;
   many : suc (vec_len l.seats) ≡ l.number;

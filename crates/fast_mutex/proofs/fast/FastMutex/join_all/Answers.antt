@@ -16,7 +16,7 @@ loop-seat-init g c =
     let x = c.in-Some.field-0 in
     let own = All-pop (λ s. IsSeatOf g.S.Logged.fixed c.args.self.now.table.shared.table_id c.args.self.now.table.shared.key s.seat) _ _ (Some x) c.in-Some.ensures.items c.requires.own in record {
       own = ap (λ (l : LockId). l.table) own.1;
-      claims = alone_is _ _ _ _ _ _ x.alone (ap (λ (l : LockId). (l.count, l.fixed)) own.1);
+      claims = alone_is _ _ _ _ _ _ _ x.alone (ap (λ (l : LockId). (l.count, l.fixed)) own.1);
       all = ap (λ l. map f c.pop.new.self.items ++ l) (sym (append-nil x.seat.me.0.claims)) ∙ pop_claims f _ c.pop.new.self.items x x.seat.me.0.claims [] c.in-Some.ensures.items (ap (λ m. m.0.claims) x.alone) ∙ append-nil (map f c.args.seats.items);
       seats = own.0;
     }
@@ -29,7 +29,7 @@ join_seat-requires g c =
       ap (λ (l : LockId). l.table) own.1,
       ap (λ m. m.1) x.alone,
       omega (arith, c.args.self.now.shape),
-      joins_at _ _ _ _ _ _ _ _ _ _ _ _ _ (ap (λ m. m.0) c.loop-seat.invariant.claims) (ap (λ m. m.0) (alone_is _ _ _ _ _ _ x.alone (ap (λ (l : LockId). (l.count, l.fixed)) own.1))),
+      joins_at _ _ _ _ _ _ _ _ _ _ _ _ _ _ _ _ (ap (λ m. m.0) c.loop-seat.invariant.claims) (ap (λ m. m.0) (alone_is _ _ _ _ _ _ _ x.alone (ap (λ (l : LockId). (l.count, l.fixed)) own.1))),
     )
 
 pub returns-clause-claims : goal.returns-clause-claims
@@ -38,7 +38,7 @@ returns-clause-claims g c =
     let z : length c.loop-seat.seats.items ≡ 0 = omega (arith, c.in_default-pop.ensures.cases.0) in
     let none_left : c.loop-seat.seats.items ≡ [] = nil_from_length c.loop-seat.seats.items z in
     let all : c.loop-seat.all.me.0.claims ≡ map f c.args.seats.items = sym (ap (λ l. map f l ++ c.loop-seat.all.me.0.claims) none_left) ∙ c.loop-seat.invariant.all in
-    c.loop-seat.invariant.claims ∙ ap (λ (cs : List (Claim g.row.S-Item.Denot)). (seat_view Rest c.loop-seat.all.me.0.found (made_with g.S.Logged.fixed c.args.self.now.table.shared.key) cs, [])) all
+    c.loop-seat.invariant.claims ∙ ap (λ (cs : List (Claim g.row.S-Item.Denot)). (seat_view Rest c.loop-seat.all.me.0.found (made_with g.S.Logged.fixed c.args.self.now.table.shared.key) cs c.loop-seat.all.me.0.plan, [])) all
 
 pub loop-seat-preserved : goal.loop-seat-preserved
 loop-seat-preserved g c =

@@ -8,7 +8,7 @@ use Rattle.fast_mutex.proofs.fast.FastMutex.join_all.Given as goal
 abbrev pub invariant-loop-seat : goal.invariant-loop-seat
 invariant-loop-seat g l = record {
   own : l.all.table_id ≡ l.self.table.shared.table_id;
-  claims : l.all.me ≡ (seat_view Rest l.all.me.0.found (made_with g.S.Logged.fixed l.self.table.shared.key) l.all.me.0.claims, []);
+  claims : l.all.me ≡ (seat_view Rest l.all.me.0.found (made_with g.S.Logged.fixed l.self.table.shared.key) l.all.me.0.claims l.all.me.0.plan, []);
   all : map (λ s. (s.number, last_left s.seat.me.0.claims)) l.seats.items ++ l.all.me.0.claims ≡ map (λ s. (s.number, last_left s.seat.me.0.claims)) l.fn.seats.items;
   seats : All (λ s. IsSeatOf g.S.Logged.fixed l.self.table.shared.table_id l.self.table.shared.key s.seat) l.seats.items;
 }

@@ -1,0 +1,42 @@
+//! The entry that waits, by the steps of any lock.
+ghost use Rattle.std.specs.Prelude.{◌≡◌, ◌≤◌, true, []};
+ghost use Rattle.fast_mutex.specs.Items.{Grows};
+
+use crate::lock::Lock;
+use crate::logged::Logged;
+use crossbeam_utils::Backoff;
+use std::sync::Wait;
+
+/// The entry that waits, which each lock has. It stands apart from `Lock`, so that code that never waits can use a lock.
+pub trait Enter<S: Logged>: Lock<S> {
+    /// Waits until nobody else is inside, and takes the state.
+    fn enter<R: Wait>(&self, rt: &R, seat: Self::Seat) -> (Self::Inside, S)
+        requires { (Self.ticket seat).lock ≡ Self.id self.now }
+        ensures stay { Self.stay result.0 ≡ record (Self.ticket seat) { left = S.items result.1 } }
+        ensures fixed { S.fixed result.1 ≡ (Self.id self.now).fixed }
+        ensures grows { Grows S.owner (Self.ticket seat).number (Self.ticket seat).left (S.items result.1) [] }
+        ensures told { (Self.ticket seat).told ≡ true → S.is_answered (Self.ticket seat).number (S.items result.1) ≡ true }
+        ensures number { (1 ≤ (Self.ticket seat).number) × ((Self.ticket seat).number ≤ (Self.id self.now).count) };
+}
+
+impl<S: Logged, L: Lock<S>> Enter<S> for L {
+    /// Step by step. It backs off after a step that left the walk where it was, longer each time, and begins anew with
+    /// the back-off once the walk has moved.
+    fn enter<R: Wait>(&self, rt: &R, seat: L::Seat) -> (L::Inside, S) {
+        let mut walk = self.begin(seat);
+        let backoff = Backoff::new();
+        for _ in rt.forever() {
+            if L::is_admitted(&walk) {
+                return L::admitted(walk);
+            }
+            let (next, has_moved) = self.step(walk);
+            walk = next;
+            if has_moved {
+                backoff.reset();
+            } else {
+                backoff.snooze();
+            }
+        }
+        unreachable!()
+    }
+}
