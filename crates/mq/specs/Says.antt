@@ -1,5 +1,5 @@
 -- What a call of a process returns, by the reply in its entry. None stands for a reply that the call is never given.
-use Rattle.std.specs.Prelude.{ℕ, Bool, true, false, Option, Some, None, Result, Ok, Err}
+use Rattle.std.specs.Prelude.{ℕ, ◌≤◌, Bool, true, false, Option, Some, None, Result, Ok, Err}
 use Rattle.mq_model.specs.Record.{Past}
 use Rattle.mq_model.specs.declared.entries.Status.{Status}
 use Rattle.mq_model.specs.declared.entries.Received.{Received}
@@ -7,6 +7,8 @@ use Rattle.mq_model.specs.declared.entries.Reply.{Reply}
 use Rattle.mq_model.specs.declared.entries.Reply.TheVariants.{Opened, Queued, Handed, Waits, Got, Attrs, Notice, Done, Refused}
 use Rattle.mq_model.specs.declared.faults.Fault.{Fault}
 use Rattle.mq_state.specs.Buffers.{received_at}
+use Rattle.mq_state.specs.declared.collected.Collected.{Collected as Outcome}
+use Rattle.mq_state.specs.declared.collected.Collected.TheVariants.{Got as GotMessage, Sent}
 
 abbrev pub open_says : Reply → Option (Result ℕ Fault)
 open_says (Opened d created) = Some (Ok d)
@@ -57,3 +59,8 @@ abbrev pub receive_says : Past → Reply → Option (Result Received Fault)
 receive_says past (Got place admitted notified) = Some (Ok (received_at past place))
 receive_says past (Refused fault) = Some (Err fault)
 receive_says past _ = None
+
+-- a message that was received has room in a buffer of that length
+abbrev pub FitsIn : Outcome → ℕ → Type 0
+FitsIn (GotMessage received) room = received.len ≤ room
+FitsIn Sent room = Unit {0}

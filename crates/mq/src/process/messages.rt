@@ -17,11 +17,11 @@ use std::sync::Wait;
 use std::time::Clock;
 
 impl<L: Look<Guarded>> Process<L> {
-    ghost use Rattle.std.specs.Prelude.{◌≡◌, ◌≢◌, ◌≤◌, ◌||◌, Bool, true, false, Some, None, IsSome, IfSome, IfNone, Ok, length, []};
+    ghost use Rattle.std.specs.Prelude.{◌≡◌, ◌≢◌, ◌≤◌, ◌||◌, Bool, true, false, Some, None, IsSome, IfSome, IfNone, IfOk, Ok, length, []};
     ghost use Rattle.mq_model.specs.Answer.{Legal};
     ghost use Rattle.mq_model.specs.declared.entries.Call.{Call};
     ghost use Rattle.mq_state.specs.Buffers.{waiting_room};
-    ghost use Rattle.mq.specs.Says.{start_send_says, start_receive_says};
+    ghost use Rattle.mq.specs.Says.{start_send_says, start_receive_says, FitsIn};
     ghost use Rattle.mq.specs.Calls.{IsFree, OneCall, ReceiveCall, SendCall, WholeReceive, WaitsIn, Collects, StillWaits};
 
     /// Sends a message without waiting for its admission: true where the queue or a waiting receive took it, false where the
@@ -59,6 +59,7 @@ impl<L: Look<Guarded>> Process<L> {
         requires made { self.old.lock ≡ mq.now }
         requires free { IsFree self.old }
         ensures call { ReceiveCall start_receive_says self.old self.new d buf.old buf.new result }
+        ensures fits { IfOk result (λ got. IfSome got (λ received. received.len ≤ length buf.old)) }
         ensures waits { result ≡ Ok None → WaitsIn self.new (Call.MqReceive d (length buf.old)) }
         ensures free { result ≢ Ok None → IsFree self.new }
     {
@@ -81,6 +82,7 @@ impl<L: Look<Guarded>> Process<L> {
         ensures same { IfNone result (buf.new ≡ buf.old) }
         ensures some { IfSome result (λ outcome. Collects self.old self.new outcome buf.old buf.new) }
         ensures free { IfSome result (λ outcome. IsFree self.new) }
+        ensures fits { IfSome result (λ outcome. FitsIn outcome (length buf.old)) }
         ensures told { self.old.told ≡ true → IsSome result }
     {
         let (process, inside, mut state) = come(rt, mq, &mut self.seat);
@@ -123,6 +125,7 @@ impl<L: Look<Guarded>> Process<L> {
         requires room { IfSome (waiting_room self.old.left self.old.number) (λ room. room ≤ length buf.old) }
         requires legal { Legal self.old.left }
         ensures some { Collects self.old self.new result buf.old buf.new }
+        ensures fits { FitsIn result (length buf.old) }
         ensures free { IsFree self.new }
     {
         let mut pause = Pause::new();
@@ -175,6 +178,7 @@ impl<L: Look<Guarded>> Process<L> {
         requires made { self.old.lock ≡ mq.now }
         requires free { IsFree self.old }
         ensures call { WholeReceive self.old self.new d buf.old buf.new result }
+        ensures fits { IfOk result (λ received. received.len ≤ length buf.old) }
         ensures free { IsFree self.new }
     {
         match self.start_receive(rt, mq, d, buf) {

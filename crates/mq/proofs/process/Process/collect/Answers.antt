@@ -1,8 +1,9 @@
-use Rattle.std.proofs.Common.{◌≡◌, ◌≤◌, ◌∙◌, [], ap, sym, refl, subst, IsSome, IfSome, Some, None, Option, ℕ, length}
+use Rattle.std.proofs.Common.{rules, ◌≡◌, ◌≤◌, ◌∙◌, [], ap, sym, refl, subst, IsSome, IfSome, Some, None, Option, ℕ, length}
 use Rattle.mq_model.specs.Waits.{open_wait}
 use Rattle.mq_state.specs.Buffers.{waiting_room}
 use Rattle.mq.proofs.Calling.{came-room, came-grows_by, same-number}
 use Rattle.mq.proofs.Collecting.{room-waits, room-fits, collect-adds, collect-answered, collect-unanswered, came-collects, came-still, collected-free}
+use Rattle.mq.proofs.Fitting.{collect-fits}
 use Rattle.mq.proofs.process.Process.collect.Goals as goal
 
 pub collect-outcome-requires-clause-wait : goal.collect-outcome-requires-clause-wait
@@ -38,3 +39,8 @@ returns-in-None-clause-none g c =
     let came = rw c.self.view_is at c.come-process.ensures in
     let same = c.collect-outcome.ensures.none c.in-None.is in
     rw c.depart.ensures.left (came-still came c.requires.made same (collect-unanswered c.come-process.result.2.books.records c.come-process.result.0 c.collect-outcome.result c.collect-outcome.ensures.some c.in-None.is) c.depart.ensures.legal)
+
+pub returns-in-Some-clause-fits : goal.returns-in-Some-clause-fits
+returns-in-Some-clause-fits g c =
+    let same : length c.collect-outcome.new.buf ≡ length c.args.buf.now = search rules in
+    collect-fits c.come-process.result.2.books.records c.come-process.result.0 c.in-Some.outcome c.args.buf.now c.collect-outcome.new.buf (sym c.in-Some.is ∙ c.collect-outcome.ensures.value) c.collect-outcome.ensures.buffer same

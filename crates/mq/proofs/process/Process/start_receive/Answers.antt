@@ -1,9 +1,10 @@
-use Rattle.std.proofs.Common.{◌≡◌, ◌∙◌, ap, sym, refl, length, []}
+use Rattle.std.proofs.Common.{rules, ◌≡◌, ◌∙◌, ap, sym, refl, length, []}
 use Rattle.mq_model.specs.declared.entries.Call.TheVariants.{MqReceive}
 use Rattle.mq.proofs.Calling.{came-free, came-grows, came-made, still-free, now-waits, room-begun}
 use Rattle.mq.proofs.Replies.{asked, replied, receive-waits, receive-answered}
 use Rattle.mq_state.specs.Buffers.{filled}
 use Rattle.mq.proofs.Messages.{filled-kept}
+use Rattle.mq.proofs.Fitting.{start-fits}
 use Rattle.mq.proofs.process.Process.start_receive.Goals as goal
 
 pub receive-reply-requires-clause-no_wait : goal.receive-reply-requires-clause-no_wait
@@ -45,3 +46,10 @@ returns-clause-free g c = λ other.
     let came = rw c.self.view_is at c.come-process.ensures in
     let is = asked c.receive-reply.ensures.entry c.receive-reply.ensures.no_memory in
     rw c.depart.ensures.left (still-free (MqReceive c.args.d (length c.args.buf.now)) [] c.receive-reply.result came c.requires.free is (receive-answered c.receive-reply.new.self.records c.receive-reply.result c.message_got-got.result c.message_got-got.ensures other))
+
+pub returns-clause-fits : goal.returns-clause-fits
+returns-clause-fits g c =
+    let is = asked c.receive-reply.ensures.entry c.receive-reply.ensures.no_memory in
+    let same : length c.receive-reply.new.buf ≡ length c.args.buf.now = search rules in
+    start-fits c.receive-reply.new.self.records c.receive-reply.result c.message_got-got.result c.args.buf.now c.receive-reply.new.buf c.message_got-got.ensures
+    (c.receive-reply.ensures.buffer ∙ sym (ap (λ past. filled past c.receive-reply.result c.args.buf.now) is ∙ filled-kept c.come-process.result.2.books.records c.come-process.result.0 c.args.d (length c.args.buf.now) c.receive-reply.result c.args.buf.now)) same
