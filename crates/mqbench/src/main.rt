@@ -1,17 +1,10 @@
 //! Measures a workload of message queue calls, which one line of the standard input names.
 #![tactic(auto)]
 
-mod alone;
-mod calls;
-mod fault;
-mod report;
-mod run;
 #[cfg(test)]
 mod tests;
-mod together;
-mod workload;
 
-use run::run_line;
+use mq_workloads::run_line;
 use std::io;
 use std::process::ExitCode;
 

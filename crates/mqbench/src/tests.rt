@@ -1,6 +1,5 @@
 //! Each workload with small sizes, and lines that are refused.
-use crate::fault::BenchFault;
-use crate::run::run_line;
+use mq_workloads::{BenchFault, run_line};
 use std::alloc::Global;
 use std::sync::Wait;
 use std::thread::Threads;

@@ -1,6 +1,6 @@
 //! The calls that workloads are made of.
 ghost use Rattle.std.specs.Prelude.{◌≡◌, OnOk};
-ghost use Rattle.mqbench.specs.Ready.{IsReady};
+ghost use Rattle.mq_workloads.specs.Ready.{IsReady};
 
 use crate::fault::WorkFault;
 use fast_mutex::Lock;

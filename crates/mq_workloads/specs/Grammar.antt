@@ -3,14 +3,14 @@ use Rattle.std.specs.Prelude.{ℕ, Bool, not, ◌&&◌, ◌==◌, ◌*◌, nat_l
 use Rattle.std.specs.List.{list_any}
 use Rattle.std.specs.Str.{bytes_eq}
 use Rattle.lines.specs.Words.{◌>>=◌, Word, count_written, words_of}
-use Rattle.mqbench.specs.declared.workload.LockKind.{LockKind}
-use Rattle.mqbench.specs.declared.workload.LockKind.TheVariants as lock
-use Rattle.mqbench.specs.declared.workload.Workload.{Workload}
-use Rattle.mqbench.specs.declared.workload.Workload.TheVariants as workload
-use Rattle.mqbench.specs.declared.workload.Request.{Request}
-use Rattle.mqbench.specs.declared.workload.Request.TheVariants as request
-use Rattle.mqbench.specs.declared.workload.Name.{Name}
-use Rattle.mqbench.specs.declared.workload.Name.TheVariants as name
+use Rattle.mq_workloads.specs.declared.workload.LockKind.{LockKind}
+use Rattle.mq_workloads.specs.declared.workload.LockKind.TheVariants as lock
+use Rattle.mq_workloads.specs.declared.workload.Workload.{Workload}
+use Rattle.mq_workloads.specs.declared.workload.Workload.TheVariants as workload
+use Rattle.mq_workloads.specs.declared.workload.Request.{Request}
+use Rattle.mq_workloads.specs.declared.workload.Request.TheVariants as request
+use Rattle.mq_workloads.specs.declared.workload.Name.{Name}
+use Rattle.mq_workloads.specs.declared.workload.Name.TheVariants as name
 
 -- rounds and entries: at most ten million
 abbrev pub rounds_written : Word → Option ℕ

@@ -4,7 +4,7 @@ use Rattle.fast_mutex.specs.Items.{LockId, Ticket}
 use Rattle.mq_model.specs.Record.{Record}
 use Rattle.mq.specs.Calls.{IsFree}
 use Rattle.mq_state.specs.Buffers.{waiting_room}
-use Rattle.mqbench.specs.declared.together.Ends.{Ends}
+use Rattle.mq_workloads.specs.declared.together.Ends.{Ends}
 
 -- the process was made with this system, and has no open wait
 pub record IsReady (mq : LockId) (process : Ticket Record) : Type 0 where

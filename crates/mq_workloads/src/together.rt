@@ -1,6 +1,6 @@
 //! Workloads of two processes, each in a thread of its own.
 ghost use Rattle.std.specs.Prelude.{◌≡◌, OnOk, IfOk, length};
-ghost use Rattle.mqbench.specs.Ready.{IsReady, AwaitsInto, AreBack};
+ghost use Rattle.mq_workloads.specs.Ready.{IsReady, AwaitsInto, AreBack};
 
 use crate::alone::DEPTH;
 use crate::calls::{MESSAGE_SIZE, open};

@@ -1,6 +1,6 @@
 //! Workloads of one process.
 ghost use Rattle.std.specs.Prelude.{◌≡◌, OnOk};
-ghost use Rattle.mqbench.specs.Ready.{IsReady};
+ghost use Rattle.mq_workloads.specs.Ready.{IsReady};
 
 use crate::calls::{open, receive, send};
 use crate::fault::WorkFault;

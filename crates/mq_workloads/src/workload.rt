@@ -1,7 +1,7 @@
 //! What a run is asked for, and the words that write it.
 ghost use Rattle.std.specs.Prelude.{◌≡◌, ◌≤◌, ◌*◌, map, IfSome};
 ghost use Rattle.lines.specs.Words.{count_written};
-ghost use Rattle.mqbench.specs.Grammar.{request_written, workload_written, lock_written, pair_written, deep_written, ping_pong_written, stream_written, check_written, name_written};
+ghost use Rattle.mq_workloads.specs.Grammar.{request_written, workload_written, lock_written, pair_written, deep_written, ping_pong_written, stream_written, check_written, name_written};
 
 use lines::words::count_of;
 
@@ -75,7 +75,7 @@ const NAMES: [Name; 5] = [
 ];
 
 impl Name {
-    ghost use Rattle.mqbench.specs.Grammar.{name_text};
+    ghost use Rattle.mq_workloads.specs.Grammar.{name_text};
 
     /// The word of the name.
     pub fn text(self) -> &'static [u8]

@@ -1,6 +1,6 @@
 use Rattle.std.proofs.Common.{length}
-use Rattle.mqbench.specs.Ready.{AwaitsInto}
-use Rattle.mqbench.proofs.together.await_answer.Given as goal
+use Rattle.mq_workloads.specs.Ready.{AwaitsInto}
+use Rattle.mq_workloads.proofs.together.await_answer.Given as goal
 
 abbrev pub invariant-loop : goal.invariant-loop
 invariant-loop g l = record {

@@ -2,11 +2,11 @@
 use Rattle.std.specs.Prelude.{◌≡◌, ℕ, List, codes, Option, Some, None, Result, Ok, Err}
 use Rattle.lines.specs.declared.input.ReadFault.{ReadFault}
 use Rattle.lines.specs.declared.input.ReadFault.TheVariants as read
-use Rattle.mqbench.specs.declared.fault.BenchFault.{BenchFault}
-use Rattle.mqbench.specs.declared.fault.BenchFault.TheVariants.{BadLine, Input, Output, Failed}
-use Rattle.mqbench.specs.declared.fault.WorkFault.{WorkFault}
-use Rattle.mqbench.specs.declared.fault.WorkFault.TheVariants.{NoMemory, NoThread, NoClock, Refused, Stopped}
-use Rattle.mqbench.specs.declared.workload.Request.{Request}
+use Rattle.mq_workloads.specs.declared.fault.BenchFault.{BenchFault}
+use Rattle.mq_workloads.specs.declared.fault.BenchFault.TheVariants.{BadLine, Input, Output, Failed}
+use Rattle.mq_workloads.specs.declared.fault.WorkFault.{WorkFault}
+use Rattle.mq_workloads.specs.declared.fault.WorkFault.TheVariants.{NoMemory, NoThread, NoClock, Refused, Stopped}
+use Rattle.mq_workloads.specs.declared.workload.Request.{Request}
 
 abbrev pub work_fault_text : WorkFault → List ℕ
 work_fault_text NoMemory = codes "no memory"

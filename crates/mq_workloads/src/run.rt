@@ -1,12 +1,12 @@
 //! A run, from the bytes of its input to its output.
 ghost use Rattle.std.specs.Prelude.{◌≡◌, ◌+◌, ℕ, List, IsErrOf, OnOk, Some, None, take};
 ghost use Rattle.std.specs.Io.KnownBytes.{Appends};
-ghost use Rattle.mqbench.specs.Faults.{Reads, IsRefusal};
-ghost use Rattle.mqbench.specs.Grammar.{is_one_line, request_read, without_feed};
-ghost use Rattle.mqbench.specs.Usage.{usage_text};
-ghost use Rattle.mqbench.specs.declared.fault.BenchFault.TheVariants.{BadLine};
-ghost use Rattle.mqbench.specs.declared.workload.Request.TheVariants.{Usage, Measure};
-ghost use Rattle.mqbench.specs.declared.workload.Workload.{Workload};
+ghost use Rattle.mq_workloads.specs.Faults.{Reads, IsRefusal};
+ghost use Rattle.mq_workloads.specs.Grammar.{is_one_line, request_read, without_feed};
+ghost use Rattle.mq_workloads.specs.Usage.{usage_text};
+ghost use Rattle.mq_workloads.specs.declared.fault.BenchFault.TheVariants.{BadLine};
+ghost use Rattle.mq_workloads.specs.declared.workload.Request.TheVariants.{Usage, Measure};
+ghost use Rattle.mq_workloads.specs.declared.workload.Workload.{Workload};
 
 use crate::alone::{Task, alone};
 use crate::fault::{BenchFault, WorkFault};

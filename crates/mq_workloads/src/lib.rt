@@ -1,0 +1,13 @@
+//! Workloads of message queue calls, named by a line and measured.
+#![tactic(auto)]
+
+mod alone;
+mod calls;
+mod fault;
+mod report;
+mod run;
+mod together;
+mod workload;
+
+pub use fault::{BenchFault, WorkFault};
+pub use run::run_line;
