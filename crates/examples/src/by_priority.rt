@@ -5,12 +5,18 @@ ghost use Rattle.mq.specs.Calls.{IsFree};
 use mq::{Attr, FastMq, FastProcess, Fault, Name, OpenFlags};
 use std::sync::Wait;
 use std::thread::join;
+use std::time::Clock;
 
 /// How many jobs each consumer takes.
 const SHARE: u32 = 50;
 
 // Sends the jobs, each with its number for a message; every fifth is urgent.
-fn produce<R: Wait>(rt: &R, mq: &FastMq, mut process: FastProcess, jobs: u32) -> Result<(), Fault>
+fn produce<R: Wait + Clock>(
+    rt: &R,
+    mq: &FastMq,
+    mut process: FastProcess,
+    jobs: u32,
+) -> Result<(), Fault>
     requires made { process.lock ≡ mq.now }
     requires free { IsFree process }
 {
@@ -22,7 +28,7 @@ fn produce<R: Wait>(rt: &R, mq: &FastMq, mut process: FastProcess, jobs: u32) ->
 }
 
 // Takes as many jobs as it is to, and gives how many of them were urgent.
-fn consume<R: Wait>(rt: &R, mq: &FastMq, mut process: FastProcess) -> Result<u32, Fault>
+fn consume<R: Wait + Clock>(rt: &R, mq: &FastMq, mut process: FastProcess) -> Result<u32, Fault>
     requires made { process.lock ≡ mq.now }
     requires free { IsFree process }
 {
@@ -54,12 +60,20 @@ pub fn run(rt: &HostRuntime) -> anyhow::Result<()> {
     let queues = &mq;
     let (sent, (first, second)) = join(
         rt,
-        move || requires { (producer.lock ≡ queues.now) × IsFree producer } { produce(rt, queues, producer, jobs) },
-        move || requires { (one.lock ≡ queues.now) × IsFree one × (two.lock ≡ queues.now) × IsFree two } {
+        move ||
+            requires { (producer.lock ≡ queues.now) × IsFree producer }
+        { produce(rt, queues, producer, jobs) },
+        move ||
+            requires { (one.lock ≡ queues.now) × IsFree one × (two.lock ≡ queues.now) × IsFree two }
+        {
             join(
                 rt,
-                move || requires { (one.lock ≡ queues.now) × IsFree one } { consume(rt, queues, one) },
-                move || requires { (two.lock ≡ queues.now) × IsFree two } { consume(rt, queues, two) },
+                move ||
+                    requires { (one.lock ≡ queues.now) × IsFree one }
+                { consume(rt, queues, one) },
+                move ||
+                    requires { (two.lock ≡ queues.now) × IsFree two }
+                { consume(rt, queues, two) },
             )
         },
     );
