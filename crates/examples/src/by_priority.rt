@@ -7,12 +7,13 @@ use std::alloc::Global;
 use std::io::Print;
 use std::sync::Wait;
 use std::thread::{Threads, join};
+use std::time::Clock;
 
 /// How many jobs each consumer takes.
 const SHARE: u32 = 50;
 
 // Sends the jobs, each with its number for a message; every fifth is urgent.
-fn produce<R: Wait>(rt: &R, mq: &FastMq, mut process: FastProcess, jobs: u32) -> Result<(), Fault>
+fn produce<R: Wait + Clock>(rt: &R, mq: &FastMq, mut process: FastProcess, jobs: u32) -> Result<(), Fault>
     requires made { process.lock ≡ mq.now }
     requires free { IsFree process }
 {
@@ -24,7 +25,7 @@ fn produce<R: Wait>(rt: &R, mq: &FastMq, mut process: FastProcess, jobs: u32) ->
 }
 
 // Takes as many jobs as it is to, and gives how many of them were urgent.
-fn consume<R: Wait>(rt: &R, mq: &FastMq, mut process: FastProcess) -> Result<u32, Fault>
+fn consume<R: Wait + Clock>(rt: &R, mq: &FastMq, mut process: FastProcess) -> Result<u32, Fault>
     requires made { process.lock ≡ mq.now }
     requires free { IsFree process }
 {
@@ -39,7 +40,7 @@ fn consume<R: Wait>(rt: &R, mq: &FastMq, mut process: FastProcess) -> Result<u32
     Ok(urgent)
 }
 
-pub fn run(rt: &(impl Print + Wait + Threads + Sync), alloc: Global) -> anyhow::Result<()> {
+pub fn run(rt: &(impl Print + Wait + Clock + Threads + Sync), alloc: Global) -> anyhow::Result<()> {
     let (mq, mut processes) = FastMq::new(alloc, 3)?;
     let two = processes.pop().unwrap();
     let one = processes.pop().unwrap();

@@ -13,8 +13,9 @@ use std::io::Print;
 use std::process::ExitCode;
 use std::sync::Wait;
 use std::thread::Threads;
+use std::time::Clock;
 
-fn run_all(rt: &(impl Print + Wait + Threads + Sync), alloc: Global) -> anyhow::Result<()> {
+fn run_all(rt: &(impl Print + Wait + Clock + Threads + Sync), alloc: Global) -> anyhow::Result<()> {
     one_process::run(rt, alloc)?;
     by_priority::run(rt, alloc)?;
     nonblocking::run(rt, alloc)?;

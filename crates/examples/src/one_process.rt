@@ -3,8 +3,9 @@ use mq::{Attr, FastMq, Name, OpenFlags};
 use std::alloc::Global;
 use std::io::Print;
 use std::sync::Wait;
+use std::time::Clock;
 
-pub fn run(rt: &(impl Print + Wait), alloc: Global) -> anyhow::Result<()> {
+pub fn run(rt: &(impl Print + Wait + Clock), alloc: Global) -> anyhow::Result<()> {
     let (mq, mut processes) = FastMq::new(alloc, 1)?;
     let mut process = processes.pop().unwrap();
 

@@ -36,25 +36,25 @@ nothing-ran [] answers process few none = rw none refl
 nothing-ran (turn ∷ turns) answers process few none = absurd (omega arith)
 
 -- one more member
-pub AllHaveShares-push : {L S I : Type 0} (shares : List (Share (Ticket Record))) (members : List (Member L S I)) (share : Share (Ticket Record)) (member : Member L S I) → AllHaveShares shares members → HasShare share member → AllHaveShares (shares ++ share ∷ []) (members ++ member ∷ [])
+pub AllHaveShares-push : {L S W I : Type 0} (shares : List (Share (Ticket Record))) (members : List (Member L S W I)) (share : Share (Ticket Record)) (member : Member L S W I) → AllHaveShares shares members → HasShare share member → AllHaveShares (shares ++ share ∷ []) (members ++ member ∷ [])
 AllHaveShares-push [] [] share member all has = (has, tt)
 AllHaveShares-push [] (m ∷ members) share member all has = absurd all
 AllHaveShares-push (s ∷ shares) [] share member all has = absurd all
 AllHaveShares-push (s ∷ shares) (m ∷ members) share member all has = (all.0, AllHaveShares-push shares members share member all.1 has)
 
 -- the next member gave its worker
-pub AllOff-push : {L S I : Type 0} (shares : List (Share (Ticket Record))) (workers : List (Worked (Ticket Record))) (member : Member L S I) (members : List (Member L S I)) (worked : Worked (Ticket Record)) → AllOff shares workers (member ∷ members) → ((share : Share (Ticket Record)) → HasShare share member → WorksOff share worked) → AllOff shares (workers ++ worked ∷ []) members
+pub AllOff-push : {L S W I : Type 0} (shares : List (Share (Ticket Record))) (workers : List (Worked (Ticket Record))) (member : Member L S W I) (members : List (Member L S W I)) (worked : Worked (Ticket Record)) → AllOff shares workers (member ∷ members) → ((share : Share (Ticket Record)) → HasShare share member → WorksOff share worked) → AllOff shares (workers ++ worked ∷ []) members
 AllOff-push [] [] member members worked off gives = absurd off
 AllOff-push (share ∷ shares) [] member members worked off gives = (gives share off.0, off.1)
 AllOff-push [] (w ∷ workers) member members worked off gives = absurd off
 AllOff-push (share ∷ shares) (w ∷ workers) member members worked off gives = (off.0, AllOff-push shares workers member members worked off.1 gives)
 
 -- no member is left
-pub AllOff-all : {L S I : Type 0} (shares : List (Share (Ticket Record))) (workers : List (Worked (Ticket Record))) (members : List (Member L S I)) → AllOff shares workers members → members ≡ [] → AllWorkOff shares workers
+pub AllOff-all : {L S W I : Type 0} (shares : List (Share (Ticket Record))) (workers : List (Worked (Ticket Record))) (members : List (Member L S W I)) → AllOff shares workers members → members ≡ [] → AllWorkOff shares workers
 AllOff-all [] [] members off none = tt
 AllOff-all [] (w ∷ workers) members off none = absurd off
 AllOff-all (s ∷ shares) [] members off none =
-    let P : List (Member _ _ _) → Type 0 = λ ms. AllHaveShares (s ∷ shares) ms in absurd (subst P none off)
+    let P : List (Member _ _ _ _) → Type 0 = λ ms. AllHaveShares (s ∷ shares) ms in absurd (subst P none off)
 AllOff-all (s ∷ shares) (w ∷ workers) members off none = (off.0, AllOff-all shares workers members off.1 none)
 
 -- the processes that come back are ready again

@@ -8,17 +8,18 @@ ghost use Rattle.mq_script.specs.Replies.{HasMessage};
 ghost use Rattle.mq_runner.specs.Runs.{IsSameProcess, MakesNamed, Performs, Shows, outcome_by};
 ghost use Rattle.mq_script.specs.declared.reply.Outcome.TheVariants as outcomes;
 
-use mq_script::command::Command;
-use mq_script::reply::Outcome;
-use fast_mutex::Lock;
+use fast_mutex::Look;
 use mq::{Guarded, Mq, Process};
 use mq_model::entries::{Attr, OpenFlags, Status};
 use mq_model::faults::Fault;
 use mq_model::names::Name;
+use mq_script::command::Command;
+use mq_script::reply::Outcome;
 use std::sync::Wait;
+use std::time::Clock;
 
 /// Makes the call of a command, which may block. A message that is received is put into the front of the buffer.
-pub fn perform<L: Lock<Guarded>, R: Wait>(
+pub fn perform<L: Look<Guarded>, R: Wait + Clock>(
     rt: &R,
     mq: &Mq<L>,
     process: &mut Process<L>,
@@ -46,7 +47,7 @@ pub fn perform<L: Lock<Guarded>, R: Wait>(
     }
 }
 
-fn open<L: Lock<Guarded>, R: Wait>(
+fn open<L: Look<Guarded>, R: Wait>(
     rt: &R,
     mq: &Mq<L>,
     process: &mut Process<L>,
@@ -67,7 +68,7 @@ fn open<L: Lock<Guarded>, R: Wait>(
     }
 }
 
-fn unlink<L: Lock<Guarded>, R: Wait>(
+fn unlink<L: Look<Guarded>, R: Wait>(
     rt: &R,
     mq: &Mq<L>,
     process: &mut Process<L>,
@@ -86,7 +87,7 @@ fn unlink<L: Lock<Guarded>, R: Wait>(
     }
 }
 
-fn receive<L: Lock<Guarded>, R: Wait>(
+fn receive<L: Look<Guarded>, R: Wait + Clock>(
     rt: &R,
     mq: &Mq<L>,
     process: &mut Process<L>,

@@ -5,14 +5,14 @@ ghost use Rattle.mq_runner.specs.Phase.{calls_in};
 ghost use Rattle.mq_runner.specs.Runs.{calls_of};
 ghost use Rattle.mq_script.specs.Script.{said_calls};
 
-use mq_script::line::ScriptCall;
 use crate::turns::{Share, Turn, Worked, turn_of};
-use fast_mutex::Lock;
+use fast_mutex::Look;
 use mq::{Guarded, Process};
+use mq_script::line::ScriptCall;
 use std::alloc::{AllocError, Global};
 
 /// Gives each process its calls of a phase. All memory that the calls need outside the queues is taken here.
-pub fn shares_of<'s, L: Lock<Guarded>>(
+pub fn shares_of<'s, L: Look<Guarded>>(
     alloc: Global,
     processes: Vec<Process<L>>,
     calls: &[ScriptCall<&'s [u8]>],
@@ -28,7 +28,7 @@ pub fn shares_of<'s, L: Lock<Guarded>>(
     Ok(shares)
 }
 
-fn share_of<'s, L: Lock<Guarded>>(
+fn share_of<'s, L: Look<Guarded>>(
     alloc: Global,
     process: Process<L>,
     calls: &[ScriptCall<&'s [u8]>],
@@ -63,7 +63,7 @@ fn turns_of<'s>(
 }
 
 /// The processes of a phase that has ended.
-pub fn processes_of<L: Lock<Guarded>>(
+pub fn processes_of<L: Look<Guarded>>(
     alloc: Global,
     workers: Vec<Worked<Process<L>>>,
 ) -> Result<Vec<Process<L>>, AllocError>

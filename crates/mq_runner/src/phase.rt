@@ -10,33 +10,34 @@ ghost use Rattle.mq_runner.specs.Runs.{IsReady, IsSameProcess, Performs};
 use crate::calls::perform;
 use crate::gate::Gate;
 use crate::turns::{Share, Turn, Worked};
-use mq_script::reply::Answer;
-use fast_mutex::Lock;
+use fast_mutex::Look;
 use mq::{Guarded, Mq, Process};
+use mq_script::reply::Answer;
 use std::alloc::{AllocError, Global};
 use std::snapshot::Snapshot;
 use std::sync::Wait;
 use std::thread;
 use std::thread::{Promise, PromisedHandle, Threads};
+use std::time::Clock;
 
 // A thread gives back the process of its share, which has made its calls and has no open wait.
 #[derive(Drop)]
-pub struct Works<'s, L: Lock<Guarded>>(Snapshot<Share<'s, Process<L>>>);
+pub struct Works<'s, L: Look<Guarded>>(Snapshot<Share<'s, Process<L>>>);
 
-impl<'s, L: Lock<Guarded>> Promise<Worked<Process<L>>> for Works<'s, L> {
+impl<'s, L: Look<Guarded>> Promise<Worked<Process<L>>> for Works<'s, L> {
     ghost kept_by = { λ p worked. WorksOff p.0.value worked };
 }
 
 /// A process in a phase that has begun: without calls, or in its thread.
 #[derive(Drop)]
-enum Member<'s, L: Lock<Guarded>> {
+enum Member<'s, L: Look<Guarded>> {
     Idle(Worked<Process<L>>),
     Busy(PromisedHandle<Worked<Process<L>>, Works<'s, L>>),
 }
 
 /// Runs a phase, and joins all its threads. An error: memory or a thread was refused. Those threads that were started have then
 /// run to their end.
-pub fn run_phase<'s, L: Lock<Guarded> + Sync, R: Threads + Wait + Sync, G: Gate + Sync>(
+pub fn run_phase<'s, L: Look<Guarded> + Sync, R: Threads + Wait + Clock + Sync, G: Gate + Sync>(
     rt: &'s R,
     alloc: Global,
     mq: &'s Mq<L>,
@@ -45,6 +46,7 @@ pub fn run_phase<'s, L: Lock<Guarded> + Sync, R: Threads + Wait + Sync, G: Gate 
 ) -> Result<Vec<Worked<Process<L>>>, AllocError>
 where
     L::Seat: Send,
+    L::Walk: Send,
     requires { AreReady mq.now shares.items }
     ensures { IfOk result (λ workers. AllWorkOff shares.entry.items workers.items) }
 {
@@ -79,7 +81,7 @@ where
 }
 
 // A process without calls.
-fn idle<L: Lock<Guarded>>(share: Share<'_, Process<L>>) -> Worked<Process<L>>
+fn idle<L: Look<Guarded>>(share: Share<'_, Process<L>>) -> Worked<Process<L>>
     requires free { IsFree share.process }
     requires none { vec_len share.turns ≡ 0 }
     ensures { WorksOff share.entry result }
@@ -91,7 +93,7 @@ fn idle<L: Lock<Guarded>>(share: Share<'_, Process<L>>) -> Worked<Process<L>>
 }
 
 // Makes the calls of a share in their order.
-fn work<L: Lock<Guarded>, R: Wait, G: Gate>(
+fn work<L: Look<Guarded>, R: Wait + Clock, G: Gate>(
     rt: &R,
     mq: &Mq<L>,
     gate: &G,
@@ -112,7 +114,7 @@ fn work<L: Lock<Guarded>, R: Wait, G: Gate>(
     Worked { process, answers }
 }
 
-fn answer<L: Lock<Guarded>, R: Wait>(
+fn answer<L: Look<Guarded>, R: Wait + Clock>(
     rt: &R,
     mq: &Mq<L>,
     process: &mut Process<L>,

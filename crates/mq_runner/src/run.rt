@@ -15,20 +15,21 @@ ghost use Rattle.mq_runner.specs.declared.fault.RunFault.TheVariants.{BadCall, I
 use crate::deal::{processes_of, shares_of};
 use crate::fault::RunFault;
 use crate::gate::Gate;
-use mq_script::line::ScriptCall;
 use crate::phase::run_phase;
-use mq_script::script::{MOST_BYTES, Script, read_script};
 use crate::text::text_of;
-use fast_mutex::Lock;
+use fast_mutex::Look;
 use lines::input::read_all;
 use lines::output::write_all;
 use mq::{Guarded, Mq, Process};
 use mq_checker::checker::check_history;
 use mq_model::journals::Journal;
+use mq_script::line::ScriptCall;
+use mq_script::script::{MOST_BYTES, Script, read_script};
 use std::alloc::Global;
 use std::io::{Read, Write};
 use std::sync::Wait;
 use std::thread::Threads;
+use std::time::Clock;
 
 /// Reads a script, checks it whole, makes its calls over the lock `L` and writes their replies, phase by phase. In a phase each
 /// process that has calls makes them in a thread of its own, and meets the gate before each.
@@ -45,9 +46,10 @@ pub fn run_script<L, S, R, W, G>(
     gate: &G,
 ) -> Result<(), RunFault>
 where
-    L: Lock<Guarded> + Sync,
+    L: Look<Guarded> + Sync,
     L::Seat: Send,
-    S: Threads + Wait + Sync,
+    L::Walk: Send,
+    S: Threads + Wait + Clock + Sync,
     R: Read,
     W: Write,
     G: Gate + Sync,
@@ -83,9 +85,10 @@ fn run_phases<L, S, W, G>(
     gate: &G,
 ) -> Result<(), RunFault>
 where
-    L: Lock<Guarded> + Sync,
+    L: Look<Guarded> + Sync,
     L::Seat: Send,
-    S: Threads + Wait + Sync,
+    L::Walk: Send,
+    S: Threads + Wait + Clock + Sync,
     W: Write,
     G: Gate + Sync,
     requires { (1 ≤ script.now.processes) × (script.now.processes ≤ 32) }
@@ -118,9 +121,10 @@ fn run_written_phases<'s, L, S, W, G>(
     phases: &'s [Vec<ScriptCall<&'s [u8]>>],
 ) -> Result<Vec<Process<L>>, RunFault>
 where
-    L: Lock<Guarded> + Sync,
+    L: Look<Guarded> + Sync,
     L::Seat: Send,
-    S: Threads + Wait + Sync,
+    L::Walk: Send,
+    S: Threads + Wait + Clock + Sync,
     W: Write,
     G: Gate + Sync,
     requires { All (IsReady mq.now) processes.items }
@@ -148,9 +152,10 @@ fn run_written<'s, L, S, W, G>(
     calls: &[ScriptCall<&'s [u8]>],
 ) -> Result<Vec<Process<L>>, RunFault>
 where
-    L: Lock<Guarded> + Sync,
+    L: Look<Guarded> + Sync,
     L::Seat: Send,
-    S: Threads + Wait + Sync,
+    L::Walk: Send,
+    S: Threads + Wait + Clock + Sync,
     W: Write,
     G: Gate + Sync,
     requires { All (IsReady mq.now) processes.items }

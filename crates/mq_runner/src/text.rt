@@ -2,14 +2,14 @@
 ghost use Rattle.std.specs.Prelude.{◌≡◌, IfOk};
 ghost use Rattle.mq_runner.specs.Phase.{text_in};
 
-use mq_script::text::push_answers;
 use crate::turns::Worked;
-use fast_mutex::Lock;
+use fast_mutex::Look;
 use mq::{Guarded, Process};
+use mq_script::text::push_answers;
 use std::alloc::{AllocError, Global};
 
 /// The lines of the replies of a phase, those of the first process first.
-pub fn text_of<L: Lock<Guarded>>(
+pub fn text_of<L: Look<Guarded>>(
     alloc: Global,
     workers: &[Worked<Process<L>>],
 ) -> Result<Vec<u8>, AllocError>

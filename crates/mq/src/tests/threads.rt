@@ -55,6 +55,7 @@ fn side_by_side<L: Look<Guarded> + Sync, R: Wait + Clock + Threads + Abort + Syn
 ) -> Option<Journal>
 where
     L::Seat: Send,
+    L::Walk: Send,
 {
     let Pair {
         mq,

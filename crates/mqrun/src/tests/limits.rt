@@ -1,6 +1,6 @@
 // The limits of a script, and the lines that are at fault.
+use super::output_of;
 use super::scripts::{EQUAL_PRIORITIES, NOTICES, Run};
-use super::{Lamport, run_over};
 use mq_runner::RunFault;
 use std::alloc::AllocError;
 use std::test::Fail;
@@ -15,7 +15,7 @@ fn names_have_at_most_255_bytes_behind_the_slash(rt: HostRuntime) -> Result<(), 
     add_letters(&mut script, 256)?;
     script.extend_from_slice(b" bc\n1 unlink /")?;
     add_letters(&mut script, 256)?;
-    let (outcome, output) = run_over::<Lamport, _>(&rt, alloc, script.as_slice());
+    let (outcome, output) = output_of(&rt, alloc, script.as_slice());
     assert_eq!(rt; outcome, Ok(()));
     let replies =
         "1 EINVAL\n1 EINVAL\n1 EINVAL\n1 fd 0\n1 ENAMETOOLONG\n1 ENAMETOOLONG\nhistory ok\n";
@@ -45,7 +45,7 @@ fn a_message_may_hold_any_byte_but_a_space_and_a_feed(rt: HostRuntime) -> Result
     }
     script.extend_from_slice(b"\n1 recv 0 300\n")?;
     replies.extend_from_slice(b"\nhistory ok\n")?;
-    let (outcome, output) = run_over::<Lamport, _>(&rt, alloc, script.as_slice());
+    let (outcome, output) = output_of(&rt, alloc, script.as_slice());
     assert_eq!(rt; outcome, Ok(()));
     assert!(rt; output.as_slice() == replies.as_slice());
     Ok(())
@@ -78,7 +78,7 @@ fn the_first_line_at_fault_is_named(rt: HostRuntime) -> Result<(), Fail> {
         ("processes 1\n1 exit 0\n", 2),
     ];
     for (script, line) in scripts {
-        let (outcome, output) = run_over::<Lamport, _>(&rt, rt.alloc(), script.as_bytes());
+        let (outcome, output) = output_of(&rt, rt.alloc(), script.as_bytes());
         assert_eq!(rt; outcome, Err(RunFault::BadCall(line)), "{script}");
         assert!(rt; output.is_empty(), "{script}");
     }
@@ -92,7 +92,7 @@ fn each_prefix_runs_or_is_at_fault_in_its_last_line(rt: HostRuntime) -> Result<(
         for end in 0..=bytes.len() {
             let prefix = &bytes[..end];
             let last = last_line(prefix);
-            let (outcome, output) = run_over::<Lamport, _>(&rt, rt.alloc(), prefix);
+            let (outcome, output) = output_of(&rt, rt.alloc(), prefix);
             if outcome == Ok(()) {
                 assert!(rt; output.as_slice().ends_with(b"history ok\n"), "at {end}");
             } else {
@@ -123,11 +123,11 @@ fn a_script_has_at_most_1_048_576_bytes(rt: HostRuntime) -> Result<(), Fail> {
     for _ in 0..1_048_564 {
         script.push(b'#')?;
     }
-    let (outcome, output) = run_over::<Lamport, _>(&rt, alloc, script.as_slice());
+    let (outcome, output) = output_of(&rt, alloc, script.as_slice());
     assert_eq!(rt; outcome, Ok(()));
     assert!(rt; output.as_slice() == "history ok\n".as_bytes());
     script.push(b'\n')?;
-    let (outcome, _) = run_over::<Lamport, _>(&rt, alloc, script.as_slice());
+    let (outcome, _) = output_of(&rt, alloc, script.as_slice());
     assert_eq!(rt; outcome, Err(RunFault::BadCall(2)));
     Ok(())
 }
@@ -143,11 +143,11 @@ fn a_script_has_at_most_1_000_call_lines(rt: HostRuntime) -> Result<(), Fail> {
         replies.extend_from_slice(b"1 EBADF\n")?;
     }
     replies.extend_from_slice(b"history ok\n")?;
-    let (outcome, output) = run_over::<Lamport, _>(&rt, alloc, script.as_slice());
+    let (outcome, output) = output_of(&rt, alloc, script.as_slice());
     assert_eq!(rt; outcome, Ok(()));
     assert!(rt; output.as_slice() == replies.as_slice());
     script.extend_from_slice(b"1 getattr 0\n")?;
-    let (outcome, _) = run_over::<Lamport, _>(&rt, alloc, script.as_slice());
+    let (outcome, _) = output_of(&rt, alloc, script.as_slice());
     assert_eq!(rt; outcome, Err(RunFault::BadCall(1002)));
     Ok(())
 }

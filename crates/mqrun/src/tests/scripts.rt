@@ -15,8 +15,7 @@ const NO_CALL: Run = Run {
 
 // Comments and spaces count for nothing.
 const COMMENTS: Run = Run {
-    script:
-        "# a comment\n\n   # another\n  processes   01 \n\n--\n 1  getattr  0 \n   \n1 exit",
+    script: "# a comment\n\n   # another\n  processes   01 \n\n--\n 1  getattr  0 \n   \n1 exit",
     replies: "1 EBADF\n\
              1 ok\n\
              history ok\n",
