@@ -1,5 +1,5 @@
 //! The journal.
-ghost use Rattle.std.specs.Prelude.{◌≡◌, ◌+◌, ◌<◌, ◌≤◌, [], ◌∷◌, length, OnOk, IsOk};
+ghost use Rattle.std.specs.Prelude.{◌≡◌, ◌+◌, ◌<◌, ◌≤◌, [], ◌∷◌, ◌++◌, length, OnOk, IsOk, vec_len, vec_capacity};
 
 use crate::entries::Entry;
 use std::alloc::{AllocError, Global};
@@ -33,6 +33,20 @@ impl Model for Journal {
     ghost invariant = { IsStored };
 }
 
+// Adds bytes behind the others, in room that is there, which none at all leave as it was.
+fn add_bytes(bytes: &mut Vec<u8>, more: &[u8])
+    requires { vec_len bytes.old + length more.now ≤ vec_capacity bytes.old }
+    ensures items { bytes.new.items ≡ bytes.old.items ++ more.now }
+    ensures len { vec_len bytes.new ≡ vec_len bytes.old + length more.now }
+    ensures capacity { vec_capacity bytes.old ≤ vec_capacity bytes.new }
+    ensures none { more.now ≡ [] → vec_capacity bytes.new ≡ vec_capacity bytes.old }
+{
+    if more.is_empty() {
+        return;
+    }
+    let _ = bytes.extend_from_slice(more);
+}
+
 impl Journal {
     ghost use Rattle.std.specs.Prelude.{Some};
     ghost use Rattle.std.specs.Option.{option_map};
@@ -49,16 +63,19 @@ impl Journal {
     }
 
     /// Makes room for that many more entries and payload bytes. It fails only where a growth was refused, and then loses no
-    /// room.
+    /// room. Where there is room for the bytes, none is made.
     pub fn reserve(&mut self, entries: usize, bytes: usize) -> Result<(), AllocError>
         ensures records { self.new.records ≡ self.old.records }
         ensures entry_room { self.old.entry_room ≤ self.new.entry_room }
         ensures byte_room { self.old.byte_room ≤ self.new.byte_room }
         ensures ok { OnOk result ((entries ≤ self.new.entry_room) × (bytes ≤ self.new.byte_room)) }
         ensures succeeds { entries ≤ self.old.entry_room → bytes ≤ self.old.byte_room → IsOk result }
+        ensures enough { bytes ≤ self.old.byte_room → self.new.byte_room ≡ self.old.byte_room }
     {
         self.stored.reserve(entries)?;
-        self.bytes.reserve(bytes)?;
+        if bytes > self.bytes.capacity() - self.bytes.len() {
+            self.bytes.reserve(bytes)?;
+        }
         Ok(())
     }
 
@@ -69,9 +86,10 @@ impl Journal {
         ensures records { self.new.records ≡ record { entry = entry; payload = payload.now } ∷ self.old.records }
         ensures entry_room { self.old.entry_room ≤ self.new.entry_room + 1 }
         ensures byte_room { self.old.byte_room ≤ self.new.byte_room + length payload.now }
+        ensures no_bytes { payload.now ≡ [] → self.new.byte_room ≡ self.old.byte_room }
     {
         let start = self.bytes.len();
-        let _ = self.bytes.extend_from_slice(payload);
+        add_bytes(&mut self.bytes, payload);
         let end = self.bytes.len();
         self.stored.push_reserved(Stored { entry, start, end });
     }

@@ -7,10 +7,12 @@ use Rattle.mq_model.specs.declared.entries.Reply.TheVariants.{Waits, Collected}
 use Rattle.mq_state.specs.Tables.{TablesMirror, AreAtMost, HasNoticeRoom}
 use Rattle.mq_state.specs.declared.tables.Tables.{Tables}
 
--- what a `Books` shows: its records, the latest first, and how many processes it has
+-- what a `Books` shows: its records, the latest first, how many processes it has, and for how many more payload bytes there is
+-- room
 pub record Kept : Type 0 where
   pub records : Past
   pub n : ℕ
+  pub byte_room : ℕ
 
 -- the tables are those of the journal
 abbrev pub Mirrors : Shown → Tables → Type 0

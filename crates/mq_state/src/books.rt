@@ -148,12 +148,13 @@ impl Books {
     }
 
     /// A send of a message to the queue of descriptor d (`mq_send`). Replies `Queued`, `Handed` or `Waits`, or refuses with
-    /// `BadDescriptor`, `Invalid`, `MessageSize` or `Again`.
+    /// `BadDescriptor`, `Invalid`, `MessageSize` or `Again`. A send that is refused takes no room for the bytes of its message.
     pub fn send(&mut self, p: u32, d: u32, bytes: &[u8], prio: u32) -> Reply
         requires process { (1 ≤ p) × (p ≤ self.old.n) }
         requires no_wait { open_wait self.old.records p ≡ None }
         ensures entry { result ≢ Reply.Refused Fault.NoMemory → Appends self.old.records self.new.records p (Call.MqSend d prio (length bytes.now)) bytes.now result }
         ensures no_memory { result ≡ Reply.Refused Fault.NoMemory → self.new.records ≡ self.old.records }
+        ensures refused { (fault : Fault) → result ≡ Reply.Refused fault → fault ≢ Fault.NoMemory → self.new.byte_room ≡ self.old.byte_room }
         ensures processes { self.new.n ≡ self.old.n }
     {
         let Shelf { journal, tables } = &mut *self.shelf;

@@ -53,6 +53,7 @@ impl Tables {
         requires bytes { length payload.now ≤ journal.old.byte_room }
         requires entries { HasEntryRoom entry.reply (waits_count self.old.owners.items) journal.old.entry_room }
         ensures records { journal.new.records ≡ record { entry = entry; payload = payload.now } ∷ journal.old.records }
+        ensures no_bytes { payload.now ≡ [] → journal.new.byte_room ≡ journal.old.byte_room }
         ensures kept { IsKeptBy journal.new self.new }
         ensures n { self.new.n ≡ self.old.n }
     {
@@ -78,9 +79,10 @@ impl Tables {
         requires payload { IsTrue (is_payload call reply (payload_of call reply given.now)) }
         requires registration { HasRoomToRegister self.old.queues.items self.old.inboxes.items p call reply }
         requires brings { BringsOrder call reply (vec_len self.old.queues) (vec_capacity self.old.queues) fresh }
-        requires bytes { length given.now ≤ journal.old.byte_room }
+        requires bytes { length (payload_of call reply given.now) ≤ journal.old.byte_room }
         requires entries { HasEntryRoom reply (waits_count self.old.owners.items) journal.old.entry_room }
         ensures appends { Appends journal.old.records journal.new.records p call given.now reply }
+        ensures no_bytes { payload_of call reply given.now ≡ [] → journal.new.byte_room ≡ journal.old.byte_room }
         ensures kept { IsKeptBy journal.new self.new }
         ensures n { self.new.n ≡ self.old.n }
     {
@@ -297,29 +299,29 @@ impl Tables {
         reply
     }
 
-    /// A send of a message (`mq_send`).
+    /// A send of a message (`mq_send`). Room for its bytes is made only once nothing refuses it.
     pub fn send(&mut self, journal: &mut Journal, p: u32, d: u32, bytes: &[u8], prio: u32) -> Reply
         requires kept { IsKeptBy journal.old self.old }
         requires process { (1 ≤ p) × (p ≤ self.old.n) }
         requires no_wait { open_wait journal.old.records p ≡ None }
         ensures entry { result ≢ Reply.Refused Fault.NoMemory → Appends journal.old.records journal.new.records p (Call.MqSend d prio (length bytes.now)) bytes.now result }
         ensures no_memory { result ≡ Reply.Refused Fault.NoMemory → journal.new.records ≡ journal.old.records }
+        ensures refused { (fault : Fault) → result ≡ Reply.Refused fault → fault ≢ Fault.NoMemory → journal.new.byte_room ≡ journal.old.byte_room }
         ensures kept { IsKeptBy journal.new self.new }
         ensures n { self.new.n ≡ self.old.n }
     {
-        if journal.reserve(self.open_waits() + 2, bytes.len()).is_err() {
+        let entries = self.open_waits() + 2;
+        if journal.reserve(entries, 0).is_err() {
             return Reply::Refused(Fault::NoMemory);
         }
         let len = bytes.len() as u64;
+        let call = Call::MqSend { d, prio, len };
         let reply = self.answer_send(journal, p, d, prio, len);
-        self.record(
-            journal,
-            p,
-            Call::MqSend { d, prio, len },
-            reply,
-            bytes,
-            None,
-        );
+        let kept = payload_of(call, reply, bytes);
+        if journal.reserve(0, kept.len()).is_err() {
+            return Reply::Refused(Fault::NoMemory);
+        }
+        self.record(journal, p, call, reply, bytes, None);
         reply
     }
 
