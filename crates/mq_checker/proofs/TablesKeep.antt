@@ -1,5 +1,5 @@
 -- The checker's tables stay those of the journal.
-use Rattle.std.proofs.Common.{◌≡◌, ℕ, ◌<◌, Bool, true, List, [], ◌∷◌, length, replicate, Option, Some, None, refl, sym, ◌∙◌, ap, subst, arith, leb-true}
+use Rattle.std.proofs.Common.{◌≡◌, ℕ, ◌<◌, Bool, true, List, [], ◌∷◌, length, Option, Some, None, refl, sym, ◌∙◌, ap, subst, arith, leb-true}
 use Rattle.std.specs.Prelude.{nat_le}
 use Rattle.std.specs.List.{find}
 use Rattle.std.specs.Option.{option_and_then, unwrap_or}
@@ -8,8 +8,8 @@ use Rattle.mq_model.specs.Record.{Record, Past}
 use Rattle.mq_model.specs.Descriptors.{opened_queue, called_queue}
 use Rattle.mq_model.specs.Messages.{taken_by}
 use Rattle.mq_model.specs.Answer.{Legal, IsLegalNext}
-use Rattle.mq_model.specs.Owners.{free_owner, waiter_in, OwnersMirror}
-use Rattle.mq_model.specs.OwnersNoted.{noted, noted_open, noted_done, noted_attributes, with_answer_at}
+use Rattle.mq_model.specs.Owners.{waiter_in, OwnersMirror}
+use Rattle.mq_model.specs.OwnersNoted.{EntryQueue, noted, noted_open, noted_done, noted_attributes, with_answer_at}
 use Rattle.mq_checker.specs.TakenTable.{marked, TakenMirror}
 use Rattle.mq_checker.specs.CheckerTables.{TablesMirror}
 use Rattle.mq_checker.specs.declared.tables.Tables.{Tables}
@@ -20,14 +20,8 @@ use Rattle.mq_model.specs.declared.entries.Reply.TheVariants.{Opened, Queued, Ha
 use Rattle.mq_model.specs.declared.owners.Owner.{Owner}
 use Rattle.mq_model.proofs.Cases.{Says}
 use Rattle.mq_model.proofs.OwnerLines.{length-with_slot, length-with_wait, length-with_answer}
-use Rattle.mq_model.proofs.OwnersStart.{owners-start}
-use Rattle.mq_model.proofs.OwnersKeep.{EntryQueue, noted-keeps}
+use Rattle.mq_model.proofs.OwnersKeep.{noted-keeps}
 use Rattle.mq_checker.proofs.TakenBits.{taken-keeps}
-
--- the empty journal ------------------------------------------------------------------------------------------------------
-
-pub owners-vacant : (o : Owner) → o ≡ free_owner → OwnersMirror [] (replicate 33 o)
-owners-vacant o e = subst (λ x. OwnersMirror [] (replicate 33 x)) (sym e) (owners-start 33)
 
 -- one more entry ---------------------------------------------------------------------------------------------------------
 

@@ -13,7 +13,7 @@ use Rattle.mq_model.specs.Messages.{is_in, is_send, is_receive, least}
 use Rattle.mq_model.specs.Waits.{is_wait, named_wait, names_wait, open_wait, answered_by}
 use Rattle.mq_model.specs.Answer.{Legal, IsLegalNext, may_call, answer}
 use Rattle.mq_model.specs.Owners.{held_in, wait_in, with_wait, with_answer, with_slot, waiter_in, OwnersMirror, blocked, waiting}
-use Rattle.mq_model.specs.OwnersNoted.{FitsSlots, noted, noted_done, noted_attributes, with_answer_at}
+use Rattle.mq_model.specs.OwnersNoted.{EntryQueue, FitsSlots, noted, noted_done, noted_attributes, with_answer_at}
 use Rattle.mq_model.specs.declared.owners.OpenWait.{OpenWait}
 use Rattle.mq_model.specs.declared.owners.Owner.{Owner}
 use Rattle.mq_model.specs.declared.entries.Attr.{Attr}
@@ -33,12 +33,6 @@ use Rattle.mq_model.proofs.Frames.{open_wait-same, answered_by-step, blocked-old
 use Rattle.mq_model.proofs.Waiters.{same-waiter, waiter, admits-least, hands-least}
 use Rattle.mq_model.proofs.OpenReplies.{opened-says, lowest_free-is}
 use Rattle.mq_model.proofs.NamedWaits.{least-in}
-
--- q is the queue that an open opened, or on whose descriptor a call blocked
-abbrev pub EntryQueue : Past → ℕ → Call → List ℕ → Reply → ℕ → Type 0
-EntryQueue past p call name (Opened d created) q = q ≡ opened_queue past name created
-EntryQueue past p call name Waits q = called_queue past p call ≡ Some q
-EntryQueue past p call name reply q = Unit {0}
 
 abbrev rec : ℕ → Call → Reply → List ℕ → Record
 rec p call reply payload = record { entry = record { process = p; call = call; reply = reply }; payload = payload }
@@ -350,7 +344,7 @@ noted-keeps past owners m legal r q next lt at =
     let says = legal_says past r next in
     keep-by past owners m legal r.entry.process r.entry.call r.entry.reply r.payload q says next.reply (λ other. turn-none past r.entry.process r.entry.call r.entry.reply says next.turn other) lt at
 
--- what the entry changes of the descriptors is one of the sixteen
+-- what the entry changes of the descriptors has a number that a descriptor may have
 pub noted-fits : (past : Past) (owners : List Owner) → OwnersMirror past owners → (p : ℕ) (call : Call) (reply : Reply) (payload : List ℕ) → reply ≡ answer past p call payload → FitsSlots call reply
 noted-fits past owners m p call (Opened d created) payload is = opened call is (subst (Says past p call) (sym is) (answer_says past p call payload))
   where

@@ -1,10 +1,13 @@
 -- What the table of processes becomes behind one more entry.
-use Rattle.std.specs.Prelude.{ℕ, ◌<◌, List, Option, Some, None}
+use Rattle.std.specs.Prelude.{ℕ, ◌≡◌, ◌<◌, List, [], ◌∷◌, length, replicate, Option, Some, None}
 use Rattle.std.specs.Option.{option_and_then}
 use Rattle.mq_model.specs.Limits.{most_descriptors}
-use Rattle.mq_model.specs.Descriptors.{description}
+use Rattle.mq_model.specs.Record.{Past}
+use Rattle.mq_model.specs.Descriptors.{description, opened_queue, called_queue}
+use Rattle.mq_model.specs.Answer.{Legal, IsLegalNext}
+use Rattle.mq_model.specs.declared.entries.Entry.{Entry}
 use Rattle.mq_model.specs.Messages.{is_send}
-use Rattle.mq_model.specs.Owners.{with_wait, with_answer, with_slot, with_flag, waiter_in}
+use Rattle.mq_model.specs.Owners.{with_wait, with_answer, with_slot, with_flag, waiter_in, OwnersMirror}
 use Rattle.mq_model.specs.declared.entries.Call.{Call}
 use Rattle.mq_model.specs.declared.entries.Call.TheVariants.{MqOpen, MqClose, MqSetattr}
 use Rattle.mq_model.specs.declared.entries.Reply.{Reply}
@@ -52,3 +55,19 @@ FitsSlots call (Opened d created) = d < most_descriptors
 FitsSlots call Done = FitsDone call
 FitsSlots call (Attrs status) = FitsAttributes call
 FitsSlots call _ = Unit {0}
+
+-- q is the queue that an open opened, or on whose descriptor a call blocked
+abbrev pub EntryQueue : Past → ℕ → Call → List ℕ → Reply → ℕ → Type 0
+EntryQueue past p call name (Opened d created) q = q ≡ opened_queue past name created
+EntryQueue past p call name Waits q = called_queue past p call ≡ Some q
+EntryQueue past p call name reply q = Unit {0}
+
+-- where the old table is that of a journal, at whose end the entry may stand, the new one is that of the journal with the entry
+abbrev pub KeepsMirror : List Owner → ℕ → Entry → ℕ → List Owner → Type 0
+KeepsMirror old here entry q new =
+    (past : Past) (payload : List ℕ) → length past ≡ here → OwnersMirror past old → Legal past → IsLegalNext past (record { entry = entry; payload = payload }) → EntryQueue past entry.process entry.call payload entry.reply q →
+    OwnersMirror (record { entry = entry; payload = payload } ∷ past) new
+
+-- a table of such lines, as many as may be, is that of the journal without entries
+abbrev pub StartsMirror : Owner → Type 0
+StartsMirror owner = (m : ℕ) → OwnersMirror [] (replicate m owner)

@@ -27,12 +27,13 @@ pub struct Owner {
 }
 
 ghost use Rattle.mq_model.specs.Owners.{free_owner, holds, is_kind, held_in, wait_in, answer_in, pending_in, free_number_in, lowest_held_in, with_wait, with_answer, with_slot, with_flag, waiter_in, waits_count, is_held_in, IsFirstWait};
-ghost use Rattle.mq_model.specs.OwnersNoted.{noted, noted_open, noted_done, noted_attributes, with_answer_at, FitsSlots, FitsDone, FitsAttributes};
+ghost use Rattle.mq_model.specs.OwnersNoted.{noted, noted_open, noted_done, noted_attributes, with_answer_at, FitsSlots, FitsDone, FitsAttributes, KeepsMirror, StartsMirror};
 
 impl Owner {
-    /// A process that has nothing.
+    /// A process that has nothing. A table of such processes is that of the journal without entries.
     pub fn free() -> Owner
-        ensures { result ≡ free_owner }
+        ensures value { result ≡ free_owner }
+        ensures starts { StartsMirror result }
     {
         Owner {
             descriptors: [None; DESCRIPTORS],
@@ -265,8 +266,18 @@ fn note_attributes(owners: &mut [Owner], p: u32, call: Call)
     }
 }
 
-/// Notes the entry at place `here`: `queue` is the queue that an open opened, or on whose descriptor another call was made.
+/// Notes the entry at place `here`: `queue` is the queue that an open opened, or on whose descriptor another call was made. A table
+/// that says what the definitions say of a legal journal says so of the journal with the entry.
 pub fn note(owners: &mut [Owner], here: u64, entry: Entry, queue: u64)
+    requires process { entry.process < length owners.old }
+    requires numbers { FitsSlots entry.call entry.reply }
+    ensures table { owners.new ≡ noted owners.old here entry.process entry.call entry.reply queue }
+    ensures mirror { KeepsMirror owners.old here entry queue owners.new }
+{
+    note_reply(owners, here, entry, queue);
+}
+
+fn note_reply(owners: &mut [Owner], here: u64, entry: Entry, queue: u64)
     requires process { entry.process < length owners.old }
     requires numbers { FitsSlots entry.call entry.reply }
     ensures { owners.new ≡ noted owners.old here entry.process entry.call entry.reply queue }

@@ -8,7 +8,7 @@ use Rattle.mq_model.specs.Messages.{is_in, present, is_full, priority}
 use Rattle.mq_model.specs.Notices.{registered, registered_place, notified, gives_notice, notices}
 use Rattle.mq_model.specs.Answer.{Legal, IsLegalNext, answer}
 use Rattle.mq_model.specs.Owners.{OwnersMirror}
-use Rattle.mq_model.specs.OwnersNoted.{noted}
+use Rattle.mq_model.specs.OwnersNoted.{EntryQueue, noted}
 use Rattle.mq_model.specs.declared.faults.Fault.TheVariants.{BadDescriptor, NoEntry}
 use Rattle.mq_model.specs.declared.owners.Owner.{Owner}
 use Rattle.mq_model.specs.declared.entries.Entry.{Entry}
@@ -22,7 +22,7 @@ use Rattle.mq_model.proofs.Places.{find-in}
 use Rattle.mq_model.proofs.Cases.{Says}
 use Rattle.mq_model.proofs.LegalReplies.{legal_says}
 use Rattle.mq_model.proofs.OpenReplies.{opened-says}
-use Rattle.mq_model.proofs.OwnersKeep.{EntryQueue, noted-keeps}
+use Rattle.mq_model.proofs.OwnersKeep.{noted-keeps}
 use Rattle.mq_model.proofs.Presence.{GotFacts}
 use Rattle.mq_model.proofs.NoticeSteps.{notices-same, notices-notified, notices-given}
 use Rattle.mq_model.proofs.HeldQueues.{called-alive}

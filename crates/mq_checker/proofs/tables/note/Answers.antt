@@ -21,4 +21,4 @@ returns c =
     let legal : Legal (r ∷ past) = subst Legal c.record.ensures c.requires.legal in
     tables-keep past (first (c.args.k + 1) c.args.journal.now.records) c.args.tables.now c.note-2.new.owners c.note.new.marks r c.args.k c.entry_queue-queue.result c.requires.mirror legal.0 legal.1
     (queue-of past r.entry.process r.entry.call r.payload r.entry.reply c.entry_queue-queue.result (legal_says past r legal.1) c.entry_queue-queue.ensures.opened c.entry_queue-queue.ensures.waits)
-    c.record.ensures (length-first c.args.k c.args.journal.now.records (omega arith)) c.note-2.ensures c.note.ensures
+    c.record.ensures (length-first c.args.k c.args.journal.now.records (omega arith)) c.note-2.ensures.table c.note.ensures
