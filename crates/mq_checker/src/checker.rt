@@ -7,14 +7,14 @@ ghost use Rattle.mq_model.specs.Record.{first};
 ghost use Rattle.mq_model.specs.Answer.{is_refused, is_payload, may_call, Legal, IsFirstIllegal};
 ghost use Rattle.mq_checker.specs.CheckerTables.{TablesMirror};
 
-use mq_model::entries::{Call, Reply};
 use crate::expected::answer;
-use mq_model::journals::Journal;
-use mq_model::limits::PROCESSES;
-use mq_model::names::is_name;
 use crate::replies::is_same;
 use crate::tables;
 use crate::tables::Tables;
+use mq_model::entries::{Call, Reply};
+use mq_model::journals::Journal;
+use mq_model::limits::PROCESSES;
+use mq_model::names::is_name;
 
 fn is_refused(reply: Reply) -> bool
     ensures { result ≡ is_refused reply }

@@ -27,7 +27,11 @@ fn queues_unless(journal: &Journal, k: u64, tables: &Tables, bound: bool) -> u64
     requires mirror { TablesMirror (first k journal.now.records) tables.now }
     ensures { result ≡ (if bound then 0 else length (alive (first k journal.now.records))) }
 {
-    if bound { 0 } else { alive_count(journal, k, tables) }
+    if bound {
+        0
+    } else {
+        alive_count(journal, k, tables)
+    }
 }
 
 fn open_facts(journal: &Journal, k: u64, tables: &Tables, p: u32, name: &[u8]) -> OpenFacts
@@ -79,7 +83,11 @@ fn registered_if(journal: &Journal, k: u64, q: u64, counts: bool) -> Option<u64>
     requires { k ≤ length journal.now.records }
     ensures { result ≡ (if counts then registered_place (first k journal.now.records) q else None) }
 {
-    if counts { registered_place(journal, k, q) } else { None }
+    if counts {
+        registered_place(journal, k, q)
+    } else {
+        None
+    }
 }
 
 fn send_facts(journal: &Journal, k: u64, tables: &Tables, h: Description) -> SendFacts

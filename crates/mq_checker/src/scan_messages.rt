@@ -7,10 +7,10 @@ ghost use Rattle.mq_model.specs.Messages.{is_send, is_in, queues, blocks_send, a
 ghost use Rattle.mq_model.specs.OnePass.{better};
 ghost use Rattle.mq_checker.specs.TakenTable.{TakenMirror, enters, unless_in, with_best};
 
-use mq_model::entries::{Call, Entry, Reply};
-use mq_model::journals::Journal;
 use crate::scan_names::{entry_before, is_on};
 use crate::taken::is_taken;
+use mq_model::entries::{Call, Entry, Reply};
+use mq_model::journals::Journal;
 
 pub(crate) fn is_send(call: Call) -> bool
     ensures { result ≡ is_send call }

@@ -8,10 +8,10 @@ ghost use Rattle.mq_model.specs.Names.{is_open, is_unlink, creates, unlinks, bou
 ghost use Rattle.mq_model.specs.Descriptors.{opened_queue, held, descriptor_of, called_queue, is_place, is_named, alive};
 ghost use Rattle.mq_checker.specs.CheckerTables.{TablesMirror};
 
+use crate::tables::{Tables, is_held};
 use mq_model::entries::{Attr, Call, Description, Entry, Reply};
 use mq_model::journals::Journal;
 use mq_model::ladder::{DEFAULT_ATTRIBUTES, attributes_given};
-use crate::tables::{Tables, is_held};
 
 pub(crate) fn is_open(call: Call) -> bool
     ensures { result ≡ is_open call }

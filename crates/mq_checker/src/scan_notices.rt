@@ -5,10 +5,10 @@ ghost use Rattle.std.specs.Prelude.{◌≡◌, ◌≤◌, length, slice_get};
 ghost use Rattle.mq_model.specs.Record.{first, record_at};
 ghost use Rattle.mq_model.specs.Notices.{registered, value_of_notify, value_given, gives_notice, notices_given, notices};
 
+use crate::scan_names::is_on;
 use mq_model::entries::{Call, Registration, Reply};
 use mq_model::journals::Journal;
 use mq_model::registrations::{notified, registration_after, touches_registrations};
-use crate::scan_names::is_on;
 
 // The registration that stands on queue `q` before place `k`.
 pub(crate) fn registered(journal: &Journal, k: u64, q: u64) -> Option<Registration>

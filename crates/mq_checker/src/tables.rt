@@ -11,13 +11,13 @@ ghost use Rattle.mq_model.specs.Owners.{waiting, OwnersMirror};
 ghost use Rattle.mq_model.specs.Answer.{Legal};
 ghost use Rattle.mq_checker.specs.CheckerTables.{TablesMirror};
 
+use crate::scan_names::{descriptor_of, opened_queue};
+use crate::taken;
 use mq_model::entries::{Call, Description, Entry, Reply};
 use mq_model::journals::Journal;
 use mq_model::limits::PROCESSES;
-use mq_model::owners::Owner;
-use crate::scan_names::{descriptor_of, opened_queue};
-use crate::taken;
 use mq_model::owners;
+use mq_model::owners::Owner;
 
 // How many lines the table of processes has: process p's is at index p.
 const OWNERS: usize = PROCESSES as usize + 1;

@@ -11,3 +11,4 @@ pub use Rattle.mq_model.specs.Owners
 pub use Rattle.mq_model.specs.OwnersNoted
 pub use Rattle.mq_laws.specs.Laws
 pub use Rattle.mq_laws.specs.Refusals
+pub use Rattle.mq_laws.specs.Registrations

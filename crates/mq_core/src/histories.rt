@@ -262,6 +262,8 @@ fn laws_take_a_legal_journal(rt: HostRuntime) -> Result<(), Fail> {
             laws::ends_for_good(&journal);
             laws::waits_for_cause(&journal);
             laws::others_leave(&journal, 1);
+            laws::registers_latest(&journal);
+            laws::refusals_change_nothing(&journal);
         }
         Err(k) => assert!(rt; false, "illegal at {k}"),
     }

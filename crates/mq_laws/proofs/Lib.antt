@@ -7,6 +7,7 @@ pub mod WaitCauses
 pub mod GoneQueues
 pub mod SendingOrder
 pub mod Refusals
+pub mod Registered
 pub mod WorkedJournals
 pub mod WorkedWaits
 pub mod WorkedRefusals

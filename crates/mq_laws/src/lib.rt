@@ -4,6 +4,7 @@
 ghost use Rattle.mq_model.specs.Answer.{Legal};
 ghost use Rattle.mq_laws.specs.Laws.{GivesOnce, GivesBest, LeavesInOrder, HoldsDescriptors, EndsForGood, WaitsForCause};
 ghost use Rattle.mq_laws.specs.Refusals.{RefusalsChangeNothing};
+ghost use Rattle.mq_laws.specs.Registrations.{RegistersLatest};
 ghost use Rattle.mq_model.specs.Waits.{OthersLeave};
 
 use mq_model::journals::Journal;
@@ -58,4 +59,12 @@ pub fn others_leave(journal: &Journal, p: u32)
 pub fn refusals_change_nothing(journal: &Journal)
     requires { Legal journal.now.records }
     ensures { RefusalsChangeNothing journal.now.records }
+{}
+
+/// The registration on a queue is that of the latest notify with a value on the queue that was done, is named as notified by no later
+/// reply, and is followed by no removal on the queue by the same process and by no close by that process of the descriptor that
+/// it used; where there is none, none stands (`mq_notify`, `mq_close`).
+pub fn registers_latest(journal: &Journal)
+    requires { Legal journal.now.records }
+    ensures { RegistersLatest journal.now.records }
 {}

@@ -29,7 +29,6 @@ rec p call reply payload = record { entry = record { process = p; call = call; r
 
 -- attributes -------------------------------------------------------------------------------------------------------------
 
-
 pub attributes-newest : (past : Past) (r : Record) → attributes (r ∷ past) (length past) ≡ attributes_given r.entry.call
 attributes-newest past r = rw (eq-eqb (length past) (length past) refl) refl
 

@@ -12,7 +12,10 @@ use crate::tables::Tables;
 use crate::{notices, queues};
 use mq_model::entries::{Attr, Call, Description, OpenFlags, Registration, Reply};
 use mq_model::journals::Journal;
-use mq_model::ladder::{DEFAULT_ATTRIBUTES, NotifyFacts, OpenFacts, ReceiveFacts, SendFacts, StatusFacts, attributes_given};
+use mq_model::ladder::{
+    DEFAULT_ATTRIBUTES, NotifyFacts, OpenFacts, ReceiveFacts, SendFacts, StatusFacts,
+    attributes_given,
+};
 use mq_model::{ladder, owners};
 
 // `maxmsg` and `msgsize` of queue q, as the journal has them.
@@ -187,7 +190,13 @@ impl Tables {
     }
 
     // The reply to a notify.
-    pub(crate) fn answer_notify(&self, journal: &Journal, p: u32, d: u32, value: Option<u64>) -> Reply
+    pub(crate) fn answer_notify(
+        &self,
+        journal: &Journal,
+        p: u32,
+        d: u32,
+        value: Option<u64>,
+    ) -> Reply
         requires mirror { Mirrors journal.now self.now }
         requires legal { Legal journal.now.records }
         ensures { result ≡ answer journal.now.records p (Call.MqNotify d value) [] }
@@ -226,7 +235,14 @@ impl Tables {
     }
 
     // The reply to a send.
-    pub(crate) fn answer_send(&self, journal: &Journal, p: u32, d: u32, prio: u32, len: u64) -> Reply
+    pub(crate) fn answer_send(
+        &self,
+        journal: &Journal,
+        p: u32,
+        d: u32,
+        prio: u32,
+        len: u64,
+    ) -> Reply
         requires mirror { Mirrors journal.now self.now }
         requires legal { Legal journal.now.records }
         requires few { self.now.n ≤ 32 }
