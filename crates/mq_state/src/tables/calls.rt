@@ -1,13 +1,14 @@
 //! The calls: each makes room, decides its reply, and appends its entry, which the tables note.
-ghost use Rattle.std.specs.Prelude.{◌≡◌, ◌≢◌, ◌<◌, ◌≤◌, ◌+◌, ◌-◌, IfOk, OnOk, IsTrue, Some, None, ℕ, length, [], ◌∷◌, is_some, vec_len, vec_capacity, if◌then◌else◌};
+ghost use Rattle.std.specs.Prelude.{◌≡◌, ◌≢◌, ◌<◌, ◌≤◌, ◌+◌, ◌-◌, IfOk, OnOk, IsTrue, Some, None, false, ℕ, length, [], ◌∷◌, is_some, vec_len, vec_capacity, if◌then◌else◌};
 ghost use Rattle.mq_model.specs.Name.{is_name};
+ghost use Rattle.mq_model.specs.Names.{creates};
 ghost use Rattle.mq_model.specs.Waits.{open_wait, answered_by};
 ghost use Rattle.mq_model.specs.Answer.{Appends, answer, may_call, is_payload, payload_of, is_refused, Legal, IsLegalNext};
 ghost use Rattle.std.specs.Option.{option_map};
 ghost use Rattle.mq_model.specs.Owners.{waits_count, answer_in, wait_in, lowest_held_in};
 ghost use Rattle.mq_state.specs.Buffers.{filled};
 ghost use Rattle.mq_state.specs.Tables.{entry_queue, HasRoomToRegister, BringsOrder};
-ghost use Rattle.mq_state.specs.Kept.{IsKeptBy, HasEntryRoom};
+ghost use Rattle.mq_state.specs.Kept.{IsKeptBy, HasEntryRoom, MayCall, IsCalled};
 
 use crate::order::{Order, slots_for};
 use crate::tables::Tables;
@@ -94,22 +95,31 @@ impl Tables {
         self.append(journal, entry, payload_of(call, reply, given), fresh);
     }
 
-    /// A close of descriptor d (`mq_close`).
-    pub fn close(&mut self, journal: &mut Journal, p: u32, d: u32) -> Reply
-        requires kept { IsKeptBy journal.old self.old }
-        requires process { (1 ≤ p) × (p ≤ self.old.n) }
-        requires no_wait { open_wait journal.old.records p ≡ None }
-        ensures entry { result ≢ Reply.Refused Fault.NoMemory → Appends journal.old.records journal.new.records p (Call.MqClose d) [] result }
-        ensures no_memory { result ≡ Reply.Refused Fault.NoMemory → journal.new.records ≡ journal.old.records }
-        ensures kept { IsKeptBy journal.new self.new }
-        ensures n { self.new.n ≡ self.old.n }
+    // Settles a call that neither waits nor creates or registers anything: makes room for its entry, and appends it.
+    fn settle(&mut self, journal: &mut Journal, p: u32, call: Call, reply: Reply, given: &[u8]) -> Reply
+        requires may_call { MayCall journal.old self.old p }
+        requires turn { IsTrue (may_call journal.old.records p call) }
+        requires answers { reply ≡ answer journal.old.records p call given.now }
+        requires payload { IsTrue (is_payload call reply (payload_of call reply given.now)) }
+        requires registration { HasRoomToRegister self.old.queues.items self.old.inboxes.items p call reply }
+        requires creates { creates call reply ≡ false }
+        requires entries { HasEntryRoom reply (waits_count self.old.owners.items) (waits_count self.old.owners.items + 1) }
+        ensures { IsCalled journal.old journal.new self.old self.new p call given.now result }
     {
-        if journal.reserve(self.open_waits() + 1, 0).is_err() {
+        if journal.reserve(self.open_waits() + 1, given.len()).is_err() {
             return Reply::Refused(Fault::NoMemory);
         }
-        let reply = self.answer_close(journal, p, d);
-        self.record(journal, p, Call::MqClose { d }, reply, &[], None);
+        self.record(journal, p, call, reply, given, None);
         reply
+    }
+
+    /// A close of descriptor d (`mq_close`).
+    pub fn close(&mut self, journal: &mut Journal, p: u32, d: u32) -> Reply
+        requires { MayCall journal.old self.old p }
+        ensures { IsCalled journal.old journal.new self.old self.new p (Call.MqClose d) [] result }
+    {
+        let reply = self.answer_close(journal, p, d);
+        self.settle(journal, p, Call::MqClose { d }, reply, &[])
     }
 
     // The order of the queue that an open creates, if it creates one, and a place for the queue.
@@ -149,14 +159,9 @@ impl Tables {
         flags: OpenFlags,
         attr: Option<Attr>,
     ) -> Reply
-        requires kept { IsKeptBy journal.old self.old }
-        requires process { (1 ≤ p) × (p ≤ self.old.n) }
-        requires no_wait { open_wait journal.old.records p ≡ None }
+        requires may_call { MayCall journal.old self.old p }
         requires form { IsTrue (is_name name.now) }
-        ensures entry { result ≢ Reply.Refused Fault.NoMemory → Appends journal.old.records journal.new.records p (Call.MqOpen flags attr) name.now result }
-        ensures no_memory { result ≡ Reply.Refused Fault.NoMemory → journal.new.records ≡ journal.old.records }
-        ensures kept { IsKeptBy journal.new self.new }
-        ensures n { self.new.n ≡ self.old.n }
+        ensures { IsCalled journal.old journal.new self.old self.new p (Call.MqOpen flags attr) name.now result }
     {
         if journal.reserve(self.open_waits() + 1, name.len()).is_err() {
             return Reply::Refused(Fault::NoMemory);
@@ -171,64 +176,30 @@ impl Tables {
 
     /// An unlink of a name (`mq_unlink`).
     pub fn unlink(&mut self, journal: &mut Journal, p: u32, name: &[u8]) -> Reply
-        requires kept { IsKeptBy journal.old self.old }
-        requires process { (1 ≤ p) × (p ≤ self.old.n) }
-        requires no_wait { open_wait journal.old.records p ≡ None }
+        requires may_call { MayCall journal.old self.old p }
         requires form { IsTrue (is_name name.now) }
-        ensures entry { result ≢ Reply.Refused Fault.NoMemory → Appends journal.old.records journal.new.records p (Call.MqUnlink) name.now result }
-        ensures no_memory { result ≡ Reply.Refused Fault.NoMemory → journal.new.records ≡ journal.old.records }
-        ensures kept { IsKeptBy journal.new self.new }
-        ensures n { self.new.n ≡ self.old.n }
+        ensures { IsCalled journal.old journal.new self.old self.new p (Call.MqUnlink) name.now result }
     {
-        if journal.reserve(self.open_waits() + 1, name.len()).is_err() {
-            return Reply::Refused(Fault::NoMemory);
-        }
         let reply = self.answer_unlink(journal, p, name);
-        self.record(journal, p, Call::MqUnlink, reply, name, None);
-        reply
+        self.settle(journal, p, Call::MqUnlink, reply, name)
     }
 
     /// The attributes of descriptor d (`mq_getattr`).
     pub fn getattr(&mut self, journal: &mut Journal, p: u32, d: u32) -> Reply
-        requires kept { IsKeptBy journal.old self.old }
-        requires process { (1 ≤ p) × (p ≤ self.old.n) }
-        requires no_wait { open_wait journal.old.records p ≡ None }
-        ensures entry { result ≢ Reply.Refused Fault.NoMemory → Appends journal.old.records journal.new.records p (Call.MqGetattr d) [] result }
-        ensures no_memory { result ≡ Reply.Refused Fault.NoMemory → journal.new.records ≡ journal.old.records }
-        ensures kept { IsKeptBy journal.new self.new }
-        ensures n { self.new.n ≡ self.old.n }
+        requires { MayCall journal.old self.old p }
+        ensures { IsCalled journal.old journal.new self.old self.new p (Call.MqGetattr d) [] result }
     {
-        if journal.reserve(self.open_waits() + 1, 0).is_err() {
-            return Reply::Refused(Fault::NoMemory);
-        }
         let reply = self.answer_attributes(journal, p, d);
-        self.record(journal, p, Call::MqGetattr { d }, reply, &[], None);
-        reply
+        self.settle(journal, p, Call::MqGetattr { d }, reply, &[])
     }
 
     /// Another flag for descriptor d (`mq_setattr`).
     pub fn setattr(&mut self, journal: &mut Journal, p: u32, d: u32, nonblock: bool) -> Reply
-        requires kept { IsKeptBy journal.old self.old }
-        requires process { (1 ≤ p) × (p ≤ self.old.n) }
-        requires no_wait { open_wait journal.old.records p ≡ None }
-        ensures entry { result ≢ Reply.Refused Fault.NoMemory → Appends journal.old.records journal.new.records p (Call.MqSetattr d nonblock) [] result }
-        ensures no_memory { result ≡ Reply.Refused Fault.NoMemory → journal.new.records ≡ journal.old.records }
-        ensures kept { IsKeptBy journal.new self.new }
-        ensures n { self.new.n ≡ self.old.n }
+        requires { MayCall journal.old self.old p }
+        ensures { IsCalled journal.old journal.new self.old self.new p (Call.MqSetattr d nonblock) [] result }
     {
-        if journal.reserve(self.open_waits() + 1, 0).is_err() {
-            return Reply::Refused(Fault::NoMemory);
-        }
         let reply = self.answer_attributes(journal, p, d);
-        self.record(
-            journal,
-            p,
-            Call::MqSetattr { d, nonblock },
-            reply,
-            &[],
-            None,
-        );
-        reply
+        self.settle(journal, p, Call::MqSetattr { d, nonblock }, reply, &[])
     }
 
     // Makes room for the notice of the registration that a call of process p makes: for one from each queue, since at most
@@ -261,13 +232,8 @@ impl Tables {
 
     /// A registration on the queue of descriptor d, or its removal (`mq_notify`).
     pub fn notify(&mut self, journal: &mut Journal, p: u32, d: u32, value: Option<u64>) -> Reply
-        requires kept { IsKeptBy journal.old self.old }
-        requires process { (1 ≤ p) × (p ≤ self.old.n) }
-        requires no_wait { open_wait journal.old.records p ≡ None }
-        ensures entry { result ≢ Reply.Refused Fault.NoMemory → Appends journal.old.records journal.new.records p (Call.MqNotify d value) [] result }
-        ensures no_memory { result ≡ Reply.Refused Fault.NoMemory → journal.new.records ≡ journal.old.records }
-        ensures kept { IsKeptBy journal.new self.new }
-        ensures n { self.new.n ≡ self.old.n }
+        requires { MayCall journal.old self.old p }
+        ensures { IsCalled journal.old journal.new self.old self.new p (Call.MqNotify d value) [] result }
     {
         if journal.reserve(self.open_waits() + 1, 0).is_err() {
             return Reply::Refused(Fault::NoMemory);
@@ -283,32 +249,18 @@ impl Tables {
 
     /// The oldest notice that process p has not yet taken.
     pub fn next_notice(&mut self, journal: &mut Journal, p: u32) -> Reply
-        requires kept { IsKeptBy journal.old self.old }
-        requires process { (1 ≤ p) × (p ≤ self.old.n) }
-        requires no_wait { open_wait journal.old.records p ≡ None }
-        ensures entry { result ≢ Reply.Refused Fault.NoMemory → Appends journal.old.records journal.new.records p (Call.NextNotice) [] result }
-        ensures no_memory { result ≡ Reply.Refused Fault.NoMemory → journal.new.records ≡ journal.old.records }
-        ensures kept { IsKeptBy journal.new self.new }
-        ensures n { self.new.n ≡ self.old.n }
+        requires { MayCall journal.old self.old p }
+        ensures { IsCalled journal.old journal.new self.old self.new p (Call.NextNotice) [] result }
     {
-        if journal.reserve(self.open_waits() + 1, 0).is_err() {
-            return Reply::Refused(Fault::NoMemory);
-        }
         let reply = self.answer_next_notice(journal, p);
-        self.record(journal, p, Call::NextNotice, reply, &[], None);
-        reply
+        self.settle(journal, p, Call::NextNotice, reply, &[])
     }
 
     /// A send of a message (`mq_send`). Room for its bytes is made only once nothing refuses it.
     pub fn send(&mut self, journal: &mut Journal, p: u32, d: u32, bytes: &[u8], prio: u32) -> Reply
-        requires kept { IsKeptBy journal.old self.old }
-        requires process { (1 ≤ p) × (p ≤ self.old.n) }
-        requires no_wait { open_wait journal.old.records p ≡ None }
-        ensures entry { result ≢ Reply.Refused Fault.NoMemory → Appends journal.old.records journal.new.records p (Call.MqSend d prio (length bytes.now)) bytes.now result }
-        ensures no_memory { result ≡ Reply.Refused Fault.NoMemory → journal.new.records ≡ journal.old.records }
+        requires { MayCall journal.old self.old p }
+        ensures called { IsCalled journal.old journal.new self.old self.new p (Call.MqSend d prio (length bytes.now)) bytes.now result }
         ensures refused { (fault : Fault) → result ≡ Reply.Refused fault → fault ≢ Fault.NoMemory → journal.new.byte_room ≡ journal.old.byte_room }
-        ensures kept { IsKeptBy journal.new self.new }
-        ensures n { self.new.n ≡ self.old.n }
     {
         let entries = self.open_waits() + 2;
         if journal.reserve(entries, 0).is_err() {
@@ -327,14 +279,9 @@ impl Tables {
 
     /// A receive, which fills the front of the buffer where it gets a message (`mq_receive`).
     pub fn receive(&mut self, journal: &mut Journal, p: u32, d: u32, buf: &mut [u8]) -> Reply
-        requires kept { IsKeptBy journal.old self.old }
-        requires process { (1 ≤ p) × (p ≤ self.old.n) }
-        requires no_wait { open_wait journal.old.records p ≡ None }
-        ensures entry { result ≢ Reply.Refused Fault.NoMemory → Appends journal.old.records journal.new.records p (Call.MqReceive d (length buf.old)) [] result }
-        ensures no_memory { result ≡ Reply.Refused Fault.NoMemory → journal.new.records ≡ journal.old.records }
+        requires { MayCall journal.old self.old p }
+        ensures called { IsCalled journal.old journal.new self.old self.new p (Call.MqReceive d (length buf.old)) [] result }
         ensures buffer { buf.new ≡ filled journal.old.records result buf.old }
-        ensures kept { IsKeptBy journal.new self.new }
-        ensures n { self.new.n ≡ self.old.n }
     {
         if journal.reserve(self.open_waits() + 2, 0).is_err() {
             return Reply::Refused(Fault::NoMemory);
