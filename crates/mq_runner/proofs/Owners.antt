@@ -1,5 +1,5 @@
 -- The processes that have an entry in a legal journal.
-use Rattle.std.proofs.Common.{◌≡◌, ◌≤◌, ℕ, [], ◌∷◌, All, arith, rules}
+use Rattle.std.proofs.Common.{◌≤◌, ℕ, [], ◌∷◌, All, arith}
 use Rattle.std.proofs.lemmas.Grind.{common_steps}
 use Rattle.std.proofs.lemmas.List.Elements.{All-nil, All-cons, All-head, All-tail}
 use Rattle.mq.specs.Calls.{owner}

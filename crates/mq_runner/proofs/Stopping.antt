@@ -1,5 +1,5 @@
 -- Phases and known bytes, where a write failed.
-use Rattle.std.proofs.Common.{◌≡◌, ◌<◌, ◌++◌, ℕ, List, ◌∷◌, length, get_or, take, drop, map, ap, sym, ◌∙◌, suc, Option, Vec, Global, Bor}
+use Rattle.std.proofs.Common.{◌≡◌, ◌<◌, ◌++◌, ℕ, List, ◌∷◌, length, get_or, take, drop, ap, sym, ◌∙◌, suc, Option, Vec, Global, Bor}
 use Rattle.std.proofs.Math.Seq.{drop-cons}
 use Rattle.std.proofs.lemmas.List.{take-append-drop, map-append}
 use Rattle.std.specs.Io.KnownBytes.{Appends}

@@ -49,5 +49,5 @@ pub record StopsInLastLine (phases : List (List (ScriptCall Word))) (before : Li
 pub record StopsInWrite (script : Whole) (old new : Option (List ℕ)) : Type 0 where
   pub system : LockId
   pub stops :
-    StopsInPhase script.phases (tickets_from system 1 script.processes) old new
-    ⊎ StopsInLastLine script.phases (tickets_from system 1 script.processes) old new
+      StopsInPhase script.phases (tickets_from system 1 script.processes) old new
+      ⊎ StopsInLastLine script.phases (tickets_from system 1 script.processes) old new

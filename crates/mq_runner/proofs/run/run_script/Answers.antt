@@ -1,4 +1,4 @@
-use Rattle.std.proofs.Common.{◌≡◌, subst, ℕ, List, take, Result, Ok, OnOk}
+use Rattle.std.proofs.Common.{◌≡◌, subst, ℕ, List, take, Ok, OnOk}
 use Rattle.mq_runner.specs.Runs.{RunsScript}
 use Rattle.mq_runner.specs.Stops.{StopsBehindPhase, StopsInWrite}
 use Rattle.mq_script.specs.Script.{Whole, said_script, script_written}
