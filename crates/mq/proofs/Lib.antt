@@ -6,3 +6,4 @@ pub mod Replies
 pub mod Calling
 pub mod Messages
 pub mod Collecting
+pub mod Answering
