@@ -7,3 +7,4 @@ pub mod Calling
 pub mod Messages
 pub mod Collecting
 pub mod Fitting
+pub mod Answering

@@ -1,6 +1,7 @@
 -- What a call of a process leaves behind. Lists of records are latest first, so that what came later stands in front.
 use Rattle.std.specs.Prelude.{ℕ, ◌≡◌, ◌≤◌, Bool, true, false, List, [], ◌∷◌, ◌++◌, length, map, Option, Some, None, Result, Ok, Err, ◌⊎◌, OnOk, IfErr, if◌then◌else◌}
 use Rattle.fast_mutex.specs.Items.{LockId, Ticket, Grows}
+use Rattle.fast_mutex.specs.Marks.{answer_bits}
 use Rattle.mq_model.specs.Record.{Record, Past}
 use Rattle.mq_model.specs.Descriptors.{lowest_held}
 use Rattle.mq_model.specs.Waits.{open_wait, answered_by, is_answered}
@@ -135,6 +136,17 @@ pub record Exits (old new : Ticket Record) (result : Result (Unit {0}) Fault) : 
   pub err : IfErr result (λ e. e ≡ NoMemory)
 
 -- inside the lock ----------------------------------------------------------------------------------------------------------
+
+-- the answers of the processes 1 to 32 in a journal, as the bits of a number
+abbrev pub answered_bits : Past → ℕ
+answered_bits past = answer_bits (λ p. is_answered past p) 1 32
+
+-- what who is inside knows of the journal found: its own number, the answers, its own answer, and how many records there are
+pub record Knows (stay : Ticket Record) (p answers places : ℕ) (own : Bool) : Type 0 where
+  pub process : p ≡ stay.number
+  pub answers_are : answers ≡ answered_bits stay.left
+  pub own_is : own ≡ is_answered stay.left stay.number
+  pub places_are : places ≡ length stay.left
 
 -- what a process without its seat shows
 abbrev pub no_ticket : Ticket Record

@@ -1,9 +1,12 @@
 //! The state that the lock guards.
-ghost use Rattle.std.specs.Prelude.{◌≡◌, ◌∷◌, [], refl};
+ghost use Rattle.std.specs.Prelude.{◌≡◌, ◌≤◌, ◌∷◌, [], refl, length, is_some};
 ghost use Rattle.fast_mutex.specs.Marks.{flag};
+ghost use Rattle.mq_model.specs.Record.{first};
+ghost use Rattle.mq_model.specs.Waits.{is_answered, named_wait};
+ghost use Rattle.mq.specs.Calls.{answered_bits};
 
 use fast_mutex::Logged;
-use mq_model::entries::Entry;
+use mq_model::entries::{Entry, Reply};
 use mq_state::books::Books;
 use std::marker::Model;
 
@@ -28,6 +31,19 @@ impl Model for LoggedRecord {
 #[derive(Drop)]
 pub struct Guarded {
     pub(crate) books: Books,
+    // which waits are answered, that of process p by bit p - 1
+    answered: u32,
+    ghost known: { answered ≡ answered_bits books.records },
+}
+
+impl Guarded {
+    /// The state to begin with.
+    pub(crate) fn holding(books: Books) -> Guarded
+        ensures { result.books ≡ books }
+    {
+        let answered = all_answered(&books);
+        Guarded { books, answered }
+    }
 }
 
 impl Logged for Guarded {
@@ -51,18 +67,106 @@ impl Logged for Guarded {
     }
 
     fn answers(&self) -> u32 {
-        let mut bits = 0;
-        let mut process = 32;
-        while process > 0 {
-            bits = 2 * bits + bit(self.books.answered(process));
-            process -= 1;
-        }
-        bits
+        self.answered
     }
 
     ghost nobody = { λ p. refl };
 
     ghost stays = { answered-stays };
+}
+
+/// The queues while a process is inside, with what it knows of the journal that it found: which waits were answered, whether
+/// its own was, and how many records there were.
+#[derive(Drop)]
+pub(crate) struct Visit {
+    pub(crate) books: Books,
+    pub(crate) process: u32,
+    pub(crate) answered: u32,
+    pub(crate) own: bool,
+    pub(crate) places: u64,
+}
+
+impl Visit {
+    pub(crate) fn begin(state: Guarded, process: u32) -> Visit
+        ensures books { result.books ≡ state.books }
+        ensures process { result.process ≡ process }
+        ensures answered { result.answered ≡ answered_bits state.books.records }
+        ensures own { result.own ≡ is_answered state.books.records process }
+        ensures places { result.places ≡ length state.books.records }
+    {
+        let Guarded { books, answered } = state;
+        let own = books.answered(process);
+        let places = books.journal().len();
+        Visit {
+            books,
+            process,
+            answered,
+            own,
+            places,
+        }
+    }
+
+    /// The state to give back. The answers are counted anew only where a record of this stay may have changed one.
+    pub(crate) fn end(self) -> Guarded
+        requires places { self.places ≤ length self.books.records }
+        requires answered { self.answered ≡ answered_bits (first self.places self.books.records) }
+        requires own { self.own ≡ is_answered (first self.places self.books.records) self.process }
+        ensures { result.books ≡ self.books }
+    {
+        let Visit {
+            books,
+            process,
+            answered,
+            own,
+            places,
+        } = self;
+        let answered = answered_now(&books, process, answered, own, places);
+        Guarded { books, answered }
+    }
+}
+
+// Which waits are answered, where `answered` has those of the first `places` records, and `own` that of the process.
+fn answered_now(books: &Books, process: u32, answered: u32, own: bool, places: u64) -> u32
+    requires places { places ≤ length books.now.records }
+    requires answered { answered ≡ answered_bits (first places books.now.records) }
+    requires own { own ≡ is_answered (first places books.now.records) process }
+    ensures { result ≡ answered_bits books.now.records }
+{
+    if own {
+        return all_answered(books);
+    }
+    let journal = books.journal();
+    let end = journal.len();
+    for place in places..end {
+        let (entry, _) = journal.record(place);
+        if entry.process != process || names_wait(entry.reply) {
+            return all_answered(books);
+        }
+    }
+    answered
+}
+
+fn names_wait(reply: Reply) -> bool
+    ensures { result ≡ is_some (named_wait reply) }
+{
+    match reply {
+        Reply::Handed { .. } => true,
+        Reply::Got { admitted, .. } => admitted.is_some(),
+        _ => false,
+    }
+}
+
+// Which waits are answered, one by one.
+fn all_answered(books: &Books) -> u32
+    ensures { result ≡ answered_bits books.now.records }
+{
+    let mut bits = 0;
+    let mut process = 32;
+    while process > 0 {
+        bits = 2 * bits + bit(books.answered(process));
+        process -= 1;
+    }
+    bits
 }
 
 fn bit(is_set: bool) -> u32

@@ -15,7 +15,6 @@ mod system;
 mod tests;
 
 use fast_mutex::FastMutex;
-
 pub use fast_mutex::Missing;
 pub use guarded::{Guarded, LoggedRecord};
 pub use mq_checker::checker::check_history;

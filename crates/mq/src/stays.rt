@@ -2,9 +2,9 @@
 ghost use Rattle.std.specs.Prelude.{◌≡◌, IsSome, false};
 ghost use Rattle.fast_mutex.specs.Items.{GrowsBy};
 ghost use Rattle.mq_model.specs.Answer.{Legal};
-ghost use Rattle.mq.specs.Calls.{Came, ticket_of, owner};
+ghost use Rattle.mq.specs.Calls.{Came, Knows, ticket_of, owner};
 
-use crate::guarded::Guarded;
+use crate::guarded::{Guarded, Visit};
 use crate::system::Mq;
 use fast_mutex::{Enter, Look};
 use std::sync::Wait;
@@ -14,15 +14,16 @@ pub(crate) fn come<L: Look<Guarded>, R: Wait>(
     rt: &R,
     mq: &Mq<L>,
     seat: &mut Option<L::Seat>,
-) -> (u32, L::Inside, Guarded)
+) -> (u32, L::Inside, Visit)
     requires some { IsSome seat.old }
     requires made { (ticket_of L.ticket seat.old).lock ≡ mq.now }
-    ensures { Came (ticket_of L.ticket seat.old) mq.now (L.stay result.1) result.2.books result.0 }
+    ensures came { Came (ticket_of L.ticket seat.old) mq.now (L.stay result.1) result.2.books result.0 }
+    ensures knows { Knows (L.stay result.1) result.2.process result.2.answered result.2.places result.2.own }
 {
     let taken = seat.take().unwrap();
     let process = L::number(&taken);
     let (inside, state) = mq.lock().enter(rt, taken);
-    (process, inside, state)
+    (process, inside, Visit::begin(state, process))
 }
 
 /// Leaves, and puts the seat back.
@@ -30,15 +31,16 @@ pub(crate) fn depart<L: Look<Guarded>>(
     mq: &Mq<L>,
     seat: &mut Option<L::Seat>,
     inside: L::Inside,
-    state: Guarded,
+    visit: Visit,
 )
     requires lock { (L.stay inside).lock ≡ mq.now }
-    requires n { state.books.n ≡ mq.now.count }
-    requires grows { GrowsBy owner (L.stay inside).number (L.stay inside).left state.books.records }
+    requires n { visit.books.n ≡ mq.now.count }
+    requires knows { Knows (L.stay inside) visit.process visit.answered visit.places visit.own }
+    requires grows { GrowsBy owner (L.stay inside).number (L.stay inside).left visit.books.records }
     ensures some { IsSome seat.new }
-    ensures left { ticket_of L.ticket seat.new ≡ record { lock = mq.now; number = (L.stay inside).number; left = state.books.records; told = false } }
-    ensures legal { Legal state.books.records }
+    ensures left { ticket_of L.ticket seat.new ≡ record { lock = mq.now; number = (L.stay inside).number; left = visit.books.records; told = false } }
+    ensures legal { Legal visit.books.records }
 {
-    let _ = state.books.journal();
-    *seat = Some(mq.lock().leave(inside, state));
+    let _ = visit.books.journal();
+    *seat = Some(mq.lock().leave(inside, visit.end()));
 }

@@ -72,7 +72,7 @@ impl<L: Look<Guarded>> Mq<L> {
         let Ok(books) = Books::new(alloc, n) else {
             return Err(Fault::NoMemory);
         };
-        let Ok((lock, seats)) = L::new(alloc, n, Guarded { books }) else {
+        let Ok((lock, seats)) = L::new(alloc, n, Guarded::holding(books)) else {
             return Err(Fault::NoMemory);
         };
         Ok((Mq { lock, n, room }, processes_of(seats, processes)))

@@ -12,6 +12,7 @@ use crate::system::Mq;
 use fast_mutex::Look;
 use mq_model::entries::{Received, Reply};
 use mq_model::faults::Fault;
+use mq_state::books::Books;
 use mq_state::collected::{Collected, received};
 use std::sync::Wait;
 use std::time::Clock;
@@ -66,7 +67,7 @@ impl<L: Look<Guarded>> Process<L> {
         let room = buf.len();
         let (process, inside, mut state) = come(rt, mq, &mut self.seat);
         let reply = state.books.receive(process, d, buf);
-        let got = message_got(&state, reply);
+        let got = message_got(&state.books, reply);
         depart(mq, &mut self.seat, inside, state);
         self.waits = wait_begun(reply, room);
         got
@@ -114,12 +115,7 @@ impl<L: Look<Guarded>> Process<L> {
     }
 
     // Looks again and again until the wait is answered, and enters then.
-    fn await_outcome<R: Wait + Clock>(
-        &mut self,
-        rt: &R,
-        mq: &Mq<L>,
-        buf: &mut [u8],
-    ) -> Collected
+    fn await_outcome<R: Wait + Clock>(&mut self, rt: &R, mq: &Mq<L>, buf: &mut [u8]) -> Collected
         requires made { self.old.lock ≡ mq.now }
         requires wait { IsSome (waiting_room self.old.left self.old.number) }
         requires room { IfSome (waiting_room self.old.left self.old.number) (λ room. room ≤ length buf.old) }
@@ -217,12 +213,12 @@ fn accepted(reply: Reply) -> Result<bool, Fault>
 }
 
 // What a receive with this reply gives.
-fn message_got(state: &Guarded, reply: Reply) -> Result<Option<Received>, Fault>
+fn message_got(books: &Books, reply: Reply) -> Result<Option<Received>, Fault>
     requires { is_received reply ≡ true }
-    ensures { start_receive_says state.now.books.records reply ≡ Some result }
+    ensures { start_receive_says books.now.records reply ≡ Some result }
 {
     match reply {
-        Reply::Got { place, .. } => Ok(Some(received(state.books.journal(), place))),
+        Reply::Got { place, .. } => Ok(Some(received(books.journal(), place))),
         Reply::Waits => Ok(None),
         Reply::Refused(fault) => Err(fault),
         _ => unreachable!(),

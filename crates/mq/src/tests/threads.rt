@@ -16,7 +16,11 @@ use std::time::Clock;
 const MESSAGES: u8 = 200;
 
 // Sends as many messages, each with its number, through a queue that holds two.
-fn send_all<L: Look<Guarded>, R: Wait + Clock>(rt: &R, mq: &Mq<L>, mut p: Process<L>) -> (Process<L>, bool)
+fn send_all<L: Look<Guarded>, R: Wait + Clock>(
+    rt: &R,
+    mq: &Mq<L>,
+    mut p: Process<L>,
+) -> (Process<L>, bool)
     requires made { p.lock ≡ mq.now }
     requires free { IsFree p }
     ensures made { result.0.lock ≡ p.lock }

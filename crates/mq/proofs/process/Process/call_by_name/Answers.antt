@@ -4,18 +4,18 @@ use Rattle.mq.proofs.Replies.{named-answered}
 use Rattle.mq.proofs.process.Process.call_by_name.Goals as goal
 
 pub ask_by_name-reply-requires-clause-no_wait : goal.ask_by_name-reply-requires-clause-no_wait
-ask_by_name-reply-requires-clause-no_wait g c = came-free (rw c.self.view_is at c.come-process.ensures) c.requires.free
+ask_by_name-reply-requires-clause-no_wait g c = came-free (rw c.self.view_is at c.come-process.ensures.came) c.requires.free
 
 pub invariant_of-self : goal.invariant_of-self
 invariant_of-self g c =
-    let came = rw c.self.view_is at c.come-process.ensures in
+    let came = rw c.self.view_is at c.come-process.ensures.came in
     (c.depart.ensures.some, rw c.depart.ensures.left (room-kept c.args.call c.args.name.now c.ask_by_name-reply.result came c.requires.free c.ask_by_name-reply.ensures.records (named-answered c.args.call c.ask_by_name-reply.result c.requires.by_name c.ask_by_name-reply.ensures.replies) (rw c.self.view_is at c.self.invariant.1)))
 
 pub returns-clause-calls : goal.returns-clause-calls
 returns-clause-calls g c =
-    rw c.depart.ensures.left (came-made c.args.call c.args.name.now c.ask_by_name-reply.result (rw c.self.view_is at c.come-process.ensures) c.requires.made c.ask_by_name-reply.ensures.records c.depart.ensures.legal)
+    rw c.depart.ensures.left (came-made c.args.call c.args.name.now c.ask_by_name-reply.result (rw c.self.view_is at c.come-process.ensures.came) c.requires.made c.ask_by_name-reply.ensures.records c.depart.ensures.legal)
 
 pub returns-clause-free : goal.returns-clause-free
 returns-clause-free g c =
-    let came = rw c.self.view_is at c.come-process.ensures in
+    let came = rw c.self.view_is at c.come-process.ensures.came in
     rw c.depart.ensures.left (still-free c.args.call c.args.name.now c.ask_by_name-reply.result came c.requires.free c.ask_by_name-reply.ensures.records (named-answered c.args.call c.ask_by_name-reply.result c.requires.by_name c.ask_by_name-reply.ensures.replies))

@@ -5,15 +5,15 @@ use Rattle.mq.proofs.Closings.{own-closes, all-closes}
 use Rattle.mq.proofs.process.Process.exit.Goals as goal
 
 pub close_all-done-requires-clause-no_wait : goal.close_all-done-requires-clause-no_wait
-close_all-done-requires-clause-no_wait g c = came-free (rw c.self.view_is at c.come-process.ensures) c.requires.free
+close_all-done-requires-clause-no_wait g c = came-free (rw c.self.view_is at c.come-process.ensures.came) c.requires.free
 
 pub depart-requires-clause-grows : goal.depart-requires-clause-grows
 depart-requires-clause-grows g c =
-    came-grows_by (closes c.come-process.result.0 c.close_all-done.ensures.closing.ds) (rw c.self.view_is at c.come-process.ensures) c.close_all-done.ensures.closing.is (all-closes c.come-process.result.0 c.close_all-done.ensures.closing.ds)
+    came-grows_by (closes c.come-process.result.0 c.close_all-done.ensures.closing.ds) (rw c.self.view_is at c.come-process.ensures.came) c.close_all-done.ensures.closing.is (all-closes c.come-process.result.0 c.close_all-done.ensures.closing.ds)
 
 pub returns-clause-call : goal.returns-clause-call
 returns-clause-call g c =
-    let came = rw c.self.view_is at c.come-process.ensures in
+    let came = rw c.self.view_is at c.come-process.ensures.came in
     let closing = c.close_all-done.ensures.closing in
     rw c.depart.ensures.left (record {
       found = c.come-process.result.2.books.records;
