@@ -2,4 +2,3 @@ pub mod Items
 pub mod Word
 pub mod Marks
 pub mod Fast
-pub mod Bells

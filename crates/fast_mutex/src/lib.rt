@@ -6,8 +6,6 @@ mod fast;
 mod fast_lock;
 mod lock;
 mod logged;
-#[cfg(test)]
-mod tests;
 mod word;
 
 pub use enter::Enter;

@@ -15,8 +15,6 @@ ghost use Rattle.lamport_core.specs.Safe.{IsSafe, IsPoint};
 ghost use Rattle.lamport_core.specs.Machine.{state_of, stepped, run_through, begun, count};
 
 mod laws;
-#[cfg(test)]
-mod tests;
 mod theorems;
 
 pub use laws::{change_laws, inside_laws, line_laws};

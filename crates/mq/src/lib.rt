@@ -11,8 +11,6 @@ mod pause;
 mod process;
 mod stays;
 mod system;
-#[cfg(test)]
-mod tests;
 
 use fast_mutex::FastMutex;
 pub use fast_mutex::Missing;

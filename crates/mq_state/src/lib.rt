@@ -8,5 +8,3 @@ mod notices;
 mod order;
 mod queues;
 mod tables;
-#[cfg(test)]
-mod tests;

@@ -1,9 +1,0 @@
-use Rattle.std.proofs.Common.{◌≡◌}
-use Rattle.mq.specs.Calls.{IsFree}
-use Rattle.mq.proofs.tests.threads.receive_all.Given as goal
-
-abbrev pub invariant-numbers : goal.invariant-numbers
-invariant-numbers g l = record {
-  made : l.p.lock ≡ l.initial.p.lock;
-  free : IsFree l.p;
-}

@@ -1,0 +1,98 @@
+//! Threads over each lock, each with many stays of one process.
+ghost use Rattle.std.specs.Prelude.{◌≡◌, ◌≤◌, ◌∷◌, []};
+ghost use Rattle.fast_mutex.specs.Word.{ticket_of, lock_id, made_with};
+ghost use Rattle.fast_mutex.specs.Fast.{IsSeatOf};
+
+use super::{Notes, add_many, no_notes};
+use fast_mutex::{FastMutex, FastSeat, Lock, WordLock, WordSeat};
+use std::alloc::Global;
+use std::process::Abort;
+use std::sync::Wait;
+use std::thread::{Threads, map_vec};
+
+const STAYS: u32 = 1000;
+
+/// The notes of so many threads over the lock of one word.
+fn over_word_lock<R: Wait + Threads + Sync>(rt: &R, alloc: Global, threads: u32) -> Option<Notes>
+    requires { (1 ≤ threads) × (threads ≤ 32) }
+{
+    let notes = no_notes(alloc, 7, threads as usize * STAYS as usize).ok()?;
+    let Ok((lock, seats)) = WordLock::new(alloc, threads, notes) else {
+        return None;
+    };
+    let seats = map_vec(
+        rt,
+        seats,
+        &|seat: WordSeat<Notes>| -> WordSeat<Notes>
+            requires { (ticket_of seat.number seat.seat).lock ≡ lock_id lock.table.shared.table_id (made_with (λ s. s.title ∷ []) lock.table.shared.key) }
+            ensures { (ticket_of result.number result.seat).lock ≡ lock_id lock.table.shared.table_id (made_with (λ s. s.title ∷ []) lock.table.shared.key) }
+        { add_many(rt, &lock, seat, STAYS) },
+    )
+    .ok()?;
+    lock.finish(seats).ok()
+}
+
+/// The notes of so many threads over Lamport's lock.
+fn over_fast_mutex<R: Wait + Threads + Sync>(rt: &R, alloc: Global, threads: u32) -> Option<Notes>
+    requires { (1 ≤ threads) × (threads ≤ 32) }
+{
+    let notes = no_notes(alloc, 7, threads as usize * STAYS as usize).ok()?;
+    let Ok((lock, seats)) = FastMutex::new(alloc, threads, notes) else {
+        return None;
+    };
+    let seats = map_vec(
+        rt,
+        seats,
+        &|seat: FastSeat<Notes>| -> FastSeat<Notes>
+            requires { IsSeatOf (λ s. s.title ∷ []) lock.table.shared.table_id lock.table.shared.key seat.seat }
+            ensures { IsSeatOf (λ s. s.title ∷ []) lock.table.shared.table_id lock.table.shared.key result.seat }
+        { add_many(rt, &lock, seat, STAYS) },
+    )
+    .ok()?;
+    lock.finish(seats).ok()
+}
+
+// Each process's notes are all there, in its order.
+fn expect_all<A: Abort>(rt: &A, notes: &Notes, threads: u32)
+    requires { threads ≤ 32 }
+{
+    assert_eq!(rt; notes.items.len(), threads as usize * STAYS as usize);
+    for process in 1..=threads {
+        let values = notes
+            .items
+            .iter()
+            .filter(|note| note.0 == process)
+            .map(|note| note.1);
+        assert!(rt; values.eq(0..STAYS), "of process {process}");
+    }
+}
+
+#[test]
+fn eight_threads_lose_no_note_of_a_word_lock(rt: HostRuntime) {
+    // one growth may be refused from outside
+    let notes = match over_word_lock(&rt, rt.alloc(), 8) {
+        Some(notes) => notes,
+        None => over_word_lock(&rt, rt.alloc(), 8).expect(&rt, "memory"),
+    };
+    expect_all(&rt, &notes, 8);
+}
+
+#[test]
+fn two_threads_lose_no_note_of_lamports_lock(rt: HostRuntime) {
+    // one growth may be refused from outside
+    let notes = match over_fast_mutex(&rt, rt.alloc(), 2) {
+        Some(notes) => notes,
+        None => over_fast_mutex(&rt, rt.alloc(), 2).expect(&rt, "memory"),
+    };
+    expect_all(&rt, &notes, 2);
+}
+
+#[test]
+fn eight_threads_lose_no_note_of_lamports_lock(rt: HostRuntime) {
+    // one growth may be refused from outside
+    let notes = match over_fast_mutex(&rt, rt.alloc(), 8) {
+        Some(notes) => notes,
+        None => over_fast_mutex(&rt, rt.alloc(), 8).expect(&rt, "memory"),
+    };
+    expect_all(&rt, &notes, 8);
+}
