@@ -159,11 +159,31 @@ fn collect<L: Look<Guarded>, R: Wait>(
 }
 
 // The end without a process: the queues come back.
-fn finish_early<L: Look<Guarded>>(alloc: Global, mq: Mq<L>) -> Option<Mq<L>>
+fn finish_empty<L: Look<Guarded>>(alloc: Global, mq: Mq<L>) -> Option<Mq<L>>
     ensures { IfSome result (λ m. m ≡ mq) }
 {
     match mq.finish(Vec::new(alloc)) {
         Err(Missing { whole, parts: _ }) => Some(whole),
+        Ok(_) => None,
+    }
+}
+
+// The end with process 1 alone: the queues and the process come back.
+fn finish_early<L: Look<Guarded>>(
+    alloc: Global,
+    mq: Mq<L>,
+    one: Process<L>,
+) -> Option<(Mq<L>, Process<L>)>
+    requires { one.lock ≡ mq }
+    ensures { IfSome result (λ r. (r.0 ≡ mq) × (r.1.lock ≡ mq)) }
+{
+    let mut processes = match Vec::with_capacity(alloc, 1) {
+        Ok(processes) => processes,
+        Err(_) => Vec::with_capacity(alloc, 1).ok()?,
+    };
+    processes.push(one).ok()?;
+    match mq.finish(processes) {
+        Err(Missing { whole, mut parts }) => Some((whole, parts.pop()?)),
         Ok(_) => None,
     }
 }
@@ -201,7 +221,8 @@ fn in_order<L: Look<Guarded>, R: Wait + Clock + Abort>(rt: &R, alloc: Global) ->
     assert_eq!(rt; buf[0], b'a');
     assert_eq!(rt; receive(rt, &mq, &mut one, &mut buf), received);
     assert_eq!(rt; buf[0], b'b');
-    let mq = finish_early(alloc, mq)?;
+    let mq = finish_empty(alloc, mq)?;
+    let (mq, one) = finish_early(alloc, mq, one)?;
     finish(alloc, mq, one, two)
 }
 
@@ -298,4 +319,12 @@ fn messages_of_one_priority_leave_in_sending_order(rt: HostRuntime) {
     let alloc = rt.alloc();
     let journal = in_order::<FastMutex<Guarded>, _>(&rt, alloc).expect(&rt, "memory");
     expect_order(&rt, alloc, &journal);
+}
+
+#[test]
+fn a_system_has_1_to_32_processes(rt: HostRuntime) {
+    for n in [0, 33] {
+        let made = Mq::<FastMutex<Guarded>>::new(rt.alloc(), n);
+        assert!(rt; made.err() == Some(Fault::Invalid), "{n}");
+    }
 }
