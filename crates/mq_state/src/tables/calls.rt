@@ -96,7 +96,14 @@ impl Tables {
     }
 
     // Settles a call that neither waits nor creates or registers anything: makes room for its entry, and appends it.
-    fn settle(&mut self, journal: &mut Journal, p: u32, call: Call, reply: Reply, given: &[u8]) -> Reply
+    fn settle(
+        &mut self,
+        journal: &mut Journal,
+        p: u32,
+        call: Call,
+        reply: Reply,
+        given: &[u8],
+    ) -> Reply
         requires may_call { MayCall journal.old self.old p }
         requires turn { IsTrue (may_call journal.old.records p call) }
         requires answers { reply ≡ answer journal.old.records p call given.now }
