@@ -3,8 +3,6 @@ use Rattle.std.specs.Prelude.{ℕ, Bool, not, ◌&&◌, ◌==◌, ◌*◌, nat_l
 use Rattle.std.specs.List.{list_any}
 use Rattle.std.specs.Str.{bytes_eq}
 use Rattle.lines.specs.Words.{◌>>=◌, Word, count_written, words_of}
-use Rattle.mqbench.specs.declared.workload.LockKind.{LockKind}
-use Rattle.mqbench.specs.declared.workload.LockKind.TheVariants as lock
 use Rattle.mqbench.specs.declared.workload.Workload.{Workload}
 use Rattle.mqbench.specs.declared.workload.Workload.TheVariants as workload
 use Rattle.mqbench.specs.declared.workload.Request.{Request}
@@ -16,39 +14,31 @@ use Rattle.mqbench.specs.declared.workload.Name.TheVariants as name
 abbrev pub rounds_written : Word → Option ℕ
 rounds_written word = count_written 10000000 word
 
--- the lock that a word names
-abbrev pub lock_written : Word → Option LockKind
-lock_written word = if bytes_eq word (codes "word") then Some lock.Word else (if bytes_eq word (codes "fast") then Some lock.Fast else None)
-
 -- what the words behind each name write
 abbrev pub pair_written : List Word → Option Workload
-pair_written (lock ∷ rounds ∷ []) = do
-  lock ← lock_written lock
+pair_written (rounds ∷ []) = do
   rounds ← rounds_written rounds
-  Some (workload.Pair lock rounds)
+  Some (workload.Pair rounds)
 pair_written words = None
 
 -- at most ten million messages in all rounds
 abbrev pub deep_written : List Word → Option Workload
-deep_written (lock ∷ depth ∷ rounds ∷ []) = do
-  lock ← lock_written lock
+deep_written (depth ∷ rounds ∷ []) = do
   depth ← count_written 4096 depth
   rounds ← rounds_written rounds
-  if nat_le (depth * rounds) 10000000 then Some (workload.Deep lock depth rounds) else None
+  if nat_le (depth * rounds) 10000000 then Some (workload.Deep depth rounds) else None
 deep_written words = None
 
 abbrev pub ping_pong_written : List Word → Option Workload
-ping_pong_written (lock ∷ rounds ∷ []) = do
-  lock ← lock_written lock
+ping_pong_written (rounds ∷ []) = do
   rounds ← rounds_written rounds
-  Some (workload.PingPong lock rounds)
+  Some (workload.PingPong rounds)
 ping_pong_written words = None
 
 abbrev pub stream_written : List Word → Option Workload
-stream_written (lock ∷ rounds ∷ []) = do
-  lock ← lock_written lock
+stream_written (rounds ∷ []) = do
   rounds ← rounds_written rounds
-  Some (workload.Stream lock rounds)
+  Some (workload.Stream rounds)
 stream_written words = None
 
 abbrev pub check_written : List Word → Option Workload

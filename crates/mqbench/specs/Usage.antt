@@ -7,9 +7,9 @@ line text = text ++ 10 ∷ []
 abbrev pub usage_text : List ℕ
 usage_text =
     line (codes "usage: one line on the standard input, of a workload and its sizes")
-    ++ line (codes "  pair LOCK N      one process: a send and a receive in turn, N times each")
-    ++ line (codes "  deep LOCK D N    one process: fills a queue of depth D with D messages of pseudo-random priorities and drains it, N times")
-    ++ line (codes "  pingpong LOCK N  two processes in two threads: a message to and fro, N times")
-    ++ line (codes "  stream LOCK N    two processes in two threads: one sends N messages, one receives them")
-    ++ line (codes "  check K          checks a journal of K entries")
-    ++ line (codes "LOCK is word or fast, N and K from 1 to 10000000, D from 1 to 4096, D times N at most 10000000")
+    ++ line (codes "  pair N      one process: a send and a receive in turn, N times each")
+    ++ line (codes "  deep D N    one process: fills a queue of depth D with D messages of pseudo-random priorities and drains it, N times")
+    ++ line (codes "  pingpong N  two processes in two threads: a message to and fro, N times")
+    ++ line (codes "  stream N    two processes in two threads: one sends N messages, one receives them")
+    ++ line (codes "  check K     checks a journal of K entries")
+    ++ line (codes "N and K from 1 to 10000000, D from 1 to 4096, D times N at most 10000000")

@@ -4,7 +4,7 @@ ghost use Rattle.mqbench.specs.Ready.{IsReady};
 
 use crate::calls::{open, receive, send};
 use crate::fault::WorkFault;
-use fast_mutex::Lock;
+use fast_mutex::Look;
 use mq::{Guarded, Mq, Process};
 use mq_model::journals::Journal;
 use std::alloc::Global;
@@ -27,7 +27,7 @@ pub const DEPTH: u32 = 10;
 
 /// Does the task over a fresh system of one process. Gives the time that the task took, without the open before it, and the
 /// journal.
-pub fn alone<L: Lock<Guarded>, R: Wait + Clock>(
+pub fn alone<L: Look<Guarded>, R: Wait + Clock>(
     rt: &R,
     alloc: Global,
     task: Task,
@@ -51,7 +51,7 @@ pub fn alone<L: Lock<Guarded>, R: Wait + Clock>(
     Ok((time, journal))
 }
 
-fn carry_out<L: Lock<Guarded>, R: Wait>(
+fn carry_out<L: Look<Guarded>, R: Wait + Clock>(
     rt: &R,
     mq: &Mq<L>,
     process: &mut Process<L>,
@@ -68,7 +68,7 @@ fn carry_out<L: Lock<Guarded>, R: Wait>(
     }
 }
 
-fn pairs<L: Lock<Guarded>, R: Wait>(
+fn pairs<L: Look<Guarded>, R: Wait + Clock>(
     rt: &R,
     mq: &Mq<L>,
     process: &mut Process<L>,
@@ -85,7 +85,7 @@ fn pairs<L: Lock<Guarded>, R: Wait>(
     Ok(())
 }
 
-fn calls<L: Lock<Guarded>, R: Wait>(
+fn calls<L: Look<Guarded>, R: Wait + Clock>(
     rt: &R,
     mq: &Mq<L>,
     process: &mut Process<L>,
@@ -105,7 +105,7 @@ fn calls<L: Lock<Guarded>, R: Wait>(
     Ok(())
 }
 
-fn deep_rounds<L: Lock<Guarded>, R: Wait>(
+fn deep_rounds<L: Look<Guarded>, R: Wait + Clock>(
     rt: &R,
     mq: &Mq<L>,
     process: &mut Process<L>,
@@ -124,7 +124,7 @@ fn deep_rounds<L: Lock<Guarded>, R: Wait>(
 }
 
 // Sends messages of pseudo-random priorities.
-fn fill<L: Lock<Guarded>, R: Wait>(
+fn fill<L: Look<Guarded>, R: Wait + Clock>(
     rt: &R,
     mq: &Mq<L>,
     process: &mut Process<L>,
@@ -144,7 +144,7 @@ fn fill<L: Lock<Guarded>, R: Wait>(
     Ok(())
 }
 
-fn drain<L: Lock<Guarded>, R: Wait>(
+fn drain<L: Look<Guarded>, R: Wait + Clock>(
     rt: &R,
     mq: &Mq<L>,
     process: &mut Process<L>,

@@ -3,11 +3,12 @@ ghost use Rattle.std.specs.Prelude.{◌≡◌, OnOk};
 ghost use Rattle.mqbench.specs.Ready.{IsReady};
 
 use crate::fault::WorkFault;
-use fast_mutex::Lock;
+use fast_mutex::Look;
 use mq::{Guarded, Mq, Process};
 use mq_model::entries::{Access, Attr, OpenFlags};
 use mq_model::names::Name;
 use std::sync::Wait;
+use std::time::Clock;
 
 /// How many bytes each message has.
 pub const MESSAGE_SIZE: usize = 16;
@@ -15,7 +16,7 @@ pub const MESSAGE_SIZE: usize = 16;
 const MESSAGE: [u8; MESSAGE_SIZE] = *b"sixteen bytes ..";
 
 /// Opens a queue for sends and receives that may wait, which it creates with this depth where there is none.
-pub fn open<L: Lock<Guarded>, R: Wait>(
+pub fn open<L: Look<Guarded>, R: Wait>(
     rt: &R,
     mq: &Mq<L>,
     process: &mut Process<L>,
@@ -40,7 +41,7 @@ pub fn open<L: Lock<Guarded>, R: Wait>(
 }
 
 /// Sends a message of 16 bytes.
-pub fn send<L: Lock<Guarded>, R: Wait>(
+pub fn send<L: Look<Guarded>, R: Wait + Clock>(
     rt: &R,
     mq: &Mq<L>,
     process: &mut Process<L>,
@@ -54,7 +55,7 @@ pub fn send<L: Lock<Guarded>, R: Wait>(
 }
 
 /// Receives a message.
-pub fn receive<L: Lock<Guarded>, R: Wait>(
+pub fn receive<L: Look<Guarded>, R: Wait + Clock>(
     rt: &R,
     mq: &Mq<L>,
     process: &mut Process<L>,

@@ -1,5 +1,5 @@
 //! The line of a result.
-use crate::workload::{LockKind, Workload};
+use crate::workload::Workload;
 use mq_model::entries::Entry;
 use mq_model::journals::Journal;
 use std::alloc::{AllocError, Global};
@@ -58,43 +58,13 @@ fn per_operation(alloc: Global, total: u128, operations: u64) -> Result<String, 
     format!(in alloc; "{whole}.{tenth}")
 }
 
-/// What stands in front of a result: the workload, and its lock where it has one.
+/// What stands in front of a result.
 pub fn title_of(workload: Workload) -> &'static str {
     match workload {
-        Workload::Pair {
-            lock: LockKind::Word,
-            rounds: _,
-        } => "pair word",
-        Workload::Pair {
-            lock: LockKind::Fast,
-            rounds: _,
-        } => "pair fast",
-        Workload::Deep {
-            lock: LockKind::Word,
-            depth: _,
-            rounds: _,
-        } => "deep word",
-        Workload::Deep {
-            lock: LockKind::Fast,
-            depth: _,
-            rounds: _,
-        } => "deep fast",
-        Workload::PingPong {
-            lock: LockKind::Word,
-            rounds: _,
-        } => "pingpong word",
-        Workload::PingPong {
-            lock: LockKind::Fast,
-            rounds: _,
-        } => "pingpong fast",
-        Workload::Stream {
-            lock: LockKind::Word,
-            rounds: _,
-        } => "stream word",
-        Workload::Stream {
-            lock: LockKind::Fast,
-            rounds: _,
-        } => "stream fast",
-        Workload::Check { entries: _ } => "check",
+        Workload::Pair { .. } => "pair",
+        Workload::Deep { .. } => "deep",
+        Workload::PingPong { .. } => "pingpong",
+        Workload::Stream { .. } => "stream",
+        Workload::Check { .. } => "check",
     }
 }

@@ -12,19 +12,21 @@ use crate::alone::{Task, alone};
 use crate::fault::{BenchFault, WorkFault};
 use crate::report::{Measured, line_of, result_of, title_of};
 use crate::together::{Role, together};
-use crate::workload::{LockKind, Request, Workload, request_of};
-use fast_mutex::{FastMutex, Lock, WordLock};
+use crate::workload::{Request, Workload, request_of};
+use fast_mutex::FastMutex;
 use lines::input::read_all;
 use lines::output::write_all;
 use lines::words::words;
 use mq::Guarded;
 use mq_checker::checker::check_history;
-use mq_model::journals::Journal;
 use std::alloc::Global;
 use std::io::{Read, Write};
 use std::sync::Wait;
 use std::thread::Threads;
-use std::time::{Clock, Duration, Instant};
+use std::time::{Clock, Instant};
+
+// The lock round the queues.
+type Lamport = FastMutex<Guarded>;
 
 /// The most bytes of an input.
 pub const MOST_BYTES: usize = 256;
@@ -32,12 +34,12 @@ pub const MOST_BYTES: usize = 256;
 /// What the program prints where the input is empty.
 const USAGE: &[u8] = b"\
 usage: one line on the standard input, of a workload and its sizes
-  pair LOCK N      one process: a send and a receive in turn, N times each
-  deep LOCK D N    one process: fills a queue of depth D with D messages of pseudo-random priorities and drains it, N times
-  pingpong LOCK N  two processes in two threads: a message to and fro, N times
-  stream LOCK N    two processes in two threads: one sends N messages, one receives them
-  check K          checks a journal of K entries
-LOCK is word or fast, N and K from 1 to 10000000, D from 1 to 4096, D times N at most 10000000
+  pair N      one process: a send and a receive in turn, N times each
+  deep D N    one process: fills a queue of depth D with D messages of pseudo-random priorities and drains it, N times
+  pingpong N  two processes in two threads: a message to and fro, N times
+  stream N    two processes in two threads: one sends N messages, one receives them
+  check K     checks a journal of K entries
+N and K from 1 to 10000000, D from 1 to 4096, D times N at most 10000000
 ";
 
 /// Reads the line of an input, measures the workload that it names, and writes a line with the result, or the usage where the
@@ -106,76 +108,37 @@ fn measure<S: Wait + Threads + Clock + Sync>(
     workload: Workload,
 ) -> Result<Measured, WorkFault> {
     match workload {
-        Workload::Pair { lock, rounds } => {
-            let (time, journal) = by_lock_alone(rt, alloc, lock, Task::Pair { rounds })?;
+        Workload::Pair { rounds } => {
+            let (time, journal) = alone::<Lamport, S>(rt, alloc, Task::Pair { rounds })?;
             Ok(result_of(2 * u64::from(rounds), time, &journal))
         }
-        Workload::Deep {
-            lock,
-            depth,
-            rounds,
-        } => {
-            let (time, journal) = by_lock_alone(rt, alloc, lock, Task::Deep { depth, rounds })?;
+        Workload::Deep { depth, rounds } => {
+            let (time, journal) = alone::<Lamport, S>(rt, alloc, Task::Deep { depth, rounds })?;
             Ok(result_of(
                 u64::from(rounds).saturating_mul(2 * u64::from(depth)),
                 time,
                 &journal,
             ))
         }
-        Workload::PingPong { lock, rounds } => {
-            let (time, journal) = by_lock_together(
-                rt,
-                alloc,
-                lock,
-                (Role::Ping, Role::Pong),
-                rounds,
-            )?;
+        Workload::PingPong { rounds } => {
+            let roles = (Role::Ping, Role::Pong);
+            let (time, journal) = together::<Lamport, S>(rt, alloc, roles, rounds)?;
             Ok(result_of(4 * u64::from(rounds), time, &journal))
         }
-        Workload::Stream { lock, rounds } => {
-            let (time, journal) = by_lock_together(
-                rt,
-                alloc,
-                lock,
-                (Role::Receiver, Role::Sender),
-                rounds,
-            )?;
+        Workload::Stream { rounds } => {
+            let roles = (Role::Receiver, Role::Sender);
+            let (time, journal) = together::<Lamport, S>(rt, alloc, roles, rounds)?;
             Ok(result_of(2 * u64::from(rounds), time, &journal))
         }
         Workload::Check { entries } => {
             let task = Task::Calls {
                 count: entries.saturating_sub(1),
             };
-            let (_, journal) = alone::<WordLock<Guarded>, S>(rt, alloc, task)?;
+            let (_, journal) = alone::<Lamport, S>(rt, alloc, task)?;
             let start = Instant::now(rt)?;
             let _ = check_history(&journal);
             let time = start.elapsed(rt)?;
             Ok(result_of(u64::from(entries), time, &journal))
         }
-    }
-}
-
-fn by_lock_alone<S: Wait + Clock>(
-    rt: &S,
-    alloc: Global,
-    lock: LockKind,
-    task: Task,
-) -> Result<(Duration, Journal), WorkFault> {
-    match lock {
-        LockKind::Word => alone::<WordLock<Guarded>, S>(rt, alloc, task),
-        LockKind::Fast => alone::<FastMutex<Guarded>, S>(rt, alloc, task),
-    }
-}
-
-fn by_lock_together<S: Wait + Threads + Clock + Sync>(
-    rt: &S,
-    alloc: Global,
-    lock: LockKind,
-    roles: (Role, Role),
-    rounds: u32,
-) -> Result<(Duration, Journal), WorkFault> {
-    match lock {
-        LockKind::Word => together::<WordLock<Guarded>, S>(rt, alloc, roles, rounds),
-        LockKind::Fast => together::<FastMutex<Guarded>, S>(rt, alloc, roles, rounds),
     }
 }

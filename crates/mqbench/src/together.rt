@@ -6,7 +6,7 @@ use crate::alone::DEPTH;
 use crate::calls::{MESSAGE_SIZE, open};
 use crate::fault::WorkFault;
 use crossbeam_utils::Backoff;
-use fast_mutex::Lock;
+use fast_mutex::Look;
 use mq::{Guarded, Mq, Process};
 use mq_model::journals::Journal;
 use std::alloc::Global;
@@ -47,13 +47,13 @@ pub struct Played<P> {
 }
 
 #[derive(Drop)]
-pub struct GivesBack<L: Lock<Guarded>>(Snapshot<Process<L>>);
+pub struct GivesBack<L: Look<Guarded>>(Snapshot<Process<L>>);
 
-impl<L: Lock<Guarded>> Promise<Played<Process<L>>> for GivesBack<L> {
+impl<L: Look<Guarded>> Promise<Played<Process<L>>> for GivesBack<L> {
     ghost kept_by = { λ p r. r.process.lock ≡ p.0.value.lock };
 }
 
-fn await_answer<L: Lock<Guarded>, R: Wait>(
+fn await_answer<L: Look<Guarded>, R: Wait>(
     rt: &R,
     mq: &Mq<L>,
     process: &mut Process<L>,
@@ -77,7 +77,7 @@ fn await_answer<L: Lock<Guarded>, R: Wait>(
     unreachable!()
 }
 
-fn send<L: Lock<Guarded>, R: Wait>(
+fn send<L: Look<Guarded>, R: Wait>(
     rt: &R,
     mq: &Mq<L>,
     process: &mut Process<L>,
@@ -94,7 +94,7 @@ fn send<L: Lock<Guarded>, R: Wait>(
     await_answer(rt, mq, process, &mut [], signals)
 }
 
-fn receive<L: Lock<Guarded>, R: Wait>(
+fn receive<L: Look<Guarded>, R: Wait>(
     rt: &R,
     mq: &Mq<L>,
     process: &mut Process<L>,
@@ -112,7 +112,7 @@ fn receive<L: Lock<Guarded>, R: Wait>(
     }
 }
 
-fn round<L: Lock<Guarded>, R: Wait>(
+fn round<L: Look<Guarded>, R: Wait>(
     rt: &R,
     mq: &Mq<L>,
     process: &mut Process<L>,
@@ -137,7 +137,7 @@ fn round<L: Lock<Guarded>, R: Wait>(
     }
 }
 
-fn all_rounds<L: Lock<Guarded>, R: Wait>(
+fn all_rounds<L: Look<Guarded>, R: Wait>(
     rt: &R,
     mq: &Mq<L>,
     process: &mut Process<L>,
@@ -155,7 +155,7 @@ fn all_rounds<L: Lock<Guarded>, R: Wait>(
     Ok(())
 }
 
-fn play<L: Lock<Guarded>, R: Wait>(
+fn play<L: Look<Guarded>, R: Wait>(
     rt: &R,
     mq: &Mq<L>,
     mut process: Process<L>,
@@ -186,7 +186,7 @@ fn await_ready<R: Wait>(rt: &R, signals: &Signals) {
 
 /// Plays both parts over a fresh system of two processes, the second in a thread of its own. Gives the time that the first
 /// part took, from when the thread had started, and the journal.
-pub fn together<L: Lock<Guarded> + Sync, R: Wait + Threads + Clock + Sync>(
+pub fn together<L: Look<Guarded> + Sync, R: Wait + Threads + Clock + Sync>(
     rt: &R,
     alloc: Global,
     roles: (Role, Role),
@@ -194,6 +194,7 @@ pub fn together<L: Lock<Guarded> + Sync, R: Wait + Threads + Clock + Sync>(
 ) -> Result<(Duration, Journal), WorkFault>
 where
     L::Seat: Send,
+    L::Walk: Send,
 {
     let (system, mut processes) = Mq::<L>::new(alloc, 2)?;
     let (Some(mut two), Some(mut one)) = (processes.pop(), processes.pop()) else {
@@ -227,7 +228,7 @@ pub struct Ends<P> {
     two: Played<P>,
 }
 
-fn in_threads<L: Lock<Guarded> + Sync, R: Wait + Threads + Clock + Sync>(
+fn in_threads<L: Look<Guarded> + Sync, R: Wait + Threads + Clock + Sync>(
     rt: &R,
     mq: &Mq<L>,
     one: Process<L>,
@@ -238,6 +239,7 @@ fn in_threads<L: Lock<Guarded> + Sync, R: Wait + Threads + Clock + Sync>(
 ) -> Result<Ends<Process<L>>, WorkFault>
 where
     L::Seat: Send,
+    L::Walk: Send,
     requires ready { IsReady mq.now one × IsReady mq.now two }
     ensures back { IfOk result (AreBack mq.now mq.now) }
 {

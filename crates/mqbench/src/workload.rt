@@ -1,47 +1,23 @@
 //! What a run is asked for, and the words that write it.
 ghost use Rattle.std.specs.Prelude.{◌≡◌, ◌≤◌, ◌*◌, map, IfSome};
 ghost use Rattle.lines.specs.Words.{count_written};
-ghost use Rattle.mqbench.specs.Grammar.{request_written, workload_written, lock_written, pair_written, deep_written, ping_pong_written, stream_written, check_written, name_written};
+ghost use Rattle.mqbench.specs.Grammar.{request_written, workload_written, pair_written, deep_written, ping_pong_written, stream_written, check_written, name_written};
 
 use lines::words::count_of;
-
-/// Which lock stands round the queues.
-#[derive(Clone, Copy, Debug, PartialEq, Eq)]
-pub enum LockKind {
-    /// The lock of one word.
-    Word,
-    /// Lamport's lock.
-    Fast,
-}
 
 /// What is measured, with its sizes.
 #[derive(Clone, Copy, Debug, PartialEq, Eq)]
 pub enum Workload {
     /// One process sends and receives in turn.
-    Pair {
-        lock: LockKind,
-        rounds: u32,
-    },
+    Pair { rounds: u32 },
     /// One process fills a queue to its depth and drains it.
-    Deep {
-        lock: LockKind,
-        depth: u32,
-        rounds: u32,
-    },
+    Deep { depth: u32, rounds: u32 },
     /// Two processes in two threads send a message to and fro.
-    PingPong {
-        lock: LockKind,
-        rounds: u32,
-    },
+    PingPong { rounds: u32 },
     /// A process sends, and another one receives in a thread of its own.
-    Stream {
-        lock: LockKind,
-        rounds: u32,
-    },
+    Stream { rounds: u32 },
     /// A journal of so many entries is checked.
-    Check {
-        entries: u32,
-    },
+    Check { entries: u32 },
 }
 
 /// What a line asks for.
@@ -125,8 +101,7 @@ fn pair_of(arguments: &[&[u8]]) -> Option<Workload>
     ensures { result ≡ pair_written (map (λ word. word.now) arguments.now) }
 {
     match arguments {
-        [lock, rounds] => Some(Workload::Pair {
-            lock: lock_of(lock)?,
+        [rounds] => Some(Workload::Pair {
             rounds: count_of(MOST_ROUNDS, rounds)?,
         }),
         _ => None,
@@ -137,18 +112,13 @@ fn deep_of(arguments: &[&[u8]]) -> Option<Workload>
     ensures { result ≡ deep_written (map (λ word. word.now) arguments.now) }
 {
     match arguments {
-        [lock, depth, rounds] => {
-            let lock = lock_of(lock)?;
+        [depth, rounds] => {
             let depth = count_of(MOST_DEPTH, depth)?;
             let rounds = count_of(MOST_ROUNDS, rounds)?;
             if u64::from(depth) * u64::from(rounds) > u64::from(MOST_ROUNDS) {
                 return None;
             }
-            Some(Workload::Deep {
-                lock,
-                depth,
-                rounds,
-            })
+            Some(Workload::Deep { depth, rounds })
         }
         _ => None,
     }
@@ -158,8 +128,7 @@ fn ping_pong_of(arguments: &[&[u8]]) -> Option<Workload>
     ensures { result ≡ ping_pong_written (map (λ word. word.now) arguments.now) }
 {
     match arguments {
-        [lock, rounds] => Some(Workload::PingPong {
-            lock: lock_of(lock)?,
+        [rounds] => Some(Workload::PingPong {
             rounds: count_of(MOST_ROUNDS, rounds)?,
         }),
         _ => None,
@@ -170,8 +139,7 @@ fn stream_of(arguments: &[&[u8]]) -> Option<Workload>
     ensures { result ≡ stream_written (map (λ word. word.now) arguments.now) }
 {
     match arguments {
-        [lock, rounds] => Some(Workload::Stream {
-            lock: lock_of(lock)?,
+        [rounds] => Some(Workload::Stream {
             rounds: count_of(MOST_ROUNDS, rounds)?,
         }),
         _ => None,
@@ -187,16 +155,4 @@ fn check_of(arguments: &[&[u8]]) -> Option<Workload>
         }),
         _ => None,
     }
-}
-
-fn lock_of(word: &[u8]) -> Option<LockKind>
-    ensures { result ≡ lock_written word.now }
-{
-    if word == b"word".as_slice() {
-        return Some(LockKind::Word);
-    }
-    if word == b"fast".as_slice() {
-        return Some(LockKind::Fast);
-    }
-    None
 }
