@@ -1,11 +1,11 @@
-use Rattle.std.proofs.Common.{arith, ◌≡◌, length}
+use Rattle.std.proofs.Common.{arith, ◌≡◌, length, refl}
 use Rattle.std.proofs.lemmas.Grind.{common_steps}
 use Rattle.mq_runner.proofs.Working.{nothing-ran}
 use Rattle.mq_runner.proofs.phase.idle.Goals as goal
 
 pub returns : goal.returns
 returns g c = let share = c.args.share in let few : length share.turns.items ≡ 0 = grind (arith, common_steps) in record {
-  same = search;
+  same = record { lock = refl; number = refl };
   free = c.requires.free;
   calls = nothing-ran share.turns.items share.answers.items share.process few share.none;
 }
