@@ -13,7 +13,12 @@ use std::time::Clock;
 const SHARE: u32 = 50;
 
 // Sends the jobs, each with its number for a message; every fifth is urgent.
-fn produce<R: Wait + Clock>(rt: &R, mq: &FastMq, mut process: FastProcess, jobs: u32) -> Result<(), Fault>
+fn produce<R: Wait + Clock>(
+    rt: &R,
+    mq: &FastMq,
+    mut process: FastProcess,
+    jobs: u32,
+) -> Result<(), Fault>
     requires made { process.lock ≡ mq.now }
     requires free { IsFree process }
 {
@@ -32,10 +37,12 @@ fn consume<R: Wait + Clock>(rt: &R, mq: &FastMq, mut process: FastProcess) -> Re
     let name = Name::read(b"/jobs")?;
     let jobs = process.open(rt, mq, &name, OpenFlags::read_only(), None)?;
     let mut buf = [0; 4];
-    let mut urgent = 0;
+    let mut urgent = 0u32;
     'jobs: for _ in 0..SHARE {
         let received = process.receive(rt, mq, jobs, &mut buf)?;
-        urgent += u32::from(received.prio > 0);
+        if received.prio > 0 {
+            urgent = urgent.saturating_add(1);
+        }
     }
     Ok(urgent)
 }
