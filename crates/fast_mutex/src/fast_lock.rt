@@ -50,7 +50,10 @@ impl<S: Logged + Drop> Lock<S> for FastMutex<S> {
     fn step(&self, walk: Walk<S>) -> (Walk<S>, bool) {
         let before = FastMutex::at(&walk);
         let walk = FastMutex::step(self, walk);
-        let has_moved = FastMutex::at(&walk) != before;
+        let has_moved = match before {
+            At::AwaitY | At::Scan(_) | At::SlowAwait => FastMutex::at(&walk) != before,
+            _ => true,
+        };
         (walk, has_moved)
     }
 
