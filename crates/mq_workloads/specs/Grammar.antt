@@ -1,5 +1,5 @@
 -- What the line of an input asks for.
-use Rattle.std.specs.Prelude.{ℕ, Bool, not, ◌&&◌, ◌==◌, ◌*◌, nat_lt, nat_le, List, [], ◌∷◌, length, take, slice_index, ◌-◌, find, Option, None, Some, if◌then◌else◌, codes}
+use Rattle.std.specs.Prelude.{ℕ, Bool, not, ◌&&◌, ◌==◌, ◌*◌, ◌%◌, nat_lt, nat_le, List, [], ◌∷◌, length, take, slice_index, ◌-◌, find, Option, None, Some, if◌then◌else◌, codes}
 use Rattle.std.specs.List.{list_any}
 use Rattle.std.specs.Str.{bytes_eq}
 use Rattle.lines.specs.Words.{◌>>=◌, Word, count_written, words_of}
@@ -47,6 +47,22 @@ check_written (entries ∷ []) = do
   Some (workload.Check entries)
 check_written words = None
 
+-- an even number of processes, up to 32, and at most ten million messages sent and received
+abbrev pub crowd_written : List Word → Option Workload
+crowd_written (processes ∷ rounds ∷ []) = do
+  processes ← count_written 32 processes
+  rounds ← rounds_written rounds
+  if (processes % 2 == 0) && nat_le (processes * rounds) 10000000 then Some (workload.Crowd processes rounds) else None
+crowd_written words = None
+
+-- from 2 to 32 processes, and at most a minute
+abbrev pub idle_written : List Word → Option Workload
+idle_written (processes ∷ milliseconds ∷ []) = do
+  processes ← count_written 32 processes
+  milliseconds ← count_written 60000 milliseconds
+  if nat_le 2 processes then Some (workload.Idle processes milliseconds) else None
+idle_written words = None
+
 -- the word of each workload
 abbrev pub name_text : Name → List ℕ
 name_text name.Pair = codes "pair"
@@ -54,9 +70,11 @@ name_text name.Deep = codes "deep"
 name_text name.PingPong = codes "pingpong"
 name_text name.Stream = codes "stream"
 name_text name.Check = codes "check"
+name_text name.Crowd = codes "crowd"
+name_text name.Idle = codes "idle"
 
 abbrev pub names : List Name
-names = name.Pair ∷ name.Deep ∷ name.PingPong ∷ name.Stream ∷ name.Check ∷ []
+names = name.Pair ∷ name.Deep ∷ name.PingPong ∷ name.Stream ∷ name.Check ∷ name.Crowd ∷ name.Idle ∷ []
 
 -- the workload that a word names
 abbrev pub name_written : Word → Option Name
@@ -69,6 +87,8 @@ workload_written name.Deep = deep_written
 workload_written name.PingPong = ping_pong_written
 workload_written name.Stream = stream_written
 workload_written name.Check = check_written
+workload_written name.Crowd = crowd_written
+workload_written name.Idle = idle_written
 
 -- what the words of a line ask for
 abbrev pub request_written : List Word → Option Request

@@ -3,6 +3,7 @@ ghost use Rattle.std.specs.Prelude.{◌≡◌, OnOk};
 ghost use Rattle.mq_workloads.specs.Ready.{IsReady};
 
 use crate::fault::WorkFault;
+use crossbeam_utils::Backoff;
 use fast_mutex::Look;
 use mq::{Guarded, Mq, Process};
 use mq_model::entries::{Access, Attr, OpenFlags};
@@ -67,4 +68,44 @@ pub fn receive<L: Look<Guarded>, R: Wait + Clock>(
     let mut buffer = [0; MESSAGE_SIZE];
     process.receive(rt, mq, d, &mut buffer)?;
     Ok(())
+}
+
+/// Sends a message of 16 bytes, and tries again while memory is refused, so that no receiver waits for it for ever.
+pub fn send_surely<L: Look<Guarded>, R: Wait + Clock>(
+    rt: &R,
+    mq: &Mq<L>,
+    process: &mut Process<L>,
+    d: u32,
+) -> Result<(), WorkFault>
+    requires ready { IsReady mq.now process.old }
+    ensures ready { IsReady mq.now process.new }
+{
+    let backoff = Backoff::new();
+    for _ in rt.forever() {
+        match send(rt, mq, process, d, 0) {
+            Err(WorkFault::NoMemory) => backoff.snooze(),
+            outcome => return outcome,
+        }
+    }
+    unreachable!()
+}
+
+/// Receives a message, and tries again while memory is refused, so that no sender waits for room for ever.
+pub fn receive_surely<L: Look<Guarded>, R: Wait + Clock>(
+    rt: &R,
+    mq: &Mq<L>,
+    process: &mut Process<L>,
+    d: u32,
+) -> Result<(), WorkFault>
+    requires ready { IsReady mq.now process.old }
+    ensures ready { IsReady mq.now process.new }
+{
+    let backoff = Backoff::new();
+    for _ in rt.forever() {
+        match receive(rt, mq, process, d) {
+            Err(WorkFault::NoMemory) => backoff.snooze(),
+            outcome => return outcome,
+        }
+    }
+    unreachable!()
 }

@@ -3,7 +3,11 @@
 
 mod alone;
 mod calls;
+mod crowd;
 mod fault;
+mod gate;
+mod idle;
+mod members;
 mod report;
 mod run;
 mod together;

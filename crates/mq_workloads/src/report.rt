@@ -10,20 +10,34 @@ use std::time::Duration;
 pub struct Measured {
     pub operations: u64,
     pub nanoseconds: u128,
-    pub entries: u64,
-    pub payload: u64,
+    pub besides: Besides,
+}
+
+/// What was measured besides the time.
+#[derive(Clone, Copy, Debug, PartialEq, Eq)]
+pub enum Besides {
+    Nothing,
+    /// The entries of the journal, and the bytes of their payloads.
+    Journal { entries: u64, payload: u64 },
+    /// The processor time of the whole program.
+    Processor { nanoseconds: u128 },
 }
 
 /// The bytes that the journal keeps of an entry: the call with its reply, and where its payload begins and ends.
 const ENTRY_SIZE: u128 = (size_of::<Entry>() + 2 * size_of::<usize>()) as u128;
+
+// How many nanoseconds a millisecond has.
+const MILLISECOND: u128 = 1_000_000;
 
 /// What a run of so many operations took.
 pub fn result_of(operations: u64, time: Duration, journal: &Journal) -> Measured {
     Measured {
         operations,
         nanoseconds: time.as_nanos(),
-        entries: journal.len(),
-        payload: payload_bytes(journal),
+        besides: Besides::Journal {
+            entries: journal.len(),
+            payload: payload_bytes(journal),
+        },
     }
 }
 
@@ -43,12 +57,25 @@ fn payload_bytes(journal: &Journal) -> u64 {
 pub fn line_of(alloc: Global, title: &str, m: Measured) -> Result<String, AllocError> {
     let operations = m.operations;
     let time = per_operation(alloc, m.nanoseconds, operations)?;
-    let (entries, payload) = (m.entries, m.payload);
-    let bytes = (u128::from(entries) * ENTRY_SIZE).saturating_add(u128::from(payload));
-    let bytes = per_operation(alloc, bytes, operations)?;
-    format!(in alloc;
-        "{title}: {operations} operations, {time} ns each; {entries} entries, {payload} payload bytes, {bytes} bytes each\n"
-    )
+    let besides = besides_of(alloc, m)?;
+    format!(in alloc; "{title}: {operations} operations, {time} ns each{besides}\n")
+}
+
+// The rest of the line.
+fn besides_of(alloc: Global, m: Measured) -> Result<String, AllocError> {
+    match m.besides {
+        Besides::Nothing => Ok(String::new(alloc)),
+        Besides::Journal { entries, payload } => {
+            let bytes = (u128::from(entries) * ENTRY_SIZE).saturating_add(u128::from(payload));
+            let bytes = per_operation(alloc, bytes, m.operations)?;
+            format!(in alloc; "; {entries} entries, {payload} payload bytes, {bytes} bytes each")
+        }
+        Besides::Processor { nanoseconds } => {
+            let processor = nanoseconds / MILLISECOND;
+            let time = m.nanoseconds / MILLISECOND;
+            format!(in alloc; "; {processor} ms of processor time in {time} ms")
+        }
+    }
 }
 
 // A total by the operation, with one decimal.
@@ -69,5 +96,7 @@ pub fn title_of(workload: Workload) -> &'static str {
         Workload::PingPong { rounds: _ } => "pingpong",
         Workload::Stream { rounds: _ } => "stream",
         Workload::Check { entries: _ } => "check",
+        Workload::Crowd { .. } => "crowd",
+        Workload::Idle { .. } => "idle",
     }
 }

@@ -9,8 +9,10 @@ ghost use Rattle.mq_workloads.specs.declared.workload.Request.TheVariants.{Usage
 ghost use Rattle.mq_workloads.specs.declared.workload.Workload.{Workload};
 
 use crate::alone::{Task, alone};
+use crate::crowd::crowd;
 use crate::fault::{BenchFault, WorkFault};
-use crate::report::{Measured, line_of, result_of, title_of};
+use crate::idle::idle;
+use crate::report::{Besides, Measured, line_of, result_of, title_of};
 use crate::together::{Role, together};
 use crate::workload::{Request, Workload, request_of};
 use fast_mutex::FastMutex;
@@ -23,7 +25,7 @@ use std::alloc::Global;
 use std::io::{Read, Write};
 use std::sync::Wait;
 use std::thread::Threads;
-use std::time::{Clock, Instant};
+use std::time::{Clock, CpuClock, Duration, Instant};
 
 // The lock of the benchmark.
 type Lamport = FastMutex<Guarded>;
@@ -39,13 +41,16 @@ usage: one line on the standard input, of a workload and its sizes
   pingpong N  two processes in two threads: a message to and fro, N times
   stream N    two processes in two threads: one sends N messages, one receives them
   check K     checks a journal of K entries
+  crowd P N   P processes in P threads on one queue: half of them send N messages each, half receive N each
+  idle P T    P processes in P threads: one works alone for T milliseconds, on a queue of its own, while the others are blocked in a receive
 N and K from 1 to 10000000, D from 1 to 4096, D times N at most 10000000
+P from 2 to 32, even for a crowd, P times N at most 10000000 there, T from 1 to 60000
 ";
 
 /// Reads the line of an input, measures the workload that it names, and writes a line with the result, or the usage where the
 /// input is empty. `BenchFault::BadLine`: the line names no workload. `BenchFault::Input`, `BenchFault::Output`: a read or a
 /// write failed. Any other fault: the workload could not be carried out.
-pub fn run_line<S: Wait + Threads + Clock + Sync, R: Read, W: Write>(
+pub fn run_line<S: Wait + Threads + Clock + CpuClock + Sync, R: Read, W: Write>(
     rt: &S,
     alloc: Global,
     input: &mut R,
@@ -103,7 +108,7 @@ fn without_feed(text: &[u8]) -> &[u8]
 }
 
 // Carries out a workload over Lamport's lock, a process in a thread of its own where there are two.
-fn measure<S: Wait + Threads + Clock + Sync>(
+fn measure<S: Wait + Threads + Clock + CpuClock + Sync>(
     rt: &S,
     alloc: Global,
     workload: Workload,
@@ -140,6 +145,28 @@ fn measure<S: Wait + Threads + Clock + Sync>(
             let _ = check_history(&journal);
             let time = start.elapsed(rt)?;
             Ok(result_of(u64::from(entries), time, &journal))
+        }
+        Workload::Crowd { processes, rounds } => {
+            let time = crowd::<Lamport, S>(rt, alloc, processes, rounds)?;
+            Ok(Measured {
+                operations: u64::from(processes) * u64::from(rounds),
+                nanoseconds: time.as_nanos(),
+                besides: Besides::Nothing,
+            })
+        }
+        Workload::Idle {
+            processes,
+            milliseconds,
+        } => {
+            let time = Duration::from_millis(u64::from(milliseconds));
+            let worked = idle::<Lamport, S>(rt, alloc, processes, time)?;
+            Ok(Measured {
+                operations: worked.operations,
+                nanoseconds: worked.time.as_nanos(),
+                besides: Besides::Processor {
+                    nanoseconds: worked.processor.as_nanos(),
+                },
+            })
         }
     }
 }

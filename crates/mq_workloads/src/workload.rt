@@ -1,7 +1,7 @@
 //! What a run is asked for, and the words that write it.
 ghost use Rattle.std.specs.Prelude.{◌≡◌, ◌≤◌, ◌*◌, map, IfSome};
 ghost use Rattle.lines.specs.Words.{count_written};
-ghost use Rattle.mq_workloads.specs.Grammar.{request_written, workload_written, pair_written, deep_written, ping_pong_written, stream_written, check_written, name_written};
+ghost use Rattle.mq_workloads.specs.Grammar.{request_written, workload_written, pair_written, deep_written, ping_pong_written, stream_written, check_written, crowd_written, idle_written, name_written};
 
 use lines::words::count_of;
 
@@ -18,6 +18,10 @@ pub enum Workload {
     Stream { rounds: u32 },
     /// A journal of so many entries is checked.
     Check { entries: u32 },
+    /// Half of the processes send so many messages each, and half receive them, each process in a thread of its own.
+    Crowd { processes: u32, rounds: u32 },
+    /// One process works alone for so many milliseconds, while the others are blocked.
+    Idle { processes: u32, milliseconds: u32 },
 }
 
 /// What a line asks for.
@@ -35,6 +39,8 @@ pub enum Name {
     PingPong,
     Stream,
     Check,
+    Crowd,
+    Idle,
 }
 
 /// The most rounds of a workload, and the most messages of all rounds.
@@ -42,12 +48,19 @@ const MOST_ROUNDS: u32 = 10_000_000;
 /// The most messages in a queue.
 const MOST_DEPTH: u32 = 4096;
 
-const NAMES: [Name; 5] = [
+/// The most processes, the most that a system has.
+const MOST_PROCESSES: u32 = 32;
+/// The longest time of a workload, in milliseconds.
+const MOST_MILLISECONDS: u32 = 60_000;
+
+const NAMES: [Name; 7] = [
     Name::Pair,
     Name::Deep,
     Name::PingPong,
     Name::Stream,
     Name::Check,
+    Name::Crowd,
+    Name::Idle,
 ];
 
 impl Name {
@@ -63,6 +76,8 @@ impl Name {
             Name::PingPong => b"pingpong",
             Name::Stream => b"stream",
             Name::Check => b"check",
+            Name::Crowd => b"crowd",
+            Name::Idle => b"idle",
         }
     }
 }
@@ -94,6 +109,8 @@ fn workload_of(name: Name, arguments: &[&[u8]]) -> Option<Workload>
         Name::PingPong => ping_pong_of(arguments),
         Name::Stream => stream_of(arguments),
         Name::Check => check_of(arguments),
+        Name::Crowd => crowd_of(arguments),
+        Name::Idle => idle_of(arguments),
     }
 }
 
@@ -153,6 +170,44 @@ fn check_of(arguments: &[&[u8]]) -> Option<Workload>
         [entries] => Some(Workload::Check {
             entries: count_of(MOST_ROUNDS, entries)?,
         }),
+        _ => None,
+    }
+}
+
+fn crowd_of(arguments: &[&[u8]]) -> Option<Workload>
+    ensures { result ≡ crowd_written (map (λ word. word.now) arguments.now) }
+{
+    match arguments {
+        [processes, rounds] => {
+            let processes = count_of(MOST_PROCESSES, processes)?;
+            let rounds = count_of(MOST_ROUNDS, rounds)?;
+            if processes % 2 != 0 {
+                return None;
+            }
+            if u64::from(processes) * u64::from(rounds) > u64::from(MOST_ROUNDS) {
+                return None;
+            }
+            Some(Workload::Crowd { processes, rounds })
+        }
+        _ => None,
+    }
+}
+
+fn idle_of(arguments: &[&[u8]]) -> Option<Workload>
+    ensures { result ≡ idle_written (map (λ word. word.now) arguments.now) }
+{
+    match arguments {
+        [processes, milliseconds] => {
+            let processes = count_of(MOST_PROCESSES, processes)?;
+            let milliseconds = count_of(MOST_MILLISECONDS, milliseconds)?;
+            if processes < 2 {
+                return None;
+            }
+            Some(Workload::Idle {
+                processes,
+                milliseconds,
+            })
+        }
         _ => None,
     }
 }

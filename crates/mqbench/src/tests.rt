@@ -3,9 +3,9 @@ use mq_workloads::{BenchFault, run_line};
 use std::alloc::Global;
 use std::sync::Wait;
 use std::thread::Threads;
-use std::time::Clock;
+use std::time::{Clock, CpuClock};
 
-fn output_of<S: Wait + Threads + Clock + Sync>(
+fn output_of<S: Wait + Threads + Clock + CpuClock + Sync>(
     rt: &S,
     alloc: Global,
     line: &str,
@@ -17,13 +17,15 @@ fn output_of<S: Wait + Threads + Clock + Sync>(
 }
 
 // Lines, and how their results begin.
-const RESULTS: [(&str, &str); 6] = [
+const RESULTS: [(&str, &str); 8] = [
     ("pair 3\n", "pair: 6 operations, "),
     (" deep  4 2 \n", "deep: 16 operations, "),
     ("deep 1 002", "deep: 4 operations, "),
     ("pingpong 20\n", "pingpong: 80 operations, "),
     ("stream 50\n", "stream: 100 operations, "),
     ("check 5\n", "check: 5 operations, "),
+    ("crowd 2 30\n", "crowd: 60 operations, "),
+    ("crowd 8 20\n", "crowd: 160 operations, "),
 ];
 
 #[test]
@@ -34,7 +36,18 @@ fn each_workload_prints_its_result(rt: HostRuntime) {
     }
 }
 
-const REFUSED: [&str; 17] = [
+#[test]
+fn an_idle_run_prints_its_processor_time(rt: HostRuntime) {
+    for line in ["idle 2 1\n", "idle 5 20\n"] {
+        let output = output_of(&rt, rt.alloc(), line).expect(&rt, "a result");
+        let text = output.as_slice();
+        assert!(rt; text.starts_with(b"idle: "), "{line}");
+        assert!(rt; !text.starts_with(b"idle: 0 operations"), "{line}");
+        assert!(rt; text.ends_with(b" ms\n"), "{line}");
+    }
+}
+
+const REFUSED: [&str; 29] = [
     "word\n",
     "Pair 1\n",
     "pair\n",
@@ -48,6 +61,18 @@ const REFUSED: [&str; 17] = [
     "pingpong 1 1\n",
     "stream -1\n",
     "check 18446744073709551617\n",
+    "crowd 4\n",
+    "crowd 1 1\n",
+    "crowd 3 1\n",
+    "crowd 34 1\n",
+    "crowd 4 0\n",
+    "crowd 32 312501\n",
+    "idle 4\n",
+    "idle 1 1\n",
+    "idle 33 1\n",
+    "idle 2 0\n",
+    "idle 2 60001\n",
+    "idle 2 1 1\n",
     "pair 1\npair 1\n",
     "pair 1\n\n",
     "pair\n1\n",

@@ -1,0 +1,67 @@
+//! The workload of many processes on one queue, half of which send and half receive.
+ghost use Rattle.std.specs.Prelude.{◌≡◌};
+ghost use Rattle.std.specs.List.{All};
+ghost use Rattle.mq_workloads.specs.Ready.{IsReady};
+
+use crate::fault::WorkFault;
+use crate::gate::Gate;
+use crate::members::{Part, start_members};
+use fast_mutex::Look;
+use mq::{Guarded, Mq, Process};
+use std::alloc::Global;
+use std::sync::Wait;
+use std::thread;
+use std::thread::Threads;
+use std::time::{Clock, Duration, Instant};
+
+/// So many processes over a fresh system, in turn one that sends and one that receives, each so many messages and in a thread of
+/// its own. Gives the time from when all were ready until all had ended.
+pub fn crowd<L: Look<Guarded> + Sync, R: Wait + Threads + Clock + Sync>(
+    rt: &R,
+    alloc: Global,
+    count: u32,
+    rounds: u32,
+) -> Result<Duration, WorkFault>
+where
+    L::Seat: Send,
+    L::Walk: Send,
+{
+    let (mq, processes) = Mq::<L>::new(alloc, count)?;
+    let gate = Gate::new();
+    let start = in_threads(rt, &mq, &gate, processes, count, rounds)?;
+    let time = start.elapsed(rt)?;
+    if gate.is_refused() {
+        return Err(WorkFault::Refused);
+    }
+    Ok(time)
+}
+
+// Gives when the threads began, which have all ended.
+fn in_threads<L: Look<Guarded> + Sync, R: Wait + Threads + Clock + Sync>(
+    rt: &R,
+    mq: &Mq<L>,
+    gate: &Gate,
+    processes: Vec<Process<L>>,
+    count: u32,
+    rounds: u32,
+) -> Result<Instant, WorkFault>
+where
+    L::Seat: Send,
+    L::Walk: Send,
+    requires ready { All (IsReady mq.now) processes.items }
+{
+    thread::scope(
+        thread::scope_env(),
+        rt,
+        |scope| -> Result<Instant, WorkFault>
+            requires { All (IsReady mq.now) processes.items }
+        {
+            let parts = (Part::Sends, Part::Receives);
+            start_members(scope, rt, mq, gate, processes, parts, rounds)?;
+            gate.await_arrivals(rt, count);
+            let start = Instant::now(rt);
+            gate.open();
+            Ok(start?)
+        },
+    )
+}

@@ -1,0 +1,154 @@
+//! The workload of one process that works alone, while the others are blocked.
+ghost use Rattle.std.specs.Prelude.{◌≡◌};
+ghost use Rattle.std.specs.List.{All};
+ghost use Rattle.mq_workloads.specs.Ready.{IsReady};
+
+use crate::alone::DEPTH;
+use crate::calls::{open, receive, send, send_surely};
+use crate::fault::WorkFault;
+use crate::gate::Gate;
+use crate::members::{Part, QUEUE, start_members};
+use fast_mutex::Look;
+use mq::{Guarded, Mq, Process};
+use std::alloc::Global;
+use std::sync::Wait;
+use std::thread;
+use std::thread::Threads;
+use std::time::{Clock, CpuClock, Duration, Instant};
+
+/// What the process that works did.
+#[derive(Clone, Copy, Debug, PartialEq, Eq)]
+pub struct Worked {
+    pub operations: u64,
+    pub time: Duration,
+    /// The processor time of the whole program in that time.
+    pub processor: Duration,
+}
+
+// How many pairs of a send and a receive lie between two looks at the clock.
+const PAIRS: u32 = 64;
+
+/// So many processes over a fresh system: all but one are blocked in a receive on one queue, each in a thread of its own, while
+/// one works alone on another queue for so long. Then it sends each of them a message.
+pub fn idle<L: Look<Guarded> + Sync, R: Wait + Threads + Clock + CpuClock + Sync>(
+    rt: &R,
+    alloc: Global,
+    count: u32,
+    time: Duration,
+) -> Result<Worked, WorkFault>
+where
+    L::Seat: Send,
+    L::Walk: Send,
+{
+    let (mq, mut processes) = Mq::<L>::new(alloc, count)?;
+    let Some(mut worker) = processes.pop() else {
+        return Err(WorkFault::Refused);
+    };
+    let own = open(rt, &mq, &mut worker, b"/own", DEPTH)?;
+    let shared = open(rt, &mq, &mut worker, QUEUE, DEPTH)?;
+    let gate = Gate::new();
+    let queues = (own, shared);
+    let worked = beside_blocked(rt, &mq, &gate, worker, processes, count - 1, queues, time)?;
+    if gate.is_refused() {
+        return Err(WorkFault::Refused);
+    }
+    Ok(worked)
+}
+
+// One process works on the first queue, while so many others are blocked, which it wakes by the second.
+fn beside_blocked<L: Look<Guarded> + Sync, R: Wait + Threads + Clock + CpuClock + Sync>(
+    rt: &R,
+    mq: &Mq<L>,
+    gate: &Gate,
+    mut worker: Process<L>,
+    blocked: Vec<Process<L>>,
+    count: u32,
+    queues: (u32, u32),
+    time: Duration,
+) -> Result<Worked, WorkFault>
+where
+    L::Seat: Send,
+    L::Walk: Send,
+    requires worker { IsReady mq.now worker }
+    requires blocked { All (IsReady mq.now) blocked.items }
+{
+    thread::scope(
+        thread::scope_env(),
+        rt,
+        |scope| -> Result<Worked, WorkFault>
+            requires { IsReady mq.now worker × All (IsReady mq.now) blocked.items }
+        {
+            let parts = (Part::Receives, Part::Receives);
+            start_members(scope, rt, mq, gate, blocked, parts, 1)?;
+            gate.await_arrivals(rt, count);
+            gate.open();
+            let worked = work(rt, mq, &mut worker, queues.0, time);
+            wake(rt, mq, &mut worker, queues.1, count)?;
+            worked
+        },
+    )
+}
+
+// Works for so long, and for 64 pairs of calls at least. It ends early where memory or the clock is refused.
+fn work<L: Look<Guarded>, R: Wait + Clock + CpuClock>(
+    rt: &R,
+    mq: &Mq<L>,
+    process: &mut Process<L>,
+    d: u32,
+    time: Duration,
+) -> Result<Worked, WorkFault>
+    requires ready { IsReady mq.now process.old }
+    ensures ready { IsReady mq.now process.new }
+{
+    let before = rt.process_cpu_time()?;
+    let start = Instant::now(rt)?;
+    let mut operations = 0u64;
+    for _ in rt.forever() {
+        some_pairs(rt, mq, process, d)?;
+        operations = operations.saturating_add(2 * u64::from(PAIRS));
+        let passed = start.elapsed(rt)?;
+        if passed >= time {
+            let processor = rt.process_cpu_time()?.saturating_sub(before);
+            return Ok(Worked {
+                operations,
+                time: passed,
+                processor,
+            });
+        }
+    }
+    unreachable!()
+}
+
+// Sends and receives in turn, as often as lies between two looks at the clock.
+fn some_pairs<L: Look<Guarded>, R: Wait + Clock>(
+    rt: &R,
+    mq: &Mq<L>,
+    process: &mut Process<L>,
+    d: u32,
+) -> Result<(), WorkFault>
+    requires ready { IsReady mq.now process.old }
+    ensures ready { IsReady mq.now process.new }
+{
+    for _ in 0..PAIRS {
+        send(rt, mq, process, d, 0)?;
+        receive(rt, mq, process, d)?;
+    }
+    Ok(())
+}
+
+// Sends a message to each of so many that are blocked.
+fn wake<L: Look<Guarded>, R: Wait + Clock>(
+    rt: &R,
+    mq: &Mq<L>,
+    process: &mut Process<L>,
+    d: u32,
+    count: u32,
+) -> Result<(), WorkFault>
+    requires ready { IsReady mq.now process.old }
+    ensures ready { IsReady mq.now process.new }
+{
+    for _ in 0..count {
+        send_surely(rt, mq, process, d)?;
+    }
+    Ok(())
+}
