@@ -1,0 +1,7 @@
+//! The messages of one queue as chains of slots: the one that is received next is found at once, and no call but `new` takes
+//! memory.
+#![tactic(auto)]
+
+pub mod cells;
+pub mod chains;
+pub mod levels;
