@@ -4,3 +4,7 @@ pub mod Unlinking
 pub mod Noting
 pub mod Dropping
 pub mod Crowding
+pub mod Present
+pub mod Writing
+pub mod Pushing
+pub mod Popping

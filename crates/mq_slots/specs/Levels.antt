@@ -13,6 +13,10 @@ level_at levels k = slice_index_or levels k no_level
 pub record IsRising (levels : List Level) : Type 0 where
   pub rising : (a b : ℕ) → a < b → b < length levels → (level_at levels a).prio < (level_at levels b).prio
 
+-- the last slot of the level with that index, or the head of the chain where there is none
+abbrev pub last_from : List Level → ℕ → ℕ
+last_from levels at = if nat_lt at (length levels) then (level_at levels at).last else 0
+
 -- the level of a priority, which has the index `at` or is put there, has this last slot
 abbrev pub noted : List Level → ℕ → ℕ → ℕ → List Level
 noted levels at prio last =

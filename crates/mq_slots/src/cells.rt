@@ -33,11 +33,19 @@ pub fn fresh(alloc: Global, spare: u32) -> Result<Vec<Cell>, AllocError>
     Ok(cells)
 }
 
+/// The slot at an index.
+pub fn at(cells: &Vec<Cell>, index: u32) -> Cell
+    requires { index < length cells.now.items }
+    ensures { result ≡ cell_at cells.now.items index }
+{
+    cells[index as usize]
+}
+
 /// Puts a message into the spare slot `new`, and that slot into the chain after the slot `before`.
-pub fn link(cells: &mut [Cell], before: u32, new: u32, prio: u32, place: u64)
-    requires before { before < length cells.old }
-    requires new { new < length cells.old }
-    ensures { cells.new ≡ linked cells.old before new prio place }
+pub fn link(cells: &mut Vec<Cell>, before: u32, new: u32, prio: u32, place: u64)
+    requires before { before < length cells.old.items }
+    requires new { new < length cells.old.items }
+    ensures { cells.new.items ≡ linked cells.old.items before new prio place }
 {
     let next = cells[before as usize].next;
     cells[before as usize].next = new;
@@ -45,11 +53,11 @@ pub fn link(cells: &mut [Cell], before: u32, new: u32, prio: u32, place: u64)
 }
 
 /// Takes the first message's slot out of the chain, and puts it before the chain of `count` spare slots that begins at `spare`.
-pub fn unlink(cells: &mut [Cell], first: u32, spare: u32, count: u32)
-    requires head { 0 < length cells.old }
-    requires first { first < length cells.old }
+pub fn unlink(cells: &mut Vec<Cell>, first: u32, spare: u32, count: u32)
+    requires head { 0 < length cells.old.items }
+    requires first { first < length cells.old.items }
     requires count { count < 4096 }
-    ensures { cells.new ≡ unlinked cells.old first spare count }
+    ensures { cells.new.items ≡ unlinked cells.old.items first spare count }
 {
     cells[0].next = cells[first as usize].next;
     cells[first as usize] = Cell { prio: SPARE, place: u64::from(count) + 1, next: spare };

@@ -1,6 +1,6 @@
 //! The priorities in use, and the last slot of each.
 ghost use Rattle.std.specs.Prelude.{◌≡◌, ℕ, ◌+◌, ◌<◌, ◌≤◌, [], ◌∷◌, length, vec_len, vec_capacity};
-ghost use Rattle.mq_slots.specs.Levels.{level_at, noted, dropped, IsRising};
+ghost use Rattle.mq_slots.specs.Levels.{level_at, last_from, noted, dropped, IsRising};
 
 /// A priority in use: the slot of its newest message.
 #[derive(Clone, Copy, Debug, PartialEq, Eq)]
@@ -27,6 +27,13 @@ pub fn find_level(levels: &[Level], prio: u32) -> usize
         }
     }
     low
+}
+
+/// The last slot of the level with that index, or the head of the chain where there is none.
+pub fn last_from(levels: &[Level], at: usize) -> u32
+    ensures { result ≡ last_from levels.now at }
+{
+    if at < levels.len() { levels[at].last } else { 0 }
 }
 
 /// Notes the slot of the newest message of a priority, whose level has that index or is put there.
