@@ -8,3 +8,4 @@ pub mod Present
 pub mod Writing
 pub mod Pushing
 pub mod Popping
+pub mod Making

@@ -11,6 +11,7 @@ use Rattle.mq_slots.specs.Cells.{cell_at, linked}
 use Rattle.mq_slots.specs.Levels.{no_level, level_at, last_from, noted}
 use Rattle.mq_slots.specs.Chains.{IsChained, IsFreed, IsLevelled}
 use Rattle.mq_slots.specs.Messages.{messages}
+use Rattle.mq_slots.specs.Held.{Held}
 use Rattle.mq_slots.specs.Sound.{prio_at, place_at, next_at, level_prio, level_last, IsSound}
 use Rattle.mq_slots.proofs.Linking.{Linked, IsBefore, IsNew, linked-chained}
 use Rattle.mq_slots.proofs.Taking.{linked-freed}
@@ -192,3 +193,24 @@ pushed-messages cells levels free count room at prio place push m =
             let kept_p : prio_at cells' h.at ≡ prio_at cells h.at = step.kept_p h.at other in
             has-present cells' m (record { at = h.at; within = omega arith; used = omega arith; is = h.is ∙ sym (same_pair _ _ _ _ kept_p (step.kept_t h.at other)) }))
         ])
+
+-- what the code knows, as what a push is given
+pub push-given : (cells : List Cell) (levels found : List Level) (free count room at prio place : ℕ) (held : Held) → IsSound cells levels free count room → record { messages = messages cells; cap = length cells - 1 } ≡ held
+    → length held.messages < held.cap → prio < 32768 → place < 18446744073709551616 → ((m : ℕ × ℕ) → Contains held.messages m → m.1 < place) → found ≡ levels
+    → at ≤ length found → ((k : ℕ) → k < at → (level_at found k).prio < prio) → ((k : ℕ) → at ≤ k → k < length found → prio ≤ (level_at found k).prio)
+    → IsPush cells levels free count room at prio place
+push-given cells levels found free count room at prio place held sound shows space low bound newest same within below rest =
+    let ms : messages cells ≡ held.messages = ap (λ (h : Held). h.messages) shows in
+    let cap : length cells - 1 ≡ held.cap = ap (λ (h : Held). h.cap) shows in
+    let len : length (messages cells) ≡ length held.messages = ap length ms in
+    let counted = sound.counted in
+    record {
+      sound = sound;
+      some = omega arith;
+      low = low;
+      bound = bound;
+      newest = λ m there. newest m (subst (λ xs. Contains xs m) ms there);
+      within = subst (λ xs. at ≤ length xs) same within;
+      below = λ k h. subst (λ xs. (level_at xs k).prio < prio) same (below k h);
+      rest = λ k h l. subst (λ xs. prio ≤ (level_at xs k).prio) same (rest k h (subst (λ xs. k < length xs) (sym same) l));
+    }
