@@ -194,6 +194,14 @@ pushed-messages cells levels free count room at prio place push m =
             has-present cells' m (record { at = h.at; within = omega arith; used = omega arith; is = h.is ∙ sym (same_pair _ _ _ _ kept_p (step.kept_t h.at other)) }))
         ])
 
+-- the message that was pushed is the newest
+pub pushed-newest : (cells : List Cell) (levels : List Level) (free count room at prio place : ℕ) → IsPush cells levels free count room at prio place
+    → (m : ℕ × ℕ) → Contains (messages (linked cells (last_from levels at) free prio place)) m → m.1 ≤ place
+pushed-newest cells levels free count room at prio place push m there = elim ((pushed-messages cells levels free count room at prio place push m).0 there) [
+    | inl e ↦ (let is : m.1 ≡ place = ap (λ (x : ℕ × ℕ). x.1) e in omega arith)
+    | inr h ↦ (let less = push.newest m h in omega arith)
+    ]
+
 -- what the code knows, as what a push is given
 pub push-given : (cells : List Cell) (levels found : List Level) (free count room at prio place : ℕ) (held : Held) → IsSound cells levels free count room → record { messages = messages cells; cap = length cells - 1 } ≡ held
     → length held.messages < held.cap → prio < 32768 → place < 18446744073709551616 → ((m : ℕ × ℕ) → Contains held.messages m → m.1 < place) → found ≡ levels

@@ -48,6 +48,7 @@ impl Slots {
         requires prio { prio < 32768 }
         requires newest { (m : ℕ × ℕ) → Contains self.old.messages m → m.1 < place }
         ensures messages { (m : ℕ × ℕ) → Contains self.new.messages m ↔ ((m ≡ (prio, place)) ⊎ Contains self.old.messages m) }
+        ensures newest { (m : ℕ × ℕ) → Contains self.new.messages m → m.1 ≤ place }
         ensures count { length self.new.messages ≡ length self.old.messages + 1 }
         ensures cap { self.new.cap ≡ self.old.cap }
     {
@@ -65,6 +66,7 @@ impl Slots {
         ensures none { IsNone result ↔ (self.old.messages ≡ []) }
         ensures best { IfSome result (λ m. IsBest self.old.messages m) }
         ensures rest { IfSome result (λ m. (other : ℕ × ℕ) → Contains self.new.messages other ↔ (Contains self.old.messages other × (other ≢ m))) }
+        ensures kept { (m : ℕ × ℕ) → Contains self.new.messages m → Contains self.old.messages m }
         ensures count { length self.new.messages ≡ length self.old.messages - 1 }
         ensures cap { self.new.cap ≡ self.old.cap }
     {
@@ -95,7 +97,8 @@ impl Slots {
 
     /// How many messages are present.
     pub fn len(&self) -> usize
-        ensures { result ≡ length self.now.messages }
+        ensures count { result ≡ length self.now.messages }
+        ensures within { result ≤ self.now.cap }
     {
         self.cells.len() - 1 - self.spare as usize
     }

@@ -5,3 +5,5 @@
 pub mod cells;
 pub mod chains;
 pub mod levels;
+#[cfg(test)]
+mod tests;

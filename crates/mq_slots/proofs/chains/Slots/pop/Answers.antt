@@ -44,3 +44,10 @@ returns-clause-count c =
     let shows : messages s.cells.items ≡ c.args.self.now.messages = ap (λ (h : Held). h.messages) c.self.view_is in
     let less = popped-count _ _ _ _ _ pop in
     rw (c.unlink.ensures, c.at-first.ensures, ← shows) (omega (arith, less))
+
+pub returns-clause-kept : goal.returns-clause-kept
+returns-clause-kept c =
+    let s = c.self.inside in
+    let pop : IsPop s.cells.items s.levels.items s.free s.spare (vec_capacity s.levels) = record { sound = c.self.invariant; some = λ e. c.if-self-len.false (omega (arith, s.cells.ok.0)) } in
+    let shows : messages s.cells.items ≡ c.args.self.now.messages = ap (λ (h : Held). h.messages) c.self.view_is in
+    rw (c.unlink.ensures, c.at-first.ensures, ← shows) (λ m there. ((popped-messages _ _ _ _ _ pop m).0 there).0)
