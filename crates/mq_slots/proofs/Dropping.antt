@@ -1,7 +1,7 @@
 -- The levels, as the first message leaves its slot.
 use Rattle.std.proofs.Common.{◌≡◌, ◌≢◌, ℕ, ◌+◌, ◌-◌, ◌*◌, ◌<◌, ◌≤◌, ◌⊎◌, inl, inr, refl, sym, ◌∙◌, ap, subst, arith}
 use Rattle.std.proofs.lemmas.Bool.{cases_eq, cases_lt}
-use Rattle.mq_slots.specs.Chains.{IsChained, IsLevelled, IsCovered}
+use Rattle.mq_slots.specs.Chains.{span, IsChained, IsLevelled, IsCovered}
 use Rattle.mq_slots.proofs.Unlinking.{Unlinked, IsFirst, first-before}
 
 -- the first message is of the highest level
@@ -9,13 +9,13 @@ first_is_high : (n : ℕ) (p t nx : ℕ → ℕ) (m : ℕ) (lp ll : ℕ → ℕ)
 first_is_high n p t nx m lp ll first chain levels best k kl e =
     let top = ll (m - 1) in
     let within = levels.within (m - 1) (omega arith) in
-    let bound : t top < 18446744073709551616 = chain.places top within in
+    let bound : t top < span = chain.places top within in
     let level : p top ≡ lp (m - 1) = levels.level (m - 1) (omega arith) in
     let low : lp (m - 1) < 32768 = levels.low (m - 1) (omega arith) in
     let level_k : p (ll k) ≡ lp k = levels.level k (omega arith) in
     let same : p (ll k) ≡ p first = ap p e in
     let more : lp k < lp (m - 1) = levels.rising k (m - 1) (omega arith) (omega arith) in
-    let near : t first + 18446744073709551616 * p top ≤ t top + 18446744073709551616 * p first = best.nearest top within (omega arith) in
+    let near : t first + span * p top ≤ t top + span * p first = best.nearest top within (omega arith) in
     omega arith
 
 -- the levels stay where the slot is not the last of the highest

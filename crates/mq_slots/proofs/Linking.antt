@@ -1,7 +1,7 @@
 -- A message that is put into a spare slot keeps the chains.
 use Rattle.std.proofs.Common.{◌≡◌, ◌≢◌, ℕ, ◌+◌, ◌-◌, ◌*◌, ◌<◌, ◌≤◌, ◌⊎◌, inl, inr, refl, sym, ◌∙◌, ap, subst, arith}
 use Rattle.std.proofs.lemmas.Bool.{cases_eq, cases_lt}
-use Rattle.mq_slots.specs.Chains.{IsNext, IsChained, IsFreed}
+use Rattle.mq_slots.specs.Chains.{span, IsNext, IsChained, IsFreed}
 
 -- what p, t and nx become: the message of priority q and place s is put into `new`, after `before`
 pub record Linked (p t nx p' t' nx' : ℕ → ℕ) (before new q s : ℕ) : Type 0 where
@@ -17,34 +17,34 @@ pub record Linked (p t nx p' t' nx' : ℕ → ℕ) (before new q s : ℕ) : Type
 pub record IsBefore (n : ℕ) (p t : ℕ → ℕ) (before q s : ℕ) : Type 0 where
   pub within : before < n
   pub chained : p before ≤ 32768
-  pub under : t before + 18446744073709551616 * q < s + 18446744073709551616 * p before
-  pub nearest : (j : ℕ) → j < n → p j < 32768 → t j + 18446744073709551616 * q < s + 18446744073709551616 * p j → t j + 18446744073709551616 * p before ≤ t before + 18446744073709551616 * p j
+  pub under : t before + span * q < s + span * p before
+  pub nearest : (j : ℕ) → j < n → p j < 32768 → t j + span * q < s + span * p j → t j + span * p before ≤ t before + span * p j
 
 -- the slot and its message: one that is spare, and a message that is the newest
 pub record IsNew (n : ℕ) (p t : ℕ → ℕ) (new q s : ℕ) : Type 0 where
   pub within : new < n
   pub spare : 32768 < p new
   pub low : q < 32768
-  pub place : s < 18446744073709551616
+  pub place : s < span
   pub newest : (j : ℕ) → j < n → p j < 32768 → t j < s
 
 -- a lesser place goes first, unless its priority is lower
-order_of : (a s x q : ℕ) → a < s → s < 18446744073709551616 → (a + 18446744073709551616 * q < s + 18446744073709551616 * x → ⊥) → s + 18446744073709551616 * x < a + 18446744073709551616 * q
-order_of a s x q less bound not = elim (cases_lt (a + 18446744073709551616 * q) (s + 18446744073709551616 * x)) [ inl h ↦ absurd (not h) | inr h ↦ elim (cases_lt x q) [ inl l ↦ omega arith | inr g ↦ omega arith ] ]
+order_of : (a s x q : ℕ) → a < s → s < span → (a + span * q < s + span * x → ⊥) → s + span * x < a + span * q
+order_of a s x q less bound not = elim (cases_lt (a + span * q) (s + span * x)) [ inl h ↦ absurd (not h) | inr h ↦ elim (cases_lt x q) [ inl l ↦ omega arith | inr g ↦ omega arith ] ]
 
 -- a slot that goes before the message, and is not `before`, goes before that one
 reaches : (n : ℕ) (p t nx : ℕ → ℕ) (before q s : ℕ) → IsChained n p t nx → IsBefore n p t before q s
-    → (i : ℕ) → i < n → i ≢ before → p i ≤ 32768 → t i + 18446744073709551616 * q < s + 18446744073709551616 * p i → (p before < 32768) × (t i + 18446744073709551616 * p before < t before + 18446744073709551616 * p i)
+    → (i : ℕ) → i < n → i ≢ before → p i ≤ 32768 → t i + span * q < s + span * p i → (p before < 32768) × (t i + span * p before < t before + span * p i)
 reaches n p t nx before q s old place i il apart ip order =
     let chained = place.chained in
     let head = old.head in
     let head_place = old.head_place in
     elim (cases_lt (p i) 32768) [
     | inl used ↦ (
-        let near : t i + 18446744073709551616 * p before ≤ t before + 18446744073709551616 * p i = place.nearest i il used order in
+        let near : t i + span * p before ≤ t before + span * p i = place.nearest i il used order in
         let bound = old.places i il in
         elim (cases_lt (p before) 32768) [
-        | inl low ↦ (low, elim (cases_lt (t i + 18446744073709551616 * p before) (t before + 18446744073709551616 * p i)) [
+        | inl low ↦ (low, elim (cases_lt (t i + span * p before) (t before + span * p i)) [
             | inl h ↦ h
             | inr h ↦ absurd (apart (old.distinct i before il place.within used low (let bound_before = old.places before place.within in omega arith)))
             ])
@@ -91,7 +91,7 @@ distinct-linked n p t nx p' t' nx' before new q s old step fresh i j il jl ip jp
 
 -- the new slot leads on to what came after `before`
 next_from_new : (n : ℕ) (p t nx p' t' nx' : ℕ → ℕ) (before new q s : ℕ) → IsChained n p t nx → Linked p t nx p' t' nx' before new q s → IsBefore n p t before q s → IsNew n p t new q s
-    → (j : ℕ) → j < n → j ≢ new → p' j < 32768 → t' new + 18446744073709551616 * p' j < t' j + 18446744073709551616 * p' new → IsNext n p' t' new j (nx' new)
+    → (j : ℕ) → j < n → j ≢ new → p' j < 32768 → t' new + span * p' j < t' j + span * p' new → IsNext n p' t' new j (nx' new)
 next_from_new n p t nx p' t' nx' before new q s old step place fresh j jl other jp order =
     let k = nx before in
     let pn = step.new_p in
@@ -107,14 +107,14 @@ next_from_new n p t nx p' t' nx' before new q s old step place fresh j jl other 
     let tk : t' k ≡ t k = step.kept_t k apart in
     let newest : t k < s = fresh.newest k o.within used in
     let bound = fresh.place in
-    let near : t k + 18446744073709551616 * q < s + 18446744073709551616 * p k → t k + 18446744073709551616 * p before ≤ t before + 18446744073709551616 * p k = place.nearest k o.within used in
-    let goes : s + 18446744073709551616 * p k < t k + 18446744073709551616 * q = order_of (t k) s (p k) q newest bound (λ h. let bad = near h in let after = o.after in omega arith) in
+    let near : t k + span * q < s + span * p k → t k + span * p before ≤ t before + span * p k = place.nearest k o.within used in
+    let goes : s + span * p k < t k + span * q = order_of (t k) s (p k) q newest bound (λ h. let bad = near h in let after = o.after in omega arith) in
     let near_j = o.nearest in
     subst (λ x. IsNext n p' t' new j x) (sym step.new_nx) (record { within = o.within; used = omega arith; after = omega arith; nearest = omega arith })
 
 -- `before` leads on to the new slot
 next_to_new : (n : ℕ) (p t nx p' t' nx' : ℕ → ℕ) (before new q s : ℕ) → IsChained n p t nx → Linked p t nx p' t' nx' before new q s → IsBefore n p t before q s → IsNew n p t new q s
-    → (j : ℕ) → j < n → p' j < 32768 → t' before + 18446744073709551616 * p' j < t' j + 18446744073709551616 * p' before → IsNext n p' t' before j (nx' before)
+    → (j : ℕ) → j < n → p' j < 32768 → t' before + span * p' j < t' j + span * p' before → IsNext n p' t' before j (nx' before)
 next_to_new n p t nx p' t' nx' before new q s old step place fresh j jl jp order =
     let pn = step.new_p in
     let tn = step.new_t in
@@ -125,25 +125,25 @@ next_to_new n p t nx p' t' nx' before new q s old step place fresh j jl jp order
     let apart : before ≢ new = λ e. (let same : p before ≡ p new = ap p e in omega arith) in
     let pb : p' before ≡ p before = step.kept_p before apart in
     let tb : t' before ≡ t before = step.kept_t before apart in
-    let near : t' new + 18446744073709551616 * p' j ≤ t' j + 18446744073709551616 * p' new =
+    let near : t' new + span * p' j ≤ t' j + span * p' new =
         elim (cases_eq j new) [
         | inl e ↦ (let same_p : p' j ≡ p' new = ap p' e in let same_t : t' j ≡ t' new = ap t' e in omega arith)
         | inr other ↦ (let pj : p' j ≡ p j = step.kept_p j other in let tj : t' j ≡ t j = step.kept_t j other in
-            let near : t j + 18446744073709551616 * q < s + 18446744073709551616 * p j → t j + 18446744073709551616 * p before ≤ t before + 18446744073709551616 * p j = place.nearest j jl (omega arith) in
-            elim (cases_lt (t j + 18446744073709551616 * q) (s + 18446744073709551616 * p j)) [ inl h ↦ (let bad = near h in absurd (omega arith)) | inr h ↦ omega arith ])
+            let near : t j + span * q < s + span * p j → t j + span * p before ≤ t before + span * p j = place.nearest j jl (omega arith) in
+            elim (cases_lt (t j + span * q) (s + span * p j)) [ inl h ↦ (let bad = near h in absurd (omega arith)) | inr h ↦ omega arith ])
         ] in
     subst (λ x. IsNext n p' t' before j x) (sym step.before_nx) (record { within = fresh.within; used = omega arith; after = omega arith; nearest = near })
 
 -- another slot leads on as it did
 next_as_before : (n : ℕ) (p t nx p' t' nx' : ℕ → ℕ) (before new q s : ℕ) → IsChained n p t nx → Linked p t nx p' t' nx' before new q s → IsBefore n p t before q s → IsNew n p t new q s
-    → (i j : ℕ) → i < n → j < n → i ≢ new → i ≢ before → p' i ≤ 32768 → p' j < 32768 → t' i + 18446744073709551616 * p' j < t' j + 18446744073709551616 * p' i → IsNext n p' t' i j (nx' i)
+    → (i j : ℕ) → i < n → j < n → i ≢ new → i ≢ before → p' i ≤ 32768 → p' j < 32768 → t' i + span * p' j < t' j + span * p' i → IsNext n p' t' i j (nx' i)
 next_as_before n p t nx p' t' nx' before new q s old step place fresh i j il jl apart_new apart ip jp order =
     let pi : p' i ≡ p i = step.kept_p i apart_new in
     let ti : t' i ≡ t i = step.kept_t i apart_new in
     let pn = step.new_p in
     let tn = step.new_t in
     let spare = fresh.spare in
-    let kept : (x : ℕ) → IsNext n p t i x (nx i) → t (nx i) + 18446744073709551616 * p' j ≤ t' j + 18446744073709551616 * p (nx i) → IsNext n p' t' i j (nx' i) = λ x o near. (
+    let kept : (x : ℕ) → IsNext n p t i x (nx i) → t (nx i) + span * p' j ≤ t' j + span * p (nx i) → IsNext n p' t' i j (nx' i) = λ x o near. (
         let used = o.used in
         let after = o.after in
         let unlike : nx i ≢ new = λ e. (let same : p (nx i) ≡ p new = ap p e in omega arith) in
@@ -154,7 +154,7 @@ next_as_before n p t nx p' t' nx' before new q s old step place fresh i j il jl 
     | inl e ↦ (
         let same_p : p' j ≡ p' new = ap p' e in
         let same_t : t' j ≡ t' new = ap t' e in
-        let reach : (p before < 32768) × (t i + 18446744073709551616 * p before < t before + 18446744073709551616 * p i) = reaches n p t nx before q s old place i il apart (omega arith) (omega arith) in
+        let reach : (p before < 32768) × (t i + span * p before < t before + span * p i) = reaches n p t nx before q s old place i il apart (omega arith) (omega arith) in
         let o : IsNext n p t i before (nx i) = old.next i before il place.within (omega arith) reach.0 reach.1 in
         let near = o.nearest in
         let under = place.under in
@@ -190,10 +190,10 @@ linked-chained n p t nx p' t' nx' before new q s old step place fresh =
         ];
       distinct = λ i j il jl ip jp e. distinct-linked n p t nx p' t' nx' before new q s old step fresh i j il jl ip jp e;
       next = λ i j il jl ip jp order. elim (cases_eq i new) [
-        | inl e ↦ (let P : ℕ → Type 0 = λ x. p' x ≤ 32768 → t' x + 18446744073709551616 * p' j < t' j + 18446744073709551616 * p' x → IsNext n p' t' x j (nx' x) in
+        | inl e ↦ (let P : ℕ → Type 0 = λ x. p' x ≤ 32768 → t' x + span * p' j < t' j + span * p' x → IsNext n p' t' x j (nx' x) in
             subst P (sym e) (λ h o. next_from_new n p t nx p' t' nx' before new q s old step place fresh j jl (λ e. let same_p : p' j ≡ p' new = ap p' e in let same_t : t' j ≡ t' new = ap t' e in omega arith) jp o) ip order)
         | inr apart_new ↦ elim (cases_eq i before) [
-            | inl e ↦ (let P : ℕ → Type 0 = λ x. t' x + 18446744073709551616 * p' j < t' j + 18446744073709551616 * p' x → IsNext n p' t' x j (nx' x) in
+            | inl e ↦ (let P : ℕ → Type 0 = λ x. t' x + span * p' j < t' j + span * p' x → IsNext n p' t' x j (nx' x) in
                 subst P (sym e) (λ o. next_to_new n p t nx p' t' nx' before new q s old step place fresh j jl jp o) order)
             | inr apart ↦ next_as_before n p t nx p' t' nx' before new q s old step place fresh i j il jl apart_new apart ip jp order
             ]

@@ -9,7 +9,7 @@ use Rattle.mq_slots.specs.declared.cells.Cell.{Cell}
 use Rattle.mq_slots.specs.declared.levels.Level.{Level}
 use Rattle.mq_slots.specs.Cells.{cell_at, linked}
 use Rattle.mq_slots.specs.Levels.{no_level, level_at, last_from, noted}
-use Rattle.mq_slots.specs.Chains.{IsChained, IsFreed, IsLevelled}
+use Rattle.mq_slots.specs.Chains.{span, IsChained, IsFreed, IsLevelled}
 use Rattle.mq_slots.specs.Messages.{messages}
 use Rattle.mq_slots.specs.Held.{Held}
 use Rattle.mq_slots.specs.Sound.{prio_at, place_at, next_at, level_prio, level_last, IsSound}
@@ -38,7 +38,7 @@ pub record IsPush (cells : List Cell) (levels : List Level) (free count room at 
   pub sound : IsSound cells levels free count room
   pub some : 0 < count
   pub low : prio < 32768
-  pub bound : place < 18446744073709551616
+  pub bound : place < span
   pub newest : (m : ℕ × ℕ) → Contains (messages cells) m → m.1 < place
   pub within : at ≤ length levels
   pub below : (k : ℕ) → k < at → (level_at levels k).prio < prio
@@ -204,7 +204,7 @@ pushed-newest cells levels free count room at prio place push m there = elim ((p
 
 -- what the code knows, as what a push is given
 pub push-given : (cells : List Cell) (levels found : List Level) (free count room at prio place : ℕ) (held : Held) → IsSound cells levels free count room → record { messages = messages cells; cap = length cells - 1 } ≡ held
-    → length held.messages < held.cap → prio < 32768 → place < 18446744073709551616 → ((m : ℕ × ℕ) → Contains held.messages m → m.1 < place) → found ≡ levels
+    → length held.messages < held.cap → prio < 32768 → place < span → ((m : ℕ × ℕ) → Contains held.messages m → m.1 < place) → found ≡ levels
     → at ≤ length found → ((k : ℕ) → k < at → (level_at found k).prio < prio) → ((k : ℕ) → at ≤ k → k < length found → prio ≤ (level_at found k).prio)
     → IsPush cells levels free count room at prio place
 push-given cells levels found free count room at prio place held sound shows space low bound newest same within below rest =

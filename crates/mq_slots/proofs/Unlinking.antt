@@ -1,7 +1,7 @@
 -- The first message leaves its slot, which becomes a spare one.
 use Rattle.std.proofs.Common.{◌≡◌, ◌≢◌, ℕ, ◌+◌, ◌-◌, ◌*◌, ◌<◌, ◌≤◌, ◌⊎◌, inl, inr, refl, sym, ◌∙◌, ap, subst, arith}
 use Rattle.std.proofs.lemmas.Bool.{cases_eq, cases_lt}
-use Rattle.mq_slots.specs.Chains.{IsNext, IsChained, IsFreed}
+use Rattle.mq_slots.specs.Chains.{span, IsNext, IsChained, IsFreed}
 
 -- what p, t and nx become: the slot `first` leaves the chain, and is the first of count + 1 spare ones
 pub record Unlinked (p t nx p' t' nx' : ℕ → ℕ) (first free count : ℕ) : Type 0 where
@@ -17,7 +17,7 @@ pub record Unlinked (p t nx p' t' nx' : ℕ → ℕ) (first free count : ℕ) : 
 pub record IsFirst (n : ℕ) (p t : ℕ → ℕ) (first : ℕ) : Type 0 where
   pub within : first < n
   pub used : p first < 32768
-  pub nearest : (j : ℕ) → j < n → p j < 32768 → t first + 18446744073709551616 * p j ≤ t j + 18446744073709551616 * p first
+  pub nearest : (j : ℕ) → j < n → p j < 32768 → t first + span * p j ≤ t j + span * p first
 
 -- where a message is there, the head leads to the first one
 pub head-first : (n : ℕ) (p t nx : ℕ → ℕ) → IsChained n p t nx → (i : ℕ) → i < n → p i < 32768 → IsFirst n p t (nx 0)
@@ -29,12 +29,12 @@ head-first n p t nx old i il ip =
     record { within = one.within; used = one.used; nearest = λ j jl jp. (after j jl jp).nearest }
 
 -- each other message goes after the first one
-pub first-before : (n : ℕ) (p t nx : ℕ → ℕ) (first : ℕ) → IsChained n p t nx → IsFirst n p t first → (j : ℕ) → j < n → p j < 32768 → j ≢ first → t first + 18446744073709551616 * p j < t j + 18446744073709551616 * p first
+pub first-before : (n : ℕ) (p t nx : ℕ → ℕ) (first : ℕ) → IsChained n p t nx → IsFirst n p t first → (j : ℕ) → j < n → p j < 32768 → j ≢ first → t first + span * p j < t j + span * p first
 first-before n p t nx first old best j jl jp other =
     let near = best.nearest j jl jp in
     let bound = old.places first best.within in
     let bound_j = old.places j jl in
-    elim (cases_lt (t first + 18446744073709551616 * p j) (t j + 18446744073709551616 * p first)) [
+    elim (cases_lt (t first + span * p j) (t j + span * p first)) [
     | inl h ↦ h
     | inr h ↦ absurd (other (old.distinct j first jl best.within jp best.used (omega arith)))
     ]

@@ -2,12 +2,17 @@
 -- slot nx i of the slot at i, among n slots.
 use Rattle.std.specs.Prelude.{◌≡◌, ℕ, ◌+◌, ◌*◌, ◌<◌, ◌≤◌}
 
+-- every place is below this. So of two slots i and j the message of i goes first exactly where
+-- t i + span * p j < t j + span * p i: its priority is greater, or it is the same and its place is less.
+abbrev pub span : ℕ
+span = 18446744073709551616
+
 -- the slot at k has a message that goes after the slot at i, and no later than the slot at j
 pub record IsNext (n : ℕ) (p t : ℕ → ℕ) (i j k : ℕ) : Type 0 where
   pub within : k < n
   pub used : p k < 32768
-  pub after : t i + 18446744073709551616 * p k < t k + 18446744073709551616 * p i
-  pub nearest : t k + 18446744073709551616 * p j ≤ t j + 18446744073709551616 * p k
+  pub after : t i + span * p k < t k + span * p i
+  pub nearest : t k + span * p j ≤ t j + span * p k
 
 -- the slots with a message, and the head at 0, form one chain in the order in which messages are received: the greater priority
 -- first, and then the lesser place
@@ -16,9 +21,9 @@ pub record IsChained (n : ℕ) (p t nx : ℕ → ℕ) : Type 0 where
   pub head : p 0 ≡ 32768
   pub head_place : t 0 ≡ 0
   pub only : (i : ℕ) → i < n → p i ≡ 32768 → i ≡ 0
-  pub places : (i : ℕ) → i < n → t i < 18446744073709551616
+  pub places : (i : ℕ) → i < n → t i < span
   pub distinct : (i j : ℕ) → i < n → j < n → p i < 32768 → p j < 32768 → t i ≡ t j → i ≡ j
-  pub next : (i j : ℕ) → i < n → j < n → p i ≤ 32768 → p j < 32768 → t i + 18446744073709551616 * p j < t j + 18446744073709551616 * p i → IsNext n p t i j (nx i)
+  pub next : (i j : ℕ) → i < n → j < n → p i ≤ 32768 → p j < 32768 → t i + span * p j < t j + span * p i → IsNext n p t i j (nx i)
 
 -- the spare slots form a chain of `count` slots from `free` on, each of which has how many there are from it on
 pub record IsFreed (n : ℕ) (p t nx : ℕ → ℕ) (free count : ℕ) : Type 0 where
