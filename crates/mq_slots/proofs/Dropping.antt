@@ -25,27 +25,27 @@ dropped-not n p t nx p' t' nx' m lp ll first free count chain old best step top 
     let gone = step.gone_p in
     let stays : (j : ℕ) → p' j < 32768 → j ≢ first = λ j jp e. (let same : p' j ≡ p' first = ap p' e in omega arith) in
     let apart : (k : ℕ) → k < m → ll k ≢ first = λ k kl. elim (cases_eq k (m - 1)) [
-        | inl e ↦ subst (λ x. ll x ≢ first) (sym e) (top (omega arith))
-        | inr other ↦ first_is_high n p t nx m lp ll first chain old best k (omega arith)
-        ] in
+      | inl e ↦ subst (λ x. ll x ≢ first) (sym e) (top (omega arith))
+      | inr other ↦ first_is_high n p t nx m lp ll first chain old best k (omega arith)
+    ] in
     record {
       rising = old.rising;
       within = old.within;
       level = λ k kl. step.kept_p (ll k) (apart k kl) ∙ old.level k kl;
       low = old.low;
       greatest = λ k j kl jl e. (
-        let low = old.low k kl in
-        let other : j ≢ first = stays j (omega arith) in
-        let pj : p' j ≡ p j = step.kept_p j other in
-        let tj : t' j ≡ t j = step.kept_t j other in
-        let last : t' (ll k) ≡ t (ll k) = step.kept_t (ll k) (apart k kl) in
-        let less : t j ≤ t (ll k) = old.greatest k j kl jl (omega arith) in
-        omega arith);
+          let low = old.low k kl in
+          let other : j ≢ first = stays j (omega arith) in
+          let pj : p' j ≡ p j = step.kept_p j other in
+          let tj : t' j ≡ t j = step.kept_t j other in
+          let last : t' (ll k) ≡ t (ll k) = step.kept_t (ll k) (apart k kl) in
+          let less : t j ≤ t (ll k) = old.greatest k j kl jl (omega arith) in
+          omega arith);
       covers = λ j jl jp. (
-        let other : j ≢ first = stays j jp in
-        let pj : p' j ≡ p j = step.kept_p j other in
-        let cover : IsCovered m lp (p j) = old.covers j jl (omega arith) in
-        record { at = cover.at; below = cover.below; is = cover.is ∙ sym pj });
+          let other : j ≢ first = stays j jp in
+          let pj : p' j ≡ p j = step.kept_p j other in
+          let cover : IsCovered m lp (p j) = old.covers j jl (omega arith) in
+          record { at = cover.at; below = cover.below; is = cover.is ∙ sym pj });
     }
 
 -- the highest level goes with its last slot
@@ -61,21 +61,21 @@ dropped-top n p t nx p' t' nx' m lp ll lp' ll' first free count chain old best s
       level = λ k kl. ap p' (same_ll k kl) ∙ step.kept_p (ll k) (apart k kl) ∙ old.level k (omega arith) ∙ sym (same_lp k kl);
       low = λ k kl. (let is_k = same_lp k kl in let low = old.low k (omega arith) in omega arith);
       greatest = λ k j kl jl e. (
-        let is_k = same_lp k kl in
-        let low = old.low k (omega arith) in
-        let other : j ≢ first = stays j (omega arith) in
-        let pj : p' j ≡ p j = step.kept_p j other in
-        let tj : t' j ≡ t j = step.kept_t j other in
-        let last : t' (ll' k) ≡ t (ll k) = ap t' (same_ll k kl) ∙ step.kept_t (ll k) (apart k kl) in
-        let less : t j ≤ t (ll k) = old.greatest k j (omega arith) jl (omega arith) in
-        omega arith);
+          let is_k = same_lp k kl in
+          let low = old.low k (omega arith) in
+          let other : j ≢ first = stays j (omega arith) in
+          let pj : p' j ≡ p j = step.kept_p j other in
+          let tj : t' j ≡ t j = step.kept_t j other in
+          let last : t' (ll' k) ≡ t (ll k) = ap t' (same_ll k kl) ∙ step.kept_t (ll k) (apart k kl) in
+          let less : t j ≤ t (ll k) = old.greatest k j (omega arith) jl (omega arith) in
+          omega arith);
       covers = λ j jl jp. (
-        let other : j ≢ first = stays j jp in
-        let pj : p' j ≡ p j = step.kept_p j other in
-        let cover : IsCovered m lp (p j) = old.covers j jl (omega arith) in
-        let below = cover.below in
-        let is = cover.is in
-        let under : cover.at < m - 1 = elim (cases_eq cover.at (m - 1)) [
+          let other : j ≢ first = stays j jp in
+          let pj : p' j ≡ p j = step.kept_p j other in
+          let cover : IsCovered m lp (p j) = old.covers j jl (omega arith) in
+          let below = cover.below in
+          let is = cover.is in
+          let under : cover.at < m - 1 = elim (cases_eq cover.at (m - 1)) [
             | inl e ↦ absurd (
                 let same : lp cover.at ≡ lp (m - 1) = ap lp e in
                 let great : t j ≤ t (ll (m - 1)) = old.greatest (m - 1) j (omega arith) jl (omega arith) in
@@ -85,6 +85,6 @@ dropped-top n p t nx p' t' nx' m lp ll lp' ll' first free count chain old best s
                 let order = first-before n p t nx first chain best j jl (omega arith) other in
                 omega arith)
             | inr far ↦ omega arith
-            ] in
-        record { at = cover.at; below = under; is = same_lp cover.at under ∙ is ∙ sym pj });
+          ] in
+          record { at = cover.at; below = under; is = same_lp cover.at under ∙ is ∙ sym pj });
     }

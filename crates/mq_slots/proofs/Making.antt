@@ -27,9 +27,9 @@ none_present (c ∷ cells) spare = rw (le-ltb c.prio 32768 (spare zero (omega ar
 
 pub fresh-messages : (cells : List Cell) (spare : ℕ) → IsFresh cells spare → messages cells ≡ []
 fresh-messages cells spare fresh = none_present cells (λ i within. elim (cases_eq i 0) [
-    | inl e ↦ (let head : prio_at cells 0 ≡ 32768 = ap (λ (c : Cell). c.prio) fresh.head in let same : prio_at cells i ≡ prio_at cells 0 = ap (prio_at cells) e in omega arith)
-    | inr other ↦ (let is = spare_at cells spare fresh i within other in let prio = is.prio in omega arith)
-    ])
+  | inl e ↦ (let head : prio_at cells 0 ≡ 32768 = ap (λ (c : Cell). c.prio) fresh.head in let same : prio_at cells i ≡ prio_at cells 0 = ap (prio_at cells) e in omega arith)
+  | inr other ↦ (let is = spare_at cells spare fresh i within other in let prio = is.prio in omega arith)
+])
 
 pub fresh-sound : (cells : List Cell) (levels : List Level) (spare room : ℕ) → IsFresh cells spare → levels ≡ [] → spare ≤ 4096 → spare ≤ room → IsSound cells levels spare spare room
 fresh-sound cells levels spare room fresh none few roomy =
@@ -40,9 +40,9 @@ fresh-sound cells levels spare room fresh none few roomy =
     let counted : length (messages cells) ≡ 0 = ap length (fresh-messages cells spare fresh) in
     let is = spare_at cells spare fresh in
     let high : (i : ℕ) → i < length cells → 32768 ≤ prio_at cells i = λ i within. elim (cases_eq i 0) [
-        | inl e ↦ (let same : prio_at cells i ≡ prio_at cells 0 = ap (prio_at cells) e in omega arith)
-        | inr other ↦ (let prio = (is i within other).prio in omega arith)
-        ] in
+      | inl e ↦ (let same : prio_at cells i ≡ prio_at cells 0 = ap (prio_at cells) e in omega arith)
+      | inr other ↦ (let prio = (is i within other).prio in omega arith)
+    ] in
     let not_head : (i : ℕ) → 32768 < prio_at cells i → i ≢ 0 = λ i h e. (let same : prio_at cells i ≡ prio_at cells 0 = ap (prio_at cells) e in omega arith) in
     record {
       chained = record {
@@ -51,9 +51,9 @@ fresh-sound cells levels spare room fresh none few roomy =
         head_place = head_place;
         only = λ i within e. elim (cases_eq i 0) [ inl same ↦ same | inr other ↦ absurd (let prio = (is i within other).prio in omega arith) ];
         places = λ i within. elim (cases_eq i 0) [
-            | inl e ↦ (let same : place_at cells i ≡ place_at cells 0 = ap (place_at cells) e in omega arith)
-            | inr other ↦ (let place = (is i within other).place in omega arith)
-            ];
+          | inl e ↦ (let same : place_at cells i ≡ place_at cells 0 = ap (place_at cells) e in omega arith)
+          | inr other ↦ (let place = (is i within other).place in omega arith)
+        ];
         distinct = λ i j il jl ip jp e. absurd (let no = high i il in omega arith);
         next = λ i j il jl ip jp order. absurd (let no = high j jl in omega arith);
       };

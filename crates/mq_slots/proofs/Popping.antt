@@ -55,9 +55,9 @@ pop-levelled cells levels free count room pop p' t' nx' step =
     let best = pop-first cells levels free count room pop in
     let top = length levels - 1 in
     let stay : (0 < length levels → level_last levels (length levels - 1) ≢ next_at cells 0) → IsLevelled (length cells) p' t' (length levels) (level_prio levels) (level_last levels) = λ other.
-        dropped-not (length cells) _ _ _ _ _ _ (length levels) _ _ (next_at cells 0) free count sound.chained sound.levelled best step other in
+    dropped-not (length cells) _ _ _ _ _ _ (length levels) _ _ (next_at cells 0) free count sound.chained sound.levelled best step other in
     elim (cases_lt 0 (length levels)) [
-    | inl h ↦ elim (cases_Bool ((level_at levels top).last == next_at cells 0)) [
+      | inl h ↦ elim (cases_Bool ((level_at levels top).last == next_at cells 0)) [
         | inl e ↦ (
             let is : level_last levels top ≡ next_at cells 0 = eqb-true _ _ e in
             rw (lt-ltb 0 (length levels) h, e, length-take-le top levels (omega arith))
@@ -65,8 +65,8 @@ pop-levelled cells levels free count room pop p' t' nx' step =
             (λ k kl. ap (λ (l : Level). l.prio) (get_or-take top levels k no_level kl))
             (λ k kl. ap (λ (l : Level). l.last) (get_or-take top levels k no_level kl))))
         | inr e ↦ rw (lt-ltb 0 (length levels) h, e) (stay (λ _ same. eqb-false _ _ e same))
-        ]
-    | inr h ↦ rw (le-ltb 0 (length levels) h) (stay (λ some same. omega arith))
+      ]
+      | inr h ↦ rw (le-ltb 0 (length levels) h) (stay (λ some same. omega arith))
     ]
 
 pub popped-count : (cells : List Cell) (levels : List Level) (free count room : ℕ) → IsPop cells levels free count room → length (messages (unlinked cells (next_at cells 0) free count)) + 1 ≡ length (messages cells)
@@ -112,17 +112,17 @@ popped-best cells levels free count room pop =
     record {
       there = cell-present cells first best.within best.used;
       first = λ other there unlike. (
-        let h = present-cell cells other there in
-        let apart : h.at ≢ first = λ e. unlike (h.is ∙ same_pair _ _ _ _ (ap (prio_at cells) e) (ap (place_at cells) e)) in
-        let order = first-before (length cells) _ _ _ first chained best h.at h.within h.used apart in
-        let bound = chained.places h.at h.within in
-        let bound_first = chained.places first best.within in
-        let goes : GoesFirst (prio_at cells first, place_at cells first) (prio_at cells h.at, place_at cells h.at) =
-            elim (cases_lt (prio_at cells h.at) (prio_at cells first)) [
+          let h = present-cell cells other there in
+          let apart : h.at ≢ first = λ e. unlike (h.is ∙ same_pair _ _ _ _ (ap (prio_at cells) e) (ap (place_at cells) e)) in
+          let order = first-before (length cells) _ _ _ first chained best h.at h.within h.used apart in
+          let bound = chained.places h.at h.within in
+          let bound_first = chained.places first best.within in
+          let goes : GoesFirst (prio_at cells first, place_at cells first) (prio_at cells h.at, place_at cells h.at) =
+          elim (cases_lt (prio_at cells h.at) (prio_at cells first)) [
             | inl less ↦ inl less
             | inr more ↦ inr (omega arith, omega arith)
-            ] in
-        subst (λ m. GoesFirst (prio_at cells first, place_at cells first) m) (sym h.is) goes);
+          ] in
+          subst (λ m. GoesFirst (prio_at cells first, place_at cells first) m) (sym h.is) goes);
     }
 
 -- a message is there still exactly if it was there and is another one
@@ -135,22 +135,24 @@ popped-messages cells levels free count room pop m =
     let best = pop-first cells levels free count room pop in
     let step = pop-unlinked cells levels free count room pop in
     let slots = pop-slots cells first free count in
-    let gone = step.gone_p in
-    (λ there. (
-        let h = present-cell cells' m there in
-        let within = h.within in
-        let used = h.used in
-        let apart : h.at ≢ first = λ e. (let same : prio_at cells' h.at ≡ prio_at cells' first = ap (prio_at cells') e in omega arith) in
-        let kept_p : prio_at cells' h.at ≡ prio_at cells h.at = step.kept_p h.at apart in
-        let kept_t : place_at cells' h.at ≡ place_at cells h.at = step.kept_t h.at apart in
-        let is : m ≡ (prio_at cells h.at, place_at cells h.at) = h.is ∙ same_pair _ _ _ _ kept_p kept_t in
-        (has-present cells m (record { at = h.at; within = omega arith; used = omega arith; is = is }),
-         λ e. apart (chained.distinct h.at first (omega arith) best.within (omega arith) best.used (ap (λ (x : ℕ × ℕ). x.1) (sym is ∙ e))))),
-     λ both. (
-        let h = present-cell cells m both.0 in
-        let within = h.within in
-        let used = h.used in
-        let apart : h.at ≢ first = λ e. both.1 (h.is ∙ same_pair _ _ _ _ (ap (prio_at cells) e) (ap (place_at cells) e)) in
-        let kept_p : prio_at cells' h.at ≡ prio_at cells h.at = step.kept_p h.at apart in
-        let kept_t : place_at cells' h.at ≡ place_at cells h.at = step.kept_t h.at apart in
-        has-present cells' m (record { at = h.at; within = omega arith; used = omega arith; is = h.is ∙ sym (same_pair _ _ _ _ kept_p kept_t) })))
+    let gone = step.gone_p in (
+      λ there. (
+          let h = present-cell cells' m there in
+          let within = h.within in
+          let used = h.used in
+          let apart : h.at ≢ first = λ e. (let same : prio_at cells' h.at ≡ prio_at cells' first = ap (prio_at cells') e in omega arith) in
+          let kept_p : prio_at cells' h.at ≡ prio_at cells h.at = step.kept_p h.at apart in
+          let kept_t : place_at cells' h.at ≡ place_at cells h.at = step.kept_t h.at apart in
+          let is : m ≡ (prio_at cells h.at, place_at cells h.at) = h.is ∙ same_pair _ _ _ _ kept_p kept_t in (
+            has-present cells m (record { at = h.at; within = omega arith; used = omega arith; is = is }),
+            λ e. apart (chained.distinct h.at first (omega arith) best.within (omega arith) best.used (ap (λ (x : ℕ × ℕ). x.1) (sym is ∙ e))),
+          )),
+      λ both. (
+          let h = present-cell cells m both.0 in
+          let within = h.within in
+          let used = h.used in
+          let apart : h.at ≢ first = λ e. both.1 (h.is ∙ same_pair _ _ _ _ (ap (prio_at cells) e) (ap (place_at cells) e)) in
+          let kept_p : prio_at cells' h.at ≡ prio_at cells h.at = step.kept_p h.at apart in
+          let kept_t : place_at cells' h.at ≡ place_at cells h.at = step.kept_t h.at apart in
+          has-present cells' m (record { at = h.at; within = omega arith; used = omega arith; is = h.is ∙ sym (same_pair _ _ _ _ kept_p kept_t) })),
+    )

@@ -18,9 +18,9 @@ pub record HasMessage (cells : List Cell) (m : ℕ × ℕ) : Type 0 where
 -- a message of the rest is one of all
 later : (c : Cell) (cells : List Cell) (m : ℕ × ℕ) → Contains (messages cells) m → Contains (messages (c ∷ cells)) m
 later c cells m (k, within, is) = elim (cases_Bool (nat_lt c.prio 32768)) [
-    | inl e ↦ rw e (suc k, omega arith, is)
-    | inr e ↦ rw e (k, within, is)
-    ]
+  | inl e ↦ rw e (suc k, omega arith, is)
+  | inr e ↦ rw e (k, within, is)
+]
 
 -- what a slot has is a message
 pub cell-present : (cells : List Cell) (i : ℕ) → i < length cells → prio_at cells i < 32768 → Contains (messages cells) (prio_at cells i, place_at cells i)
@@ -40,9 +40,9 @@ first_or_next c cells m rest used (suc k) within is = next_slot c cells m (rest 
 pub present-cell : (cells : List Cell) (m : ℕ × ℕ) → Contains (messages cells) m → HasMessage cells m
 present-cell [] m (k, within, is) = absurd (omega arith)
 present-cell (c ∷ cells) m there = elim (cases_Bool (nat_lt c.prio 32768)) [
-    | inl e ↦ (let at = rw e at there in first_or_next c cells m (λ h. present-cell cells m h) (ltb-true _ _ e) at.0 at.1 at.2)
-    | inr e ↦ next_slot c cells m (present-cell cells m (rw e at there))
-    ]
+  | inl e ↦ (let at = rw e at there in first_or_next c cells m (λ h. present-cell cells m h) (ltb-true _ _ e) at.0 at.1 at.2)
+  | inr e ↦ next_slot c cells m (present-cell cells m (rw e at there))
+]
 
 pub has-present : (cells : List Cell) (m : ℕ × ℕ) → HasMessage cells m → Contains (messages cells) m
 has-present cells m h = subst (λ x. Contains (messages cells) x) (sym h.is) (cell-present cells h.at h.within h.used)
@@ -74,14 +74,14 @@ messages-relinked (d ∷ cells) (suc i) next =
 -- without a message there is no used slot, and with none used there is no message
 pub none-used : (cells : List Cell) → messages cells ≡ [] → (i : ℕ) → i < length cells → 32768 ≤ prio_at cells i
 none-used cells none i within = elim (cases_lt (prio_at cells i) 32768) [
-    | inl used ↦ absurd (let there = cell-present cells i within used in let few : there.0 < length (messages cells) = there.1 in let empty : length (messages cells) ≡ 0 = ap length none in omega arith)
-    | inr spare ↦ spare
-    ]
+  | inl used ↦ absurd (let there = cell-present cells i within used in let few : there.0 < length (messages cells) = there.1 in let empty : length (messages cells) ≡ 0 = ap length none in omega arith)
+  | inr spare ↦ spare
+]
 
 -- where there are messages, some slot has one
 pub some-used : (cells : List Cell) → 0 < length (messages cells) → (i : ℕ) × (i < length cells) × (prio_at cells i < 32768)
 some-used [] some = absurd (omega arith)
 some-used (c ∷ cells) some = elim (cases_lt c.prio 32768) [
-    | inl used ↦ (zero, omega arith, used)
-    | inr spare ↦ (let rest = some-used cells (rw (le-ltb c.prio 32768 spare) at some) in let within = rest.1 in (suc rest.0, omega arith, rest.2))
-    ]
+  | inl used ↦ (zero, omega arith, used)
+  | inr spare ↦ (let rest = some-used cells (rw (le-ltb c.prio 32768 spare) at some) in let within = rest.1 in (suc rest.0, omega arith, rest.2))
+]

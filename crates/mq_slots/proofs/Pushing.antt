@@ -64,8 +64,8 @@ push-before cells levels free count room at prio place push =
     let new = push-new cells levels free count room at prio place push in
     let placed = push-placed cells levels free count room at prio place push in
     elim (cases_lt at (length levels)) [
-    | inl h ↦ rw (lt-ltb at (length levels) h) (level-before _ _ _ (next_at cells) _ _ (level_last levels) at free prio place sound.chained sound.levelled placed new h)
-    | inr h ↦ rw (le-ltb at (length levels) h) (head-before _ _ _ (next_at cells) _ _ (level_last levels) at free prio place sound.chained sound.levelled placed new h)
+      | inl h ↦ rw (lt-ltb at (length levels) h) (level-before _ _ _ (next_at cells) _ _ (level_last levels) at free prio place sound.chained sound.levelled placed new h)
+      | inr h ↦ rw (le-ltb at (length levels) h) (head-before _ _ _ (next_at cells) _ _ (level_last levels) at free prio place sound.chained sound.levelled placed new h)
     ]
 
 -- the slot before the message is another than the spare one
@@ -98,24 +98,24 @@ push-levelled cells levels free count room at prio place push p' t' nx' before s
     let placed = push-placed cells levels free count room at prio place push in
     let within = push.within in
     let put : (at < length levels → level_prio levels at ≢ prio) → IsLevelled (length cells) p' t' (length (insert levels at (record { prio = prio; last = free }))) (level_prio (insert levels at (record { prio = prio; last = free }))) (level_last (insert levels at (record { prio = prio; last = free }))) = λ unlike.
-        rw (length-insert levels at (record { prio = prio; last = free }) within)
-        (noted-new (length cells) _ _ _ _ _ _ (length levels) _ _ _ _ _ at free prio place sound.levelled step new placed unlike (inserted-prio levels at _ within) (inserted-last levels at _ within)) in
+    rw (length-insert levels at (record { prio = prio; last = free }) within)
+    (noted-new (length cells) _ _ _ _ _ _ (length levels) _ _ _ _ _ at free prio place sound.levelled step new placed unlike (inserted-prio levels at _ within) (inserted-last levels at _ within)) in
     elim (cases_lt at (length levels)) [
-    | inl h ↦ elim (cases_Bool ((level_at levels at).prio == prio)) [
+      | inl h ↦ elim (cases_Bool ((level_at levels at).prio == prio)) [
         | inl e ↦ (
             let is : level_prio levels at ≡ prio = eqb-true _ _ e in
             let x : Level = record { prio = prio; last = free } in
             rw (lt-ltb at (length levels) h, e, length-set levels at x)
             (noted-there (length cells) _ _ _ _ _ _ (length levels) _ _ _ _ _ at free prio place sound.levelled step new h is
             (λ k. elim (cases_eq k at) [
-                | inl same ↦ ap (level_prio (slice_set levels at x)) same ∙ ap (λ (l : Level). l.prio) (get_or-set_same levels at x no_level h) ∙ sym is ∙ sym (ap (level_prio levels) same)
-                | inr far ↦ ap (λ (l : Level). l.prio) (get_or-set_other levels at k x no_level far)
-                ])
+              | inl same ↦ ap (level_prio (slice_set levels at x)) same ∙ ap (λ (l : Level). l.prio) (get_or-set_same levels at x no_level h) ∙ sym is ∙ sym (ap (level_prio levels) same)
+              | inr far ↦ ap (λ (l : Level). l.prio) (get_or-set_other levels at k x no_level far)
+            ])
             (ap (λ (l : Level). l.last) (get_or-set_same levels at x no_level h))
             (λ k far. ap (λ (l : Level). l.last) (get_or-set_other levels at k x no_level far))))
         | inr e ↦ rw (lt-ltb at (length levels) h, e) (put (λ _ same. eqb-false _ _ e same))
-        ]
-    | inr h ↦ rw (le-ltb at (length levels) h) (put (λ lt same. omega arith))
+      ]
+      | inr h ↦ rw (le-ltb at (length levels) h) (put (λ lt same. omega arith))
     ]
 
 pub pushed-count : (cells : List Cell) (levels : List Level) (free count room at prio place : ℕ) → IsPush cells levels free count room at prio place → length (messages (linked cells (last_from levels at) free prio place)) ≡ length (messages cells) + 1
@@ -172,18 +172,18 @@ pushed-messages cells levels free count room at prio place push m =
     let slots = push-slots cells (last_from levels at) free prio place in
     let spare = new.spare in
     let low = push.low in
-    let pn = step.new_p in
-    (λ there. (
-        let h = present-cell cells' m there in
-        let within = h.within in
-        let used = h.used in
-        elim (cases_eq h.at free) [
-        | inl e ↦ inl (h.is ∙ same_pair _ _ _ _ (ap (prio_at cells') e ∙ step.new_p) (ap (place_at cells') e ∙ step.new_t))
-        | inr other ↦ (
-            let kept_p : prio_at cells' h.at ≡ prio_at cells h.at = step.kept_p h.at other in
-            inr (has-present cells m (record { at = h.at; within = omega arith; used = omega arith; is = h.is ∙ same_pair _ _ _ _ kept_p (step.kept_t h.at other) })))
-        ]),
-     λ either. elim either [
+    let pn = step.new_p in (
+      λ there. (
+          let h = present-cell cells' m there in
+          let within = h.within in
+          let used = h.used in
+          elim (cases_eq h.at free) [
+            | inl e ↦ inl (h.is ∙ same_pair _ _ _ _ (ap (prio_at cells') e ∙ step.new_p) (ap (place_at cells') e ∙ step.new_t))
+            | inr other ↦ (
+                let kept_p : prio_at cells' h.at ≡ prio_at cells h.at = step.kept_p h.at other in
+                inr (has-present cells m (record { at = h.at; within = omega arith; used = omega arith; is = h.is ∙ same_pair _ _ _ _ kept_p (step.kept_t h.at other) })))
+          ]),
+      λ either. elim either [
         | inl e ↦ has-present cells' m (record { at = free; within = (let within = new.within in omega arith); used = omega arith; is = e ∙ sym (same_pair _ _ _ _ step.new_p step.new_t) })
         | inr there ↦ (
             let h = present-cell cells m there in
@@ -192,15 +192,16 @@ pushed-messages cells levels free count room at prio place push m =
             let other : h.at ≢ free = λ e. (let same : prio_at cells h.at ≡ prio_at cells free = ap (prio_at cells) e in omega arith) in
             let kept_p : prio_at cells' h.at ≡ prio_at cells h.at = step.kept_p h.at other in
             has-present cells' m (record { at = h.at; within = omega arith; used = omega arith; is = h.is ∙ sym (same_pair _ _ _ _ kept_p (step.kept_t h.at other)) }))
-        ])
+      ],
+    )
 
 -- the message that was pushed is the newest
 pub pushed-newest : (cells : List Cell) (levels : List Level) (free count room at prio place : ℕ) → IsPush cells levels free count room at prio place
     → (m : ℕ × ℕ) → Contains (messages (linked cells (last_from levels at) free prio place)) m → m.1 ≤ place
 pushed-newest cells levels free count room at prio place push m there = elim ((pushed-messages cells levels free count room at prio place push m).0 there) [
-    | inl e ↦ (let is : m.1 ≡ place = ap (λ (x : ℕ × ℕ). x.1) e in omega arith)
-    | inr h ↦ (let less = push.newest m h in omega arith)
-    ]
+  | inl e ↦ (let is : m.1 ≡ place = ap (λ (x : ℕ × ℕ). x.1) e in omega arith)
+  | inr h ↦ (let less = push.newest m h in omega arith)
+]
 
 -- what the code knows, as what a push is given
 pub push-given : (cells : List Cell) (levels found : List Level) (free count room at prio place : ℕ) (held : Held) → IsSound cells levels free count room → record { messages = messages cells; cap = length cells - 1 } ≡ held

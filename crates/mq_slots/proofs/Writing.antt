@@ -43,11 +43,11 @@ linked-cells cells before new prio place bl nl apart =
       kept_p = λ i other. elim (cases_eq i before) [
         | inl e ↦ ap (prio_at cells') e ∙ ap (λ (c : Cell). c.prio) w.at_first ∙ sym (ap (prio_at cells) e)
         | inr far ↦ ap (λ (c : Cell). c.prio) (w.kept i far other)
-        ];
+      ];
       kept_t = λ i other. elim (cases_eq i before) [
         | inl e ↦ ap (place_at cells') e ∙ ap (λ (c : Cell). c.place) w.at_first ∙ sym (ap (place_at cells) e)
         | inr far ↦ ap (λ (c : Cell). c.place) (w.kept i far other)
-        ];
+      ];
       kept_nx = λ i other far. ap (λ (c : Cell). c.next) (w.kept i far other);
     }
 
@@ -64,25 +64,25 @@ unlinked-cells cells first free count hl fl apart =
       kept_p = λ i other. elim (cases_eq i 0) [
         | inl e ↦ ap (prio_at cells') e ∙ ap (λ (c : Cell). c.prio) w.at_first ∙ sym (ap (prio_at cells) e)
         | inr far ↦ ap (λ (c : Cell). c.prio) (w.kept i far other)
-        ];
+      ];
       kept_t = λ i other. elim (cases_eq i 0) [
         | inl e ↦ ap (place_at cells') e ∙ ap (λ (c : Cell). c.place) w.at_first ∙ sym (ap (place_at cells) e)
         | inr far ↦ ap (λ (c : Cell). c.place) (w.kept i far other)
-        ];
+      ];
       kept_nx = λ i other far. ap (λ (c : Cell). c.next) (w.kept i far other);
     }
 
 -- a level is put in
 pub inserted-prio : (levels : List Level) (at : ℕ) (x : Level) → at ≤ length levels → Inserted (level_prio levels) (level_prio (insert levels at x)) at x.prio
 inserted-prio levels at x within = record {
-      lower = λ k h. ap (λ (l : Level). l.prio) (get_or-insert_below levels at x no_level k h within);
-      here = ap (λ (l : Level). l.prio) (get_or-insert_at levels at x no_level within);
-      upper = λ k h. ap (λ (l : Level). l.prio) (get_or-insert_above levels at x no_level k h within);
-    }
+  lower = λ k h. ap (λ (l : Level). l.prio) (get_or-insert_below levels at x no_level k h within);
+  here = ap (λ (l : Level). l.prio) (get_or-insert_at levels at x no_level within);
+  upper = λ k h. ap (λ (l : Level). l.prio) (get_or-insert_above levels at x no_level k h within);
+}
 
 pub inserted-last : (levels : List Level) (at : ℕ) (x : Level) → at ≤ length levels → Inserted (level_last levels) (level_last (insert levels at x)) at x.last
 inserted-last levels at x within = record {
-      lower = λ k h. ap (λ (l : Level). l.last) (get_or-insert_below levels at x no_level k h within);
-      here = ap (λ (l : Level). l.last) (get_or-insert_at levels at x no_level within);
-      upper = λ k h. ap (λ (l : Level). l.last) (get_or-insert_above levels at x no_level k h within);
-    }
+  lower = λ k h. ap (λ (l : Level). l.last) (get_or-insert_below levels at x no_level k h within);
+  here = ap (λ (l : Level). l.last) (get_or-insert_at levels at x no_level within);
+  upper = λ k h. ap (λ (l : Level). l.last) (get_or-insert_above levels at x no_level k h within);
+}

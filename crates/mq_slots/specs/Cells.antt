@@ -13,17 +13,17 @@ cell_at cells i = slice_index_or cells i blank
 abbrev pub linked : List Cell → ℕ → ℕ → ℕ → ℕ → List Cell
 linked cells before new prio place =
     slice_set
-        (slice_set cells before (record (cell_at cells before) { next = new }))
-        new
-        (record { prio = prio; place = place; next = (cell_at cells before).next })
+    (slice_set cells before (record (cell_at cells before) { next = new }))
+    new
+    (record { prio = prio; place = place; next = (cell_at cells before).next })
 
 -- the slot `first` leaves the head of the chain, and comes before the chain of `count` spare slots that begins at `spare`
 abbrev pub unlinked : List Cell → ℕ → ℕ → ℕ → List Cell
 unlinked cells first spare count =
     slice_set
-        (slice_set cells 0 (record (cell_at cells 0) { next = (cell_at cells first).next }))
-        first
-        (record { prio = 32769; place = count + 1; next = spare })
+    (slice_set cells 0 (record (cell_at cells 0) { next = (cell_at cells first).next }))
+    first
+    (record { prio = 32769; place = count + 1; next = spare })
 
 -- the head of an empty chain, and that many spare slots
 pub record IsFresh (cells : List Cell) (spare : ℕ) : Type 0 where

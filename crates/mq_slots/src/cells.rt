@@ -26,17 +26,25 @@ pub fn fresh(alloc: Global, spare: u32) -> Result<Vec<Cell>, AllocError>
     ensures { IfOk result (λ cells. IsFresh cells.items spare) }
 {
     let mut cells = Vec::with_capacity(alloc, spare as usize + 1)?;
-    cells.push_reserved(Cell { prio: HEAD, place: 0, next: 0 });
+    cells.push_reserved(Cell {
+        prio: HEAD,
+        place: 0,
+        next: 0,
+    });
     for depth in 0..spare {
-        cells.push_reserved(Cell { prio: SPARE, place: u64::from(depth) + 1, next: depth });
+        cells.push_reserved(Cell {
+            prio: SPARE,
+            place: u64::from(depth) + 1,
+            next: depth,
+        });
     }
     Ok(cells)
 }
 
 /// The slot at an index.
-pub fn at(cells: &Vec<Cell>, index: u32) -> Cell
-    requires { index < length cells.now.items }
-    ensures { result ≡ cell_at cells.now.items index }
+pub fn at(cells: &[Cell], index: u32) -> Cell
+    requires { index < length cells.now }
+    ensures { result ≡ cell_at cells.now index }
 {
     cells[index as usize]
 }
@@ -60,5 +68,9 @@ pub fn unlink(cells: &mut Vec<Cell>, first: u32, spare: u32, count: u32)
     ensures { cells.new.items ≡ unlinked cells.old.items first spare count }
 {
     cells[0].next = cells[first as usize].next;
-    cells[first as usize] = Cell { prio: SPARE, place: u64::from(count) + 1, next: spare };
+    cells[first as usize] = Cell {
+        prio: SPARE,
+        place: u64::from(count) + 1,
+        next: spare,
+    };
 }

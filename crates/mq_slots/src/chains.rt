@@ -9,11 +9,19 @@ use std::marker::Model;
 
 /// The messages present in one queue, each with its priority and the place of its send. The one that is received next is that of
 /// the highest priority, and among these the one of the least place.
+///
+/// The messages stand in one chain of slots, in the order in which they are received, and the spare slots in another. The last slot
+/// of each priority in use is noted, so that a push finds where its message belongs by a search among the priorities, and a pop
+/// takes the first of the chain.
 #[derive(Debug, Drop)]
 pub struct Slots {
+    // the head of the chain of messages, and the slots
     cells: Vec<Cell>,
+    // the priorities in use, rising
     levels: Vec<Level>,
+    // the first spare slot, if there is one
     free: u32,
+    // how many slots are spare
     spare: u32,
 }
 
@@ -30,7 +38,8 @@ impl Model for Slots {
 }
 
 impl Slots {
-    /// Slots for `cap` messages, of which there are 1 to 4,096, and no message. All the memory that is needed later is taken here.
+    /// An empty queue with room for `cap` messages, 1 to 4,096. All the memory that is needed later is taken here; the error is
+    /// that it was refused.
     pub fn new(alloc: Global, cap: u32) -> Result<Slots, AllocError>
         requires some { 1 ≤ cap }
         requires few { cap ≤ 4096 }
@@ -39,10 +48,16 @@ impl Slots {
     {
         let cells = cells::fresh(alloc, cap)?;
         let levels = Vec::with_capacity(alloc, cap as usize)?;
-        Ok(Slots { cells, levels, free: cap, spare: cap })
+        Ok(Slots {
+            cells,
+            levels,
+            free: cap,
+            spare: cap,
+        })
     }
 
-    /// Adds a message. Its place is above that of each message present.
+    /// Adds a message, in room that is there: its priority, 0 to 32,767, and the place of its send, which is above that of each
+    /// message present.
     pub fn push(&mut self, prio: u32, place: u64)
         requires room { length self.old.messages < self.old.cap }
         requires prio { prio < 32768 }
@@ -61,7 +76,7 @@ impl Slots {
         levels::note_level(&mut self.levels, at, prio, new);
     }
 
-    /// Takes out the message that is received next, as its priority and its place.
+    /// Takes out the message that is received next, the oldest of the highest priority, as its priority and its place.
     pub fn pop(&mut self) -> Option<(u32, u64)>
         ensures none { IsNone result ↔ (self.old.messages ≡ []) }
         ensures best { IfSome result (λ m. IsBest self.old.messages m) }
@@ -82,7 +97,7 @@ impl Slots {
         Some((best.prio, best.place))
     }
 
-    /// The message that is received next.
+    /// The message that is received next, as its priority and its place.
     pub fn best(&self) -> Option<(u32, u64)>
         ensures none { IsNone result ↔ (self.now.messages ≡ []) }
         ensures best { IfSome result (λ m. IsBest self.now.messages m) }
@@ -91,8 +106,8 @@ impl Slots {
             return None;
         }
         let first = cells::at(&self.cells, 0).next;
-        let best = cells::at(&self.cells, first);
-        Some((best.prio, best.place))
+        let slot = cells::at(&self.cells, first);
+        Some((slot.prio, slot.place))
     }
 
     /// How many messages are present.

@@ -33,7 +33,11 @@ pub fn find_level(levels: &[Level], prio: u32) -> usize
 pub fn last_from(levels: &[Level], at: usize) -> u32
     ensures { result ≡ last_from levels.now at }
 {
-    if at < levels.len() { levels[at].last } else { 0 }
+    if at < levels.len() {
+        levels[at].last
+    } else {
+        0
+    }
 }
 
 /// Notes the slot of the newest message of a priority, whose level has that index or is put there.

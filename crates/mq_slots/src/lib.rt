@@ -2,8 +2,8 @@
 //! memory.
 #![tactic(auto)]
 
-pub mod cells;
+mod cells;
 pub mod chains;
-pub mod levels;
+mod levels;
 #[cfg(test)]
 mod tests;
