@@ -1,8 +1,7 @@
 -- There are fewer levels than slots, so a level has room.
-use Rattle.std.proofs.Common.{◌≡◌, ◌≢◌, ℕ, zero, suc, ◌+◌, ◌-◌, ◌*◌, ◌<◌, ◌≤◌, ◌==◌, Bool, true, false, cond, ◌⊎◌, inl, inr, refl, sym, ◌∙◌, ap, subst, arith, eqb-true}
+use Rattle.std.proofs.Common.{◌≡◌, ◌≢◌, ℕ, zero, suc, ◌+◌, ◌-◌, ◌<◌, ◌≤◌, ◌==◌, cond, ◌⊎◌, inl, inr, refl, ap, arith, eqb-true}
 use Rattle.std.proofs.lemmas.Bool.{cases_eq, cases_lt, cases_Bool, eqb-false}
-use Rattle.mq_slots.specs.Chains.{IsChained, IsLevelled, IsCovered}
-use Rattle.mq_slots.proofs.Linking.{IsNew}
+use Rattle.mq_slots.specs.Chains.{IsChained, IsLevelled}
 
 -- the numbers of f, with the one at m in place of n
 swapped : (ℕ → ℕ) → ℕ → ℕ → ℕ → ℕ

@@ -1,7 +1,7 @@
 -- A message that is put into a spare slot keeps the chains.
-use Rattle.std.proofs.Common.{◌≡◌, ◌≢◌, ℕ, ◌+◌, ◌-◌, ◌*◌, ◌<◌, ◌≤◌, ◌⊎◌, inl, inr, refl, sym, ◌∙◌, ap, subst, arith}
+use Rattle.std.proofs.Common.{◌≡◌, ◌≢◌, ℕ, ◌+◌, ◌*◌, ◌<◌, ◌≤◌, inl, inr, sym, ◌∙◌, ap, subst, arith}
 use Rattle.std.proofs.lemmas.Bool.{cases_eq, cases_lt}
-use Rattle.mq_slots.specs.Chains.{span, IsNext, IsChained, IsFreed}
+use Rattle.mq_slots.specs.Chains.{span, IsNext, IsChained}
 
 -- what p, t and nx become: the message of priority q and place s is put into `new`, after `before`
 pub record Linked (p t nx p' t' nx' : ℕ → ℕ) (before new q s : ℕ) : Type 0 where

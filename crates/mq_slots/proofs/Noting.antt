@@ -1,5 +1,5 @@
 -- The levels, as a message is put into a slot: which slot comes before it, and what becomes of the levels.
-use Rattle.std.proofs.Common.{◌≡◌, ◌≢◌, ℕ, ◌+◌, ◌-◌, ◌*◌, ◌<◌, ◌≤◌, ◌⊎◌, inl, inr, refl, sym, ◌∙◌, ap, subst, arith}
+use Rattle.std.proofs.Common.{◌≡◌, ◌≢◌, ℕ, ◌+◌, ◌-◌, ◌<◌, ◌≤◌, inl, inr, sym, ◌∙◌, ap, subst, arith}
 use Rattle.std.proofs.lemmas.Bool.{cases_eq, cases_lt}
 use Rattle.mq_slots.specs.Chains.{IsChained, IsLevelled, IsCovered}
 use Rattle.mq_slots.proofs.Linking.{Linked, IsBefore, IsNew}

@@ -1,19 +1,19 @@
 -- A pop takes the best message out, and keeps the slots sound.
-use Rattle.std.proofs.Common.{◌≡◌, ◌≢◌, ◌↔◌, ℕ, ◌+◌, ◌-◌, ◌<◌, ◌≤◌, ◌⊎◌, inl, inr, Bool, true, false, ◌&&◌, ◌==◌, List, length, take, get_or, refl, sym, ◌∙◌, ap, subst, arith, eqb-true, get_or-set_other, get_or-set_same}
+use Rattle.std.proofs.Common.{◌≡◌, ◌≢◌, ◌↔◌, ℕ, ◌+◌, ◌-◌, ◌<◌, ◌≤◌, inl, inr, ◌==◌, List, length, sym, ◌∙◌, ap, subst, arith, eqb-true, get_or-set_other}
 use Rattle.std.specs.List.{Contains}
-use Rattle.std.specs.Prelude.{nat_lt, slice_set}
+use Rattle.std.specs.Prelude.{slice_set}
 use Rattle.std.proofs.lemmas.List.{length-set, length-take-le, get_or-take}
-use Rattle.std.proofs.lemmas.Bool.{cases_Bool, cases_eq, cases_lt, lt-ltb, le-ltb, eqb-false}
+use Rattle.std.proofs.lemmas.Bool.{cases_Bool, cases_lt, lt-ltb, le-ltb, eqb-false}
 use Rattle.mq_slots.specs.declared.cells.Cell.{Cell}
 use Rattle.mq_slots.specs.declared.levels.Level.{Level}
 use Rattle.mq_slots.specs.Cells.{cell_at, unlinked}
 use Rattle.mq_slots.specs.Levels.{no_level, level_at, dropped}
-use Rattle.mq_slots.specs.Chains.{IsChained, IsFreed, IsLevelled}
+use Rattle.mq_slots.specs.Chains.{IsLevelled}
 use Rattle.mq_slots.specs.Messages.{messages, GoesFirst, IsBest}
 use Rattle.mq_slots.specs.Sound.{prio_at, place_at, next_at, level_prio, level_last, IsSound}
 use Rattle.mq_slots.proofs.Unlinking.{Unlinked, IsFirst, head-first, first-before, unlinked-chained, unlinked-freed}
 use Rattle.mq_slots.proofs.Dropping.{dropped-not, dropped-top}
-use Rattle.mq_slots.proofs.Present.{HasMessage, cell-present, present-cell, has-present, length-emptied, messages-relinked, some-used}
+use Rattle.mq_slots.proofs.Present.{cell-present, present-cell, has-present, length-emptied, messages-relinked, some-used}
 use Rattle.mq_slots.proofs.Writing.{unlinked-cells}
 use Rattle.mq_slots.proofs.Pushing.{chained_at, freed_at, levelled_at, same_pair}
 

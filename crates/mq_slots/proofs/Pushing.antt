@@ -1,10 +1,10 @@
 -- A push keeps the slots sound, and adds one message.
-use Rattle.std.proofs.Common.{◌≡◌, ◌≢◌, ◌↔◌, ℕ, ◌+◌, ◌-◌, ◌<◌, ◌≤◌, ◌⊎◌, inl, inr, Bool, true, false, ◌&&◌, ◌==◌, List, length, take, get_or, refl, sym, ◌∙◌, ap, subst, arith, eqb-true, get_or-set_other, get_or-set_same}
+use Rattle.std.proofs.Common.{◌≡◌, ◌≢◌, ◌↔◌, ℕ, ◌+◌, ◌-◌, ◌<◌, ◌≤◌, ◌⊎◌, inl, inr, ◌==◌, List, length, sym, ◌∙◌, ap, subst, arith, eqb-true, get_or-set_other, get_or-set_same}
 use Rattle.std.specs.List.{Contains}
-use Rattle.std.specs.Prelude.{nat_lt, insert, slice_set}
+use Rattle.std.specs.Prelude.{insert, slice_set}
 use Rattle.std.proofs.lemmas.List.{length-set}
 use Rattle.std.proofs.lemmas.List.Edits.{length-insert}
-use Rattle.std.proofs.lemmas.Bool.{cases_Bool, cases_eq, cases_lt, ltb-true, ltb-false, lt-ltb, le-ltb, eqb-false}
+use Rattle.std.proofs.lemmas.Bool.{cases_Bool, cases_eq, cases_lt, lt-ltb, le-ltb, eqb-false}
 use Rattle.mq_slots.specs.declared.cells.Cell.{Cell}
 use Rattle.mq_slots.specs.declared.levels.Level.{Level}
 use Rattle.mq_slots.specs.Cells.{cell_at, linked}
@@ -17,8 +17,8 @@ use Rattle.mq_slots.proofs.Linking.{Linked, IsBefore, IsNew, linked-chained}
 use Rattle.mq_slots.proofs.Taking.{linked-freed}
 use Rattle.mq_slots.proofs.Noting.{IsPlaced, level-before, head-before, noted-there, noted-new}
 use Rattle.mq_slots.proofs.Crowding.{levels-few}
-use Rattle.mq_slots.proofs.Present.{HasMessage, cell-present, present-cell, has-present, length-filled, messages-relinked}
-use Rattle.mq_slots.proofs.Writing.{Written, written, linked-cells, inserted-prio, inserted-last}
+use Rattle.mq_slots.proofs.Present.{cell-present, present-cell, has-present, length-filled, messages-relinked}
+use Rattle.mq_slots.proofs.Writing.{linked-cells, inserted-prio, inserted-last}
 
 pub chained_at : (m n : ℕ) → m ≡ n → (p t nx : ℕ → ℕ) → IsChained n p t nx → IsChained m p t nx
 chained_at m n e p t nx is = subst (λ x. IsChained x p t nx) (sym e) is

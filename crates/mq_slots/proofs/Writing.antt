@@ -1,13 +1,13 @@
 -- What the writes to slots and levels change, index by index.
-use Rattle.std.proofs.Common.{◌≡◌, ◌≢◌, ℕ, ◌+◌, ◌-◌, ◌<◌, ◌≤◌, ◌⊎◌, inl, inr, List, length, get_or, set, take, refl, sym, ◌∙◌, ap, subst, arith, get_or-set_other, get_or-set_same}
+use Rattle.std.proofs.Common.{◌≡◌, ◌≢◌, ℕ, ◌+◌, ◌<◌, ◌≤◌, inl, inr, List, length, set, sym, ◌∙◌, ap, arith, get_or-set_other, get_or-set_same}
 use Rattle.std.specs.Prelude.{insert, slice_set}
-use Rattle.std.proofs.lemmas.List.{length-set, get_or-take}
+use Rattle.std.proofs.lemmas.List.{length-set}
 use Rattle.std.proofs.lemmas.List.Edits.{get_or-insert_at, get_or-insert_below, get_or-insert_above}
-use Rattle.std.proofs.lemmas.Bool.{cases_eq, cases_lt}
+use Rattle.std.proofs.lemmas.Bool.{cases_eq}
 use Rattle.mq_slots.specs.declared.cells.Cell.{Cell}
 use Rattle.mq_slots.specs.declared.levels.Level.{Level}
 use Rattle.mq_slots.specs.Cells.{blank, cell_at, linked, unlinked}
-use Rattle.mq_slots.specs.Levels.{no_level, level_at}
+use Rattle.mq_slots.specs.Levels.{no_level}
 use Rattle.mq_slots.specs.Sound.{prio_at, place_at, next_at, level_prio, level_last}
 use Rattle.mq_slots.proofs.Linking.{Linked}
 use Rattle.mq_slots.proofs.Unlinking.{Unlinked}

@@ -1,5 +1,5 @@
 -- The priorities in use as a list.
-use Rattle.std.specs.Prelude.{◌≡◌, ℕ, ◌-◌, ◌==◌, ◌&&◌, ◌<◌, nat_lt, if◌then◌else◌, List, length, take, insert, slice_set, slice_index_or}
+use Rattle.std.specs.Prelude.{ℕ, ◌-◌, ◌==◌, ◌&&◌, ◌<◌, nat_lt, if◌then◌else◌, List, length, take, insert, slice_set, slice_index_or}
 use Rattle.mq_slots.specs.declared.levels.Level.{Level}
 
 abbrev pub no_level : Level

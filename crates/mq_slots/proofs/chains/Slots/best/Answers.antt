@@ -1,4 +1,4 @@
-use Rattle.std.proofs.Common.{◌≡◌, ◌<◌, ap, arith, List, ℕ, length, sym, ◌∙◌, vec_capacity}
+use Rattle.std.proofs.Common.{◌≡◌, ap, arith, vec_capacity}
 use Rattle.mq_slots.specs.Held.{Held}
 use Rattle.mq_slots.specs.Messages.{messages}
 use Rattle.mq_slots.proofs.Popping.{IsPop, pop-first, popped-best}

@@ -1,4 +1,3 @@
-use Rattle.std.proofs.Common.{arith}
 use Rattle.mq_slots.proofs.Making.{fresh-messages, fresh-sound}
 use Rattle.mq_slots.proofs.chains.Slots.new.Goals as goal
 

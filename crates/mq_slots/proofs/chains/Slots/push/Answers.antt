@@ -1,5 +1,4 @@
-use Rattle.std.proofs.Common.{◌≡◌, ◌<◌, ◌+◌, ap, arith, List, ℕ, length, sym, ◌∙◌, vec_capacity}
-use Rattle.mq_slots.specs.declared.cells.Cell.{Cell}
+use Rattle.std.proofs.Common.{◌≡◌, ap, arith, vec_capacity}
 use Rattle.mq_slots.specs.Held.{Held}
 use Rattle.mq_slots.specs.Messages.{messages}
 use Rattle.mq_slots.proofs.Pushing.{IsPush, push-given, push-room, pushed-sound, pushed-count, pushed-messages, pushed-newest}
