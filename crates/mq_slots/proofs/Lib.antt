@@ -1,0 +1,11 @@
+pub mod Linking
+pub mod Taking
+pub mod Unlinking
+pub mod Noting
+pub mod Dropping
+pub mod Crowding
+pub mod Present
+pub mod Writing
+pub mod Pushing
+pub mod Popping
+pub mod Making

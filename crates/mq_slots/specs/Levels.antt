@@ -1,0 +1,32 @@
+-- The priorities in use as a list.
+use Rattle.std.specs.Prelude.{ℕ, ◌-◌, ◌==◌, ◌&&◌, ◌<◌, nat_lt, if◌then◌else◌, List, length, take, insert, slice_set, slice_index_or}
+use Rattle.mq_slots.specs.declared.levels.Level.{Level}
+
+abbrev pub no_level : Level
+no_level = record { prio = 0; last = 0 }
+
+-- the level at an index, of one that is there
+abbrev pub level_at : List Level → ℕ → Level
+level_at levels k = slice_index_or levels k no_level
+
+-- each level has a higher priority than those before it
+pub record IsRising (levels : List Level) : Type 0 where
+  pub rising : (a b : ℕ) → a < b → b < length levels → (level_at levels a).prio < (level_at levels b).prio
+
+-- the last slot of the level with that index, or the head of the chain where there is none
+abbrev pub last_from : List Level → ℕ → ℕ
+last_from levels at = if nat_lt at (length levels) then (level_at levels at).last else 0
+
+-- the level of a priority, which has the index `at` or is put there, has this last slot
+abbrev pub noted : List Level → ℕ → ℕ → ℕ → List Level
+noted levels at prio last =
+    if nat_lt at (length levels) && (level_at levels at).prio == prio
+    then slice_set levels at (record { prio = prio; last = last })
+    else insert levels at (record { prio = prio; last = last })
+
+-- the highest level is taken out, if that slot is its last one
+abbrev pub dropped : List Level → ℕ → List Level
+dropped levels slot =
+    if nat_lt 0 (length levels) && (level_at levels (length levels - 1)).last == slot
+    then take (length levels - 1) levels
+    else levels

@@ -1,0 +1,134 @@
+//! The messages present in one queue.
+ghost use Rattle.std.specs.Prelude.{◌≡◌, ◌≢◌, ℕ, ◌+◌, ◌-◌, ◌<◌, ◌≤◌, ◌↔◌, ◌⊎◌, [], length, Contains, IfOk, IfSome, IfNone, IsNone, IsTrue};
+ghost use Rattle.mq_slots.specs.Messages.{IsBest};
+
+use crate::cells::{self, Cell};
+use crate::levels::{self, Level};
+use std::alloc::{AllocError, Global};
+use std::marker::Model;
+
+/// The messages present in one queue, each with its priority and the place of its send. The one that is received next is that of
+/// the highest priority, and among these the one of the least place.
+///
+/// The messages stand in one chain of slots, in the order in which they are received, and the spare slots in another. The last slot
+/// of each priority in use is noted, so that a push finds where its message belongs by a search among the priorities, and a pop
+/// takes the first of the chain.
+#[derive(Debug, Drop)]
+pub struct Slots {
+    // the head of the chain of messages, and the slots
+    cells: Vec<Cell>,
+    // the priorities in use, rising
+    levels: Vec<Level>,
+    // the first spare slot, if there is one
+    free: u32,
+    // how many slots are spare
+    spare: u32,
+}
+
+impl Model for Slots {
+    ghost use Rattle.mq_slots.specs.Held.{Held};
+
+    ghost Value = { Held };
+
+    ghost use Rattle.mq_slots.specs.Sound.{shown, AreSound};
+
+    ghost view = { shown };
+
+    ghost invariant = { AreSound };
+}
+
+impl Slots {
+    /// An empty queue with room for `cap` messages, 1 to 4,096. All the memory that is needed later is taken here; the error is
+    /// that it was refused.
+    pub fn new(alloc: Global, cap: u32) -> Result<Slots, AllocError>
+        requires some { 1 ≤ cap }
+        requires few { cap ≤ 4096 }
+        ensures empty { IfOk result (λ slots. slots.messages ≡ []) }
+        ensures cap { IfOk result (λ slots. slots.cap ≡ cap) }
+    {
+        let cells = cells::fresh(alloc, cap)?;
+        let levels = Vec::with_capacity(alloc, cap as usize)?;
+        Ok(Slots {
+            cells,
+            levels,
+            free: cap,
+            spare: cap,
+        })
+    }
+
+    /// Adds a message, in room that is there: its priority, 0 to 32,767, and the place of its send, which is above that of each
+    /// message present.
+    pub fn push(&mut self, prio: u32, place: u64)
+        requires room { length self.old.messages < self.old.cap }
+        requires prio { prio < 32768 }
+        requires newest { (m : ℕ × ℕ) → Contains self.old.messages m → m.1 < place }
+        ensures messages { (m : ℕ × ℕ) → Contains self.new.messages m ↔ ((m ≡ (prio, place)) ⊎ Contains self.old.messages m) }
+        ensures newest { (m : ℕ × ℕ) → Contains self.new.messages m → m.1 ≤ place }
+        ensures count { length self.new.messages ≡ length self.old.messages + 1 }
+        ensures cap { self.new.cap ≡ self.old.cap }
+    {
+        let new = self.free;
+        let at = levels::find_level(&self.levels, prio);
+        let before = levels::last_from(&self.levels, at);
+        self.free = cells::at(&self.cells, new).next;
+        self.spare -= 1;
+        cells::link(&mut self.cells, before, new, prio, place);
+        levels::note_level(&mut self.levels, at, prio, new);
+    }
+
+    /// Takes out the message that is received next, the oldest of the highest priority, as its priority and its place.
+    pub fn pop(&mut self) -> Option<(u32, u64)>
+        ensures none { IsNone result ↔ (self.old.messages ≡ []) }
+        ensures best { IfSome result (λ m. IsBest self.old.messages m) }
+        ensures rest { IfSome result (λ m. (other : ℕ × ℕ) → Contains self.new.messages other ↔ (Contains self.old.messages other × (other ≢ m))) }
+        ensures kept { (m : ℕ × ℕ) → Contains self.new.messages m → Contains self.old.messages m }
+        ensures count { length self.new.messages ≡ length self.old.messages - 1 }
+        ensures cap { self.new.cap ≡ self.old.cap }
+    {
+        if self.spare as usize + 1 == self.cells.len() {
+            return None;
+        }
+        let first = cells::at(&self.cells, 0).next;
+        let best = cells::at(&self.cells, first);
+        cells::unlink(&mut self.cells, first, self.free, self.spare);
+        self.free = first;
+        self.spare += 1;
+        levels::drop_level(&mut self.levels, first);
+        Some((best.prio, best.place))
+    }
+
+    /// The message that is received next, as its priority and its place.
+    pub fn best(&self) -> Option<(u32, u64)>
+        ensures none { IsNone result ↔ (self.now.messages ≡ []) }
+        ensures best { IfSome result (λ m. IsBest self.now.messages m) }
+    {
+        if self.spare as usize + 1 == self.cells.len() {
+            return None;
+        }
+        let first = cells::at(&self.cells, 0).next;
+        let slot = cells::at(&self.cells, first);
+        Some((slot.prio, slot.place))
+    }
+
+    /// How many messages are present.
+    pub fn len(&self) -> usize
+        ensures count { result ≡ length self.now.messages }
+        ensures within { result ≤ self.now.cap }
+    {
+        self.cells.len() - 1 - self.spare as usize
+    }
+
+    /// There is no room for another message.
+    pub fn is_full(&self) -> bool
+        ensures { IsTrue result ↔ (length self.now.messages ≡ self.now.cap) }
+    {
+        self.spare == 0
+    }
+
+    /// No message is present.
+    pub fn is_empty(&self) -> bool
+        ensures { IsTrue result ↔ (self.now.messages ≡ []) }
+    {
+        self.len() == 0
+    }
+}

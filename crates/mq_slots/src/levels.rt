@@ -1,0 +1,68 @@
+//! The priorities in use, and the last slot of each.
+ghost use Rattle.std.specs.Prelude.{◌≡◌, ℕ, ◌+◌, ◌<◌, ◌≤◌, [], ◌∷◌, length, vec_len, vec_capacity};
+ghost use Rattle.mq_slots.specs.Levels.{level_at, last_from, noted, dropped, IsRising};
+
+/// A priority in use: the slot of its newest message.
+#[derive(Clone, Copy, Debug, PartialEq, Eq)]
+pub struct Level {
+    pub prio: u32,
+    pub last: u32,
+}
+
+/// How many levels are of a lower priority: the index of the level of this priority or of the next higher one.
+pub fn find_level(levels: &[Level], prio: u32) -> usize
+    requires { IsRising levels.now }
+    ensures within { result ≤ length levels.now }
+    ensures below { (k : ℕ) → k < result → (level_at levels.now k).prio < prio }
+    ensures rest { (k : ℕ) → result ≤ k → k < length levels.now → prio ≤ (level_at levels.now k).prio }
+{
+    let mut low = 0;
+    let mut high = levels.len();
+    while low < high {
+        let middle = low + (high - low) / 2;
+        if levels[middle].prio < prio {
+            low = middle + 1;
+        } else {
+            high = middle;
+        }
+    }
+    low
+}
+
+/// The last slot of the level with that index, or the head of the chain where there is none.
+pub fn last_from(levels: &[Level], at: usize) -> u32
+    ensures { result ≡ last_from levels.now at }
+{
+    if at < levels.len() {
+        levels[at].last
+    } else {
+        0
+    }
+}
+
+/// Notes the slot of the newest message of a priority, whose level has that index or is put there.
+pub fn note_level(levels: &mut Vec<Level>, at: usize, prio: u32, last: u32)
+    requires within { at ≤ vec_len levels.old }
+    requires room { vec_len levels.old < vec_capacity levels.old }
+    ensures items { levels.new.items ≡ noted levels.old.items at prio last }
+    ensures capacity { vec_capacity levels.old ≤ vec_capacity levels.new }
+{
+    if at < levels.len() && levels[at].prio == prio {
+        levels[at].last = last;
+        return;
+    }
+    let Ok(()) = levels.insert(at, Level { prio, last }) else {
+        unreachable!()
+    };
+}
+
+/// Takes the highest level out, if that slot is its last one.
+pub fn drop_level(levels: &mut Vec<Level>, slot: u32)
+    ensures items { levels.new.items ≡ dropped levels.old.items slot }
+    ensures capacity { vec_capacity levels.old ≤ vec_capacity levels.new }
+{
+    let len = levels.len();
+    if len > 0 && levels[len - 1].last == slot {
+        let _ = levels.pop();
+    }
+}
