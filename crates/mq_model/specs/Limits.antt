@@ -1,4 +1,4 @@
--- The limits of the profile: what a system, a process, a queue and a message may have at most (limits.h, mq_open, mq_send).
+-- The limits of this library: what a system, a process, a queue and a message may have at most (limits.h, mq_open, mq_send).
 use Rattle.std.specs.Prelude.{ℕ}
 
 -- processes of a system, which are numbered from 1

@@ -1,4 +1,4 @@
-//! The limits of this profile: what a system, a process, a queue and a message may have at most (`limits.h`, `mq_open`,
+//! The limits of this library: what a system, a process, a queue and a message may have at most (`limits.h`, `mq_open`,
 //! `mq_send`).
 
 /// How many processes a system has at most. They are numbered from 1.
