@@ -7,18 +7,21 @@ use Rattle.mq_model.specs.Names.{bound_queue, attributes, are_within_limits}
 use Rattle.mq_model.specs.Descriptors.{held, lowest_free, alive}
 use Rattle.mq_model.specs.Messages.{present, is_full, best, least, waiting_sends, waiting_receives}
 use Rattle.mq_model.specs.Notices.{registered, registered_place, notices}
-use Rattle.mq_model.specs.Waits.{answered_by}
+use Rattle.mq_model.specs.Deadlines.{is_moment, has_passed}
+use Rattle.mq_model.specs.Waits.{open_wait, answered_by}
 use Rattle.mq_model.specs.Limits.{most_priorities, most_queues}
-use Rattle.mq_model.specs.Ladder.{is_read_only, is_write_only, is_of, accepted_reply, found_reply, close_reply}
+use Rattle.mq_model.specs.Ladder.{is_read_only, is_write_only, is_of, accepted_reply, found_reply, close_reply, timed_reply}
 use Rattle.mq_model.specs.Answer.{answer, answer_open, answer_send, answer_receive, answer_attributes, answer_notify}
 use Rattle.mq_model.specs.declared.entries.Attr.{Attr}
 use Rattle.mq_model.specs.declared.entries.OpenFlags.{OpenFlags}
-use Rattle.mq_model.specs.declared.faults.Fault.TheVariants.{Again}
+use Rattle.mq_model.specs.declared.faults.Fault.{Fault}
+use Rattle.mq_model.specs.declared.faults.Fault.TheVariants.{Again, Invalid, TimedOut}
+use Rattle.mq_model.specs.declared.entries.Deadline.{Deadline}
 use Rattle.mq_model.specs.declared.entries.Description.{Description}
 use Rattle.mq_model.specs.declared.entries.Call.{Call}
-use Rattle.mq_model.specs.declared.entries.Call.TheVariants.{MqOpen, MqClose, MqUnlink, MqSend, MqReceive, MqGetattr, MqSetattr, MqNotify, NextNotice, Collect}
+use Rattle.mq_model.specs.declared.entries.Call.TheVariants.{MqOpen, MqClose, MqUnlink, MqSend, MqReceive, MqGetattr, MqSetattr, MqNotify, NextNotice, Collect, MqTimedSend, MqTimedReceive, Withdraw}
 use Rattle.mq_model.specs.declared.entries.Reply.{Reply}
-use Rattle.mq_model.specs.declared.entries.Reply.TheVariants.{Opened, Queued, Handed, Waits, Got, Collected, Attrs, Notice, Done, Refused}
+use Rattle.mq_model.specs.declared.entries.Reply.TheVariants.{Opened, Queued, Handed, Waits, Got, Collected, Attrs, Notice, Done, Refused, Withdrawn}
 
 -- a fact on both branches
 pub either : (P : Reply → Type 0) (b : Bool) (x y : Reply) → (b ≡ true → P x) → (b ≡ false → P y) → P (if b then x else y)
@@ -83,12 +86,15 @@ Says past p (MqOpen flags attr) reply = OpenReply reply
 Says past p (MqClose d) reply = CloseSays (held past p d) reply
 Says past p MqUnlink reply = DoneReply reply
 Says past p (MqSend d prio len) reply = SendSays past (held past p d) prio len reply
+Says past p (MqTimedSend d prio len until now) reply = SendSays past (held past p d) prio len reply
 Says past p (MqReceive d room) reply = ReceiveSays past (held past p d) room reply
+Says past p (MqTimedReceive d room until now) reply = ReceiveSays past (held past p d) room reply
 Says past p (MqGetattr d) reply = AttrsReply reply
 Says past p (MqSetattr d nonblock) reply = AttrsReply reply
 Says past p (MqNotify d value) reply = DoneReply reply
 Says past p NextNotice reply = reply ≡ Notice (slice_get (notices past p) 0)
 Says past p Collect reply = reply ≡ Collected (unwrap_or (answered_by past p) 0)
+Says past p (Withdraw now) reply = reply ≡ Withdrawn (unwrap_or (open_wait past p) 0)
 
 message_says : (past : Past) (h : Description) (prio len : ℕ) (w : Option ℕ) → MaySend past h prio len → least (waiting_receives past h.queue) ≡ w → (is_full past h.queue && h.nonblock) ≡ false → SendSays past (Some h) prio len (accepted_reply w (is_full past h.queue) (if length (present past h.queue) == 0 then registered_place past h.queue else None))
 message_says past h prio len (Some w) facts first room = (h, refl, facts, first)
@@ -119,6 +125,13 @@ receive_says past (Some h) room =
     either P (int_lt (pos room) (attributes past h.queue).msgsize) _ _ (λ _. tt) (λ fits.
     best_says past h room (best past h.queue) (record { access = access; fits = fits }) refl))
 
+-- what is so of each refusal and of a reply is so of that reply with a deadline
+timed_says : (P : Reply → Type 0) (until now : Deadline) (reply : Reply) → ((f : Fault) → P (Refused f)) → P reply → P (timed_reply until now reply)
+timed_says P until now Waits refused says =
+    either P (not (is_moment until)) (Refused Invalid) (if has_passed until now then Refused TimedOut else Waits) (λ _. refused Invalid)
+    (λ _. either P (has_passed until now) (Refused TimedOut) Waits (λ _. refused TimedOut) (λ _. says))
+timed_says P until now reply refused says = says
+
 open_says : (past : Past) (p : ℕ) (flags : OpenFlags) (attr : Option Attr) (name : List ℕ) → OpenReply (answer_open past p flags attr name)
 open_says past p flags attr name =
     let bound = is_some (bound_queue past name) in
@@ -147,9 +160,12 @@ answer_says past p (MqOpen flags attr) name = open_says past p flags attr name
 answer_says past p (MqClose d) name = close_says (held past p d)
 answer_says past p MqUnlink name = either DoneReply (is_some (bound_queue past name)) _ _ (λ _. tt) (λ _. tt)
 answer_says past p (MqSend d prio len) name = send_says past (held past p d) prio len
+answer_says past p (MqTimedSend d prio len until now) name = timed_says (SendSays past (held past p d) prio len) until now _ (λ f. tt) (send_says past (held past p d) prio len)
 answer_says past p (MqReceive d room) name = receive_says past (held past p d) room
+answer_says past p (MqTimedReceive d room until now) name = timed_says (ReceiveSays past (held past p d) room) until now _ (λ f. tt) (receive_says past (held past p d) room)
 answer_says past p (MqGetattr d) name = attributes_says past (held past p d)
 answer_says past p (MqSetattr d nonblock) name = attributes_says past (held past p d)
 answer_says past p (MqNotify d value) name = notify_says past p (held past p d) value
 answer_says past p NextNotice name = refl
 answer_says past p Collect name = refl
+answer_says past p (Withdraw now) name = refl

@@ -11,7 +11,7 @@ use Rattle.mq_model.proofs.Places.{split}
 use Rattle.mq_model.specs.declared.faults.Fault.{Fault}
 use Rattle.mq_model.specs.declared.entries.Description.{Description}
 use Rattle.mq_model.specs.declared.entries.Call.{Call}
-use Rattle.mq_model.specs.declared.entries.Call.TheVariants.{MqOpen, MqClose, MqUnlink, MqSend, MqReceive, MqGetattr, MqSetattr, MqNotify, NextNotice, Collect}
+use Rattle.mq_model.specs.declared.entries.Call.TheVariants.{MqOpen, MqClose, MqUnlink, MqSend, MqReceive, MqGetattr, MqSetattr, MqNotify, NextNotice, Collect, MqTimedSend, MqTimedReceive, Withdraw}
 use Rattle.mq_model.specs.declared.entries.Reply.{Reply}
 use Rattle.mq_model.specs.declared.entries.Reply.TheVariants.{Refused}
 use Rattle.mq_model.specs.Owners.{blocked}
@@ -103,12 +103,15 @@ keeps-refused past (MqOpen flags attr) f payload = record { creates = refl; unli
 keeps-refused past (MqClose d) f payload = record { creates = refl; unlinks = refl; opens = refl; descriptors = λ d b. refl }
 keeps-refused past MqUnlink f payload = record { creates = refl; unlinks = refl; opens = refl; descriptors = λ d b. refl }
 keeps-refused past (MqSend d prio len) f payload = record { creates = refl; unlinks = refl; opens = refl; descriptors = λ d b. refl }
+keeps-refused past (MqTimedSend d prio len until now) f payload = record { creates = refl; unlinks = refl; opens = refl; descriptors = λ d b. refl }
 keeps-refused past (MqReceive d room) f payload = record { creates = refl; unlinks = refl; opens = refl; descriptors = λ d b. refl }
+keeps-refused past (MqTimedReceive d room until now) f payload = record { creates = refl; unlinks = refl; opens = refl; descriptors = λ d b. refl }
 keeps-refused past (MqGetattr d) f payload = record { creates = refl; unlinks = refl; opens = refl; descriptors = λ d b. refl }
 keeps-refused past (MqSetattr d nonblock) f payload = record { creates = refl; unlinks = refl; opens = refl; descriptors = λ d b. refl }
 keeps-refused past (MqNotify d value) f payload = record { creates = refl; unlinks = refl; opens = refl; descriptors = λ d b. refl }
 keeps-refused past NextNotice f payload = record { creates = refl; unlinks = refl; opens = refl; descriptors = λ d b. refl }
 keeps-refused past Collect f payload = record { creates = refl; unlinks = refl; opens = refl; descriptors = λ d b. refl }
+keeps-refused past (Withdraw now) f payload = record { creates = refl; unlinks = refl; opens = refl; descriptors = λ d b. refl }
 
 -- a queue keeps its attributes
 pub attributes-older : (past : Past) (r : Record) (q : ℕ) → q < length past → attributes (r ∷ past) q ≡ attributes past q

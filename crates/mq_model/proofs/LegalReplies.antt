@@ -1,13 +1,13 @@
 -- What the reply of a legal record says.
-use Rattle.std.proofs.Common.{◌≡◌, ℕ, Option, Some, refl, sym, subst}
+use Rattle.std.proofs.Common.{◌≡◌, ℕ, true, Option, Some, refl, sym, subst}
 use Rattle.mq_model.specs.Record.{Record, Past}
-use Rattle.mq_model.specs.Descriptors.{held}
-use Rattle.mq_model.specs.Messages.{best}
+use Rattle.mq_model.specs.Descriptors.{held, descriptor_of}
+use Rattle.mq_model.specs.Messages.{best, is_receive}
 use Rattle.mq_model.specs.Answer.{IsLegalNext}
 use Rattle.mq_model.proofs.Cases.{Says, answer_says, MayReceive}
 use Rattle.mq_model.specs.declared.entries.Description.{Description}
 use Rattle.mq_model.specs.declared.entries.Call.{Call}
-use Rattle.mq_model.specs.declared.entries.Call.TheVariants.{MqOpen, MqClose, MqUnlink, MqSend, MqReceive, MqGetattr, MqSetattr, MqNotify, NextNotice, Collect}
+use Rattle.mq_model.specs.declared.entries.Call.TheVariants.{MqOpen, MqClose, MqUnlink, MqSend, MqReceive, MqGetattr, MqSetattr, MqNotify, NextNotice, Collect, MqTimedSend, MqTimedReceive, Withdraw}
 use Rattle.mq_model.specs.declared.entries.Reply.{Reply}
 use Rattle.mq_model.specs.declared.entries.Reply.TheVariants.{Got}
 
@@ -15,16 +15,23 @@ use Rattle.mq_model.specs.declared.entries.Reply.TheVariants.{Got}
 pub legal_says : (past : Past) (r : Record) → IsLegalNext past r → Says past r.entry.process r.entry.call r.entry.reply
 legal_says past r legal = let P = λ (y : Reply). Says past r.entry.process r.entry.call y in subst P (sym legal.reply) (answer_says past r.entry.process r.entry.call r.payload)
 
+-- a call by which a process receives with descriptor d
+abbrev pub Receives : Call → ℕ → Type 0
+Receives call d = (is_receive call ≡ true) × (descriptor_of call ≡ Some d)
+
 -- a Got is the reply of a receive, and the message is the best of its queue
 pub got_says : (past : Past) (p : ℕ) (call : Call) (m : ℕ) (a n : Option ℕ) → Says past p call (Got m a n) →
-    (d : ℕ) × (room : ℕ) × (h : Description) × (call ≡ MqReceive d room) × (held past p d ≡ Some h) × MayReceive past h room × (best past h.queue ≡ Some m)
+    (d : ℕ) × (room : ℕ) × (h : Description) × Receives call d × (held past p d ≡ Some h) × MayReceive past h room × (best past h.queue ≡ Some m)
 got_says past p (MqOpen flags attr) m a n says = absurd says
 got_says past p (MqClose d) m a n says = absurd says.0
 got_says past p MqUnlink m a n says = absurd says
 got_says past p (MqSend d prio len) m a n says = absurd says.3
-got_says past p (MqReceive d room) m a n says = (d, room, says.0, refl, says.1, says.2, says.3.0)
+got_says past p (MqTimedSend d prio len until now) m a n says = absurd says.3
+got_says past p (MqReceive d room) m a n says = (d, room, says.0, (refl, refl), says.1, says.2, says.3.0)
+got_says past p (MqTimedReceive d room until now) m a n says = (d, room, says.0, (refl, refl), says.1, says.2, says.3.0)
 got_says past p (MqGetattr d) m a n says = absurd says
 got_says past p (MqSetattr d nonblock) m a n says = absurd says
 got_says past p (MqNotify d value) m a n says = absurd says
 got_says past p NextNotice m a n says = absurd (cc)
 got_says past p Collect m a n says = absurd (cc)
+got_says past p (Withdraw now) m a n says = absurd (cc)

@@ -5,6 +5,7 @@ pub mod Cases
 pub mod LegalReplies
 pub mod Best
 pub mod Frames
+pub mod OpenWaits
 pub mod Steps
 pub mod NamedWaits
 pub mod Waiters

@@ -1,20 +1,22 @@
--- Which waits the entries of a legal journal name.
+-- Which waits the entries of a legal journal end.
 use Rattle.std.proofs.Common.{◌≡◌, ℕ, ◌<◌, ◌==◌, Bool, true, false, ◌&&◌, ◌||◌, List, [], ◌∷◌, length, min, Option, Some, None, if◌then◌else◌, refl, ◌∙◌, ap, arith, eqb-true, eq-eqb, ne_eqb}
 use Rattle.std.specs.Option.{unwrap_or}
 use Rattle.std.proofs.lemmas.Bool.{and_parts, eqb-false}
 use Rattle.mq_model.specs.Record.{Record, Past}
 use Rattle.mq_model.specs.Descriptors.{is_place, is_on, called_queue}
-use Rattle.mq_model.specs.Messages.{is_in, with_place, is_send, is_receive, hands, least, blocks_send, blocks_receive, blocked_sends, blocked_receives, waiting_receives, handed_waits}
+use Rattle.mq_model.specs.Messages.{is_in, with_place, is_send, is_receive, ends_receive, least, blocks_send, blocks_receive, blocked_sends, blocked_receives, waiting_receives, ended_receives}
 use Rattle.mq_model.specs.Waits.{is_wait, names_wait, open_wait, answered_by}
-use Rattle.mq_model.specs.Answer.{Legal, IsLegalNext}
+use Rattle.mq_model.specs.Answer.{Legal, IsLegalNext, may_call}
 use Rattle.mq_model.proofs.Places.{split, clash, is_in-filter}
 use Rattle.mq_model.proofs.Cases.{Says}
 use Rattle.mq_model.proofs.LegalReplies.{legal_says}
 use Rattle.mq_model.proofs.Steps.{Below, not-below}
+use Rattle.mq_model.proofs.OpenWaits.{withdrawn-open, withdrawn-other}
+use Rattle.mq_model.proofs.OthersLeave.{open_wait-below}
 use Rattle.mq_model.specs.declared.entries.Call.{Call}
-use Rattle.mq_model.specs.declared.entries.Call.TheVariants.{MqOpen, MqClose, MqUnlink, MqSend, MqReceive, MqGetattr, MqSetattr, MqNotify, NextNotice, Collect}
+use Rattle.mq_model.specs.declared.entries.Call.TheVariants.{MqOpen, MqClose, MqUnlink, MqSend, MqReceive, MqGetattr, MqSetattr, MqNotify, NextNotice, Collect, MqTimedSend, MqTimedReceive, Withdraw}
 use Rattle.mq_model.specs.declared.entries.Reply.{Reply}
-use Rattle.mq_model.specs.declared.entries.Reply.TheVariants.{Opened, Queued, Handed, Waits, Got, Collected, Attrs, Notice, Done, Refused}
+use Rattle.mq_model.specs.declared.entries.Reply.TheVariants.{Opened, Queued, Handed, Waits, Got, Collected, Attrs, Notice, Done, Refused, Withdrawn}
 use Rattle.mq_model.specs.Owners.{blocked}
 
 abbrev pub blocks : Bool → Call → Reply → Bool
@@ -56,12 +58,15 @@ not-both (MqOpen flags attr) h g = cc
 not-both (MqClose d) h g = cc
 not-both MqUnlink h g = cc
 not-both (MqSend d prio len) h g = cc
+not-both (MqTimedSend d prio len until now) h g = cc
 not-both (MqReceive d room) h g = cc
+not-both (MqTimedReceive d room until now) h g = cc
 not-both (MqGetattr d) h g = cc
 not-both (MqSetattr d nonblock) h g = cc
 not-both (MqNotify d value) h g = cc
 not-both NextNotice h g = cc
 not-both Collect h g = cc
+not-both (Withdraw now) h g = cc
 
 not-both-blocked : (call : Call) (reply : Reply) → blocks_send call reply ≡ true → blocks_receive call reply ≡ true → ⊥
 not-both-blocked call (Opened d created) h g = cc
@@ -70,6 +75,7 @@ not-both-blocked call (Handed w) h g = cc
 not-both-blocked call Waits h g = not-both call h g
 not-both-blocked call (Got m a n) h g = cc
 not-both-blocked call (Collected b) h g = cc
+not-both-blocked call (Withdrawn b) h g = cc
 not-both-blocked call (Attrs s) h g = cc
 not-both-blocked call (Notice v) h g = cc
 not-both-blocked call Done h g = cc
@@ -107,47 +113,51 @@ least-in (x ∷ xs) m e = by (λ k f. least-in xs k f) (least xs) refl e
         let same : min x k ≡ m = cc in
         split (x == m) (λ t. rw t refl) (λ n. let ne : x ≡ m → ⊥ = eqb-false _ _ n in let old : k ≡ m = omega arith in let inside : is_in xs m ≡ true = rw old at (rest k f) in rw (n, inside) refl)
 
-hands-below : (past : Past) (r : Record) (k : ℕ) → IsLegalNext past r → hands r.entry.reply ≡ Some k → k < length past
-hands-below past r k legal e = by r.entry.call r.entry.reply (legal_says past r legal) e
+ends_receive-below : (past : Past) (r : Record) (k : ℕ) → IsLegalNext past r → ends_receive r.entry.reply ≡ Some k → k < length past
+ends_receive-below past r k legal e = by r.entry.call r.entry.reply (legal_says past r legal) legal.turn e
   where
     waits : (q : ℕ) → least (waiting_receives past q) ≡ Some k → k < length past
     waits q e = blocked-below past false q k (is_in-filter _ (blocked_receives past q) k (least-in (waiting_receives past q) k e)).0
 
-    by : (call : Call) (reply : Reply) → Says past r.entry.process call reply → hands reply ≡ Some k → k < length past
-    by (MqSend d prio len) (Handed w) says e = let same : w ≡ k = cc in waits says.0.queue (says.3 ∙ ap Some same)
-    by call (Opened d created) says e = absurd (cc)
-    by call (Queued n) says e = absurd (cc)
-    by call Waits says e = absurd (cc)
-    by call (Got m a n) says e = absurd (cc)
-    by call (Collected b) says e = absurd (cc)
-    by call (Attrs s) says e = absurd (cc)
-    by call (Notice v) says e = absurd (cc)
-    by call Done says e = absurd (cc)
-    by call (Refused f) says e = absurd (cc)
-    by (MqReceive d room) (Handed w) says e = absurd says.3
-    by (MqOpen flags attr) (Handed w) says e = absurd says
-    by (MqClose d) (Handed w) says e = absurd says.0
-    by MqUnlink (Handed w) says e = absurd says
-    by (MqGetattr d) (Handed w) says e = absurd says
-    by (MqSetattr d nonblock) (Handed w) says e = absurd says
-    by (MqNotify d value) (Handed w) says e = absurd says
-    by NextNotice (Handed w) says e = absurd (cc)
-    by Collect (Handed w) says e = absurd (cc)
+    by : (call : Call) (reply : Reply) → Says past r.entry.process call reply → may_call past r.entry.process call ≡ true → ends_receive reply ≡ Some k → k < length past
+    by (MqSend d prio len) (Handed w) says turn e = let same : w ≡ k = cc in waits says.0.queue (says.3 ∙ ap Some same)
+    by (MqTimedSend d prio len until now) (Handed w) says turn e = let same : w ≡ k = cc in waits says.0.queue (says.3 ∙ ap Some same)
+    by call (Opened d created) says turn e = absurd (cc)
+    by call (Queued n) says turn e = absurd (cc)
+    by call Waits says turn e = absurd (cc)
+    by call (Got m a n) says turn e = absurd (cc)
+    by call (Collected b) says turn e = absurd (cc)
+    by call (Withdrawn b) says turn e = let same : b ≡ k = cc in open_wait-below past r.entry.process k ((withdrawn-open past r.entry.process call b says turn).0 ∙ ap Some same)
+    by call (Attrs s) says turn e = absurd (cc)
+    by call (Notice v) says turn e = absurd (cc)
+    by call Done says turn e = absurd (cc)
+    by call (Refused f) says turn e = absurd (cc)
+    by (MqReceive d room) (Handed w) says turn e = absurd says.3
+    by (MqTimedReceive d room until now) (Handed w) says turn e = absurd says.3
+    by (MqOpen flags attr) (Handed w) says turn e = absurd says
+    by (MqClose d) (Handed w) says turn e = absurd says.0
+    by MqUnlink (Handed w) says turn e = absurd says
+    by (MqGetattr d) (Handed w) says turn e = absurd says
+    by (MqSetattr d nonblock) (Handed w) says turn e = absurd says
+    by (MqNotify d value) (Handed w) says turn e = absurd says
+    by NextNotice (Handed w) says turn e = absurd (cc)
+    by Collect (Handed w) says turn e = absurd (cc)
+    by (Withdraw now) (Handed w) says turn e = absurd (cc)
 
-handed-below : (past : Past) → Legal past → Below (length past) (handed_waits past)
-handed-below [] legal = λ m h. absurd (cc)
-handed-below (r ∷ past) legal = λ m h. step (hands r.entry.reply) refl (handed-below past legal.0) m h
+ended_receives-below : (past : Past) → Legal past → Below (length past) (ended_receives past)
+ended_receives-below [] legal = λ m h. absurd (cc)
+ended_receives-below (r ∷ past) legal = λ m h. step (ends_receive r.entry.reply) refl (ended_receives-below past legal.0) m h
   where
-    step : (o : Option ℕ) → hands r.entry.reply ≡ o → Below (length past) (handed_waits past) → (m : ℕ) → is_in (with_place o (handed_waits past)) m ≡ true → m < length (r ∷ past)
+    step : (o : Option ℕ) → ends_receive r.entry.reply ≡ o → Below (length past) (ended_receives past) → (m : ℕ) → is_in (with_place o (ended_receives past)) m ≡ true → m < length (r ∷ past)
     step None e before m h = let lt = before m h in omega (arith, lt)
     step (Some k) e before m h = split (k == m)
-        (λ t. let same : k ≡ m = eqb-true _ _ t in let lt = hands-below past r k legal.1 e in omega (arith, lt))
-        (λ f. let old : is_in (handed_waits past) m ≡ true = rw f at h in let lt = before m old in omega (arith, lt))
+        (λ t. let same : k ≡ m = eqb-true _ _ t in let lt = ends_receive-below past r k legal.1 e in omega (arith, lt))
+        (λ f. let old : is_in (ended_receives past) m ≡ true = rw f at h in let lt = before m old in omega (arith, lt))
 
--- no entry hands a message to an open wait that is not answered
-pub unhanded : (past : Past) → Legal past → (p w : ℕ) → open_wait past p ≡ Some w → answered_by past p ≡ None → is_in (handed_waits past) w ≡ false
-unhanded [] legal p w e a = absurd (cc)
-unhanded (r ∷ past) legal p w e a = split (r.entry.process == p)
+-- no entry ended an open wait that is not answered
+pub unended-receive : (past : Past) → Legal past → (p w : ℕ) → open_wait past p ≡ Some w → answered_by past p ≡ None → is_in (ended_receives past) w ≡ false
+unended-receive [] legal p w e a = absurd (cc)
+unended-receive (r ∷ past) legal p w e a = split (r.entry.process == p)
     (λ own. let last : (if is_wait r.entry.reply then Some (length past) else None) ≡ Some w = rw own at e in own-case (is_wait r.entry.reply) refl last)
     (λ other.
     let old : open_wait past p ≡ Some w = rw other at e in
@@ -155,32 +165,34 @@ unhanded (r ∷ past) legal p w e a = split (r.entry.process == p)
     let rest' : (if names_wait r.entry.reply (Some w) then Some (length past) else answered_by past p) ≡ None = rw old at rest in
     split (names_wait r.entry.reply (Some w))
     (λ t. absurd (let bad : Some (length past) ≡ None = rw t at rest' in cc))
-    (λ f. let free : answered_by past p ≡ None = rw f at rest' in unlisted r.entry.reply f (unhanded past legal.0 p w old free)))
+    (λ f. let free : answered_by past p ≡ None = rw f at rest' in unlisted r.entry.reply (λ k is. withdrawn-other past r p w k legal.1 other old is) f (unended-receive past legal.0 p w old free)))
   where
-    own-case : (b : Bool) → is_wait r.entry.reply ≡ b → (if b then Some (length past) else None) ≡ Some w → is_in (handed_waits (r ∷ past)) w ≡ false
-    own-case true is e = let place : length past ≡ w = cc in waits r.entry.reply is (rw (← place) (not-below (length past) (handed_waits past) (handed-below past legal.0)))
+    own-case : (b : Bool) → is_wait r.entry.reply ≡ b → (if b then Some (length past) else None) ≡ Some w → is_in (ended_receives (r ∷ past)) w ≡ false
+    own-case true is e = let place : length past ≡ w = cc in waits r.entry.reply is (rw (← place) (not-below (length past) (ended_receives past) (ended_receives-below past legal.0)))
       where
-        waits : (reply : Reply) → is_wait reply ≡ true → is_in (handed_waits past) w ≡ false → is_in (with_place (hands reply) (handed_waits past)) w ≡ false
+        waits : (reply : Reply) → is_wait reply ≡ true → is_in (ended_receives past) w ≡ false → is_in (with_place (ends_receive reply) (ended_receives past)) w ≡ false
         waits Waits is f = f
         waits (Handed k) is f = absurd (cc)
         waits (Opened d created) is f = f
         waits (Queued n) is f = f
         waits (Got m a n) is f = f
         waits (Collected b) is f = f
+        waits (Withdrawn b) is f = absurd (cc)
         waits (Attrs s) is f = f
         waits (Notice v) is f = f
         waits Done is f = f
         waits (Refused x) is f = f
     own-case false is e = absurd (cc)
 
-    unlisted : (reply : Reply) → names_wait reply (Some w) ≡ false → is_in (handed_waits past) w ≡ false → is_in (with_place (hands reply) (handed_waits past)) w ≡ false
-    unlisted (Handed k) f g = rw (f, g) refl
-    unlisted Waits f g = g
-    unlisted (Opened d created) f g = g
-    unlisted (Queued n) f g = g
-    unlisted (Got m a n) f g = g
-    unlisted (Collected b) f g = g
-    unlisted (Attrs s) f g = g
-    unlisted (Notice v) f g = g
-    unlisted Done f g = g
-    unlisted (Refused x) f g = g
+    unlisted : (reply : Reply) → ((k : ℕ) → reply ≡ Withdrawn k → (k == w) ≡ false) → names_wait reply (Some w) ≡ false → is_in (ended_receives past) w ≡ false → is_in (with_place (ends_receive reply) (ended_receives past)) w ≡ false
+    unlisted (Handed k) gone f g = rw (f, g) refl
+    unlisted Waits gone f g = g
+    unlisted (Opened d created) gone f g = g
+    unlisted (Queued n) gone f g = g
+    unlisted (Got m a n) gone f g = g
+    unlisted (Collected b) gone f g = g
+    unlisted (Withdrawn b) gone f g = rw (gone b refl, g) refl
+    unlisted (Attrs s) gone f g = g
+    unlisted (Notice v) gone f g = g
+    unlisted Done gone f g = g
+    unlisted (Refused x) gone f g = g

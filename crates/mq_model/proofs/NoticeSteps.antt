@@ -9,9 +9,9 @@ use Rattle.mq_model.specs.Notices.{registration_by, registration_of, only_if, no
 use Rattle.mq_model.specs.Answer.{Legal}
 use Rattle.mq_model.specs.declared.entries.Registration.{Registration}
 use Rattle.mq_model.specs.declared.entries.Call.{Call}
-use Rattle.mq_model.specs.declared.entries.Call.TheVariants.{MqOpen, MqClose, MqUnlink, MqSend, MqReceive, MqGetattr, MqSetattr, MqNotify, NextNotice, Collect}
+use Rattle.mq_model.specs.declared.entries.Call.TheVariants.{MqOpen, MqClose, MqUnlink, MqSend, MqReceive, MqGetattr, MqSetattr, MqNotify, NextNotice, Collect, MqTimedSend, MqTimedReceive, Withdraw}
 use Rattle.mq_model.specs.declared.entries.Reply.{Reply}
-use Rattle.mq_model.specs.declared.entries.Reply.TheVariants.{Opened, Queued, Handed, Waits, Got, Collected, Attrs, Notice, Done, Refused}
+use Rattle.mq_model.specs.declared.entries.Reply.TheVariants.{Opened, Queued, Handed, Waits, Got, Collected, Attrs, Notice, Done, Refused, Withdrawn}
 use Rattle.mq_model.proofs.Places.{split}
 use Rattle.mq_model.proofs.Cases.{Says}
 use Rattle.mq_model.proofs.LegalReplies.{legal_says}
@@ -36,11 +36,14 @@ made-by p here (MqOpen flags attr) n e = absurd (cc)
 made-by p here (MqClose d) n e = absurd (cc)
 made-by p here MqUnlink n e = absurd (cc)
 made-by p here (MqSend d prio len) n e = absurd (cc)
+made-by p here (MqTimedSend d prio len until now) n e = absurd (cc)
 made-by p here (MqReceive d room) n e = absurd (cc)
+made-by p here (MqTimedReceive d room until now) n e = absurd (cc)
 made-by p here (MqGetattr d) n e = absurd (cc)
 made-by p here (MqSetattr d nonblock) n e = absurd (cc)
 made-by p here NextNotice n e = absurd (cc)
 made-by p here Collect n e = absurd (cc)
+made-by p here (Withdraw now) n e = absurd (cc)
 
 pub made-of : (p here : ℕ) (call : Call) (reply : Reply) (n : Registration) → registration_of here p call reply ≡ Some n → (n.place ≡ here) × (n.process ≡ p) × (value_of_notify call ≡ Some n.value)
 made-of p here call Done n e = made-by p here call n e
@@ -50,6 +53,7 @@ made-of p here call (Handed w) n e = absurd (cc)
 made-of p here call Waits n e = absurd (cc)
 made-of p here call (Got m a k) n e = absurd (cc)
 made-of p here call (Collected b) n e = absurd (cc)
+made-of p here call (Withdrawn b) n e = absurd (cc)
 made-of p here call (Attrs s) n e = absurd (cc)
 made-of p here call (Notice v) n e = absurd (cc)
 made-of p here call (Refused f) n e = absurd (cc)
@@ -118,11 +122,14 @@ given-few (r ∷ past) legal p =
         notice-of (MqClose d) says = absurd says.0
         notice-of MqUnlink says = absurd says
         notice-of (MqSend d prio len) says = absurd says.3
+        notice-of (MqTimedSend d prio len until now) says = absurd says.3
         notice-of (MqReceive d room) says = absurd says.3
+        notice-of (MqTimedReceive d room until now) says = absurd says.3
         notice-of (MqGetattr d) says = absurd says
         notice-of (MqSetattr d nonblock) says = absurd says
         notice-of (MqNotify d value) says = absurd says
         notice-of Collect says = absurd (cc)
+        notice-of (Withdraw now) says = absurd (cc)
     given (Notice None) is says t longer before = absurd (let bad : false ≡ true = rw is at t in cc)
     given (Opened d created) is says t longer before = absurd (let bad : false ≡ true = rw is at t in cc)
     given (Queued m) is says t longer before = absurd (let bad : false ≡ true = rw is at t in cc)
@@ -130,6 +137,7 @@ given-few (r ∷ past) legal p =
     given Waits is says t longer before = absurd (let bad : false ≡ true = rw is at t in cc)
     given (Got m a k) is says t longer before = absurd (let bad : false ≡ true = rw is at t in cc)
     given (Collected b) is says t longer before = absurd (let bad : false ≡ true = rw is at t in cc)
+    given (Withdrawn b) is says t longer before = absurd (let bad : false ≡ true = rw is at t in cc)
     given (Attrs s) is says t longer before = absurd (let bad : false ≡ true = rw is at t in cc)
     given Done is says t longer before = absurd (let bad : false ≡ true = rw is at t in cc)
     given (Refused f) is says t longer before = absurd (let bad : false ≡ true = rw is at t in cc)

@@ -10,6 +10,7 @@ use Rattle.std.proofs.lemmas.Bool.{eqb-false}
 use Rattle.mq_model.specs.Record.{Record, Past}
 use Rattle.mq_model.specs.Descriptors.{held, held_after, description, with_nonblock, opened_queue, called_queue, is_place}
 use Rattle.mq_model.specs.Messages.{is_in, is_send, is_receive, least}
+use Rattle.mq_model.specs.Deadlines.{deadline_of}
 use Rattle.mq_model.specs.Waits.{is_wait, named_wait, names_wait, open_wait, answered_by}
 use Rattle.mq_model.specs.Answer.{Legal, IsLegalNext, may_call, answer}
 use Rattle.mq_model.specs.Owners.{held_in, wait_in, with_wait, with_answer, with_slot, waiter_in, OwnersMirror, blocked, waiting}
@@ -17,33 +18,45 @@ use Rattle.mq_model.specs.OwnersNoted.{EntryQueue, FitsSlots, noted, noted_done,
 use Rattle.mq_model.specs.declared.owners.OpenWait.{OpenWait}
 use Rattle.mq_model.specs.declared.owners.Owner.{Owner}
 use Rattle.mq_model.specs.declared.entries.Attr.{Attr}
+use Rattle.mq_model.specs.declared.entries.Deadline.{Deadline}
 use Rattle.mq_model.specs.declared.entries.Status.{Status}
 use Rattle.mq_model.specs.declared.entries.OpenFlags.{OpenFlags}
 use Rattle.mq_model.specs.declared.faults.Fault.TheVariants.{BadDescriptor}
 use Rattle.mq_model.specs.declared.entries.Description.{Description}
 use Rattle.mq_model.specs.declared.entries.Call.{Call}
-use Rattle.mq_model.specs.declared.entries.Call.TheVariants.{MqOpen, MqClose, MqUnlink, MqSend, MqReceive, MqGetattr, MqSetattr, MqNotify, NextNotice, Collect}
+use Rattle.mq_model.specs.declared.entries.Call.TheVariants.{MqOpen, MqClose, MqUnlink, MqSend, MqReceive, MqGetattr, MqSetattr, MqNotify, NextNotice, Collect, MqTimedSend, MqTimedReceive, Withdraw}
 use Rattle.mq_model.specs.declared.entries.Reply.{Reply}
-use Rattle.mq_model.specs.declared.entries.Reply.TheVariants.{Opened, Queued, Handed, Waits, Got, Collected, Attrs, Notice, Done, Refused}
+use Rattle.mq_model.specs.declared.entries.Reply.TheVariants.{Opened, Queued, Handed, Waits, Got, Collected, Attrs, Notice, Done, Refused, Withdrawn}
 use Rattle.mq_model.proofs.Places.{split, clash}
 use Rattle.mq_model.proofs.Cases.{Says, answer_says}
 use Rattle.mq_model.proofs.LegalReplies.{legal_says}
 use Rattle.mq_model.proofs.OwnerLines.{line-exists, held_in-with_slot, held_in-number, held_in-with_wait, held_in-with_answer, wait_in-with_wait, wait_in-with_answer, wait_in-with_slot, answer_in-with_wait, answer_in-with_answer, answer_in-with_slot, slots-with_slot, slots-with_wait, slots-with_answer}
 use Rattle.mq_model.proofs.Frames.{open_wait-same, answered_by-step, blocked-older}
-use Rattle.mq_model.proofs.Waiters.{same-waiter, waiter, admits-least, hands-least}
+use Rattle.mq_model.proofs.Waiters.{waiter, admits-least, hands-least}
+use Rattle.mq_model.proofs.OpenWaits.{same-waiter, wait_deadline-same}
 use Rattle.mq_model.proofs.OpenReplies.{opened-says, lowest_free-is}
 use Rattle.mq_model.proofs.NamedWaits.{least-in}
 
 abbrev rec : ℕ → Call → Reply → List ℕ → Record
 rec p call reply payload = record { entry = record { process = p; call = call; reply = reply }; payload = payload }
 
+abbrev until_of : Option OpenWait → Option Deadline
+until_of wait = option_and_then (λ (w : OpenWait). w.until) wait
+
 none-of : (o : Option ℕ) → is_none o ≡ true → o ≡ None
 none-of None e = refl
 none-of (Some w) e = absurd (let bad : false ≡ true = e in cc)
 
--- a process that makes another call than a collect has no open wait
-pub turn-none : (past : Past) (p : ℕ) (call : Call) (reply : Reply) → Says past p call reply → may_call past p call ≡ true → ((by : ℕ) → reply ≡ Collected by → ⊥) → open_wait past p ≡ None
-turn-none past p Collect reply says turn not = absurd (not _ says)
+-- the reply of a call that ends a wait
+abbrev pub ends_wait : Reply → Bool
+ends_wait (Collected by) = true
+ends_wait (Withdrawn wait) = true
+ends_wait reply = false
+
+-- a process that makes another call than a collect or a withdrawal has no open wait
+pub turn-none : (past : Past) (p : ℕ) (call : Call) (reply : Reply) → Says past p call reply → may_call past p call ≡ true → ends_wait reply ≡ false → open_wait past p ≡ None
+turn-none past p Collect reply says turn not = let bad : true ≡ false = rw says at not in absurd (cc)
+turn-none past p (Withdraw now) reply says turn not = let bad : true ≡ false = rw says at not in absurd (cc)
 turn-none past p call reply says turn not = none-of (open_wait past p) turn
 
 names-nothing : (reply : Reply) → named_wait reply ≡ None → (o : Option ℕ) → names_wait reply o ≡ false
@@ -82,6 +95,7 @@ keep-quiet past owners m p call reply payload quiet =
       held = λ k d. m.held k d ∙ sym (held-quiet past r quiet.descriptors k d);
       waits = λ k. m.waits k ∙ sym (open_wait-same past r quiet.free quiet.goes k);
       blocked = λ k w e. blocked-older past r w.sends w.queue w.place (m.blocked k w e);
+      deadlines = λ k. m.deadlines k ∙ sym (wait_deadline-same past r quiet.free quiet.goes k);
       answers = λ k. m.answers k ∙ sym (answered-same past r quiet.free quiet.unnamed k);
     }
 
@@ -106,6 +120,7 @@ keep-slot past owners m p call reply payload d v lt changes =
           (λ f. rw f (m.held k e));
       waits = λ k. ap (option_map (λ (w : OpenWait). w.place)) (wait_in-with_slot owners p d k v) ∙ m.waits k ∙ sym (open_wait-same past r changes.free changes.goes k);
       blocked = λ k w e. blocked-older past r w.sends w.queue w.place (m.blocked k w (sym (wait_in-with_slot owners p d k v) ∙ e));
+      deadlines = λ k. ap until_of (wait_in-with_slot owners p d k v) ∙ m.deadlines k ∙ sym (wait_deadline-same past r changes.free changes.goes k);
       answers = λ k. answer_in-with_slot owners p d k v ∙ m.answers k ∙ sym (answered-same past r changes.free changes.unnamed k);
     }
 
@@ -120,18 +135,21 @@ keep-answer past owners m p call reply payload receiver w free goes named same o
       held = λ k d. held_in-with_answer owners receiver (length past) k d ∙ m.held k d ∙ sym (held-quiet past r same k d);
       waits = λ k. ap (option_map (λ (w : OpenWait). w.place)) (wait_in-with_answer owners receiver (length past) k) ∙ m.waits k ∙ sym (open_wait-same past r free goes k);
       blocked = λ k x e. blocked-older past r x.sends x.queue x.place (m.blocked k x (sym (wait_in-with_answer owners receiver (length past) k) ∙ e));
+      deadlines = λ k. ap until_of (wait_in-with_answer owners receiver (length past) k) ∙ m.deadlines k ∙ sym (wait_deadline-same past r free goes k);
       answers = λ k. answer_in-with_answer owners receiver (length past) k lt ∙ sym (answered_by-step past r free k ∙ rw (names-one past reply receiver w named open_at k) (ap (λ o. if receiver == k then Some (length past) else o) (sym (m.answers k))));
     }
 
 -- the process waits no longer
-keep-collected : (past : Past) (owners : List Owner) → OwnersMirror past owners → (p : ℕ) (call : Call) (by : ℕ) (payload : List ℕ) → p < length owners → OwnersMirror (rec p call (Collected by) payload ∷ past) (with_wait owners p None)
-keep-collected past owners m p call by payload lt =
-    let r : Record = rec p call (Collected by) payload in
+keep-ended : (past : Past) (owners : List Owner) → OwnersMirror past owners → (p : ℕ) (call : Call) (reply : Reply) (payload : List ℕ) → is_wait reply ≡ false → named_wait reply ≡ None → ((d : ℕ) (before : Option Description) → held_after past call payload reply d before ≡ before) → p < length owners →
+    OwnersMirror (rec p call reply payload ∷ past) (with_wait owners p None)
+keep-ended past owners m p call reply payload goes none same lt =
+    let r : Record = rec p call reply payload in
     record {
       slots = slots-with_wait owners p None m.slots;
-      held = λ k d. held_in-with_wait owners p None k d ∙ m.held k d ∙ sym (held-quiet past r (λ d. refl) k d);
-      waits = λ k. ap (option_map (λ (w : OpenWait). w.place)) (wait_in-with_wait owners p None k lt) ∙ split (p == k) (λ t. rw t refl) (λ f. rw f (m.waits k));
+      held = λ k d. held_in-with_wait owners p None k d ∙ m.held k d ∙ sym (held-quiet past r (λ d. same d (held past p d)) k d);
+      waits = λ k. ap (option_map (λ (w : OpenWait). w.place)) (wait_in-with_wait owners p None k lt) ∙ split (p == k) (λ t. rw (t, goes) refl) (λ f. rw f (m.waits k));
       blocked = λ k w e. blocked-older past r w.sends w.queue w.place (m.blocked k w (still k w e));
+      deadlines = λ k. ap until_of (wait_in-with_wait owners p None k lt) ∙ split (p == k) (λ t. rw (t, goes) refl) (λ f. rw f (m.deadlines k));
       answers = λ k. answer_in-with_wait owners p None k lt ∙ split (p == k) (λ t. rw t refl) (λ f. rw f (m.answers k ∙ unnamed k));
     }
   where
@@ -139,12 +157,14 @@ keep-collected past owners m p call by payload lt =
     still k w e = let at : (if p == k then None else wait_in owners k) ≡ Some w = sym (wait_in-with_wait owners p None k lt) ∙ e in
         split (p == k) (λ t. let bad : None ≡ Some w = rw t at at in absurd (cc)) (λ f. rw f at at)
 
-    unnamed : (k : ℕ) → answered_by past k ≡ (if names_wait (Collected by) (open_wait past k) then Some (length past) else answered_by past k)
-    unnamed k = rw (names-nothing (Collected by) refl (open_wait past k)) refl
+    unnamed : (k : ℕ) → answered_by past k ≡ (if names_wait reply (open_wait past k) then Some (length past) else answered_by past k)
+    unnamed k = rw (names-nothing reply none (open_wait past k)) refl
 
 blocked-newest : (past : Past) (p : ℕ) (call : Call) (payload : List ℕ) (q : ℕ) → called_queue past p call ≡ Some q → ((is_send call ≡ true) ⊎ (is_receive call ≡ true)) → is_in (blocked (rec p call Waits payload ∷ past) (is_send call) q) (length past) ≡ true
 blocked-newest past p (MqSend d prio len) payload q on kind = rw (on, eq-eqb q q refl, eq-eqb (length past) (length past) refl) refl
+blocked-newest past p (MqTimedSend d prio len until now) payload q on kind = rw (on, eq-eqb q q refl, eq-eqb (length past) (length past) refl) refl
 blocked-newest past p (MqReceive d room) payload q on kind = rw (on, eq-eqb q q refl, eq-eqb (length past) (length past) refl) refl
+blocked-newest past p (MqTimedReceive d room until now) payload q on kind = rw (on, eq-eqb q q refl, eq-eqb (length past) (length past) refl) refl
 blocked-newest past p call payload q on (inl e) = absurd (cc)
 blocked-newest past p call payload q on (inr e) = absurd (cc)
 
@@ -153,33 +173,37 @@ waits-kind past p (MqOpen flags attr) says = absurd says
 waits-kind past p (MqClose d) says = absurd says.0
 waits-kind past p MqUnlink says = absurd says
 waits-kind past p (MqSend d prio len) says = inl refl
+waits-kind past p (MqTimedSend d prio len until now) says = inl refl
 waits-kind past p (MqReceive d room) says = inr refl
+waits-kind past p (MqTimedReceive d room until now) says = inr refl
 waits-kind past p (MqGetattr d) says = absurd says
 waits-kind past p (MqSetattr d nonblock) says = absurd says
 waits-kind past p (MqNotify d value) says = absurd says
 waits-kind past p NextNotice says = absurd (cc)
 waits-kind past p Collect says = absurd (cc)
+waits-kind past p (Withdraw now) says = absurd (cc)
 
 keep-waits : (past : Past) (owners : List Owner) → OwnersMirror past owners → (p : ℕ) (call : Call) (payload : List ℕ) (q : ℕ) → Says past p call Waits → open_wait past p ≡ None → called_queue past p call ≡ Some q → p < length owners →
-    OwnersMirror (rec p call Waits payload ∷ past) (with_wait owners p (Some (record { place = length past; queue = q; sends = is_send call })))
+    OwnersMirror (rec p call Waits payload ∷ past) (with_wait owners p (Some (record { place = length past; queue = q; sends = is_send call; until = deadline_of call })))
 keep-waits past owners m p call payload q says free on lt =
     let r : Record = rec p call Waits payload in
-    let wait : OpenWait = record { place = length past; queue = q; sends = is_send call } in
+    let wait : OpenWait = record { place = length past; queue = q; sends = is_send call; until = deadline_of call } in
     record {
       slots = slots-with_wait owners p (Some wait) m.slots;
       held = λ k d. held_in-with_wait owners p (Some wait) k d ∙ m.held k d ∙ sym (held-quiet past r (λ d. refl) k d);
       waits = λ k. ap (option_map (λ (w : OpenWait). w.place)) (wait_in-with_wait owners p (Some wait) k lt) ∙ split (p == k) (λ t. rw t refl) (λ f. rw f (m.waits k));
       blocked = λ k w e. stands k w (sym (wait_in-with_wait owners p (Some wait) k lt) ∙ e);
+      deadlines = λ k. ap until_of (wait_in-with_wait owners p (Some wait) k lt) ∙ split (p == k) (λ t. rw t refl) (λ f. rw f (m.deadlines k));
       answers = λ k. answer_in-with_wait owners p (Some wait) k lt ∙ split (p == k) (λ t. rw t refl) (λ f. rw f (m.answers k ∙ unnamed k));
     }
   where
     unnamed : (k : ℕ) → answered_by past k ≡ (if names_wait Waits (open_wait past k) then Some (length past) else answered_by past k)
     unnamed k = rw (names-nothing Waits refl (open_wait past k)) refl
 
-    stands : (k : ℕ) (w : OpenWait) → (if p == k then Some (record { place = length past; queue = q; sends = is_send call }) else wait_in owners k) ≡ Some w → is_in (blocked (rec p call Waits payload ∷ past) w.sends w.queue) w.place ≡ true
+    stands : (k : ℕ) (w : OpenWait) → (if p == k then Some (record { place = length past; queue = q; sends = is_send call; until = deadline_of call }) else wait_in owners k) ≡ Some w → is_in (blocked (rec p call Waits payload ∷ past) w.sends w.queue) w.place ≡ true
     stands k w e = split (p == k)
-        (λ t. let it : Some (record { place = length past; queue = q; sends = is_send call }) ≡ Some w = rw t at e in
-        let same : record { place = length past; queue = q; sends = is_send call } ≡ w = cc in
+        (λ t. let it : Some (record { place = length past; queue = q; sends = is_send call; until = deadline_of call }) ≡ Some w = rw t at e in
+        let same : record { place = length past; queue = q; sends = is_send call; until = deadline_of call } ≡ w = cc in
         let P : OpenWait → Type 0 = λ w. is_in (blocked (rec p call Waits payload ∷ past) w.sends w.queue) w.place ≡ true in
         subst P same (blocked-newest past p call payload q on (waits-kind past p call says)))
         (λ f. let old : wait_in owners k ≡ Some w = rw f at e in blocked-older past (rec p call Waits payload) w.sends w.queue w.place (m.blocked k w old))
@@ -325,17 +349,18 @@ keep-got past owners m legal p call place (Some w) n payload says free =
     answers-waiter past owners m legal p call (Got place (Some w) n) payload w free refl refl (λ d. refl) true x.0 (sym x.1)
 
 keep-by : (past : Past) (owners : List Owner) → OwnersMirror past owners → Legal past → (p : ℕ) (call : Call) (reply : Reply) (payload : List ℕ) (q : ℕ) → Says past p call reply → reply ≡ answer past p call payload →
-    (((by : ℕ) → reply ≡ Collected by → ⊥) → open_wait past p ≡ None) → p < length owners → EntryQueue past p call payload reply q → OwnersMirror (rec p call reply payload ∷ past) (noted owners (length past) p call reply q)
-keep-by past owners m legal p call (Opened d created) payload q says is free lt at = keep-opened past owners m p call payload d created q is (free (λ by e. cc)) lt at
-keep-by past owners m legal p call (Queued n) payload q says is free lt at = keep-quiet past owners m p call (Queued n) payload (quiet past p call (Queued n) payload (free (λ by e. cc)) refl refl (λ d. refl))
-keep-by past owners m legal p call (Handed w) payload q says is free lt at = let x = hands-least past p call w says in answers-waiter past owners m legal p call (Handed w) payload w (free (λ by e. cc)) refl refl (λ d. refl) false x.0 x.1
-keep-by past owners m legal p call Waits payload q says is free lt at = keep-waits past owners m p call payload q says (free (λ by e. cc)) at lt
-keep-by past owners m legal p call (Got place admitted notified) payload q says is free lt at = keep-got past owners m legal p call place admitted notified payload says (free (λ by e. cc))
-keep-by past owners m legal p call (Collected by) payload q says is free lt at = keep-collected past owners m p call by payload lt
-keep-by past owners m legal p call (Attrs s) payload q says is free lt at = keep-attributes past owners m p call s payload is (free (λ by e. cc)) lt
-keep-by past owners m legal p call (Notice v) payload q says is free lt at = keep-quiet past owners m p call (Notice v) payload (quiet past p call (Notice v) payload (free (λ by e. cc)) refl refl (λ d. refl))
-keep-by past owners m legal p call Done payload q says is free lt at = keep-done past owners m p call payload is (free (λ by e. cc)) lt
-keep-by past owners m legal p call (Refused f) payload q says is free lt at = keep-quiet past owners m p call (Refused f) payload (quiet past p call (Refused f) payload (free (λ by e. cc)) refl refl (λ d. refl))
+    (ends_wait reply ≡ false → open_wait past p ≡ None) → p < length owners → EntryQueue past p call payload reply q → OwnersMirror (rec p call reply payload ∷ past) (noted owners (length past) p call reply q)
+keep-by past owners m legal p call (Opened d created) payload q says is free lt at = keep-opened past owners m p call payload d created q is (free refl) lt at
+keep-by past owners m legal p call (Queued n) payload q says is free lt at = keep-quiet past owners m p call (Queued n) payload (quiet past p call (Queued n) payload (free refl) refl refl (λ d. refl))
+keep-by past owners m legal p call (Handed w) payload q says is free lt at = let x = hands-least past p call w says in answers-waiter past owners m legal p call (Handed w) payload w (free refl) refl refl (λ d. refl) false x.0 x.1
+keep-by past owners m legal p call Waits payload q says is free lt at = keep-waits past owners m p call payload q says (free refl) at lt
+keep-by past owners m legal p call (Got place admitted notified) payload q says is free lt at = keep-got past owners m legal p call place admitted notified payload says (free refl)
+keep-by past owners m legal p call (Collected by) payload q says is free lt at = keep-ended past owners m p call (Collected by) payload refl refl (λ d before. refl) lt
+keep-by past owners m legal p call (Withdrawn wait) payload q says is free lt at = keep-ended past owners m p call (Withdrawn wait) payload refl refl (λ d before. refl) lt
+keep-by past owners m legal p call (Attrs s) payload q says is free lt at = keep-attributes past owners m p call s payload is (free refl) lt
+keep-by past owners m legal p call (Notice v) payload q says is free lt at = keep-quiet past owners m p call (Notice v) payload (quiet past p call (Notice v) payload (free refl) refl refl (λ d. refl))
+keep-by past owners m legal p call Done payload q says is free lt at = keep-done past owners m p call payload is (free refl) lt
+keep-by past owners m legal p call (Refused f) payload q says is free lt at = keep-quiet past owners m p call (Refused f) payload (quiet past p call (Refused f) payload (free refl) refl refl (λ d. refl))
 
 -- the table stays that of the journal where it notes an entry that may stand behind it
 pub noted-keeps : (past : Past) (owners : List Owner) → OwnersMirror past owners → Legal past → (r : Record) (q : ℕ) → IsLegalNext past r → r.entry.process < length owners → EntryQueue past r.entry.process r.entry.call r.payload r.entry.reply q →
@@ -353,12 +378,15 @@ noted-fits past owners m p call (Opened d created) payload is = opened call is (
     opened (MqClose e) is says = absurd says.0
     opened MqUnlink is says = absurd says
     opened (MqSend e prio len) is says = absurd says.3
+    opened (MqTimedSend e prio len until now) is says = absurd says.3
     opened (MqReceive e room) is says = absurd says.3
+    opened (MqTimedReceive e room until now) is says = absurd says.3
     opened (MqGetattr e) is says = absurd says
     opened (MqSetattr e nonblock) is says = absurd says
     opened (MqNotify e value) is says = absurd says
     opened NextNotice is says = absurd (cc)
     opened Collect is says = absurd (cc)
+    opened (Withdraw now) is says = absurd (cc)
 noted-fits past owners m p (MqClose d) Done payload is = held-small past owners m p d (close-held past p d payload Done (sym is))
 noted-fits past owners m p call Done payload is = tt
 noted-fits past owners m p (MqSetattr d nonblock) (Attrs s) payload is = held-small past owners m p d (setattr-held past p d nonblock payload s (sym is))

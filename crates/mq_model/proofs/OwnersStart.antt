@@ -41,5 +41,6 @@ owners-start m = record {
   held = λ p d. held-free m p d;
   waits = λ p. ap (option_map (λ (w : OpenWait). w.place)) (wait-free m p);
   blocked = λ p w e. absurd (let bad : None ≡ Some w = sym (wait-free m p) ∙ e in cc);
+  deadlines = λ p. ap (option_and_then (λ (w : OpenWait). w.until)) (wait-free m p);
   answers = λ p. answer-free m p;
 }

@@ -13,7 +13,7 @@ use Rattle.mq_model.specs.declared.owners.Owner.{Owner}
 use Rattle.mq_model.proofs.Places.{split, is_in-filter}
 use Rattle.mq_model.proofs.OwnerLines.{pending_in-past}
 use Rattle.mq_model.proofs.NamedWaits.{blocked-once}
-use Rattle.mq_model.proofs.Waiters.{named_waits, waiting-filter, in-filter, waiter, unnamed, least-none, least-some}
+use Rattle.mq_model.proofs.Waiters.{ended_waits, waiting-filter, in-filter, waiter, unnamed, least-none, least-some}
 
 -- what a pending wait is
 record IsPending (owners : List Owner) (p q : ℕ) (sends : Bool) (w : ℕ) : Type 0 where
@@ -66,7 +66,7 @@ pending-waits past owners m legal p q sends w e =
     let P : ℕ → Type 0 = λ k. open_wait past p ≡ Some k in
     let open_at : open_wait past p ≡ Some x.wait.place = sym (m.waits p) ∙ ap (option_map (λ (y : OpenWait). y.place)) x.is in
     let unanswered : answered_by past p ≡ None = sym (m.answers p) ∙ x.open_still in
-    let free : is_in (named_waits past sends) x.wait.place ≡ false = unnamed past legal p x.wait.place open_at unanswered sends in
+    let free : is_in (ended_waits past sends) x.wait.place ≡ false = unnamed past legal p x.wait.place open_at unanswered sends in
     let stands : is_in (blocked past x.wait.sends x.wait.queue) x.wait.place ≡ true = m.blocked p x.wait x.is in
     let stands' : is_in (blocked past sends q) x.wait.place ≡ true = rw (x.kind, x.queue) at stands in
     rw (waiting-filter past sends q, ← x.place) (in-filter _ (blocked past sends q) x.wait.place stands' (rw free refl))
@@ -74,7 +74,7 @@ pending-waits past owners m legal p q sends w e =
 pub waits-pending : (past : Past) (owners : List Owner) → OwnersMirror past owners → Legal past → (q : ℕ) (sends : Bool) (w : ℕ) → is_in (waiting past sends q) w ≡ true → (p : ℕ) × (pending_in owners p q sends ≡ Some w)
 waits-pending past owners m legal q sends w h =
     let x = waiter past legal sends q w h in
-    let h' : is_in (filter (λ w. not (is_in (named_waits past sends) w)) (blocked past sends q)) w ≡ true = rw (waiting-filter past sends q) at h in
+    let h' : is_in (filter (λ w. not (is_in (ended_waits past sends) w)) (blocked past sends q)) w ≡ true = rw (waiting-filter past sends q) at h in
     let inside = is_in-filter _ (blocked past sends q) w h' in
     (x.0, by x.0 (wait_in owners x.0) refl (answer_in owners x.0) refl (m.waits x.0 ∙ x.1) (m.answers x.0 ∙ x.2) inside.0)
   where

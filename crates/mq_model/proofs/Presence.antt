@@ -5,11 +5,11 @@ use Rattle.std.specs.Option.{option_map, unwrap_or}
 use Rattle.std.proofs.lemmas.Bool.{eqb-false, and_parts, false_from_ne_true, not-true}
 use Rattle.mq_model.specs.Record.{Record, Past, record_at}
 use Rattle.mq_model.specs.Descriptors.{is_place, is_on, called_queue}
-use Rattle.mq_model.specs.Messages.{is_in, with_place, if_in, queues, admits, blocks_send, blocked_sends, waiting_sends, admitted_waits, entered, admitted, taken, taken_by, present, least, priority, priority_given}
+use Rattle.mq_model.specs.Messages.{is_in, with_place, if_in, queues, admits, ends_send, blocks_send, blocked_sends, waiting_sends, ended_sends, entered, admitted, taken, taken_by, present, least, priority, priority_given}
 use Rattle.mq_model.specs.Answer.{Legal}
 use Rattle.mq_model.specs.declared.entries.Call.{Call}
 use Rattle.mq_model.specs.declared.entries.Reply.{Reply}
-use Rattle.mq_model.specs.declared.entries.Reply.TheVariants.{Opened, Queued, Handed, Waits, Got, Collected, Attrs, Notice, Done, Refused}
+use Rattle.mq_model.specs.declared.entries.Reply.TheVariants.{Opened, Queued, Handed, Waits, Got, Collected, Attrs, Notice, Done, Refused, Withdrawn}
 use Rattle.mq_model.proofs.Places.{split, clash, is_in-filter, find-in}
 use Rattle.mq_model.proofs.Cases.{Says}
 use Rattle.mq_model.proofs.LegalReplies.{legal_says, got_says}
@@ -45,6 +45,7 @@ blocks-reply call (Queued n) e = absurd (cc)
 blocks-reply call (Handed w) e = absurd (cc)
 blocks-reply call (Got m a n) e = absurd (cc)
 blocks-reply call (Collected b) e = absurd (cc)
+blocks-reply call (Withdrawn b) e = absurd (cc)
 blocks-reply call (Attrs s) e = absurd (cc)
 blocks-reply call (Notice v) e = absurd (cc)
 blocks-reply call Done e = absurd (cc)
@@ -79,15 +80,21 @@ queues-reply call (Handed w) e = absurd (cc)
 queues-reply call Waits e = absurd (cc)
 queues-reply call (Got m a n) e = absurd (cc)
 queues-reply call (Collected b) e = absurd (cc)
+queues-reply call (Withdrawn b) e = absurd (cc)
 queues-reply call (Attrs s) e = absurd (cc)
 queues-reply call (Notice v) e = absurd (cc)
 queues-reply call Done e = absurd (cc)
 queues-reply call (Refused f) e = absurd (cc)
 
--- a message that entered a queue was sent to it, and either it entered at once or a receive admitted it
+-- a reply that admits a waiting send ends its wait
+pub admits-ends : (reply : Reply) (m : ℕ) → admits reply ≡ Some m → ends_send reply ≡ Some m
+admits-ends (Got place admitted notified) m e = e
+admits-ends reply m e = absurd (cc)
+
+-- a message that entered a queue was sent to it, and either it entered at once or its wait ended
 pub record IsAdmittedTo (past : Past) (q m : ℕ) : Type 0 where
   pub to : sent_to past m ≡ Some q
-  pub how : ((n : Option ℕ) × (reply_at past m ≡ Some (Queued n))) ⊎ (is_in (admitted_waits past) m ≡ true)
+  pub how : ((n : Option ℕ) × (reply_at past m ≡ Some (Queued n))) ⊎ (is_in (ended_sends past) m ≡ true)
 
 pub with-more : (o : Option ℕ) (xs : List ℕ) (m : ℕ) → is_in xs m ≡ true → is_in (with_place o xs) m ≡ true
 with-more None xs m h = h
@@ -100,9 +107,9 @@ admitted-to (r ∷ past) q m h = by (entered past r.entry q) refl h (λ rest. ad
     older : IsAdmittedTo past q m → m < length past → IsAdmittedTo (r ∷ past) q m
     older x lt = record { to = sent_to-older past r m lt ∙ x.to; how = how x.how }
       where
-        how : ((n : Option ℕ) × (reply_at past m ≡ Some (Queued n))) ⊎ (is_in (admitted_waits past) m ≡ true) → ((n : Option ℕ) × (reply_at (r ∷ past) m ≡ Some (Queued n))) ⊎ (is_in (admitted_waits (r ∷ past)) m ≡ true)
+        how : ((n : Option ℕ) × (reply_at past m ≡ Some (Queued n))) ⊎ (is_in (ended_sends past) m ≡ true) → ((n : Option ℕ) × (reply_at (r ∷ past) m ≡ Some (Queued n))) ⊎ (is_in (ended_sends (r ∷ past)) m ≡ true)
         how (inl y) = inl (y.0, reply_at-older past r m lt ∙ y.1)
-        how (inr y) = inr (with-more (admits r.entry.reply) (admitted_waits past) m y)
+        how (inr y) = inr (with-more (ends_send r.entry.reply) (ended_sends past) m y)
 
     here : entered past r.entry q ≡ Some m → IsAdmittedTo (r ∷ past) q m
     here e = split (queues r.entry.call r.entry.reply && is_on past r.entry q)
@@ -118,7 +125,7 @@ admitted-to (r ∷ past) q m h = by (entered past r.entry q) refl h (λ rest. ad
         let lt = blocked_sends-below past q m inside.0 in
         record {
           to = sent_to-older past r m lt ∙ (blocked-on past q m inside.0).to;
-          how = inr (rw inside.1 (rw (eq-eqb m m refl) refl));
+          how = inr (rw (admits-ends r.entry.reply m inside.1) (rw (eq-eqb m m refl) refl));
         })
 
     by : (o : Option ℕ) → entered past r.entry q ≡ o → is_in (with_place (entered past r.entry q) (admitted past q)) m ≡ true → (is_in (admitted past q) m ≡ true → IsAdmittedTo past q m) → IsAdmittedTo (r ∷ past) q m
@@ -161,6 +168,7 @@ taken-cases (r ∷ past) legal m h = by (taken_by (length past) r.entry.reply) r
     here (Queued n) is says e = absurd (cc)
     here Waits is says e = absurd (cc)
     here (Collected b) is says e = absurd (cc)
+    here (Withdrawn b) is says e = absurd (cc)
     here (Attrs s) is says e = absurd (cc)
     here (Notice v) is says e = absurd (cc)
     here Done is says e = absurd (cc)
@@ -178,17 +186,17 @@ taken-cases (r ∷ past) legal m h = by (taken_by (length past) r.entry.reply) r
 -- a send that still waits entered no queue, and was not taken
 pub waiting-not_admitted : (past : Past) (q w k : ℕ) → is_in (waiting_sends past q) w ≡ true → is_in (admitted past k) w ≡ false
 waiting-not_admitted past q w k h =
-    let parts = is_in-filter (λ w. not (is_in (admitted_waits past) w)) (blocked_sends past q) w h in
+    let parts = is_in-filter (λ w. not (is_in (ended_sends past) w)) (blocked_sends past q) w h in
     let on = blocked-on past q w parts.0 in
     false_from_ne_true _ (λ there. by on.reply (not-true _ parts.1) (admitted-to past k w there).how)
   where
-    by : reply_at past w ≡ Some Waits → is_in (admitted_waits past) w ≡ false → ((n : Option ℕ) × (reply_at past w ≡ Some (Queued n))) ⊎ (is_in (admitted_waits past) w ≡ true) → ⊥
+    by : reply_at past w ≡ Some Waits → is_in (ended_sends past) w ≡ false → ((n : Option ℕ) × (reply_at past w ≡ Some (Queued n))) ⊎ (is_in (ended_sends past) w ≡ true) → ⊥
     by waits out (inl x) = let bad : Some Waits ≡ Some (Queued x.0) = sym waits ∙ x.1 in cc
     by waits out (inr x) = clash _ x out
 
 pub waiting-not_taken : (past : Past) → Legal past → (q w : ℕ) → is_in (waiting_sends past q) w ≡ true → is_in (taken past) w ≡ false
 waiting-not_taken past legal q w h =
-    let parts = is_in-filter (λ w. not (is_in (admitted_waits past) w)) (blocked_sends past q) w h in
+    let parts = is_in-filter (λ w. not (is_in (ended_sends past) w)) (blocked_sends past q) w h in
     let on = blocked-on past q w parts.0 in
     false_from_ne_true _ (λ there. by on.reply (taken-cases past legal w there))
   where
@@ -231,7 +239,7 @@ present-got_elsewhere past p call m a n payload q k facts ne =
     same-admitted None e = refl
     same-admitted (Some w) e =
         let inside = least-in (waiting_sends past q) w (sym e) in
-        let mine = (blocked-on past q w (is_in-filter (λ w. not (is_in (admitted_waits past) w)) (blocked_sends past q) w inside).0).to in
+        let mine = (blocked-on past q w (is_in-filter (λ w. not (is_in (ended_sends past) w)) (blocked_sends past q) w inside).0).to in
         let out : is_in (blocked_sends past k) w ≡ false = false_from_ne_true _ (λ there. let its = (blocked-on past k w there).to in let same : Some q ≡ Some k = sym mine ∙ its in let e : q ≡ k = cc in ne (sym e)) in
         rw out refl
 
@@ -240,7 +248,7 @@ pub present-got_here : (past : Past) → Legal past → (p : ℕ) (call : Call) 
 present-got_here past legal p call m None n payload q facts = filter-both (λ k. m == k) (is_in (taken past)) (admitted past q)
 present-got_here past legal p call m (Some w) n payload q facts =
     let waits = least-in (waiting_sends past q) w (sym facts.admitted) in
-    let blocked : is_in (blocked_sends past q) w ≡ true = (is_in-filter (λ w. not (is_in (admitted_waits past) w)) (blocked_sends past q) w waits).0 in
+    let blocked : is_in (blocked_sends past q) w ≡ true = (is_in-filter (λ w. not (is_in (ended_sends past) w)) (blocked_sends past q) w waits).0 in
     let fresh : is_in (taken past) w ≡ false = waiting-not_taken past legal q w waits in
     let other : (m == w) ≡ false = ne_eqb m w (λ same. clash (is_in (admitted past q) w) (rw same at (present-admitted past q m facts.inside)) (waiting-not_admitted past q w q waits)) in
     rw blocked (filter-both (λ k. m == k) (is_in (taken past)) (w ∷ admitted past q) ∙ rw (fresh, other) refl)

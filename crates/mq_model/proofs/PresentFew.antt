@@ -7,10 +7,10 @@ use Rattle.std.proofs.lemmas.Bool.Decides.{nat_tests}
 use Rattle.mq_model.specs.Record.{Record, Past}
 use Rattle.mq_model.specs.Names.{creates, bound_queue, attributes, attributes_given, are_within_limits}
 use Rattle.mq_model.specs.Descriptors.{held, called_queue, created, lowest_free, alive, is_place, is_named, is_held}
-use Rattle.mq_model.specs.Messages.{is_in, with_place, present, is_full}
+use Rattle.mq_model.specs.Messages.{is_in, is_send, with_place, present, is_full}
 use Rattle.mq_model.specs.Answer.{Legal, IsLegalNext, answer_open}
 use Rattle.mq_model.proofs.Places.{split, is_in-filter, find-in}
-use Rattle.mq_model.proofs.Cases.{Says, either}
+use Rattle.mq_model.proofs.Cases.{Says, BestReply, either}
 use Rattle.mq_model.proofs.LegalReplies.{legal_says}
 use Rattle.mq_model.proofs.Frames.{created-below, attributes-older}
 use Rattle.mq_model.proofs.HeldQueues.{created-held, created-more}
@@ -20,9 +20,9 @@ use Rattle.mq_model.specs.declared.entries.Attr.{Attr}
 use Rattle.mq_model.specs.declared.entries.OpenFlags.{OpenFlags}
 use Rattle.mq_model.specs.declared.entries.Description.{Description}
 use Rattle.mq_model.specs.declared.entries.Call.{Call}
-use Rattle.mq_model.specs.declared.entries.Call.TheVariants.{MqOpen, MqClose, MqUnlink, MqSend, MqReceive, MqGetattr, MqSetattr, MqNotify, NextNotice, Collect}
+use Rattle.mq_model.specs.declared.entries.Call.TheVariants.{MqOpen, MqClose, MqUnlink, MqSend, MqReceive, MqGetattr, MqSetattr, MqNotify, NextNotice, Collect, MqTimedSend, MqTimedReceive, Withdraw}
 use Rattle.mq_model.specs.declared.entries.Reply.{Reply}
-use Rattle.mq_model.specs.declared.entries.Reply.TheVariants.{Opened, Queued, Handed, Waits, Got, Collected, Attrs, Notice, Done, Refused}
+use Rattle.mq_model.specs.declared.entries.Reply.TheVariants.{Opened, Queued, Handed, Waits, Got, Collected, Attrs, Notice, Done, Refused, Withdrawn}
 
 abbrev rec : ℕ → Call → Reply → List ℕ → Record
 rec p call reply payload = record { entry = record { process = p; call = call; reply = reply }; payload = payload }
@@ -70,17 +70,21 @@ creates-within past r legal e = by r.entry.call r.entry.reply refl refl e
     by (MqClose d') (Opened d true) c is e = absurd (let bad : false ≡ true = e in cc)
     by MqUnlink (Opened d true) c is e = absurd (let bad : false ≡ true = e in cc)
     by (MqSend d' prio len) (Opened d true) c is e = absurd (let bad : false ≡ true = e in cc)
+    by (MqTimedSend d' prio len until now) (Opened d true) c is e = absurd (let bad : false ≡ true = e in cc)
     by (MqReceive d' room) (Opened d true) c is e = absurd (let bad : false ≡ true = e in cc)
+    by (MqTimedReceive d' room until now) (Opened d true) c is e = absurd (let bad : false ≡ true = e in cc)
     by (MqGetattr d') (Opened d true) c is e = absurd (let bad : false ≡ true = e in cc)
     by (MqSetattr d' nonblock) (Opened d true) c is e = absurd (let bad : false ≡ true = e in cc)
     by (MqNotify d' value) (Opened d true) c is e = absurd (let bad : false ≡ true = e in cc)
     by NextNotice (Opened d true) c is e = absurd (let bad : false ≡ true = e in cc)
     by Collect (Opened d true) c is e = absurd (let bad : false ≡ true = e in cc)
+    by (Withdraw now) (Opened d true) c is e = absurd (let bad : false ≡ true = e in cc)
     by call (Queued n) c is e = absurd (cc)
     by call (Handed w) c is e = absurd (cc)
     by call Waits c is e = absurd (cc)
     by call (Got m a n) c is e = absurd (cc)
     by call (Collected b) c is e = absurd (cc)
+    by call (Withdrawn b) c is e = absurd (cc)
     by call (Attrs s) c is e = absurd (cc)
     by call (Notice v) c is e = absurd (cc)
     by call Done c is e = absurd (cc)
@@ -122,7 +126,9 @@ called-created past legal p q call e = by call e
     by : (call : Call) → called_queue past p call ≡ Some q → is_in (created past) q ≡ true
     by (MqClose d) e = on d e
     by (MqSend d prio len) e = on d e
+    by (MqTimedSend d prio len until now) e = on d e
     by (MqReceive d room) e = on d e
+    by (MqTimedReceive d room until now) e = on d e
     by (MqGetattr d) e = on d e
     by (MqSetattr d nonblock) e = on d e
     by (MqNotify d value) e = on d e
@@ -130,6 +136,7 @@ called-created past legal p q call e = by call e
     by MqUnlink e = absurd (cc)
     by NextNotice e = absurd (cc)
     by Collect e = absurd (cc)
+    by (Withdraw now) e = absurd (cc)
 
 pub sent-created : (past : Past) → Legal past → (m q : ℕ) → sent_to past m ≡ Some q → is_in (created past) q ≡ true
 sent-created [] legal m q e = absurd (cc)
@@ -177,51 +184,65 @@ length-with : (o : Option ℕ) (xs : List ℕ) → length (with_place o xs) ≤ 
 length-with None xs = omega arith
 length-with (Some k) xs = omega arith
 
+few-given : (past : Past) → Legal past → (p : ℕ) (call : Call) (m : ℕ) (a n : Option ℕ) (payload : List ℕ) (k : ℕ) → GotFacts past k m a → (q : ℕ) →
+    length (present (rec p call (Got m a n) payload ∷ past) q) ≤ length (present past q)
+few-given past legal p call m a n payload k facts q = split (q == k)
+    (λ t. let same : q ≡ k = eqb-true _ _ t in
+    let here = present-got_here past legal p call m a n payload k facts in
+    let fewer = without-fewer m (present past k) facts.inside in
+    let more = length-with a (without m (present past k)) in
+    let le : length (present (rec p call (Got m a n) payload ∷ past) k) ≤ length (present past k) = rw here (omega arith) in
+    let P : ℕ → Type 0 = λ j. length (present (rec p call (Got m a n) payload ∷ past) j) ≤ length (present past j) in
+    subst P (sym same) le)
+    (λ f. rw (present-got_elsewhere past p call m a n payload k q facts (eqb-false _ _ f)) (omega arith))
+
+got-facts : (past : Past) (h : Description) (m : ℕ) (a n : Option ℕ) → BestReply past h (Got m a n) → GotFacts past h.queue m a
+got-facts past h m a n says = record { inside = (find-in _ (present past h.queue) m says.0).0; admitted = says.1 }
+
 few-got : (past : Past) → Legal past → (p : ℕ) (call : Call) (m : ℕ) (a n : Option ℕ) (payload : List ℕ) → Says past p call (Got m a n) → (q : ℕ) →
     length (present (rec p call (Got m a n) payload ∷ past) q) ≤ length (present past q)
-few-got past legal p (MqReceive d room) m a n payload says q = split (q == says.0.queue)
-    (λ t. let same : q ≡ says.0.queue = eqb-true _ _ t in
-    let here = present-got_here past legal p (MqReceive d room) m a n payload says.0.queue facts in
-    let fewer = without-fewer m (present past says.0.queue) facts.inside in
-    let more = length-with a (without m (present past says.0.queue)) in
-    let le : length (present (rec p (MqReceive d room) (Got m a n) payload ∷ past) says.0.queue) ≤ length (present past says.0.queue) = rw here (omega arith) in
-    let P : ℕ → Type 0 = λ k. length (present (rec p (MqReceive d room) (Got m a n) payload ∷ past) k) ≤ length (present past k) in
-    subst P (sym same) le)
-    (λ f. rw (present-got_elsewhere past p (MqReceive d room) m a n payload says.0.queue q facts (eqb-false _ _ f)) (omega arith))
-  where
-    facts : GotFacts past says.0.queue m a
-    facts = record { inside = (find-in _ (present past says.0.queue) m says.3.0).0; admitted = says.3.1 }
+few-got past legal p (MqReceive d room) m a n payload says q = few-given past legal p (MqReceive d room) m a n payload says.0.queue (got-facts past says.0 m a n says.3) q
+few-got past legal p (MqTimedReceive d room until now) m a n payload says q = few-given past legal p (MqTimedReceive d room until now) m a n payload says.0.queue (got-facts past says.0 m a n says.3) q
 few-got past legal p (MqOpen flags attr) m a n payload says q = absurd says
 few-got past legal p (MqClose d) m a n payload says q = absurd says.0
 few-got past legal p MqUnlink m a n payload says q = absurd says
 few-got past legal p (MqSend d prio len) m a n payload says q = absurd says.3
+few-got past legal p (MqTimedSend d prio len until now) m a n payload says q = absurd says.3
 few-got past legal p (MqGetattr d) m a n payload says q = absurd says
 few-got past legal p (MqSetattr d nonblock) m a n payload says q = absurd says
 few-got past legal p (MqNotify d value) m a n payload says q = absurd says
 few-got past legal p NextNotice m a n payload says q = absurd (cc)
 few-got past legal p Collect m a n payload says q = absurd (cc)
+few-got past legal p (Withdraw now) m a n payload says q = absurd (cc)
 
 -- the descriptor of a call is of the queue that the call is made on
 pub called-on : (past : Past) (p d q : ℕ) (h : Description) → held past p d ≡ Some h → is_place q (option_map (λ h. h.queue) (held past p d)) ≡ true → h.queue ≡ q
 called-on past p d q h e on = let test : (h.queue == q) ≡ true = rw e at on in eqb-true _ _ test
 
+few-sent : (past : Past) → Legal past → (p d : ℕ) (call : Call) (h : Description) (n : Option ℕ) (payload : List ℕ) → is_send call ≡ true → called_queue past p call ≡ option_map (λ h. h.queue) (held past p d) → held past p d ≡ Some h → is_full past h.queue ≡ false →
+    (q : ℕ) → q < length past → Few past q → Few (rec p call (Queued n) payload ∷ past) q
+few-sent past legal p d call h n payload sends calls is free q lt before =
+    let r : Record = rec p call (Queued n) payload in
+    split (is_place q (called_queue past p call))
+    (λ on. let same : h.queue ≡ q = called-on past p d q h is (rw (← calls) on) in
+    let room : is_full past q ≡ false = rw same at free in
+    rw (attributes-older past r q lt, ap length (present-queued past p call q n payload legal sends on)) (le-more (attributes past q).maxmsg (length (present past q)) room))
+    (λ off. rw (attributes-older past r q lt, ap length (present-queued_elsewhere past p call q n payload off)) before)
+
 few-queued : (past : Past) → Legal past → (p : ℕ) (call : Call) (n : Option ℕ) (payload : List ℕ) → Says past p call (Queued n) → (q : ℕ) → q < length past → Few past q → Few (rec p call (Queued n) payload ∷ past) q
-few-queued past legal p (MqSend d prio len) n payload says q lt before =
-    let r : Record = rec p (MqSend d prio len) (Queued n) payload in
-    split (is_place q (called_queue past p (MqSend d prio len)))
-    (λ on. let same : says.0.queue ≡ q = called-on past p d q says.0 says.1 on in
-    let room : is_full past q ≡ false = rw same at says.3.1 in
-    rw (attributes-older past r q lt, ap length (present-queued past p d prio len q n payload legal on)) (le-more (attributes past q).maxmsg (length (present past q)) room))
-    (λ off. rw (attributes-older past r q lt, ap length (present-queued_elsewhere past p d prio len q n payload off)) before)
+few-queued past legal p (MqSend d prio len) n payload says q lt before = few-sent past legal p d (MqSend d prio len) says.0 n payload refl refl says.1 says.3.1 q lt before
+few-queued past legal p (MqTimedSend d prio len until now) n payload says q lt before = few-sent past legal p d (MqTimedSend d prio len until now) says.0 n payload refl refl says.1 says.3.1 q lt before
 few-queued past legal p (MqOpen flags attr) n payload says q lt before = absurd says
 few-queued past legal p (MqClose d) n payload says q lt before = absurd says.0
 few-queued past legal p MqUnlink n payload says q lt before = absurd says
 few-queued past legal p (MqReceive d room) n payload says q lt before = absurd says.3
+few-queued past legal p (MqTimedReceive d room until now) n payload says q lt before = absurd says.3
 few-queued past legal p (MqGetattr d) n payload says q lt before = absurd says
 few-queued past legal p (MqSetattr d nonblock) n payload says q lt before = absurd says
 few-queued past legal p (MqNotify d value) n payload says q lt before = absurd says
 few-queued past legal p NextNotice n payload says q lt before = absurd (cc)
 few-queued past legal p Collect n payload says q lt before = absurd (cc)
+few-queued past legal p (Withdraw now) n payload says q lt before = absurd (cc)
 
 few-next : (past : Past) → Legal past → (p : ℕ) (call : Call) (reply : Reply) (payload : List ℕ) → Says past p call reply → (q : ℕ) → q < length past → Few past q → Few (rec p call reply payload ∷ past) q
 few-next past legal p call (Queued n) payload says q lt before = few-queued past legal p call n payload says q lt before
@@ -230,6 +251,7 @@ few-next past legal p call (Handed w) payload says q lt before = not-more past (
 few-next past legal p call (Opened d created) payload says q lt before = not-more past (rec p call (Opened d created) payload) q lt (omega arith) before
 few-next past legal p call Waits payload says q lt before = not-more past (rec p call Waits payload) q lt (omega arith) before
 few-next past legal p call (Collected b) payload says q lt before = not-more past (rec p call (Collected b) payload) q lt (omega arith) before
+few-next past legal p call (Withdrawn b) payload says q lt before = not-more past (rec p call (Withdrawn b) payload) q lt (omega arith) before
 few-next past legal p call (Attrs s) payload says q lt before = not-more past (rec p call (Attrs s) payload) q lt (omega arith) before
 few-next past legal p call (Notice v) payload says q lt before = not-more past (rec p call (Notice v) payload) q lt (omega arith) before
 few-next past legal p call Done payload says q lt before = not-more past (rec p call Done payload) q lt (omega arith) before
@@ -244,6 +266,7 @@ creates-opened call (Handed w) e = absurd (cc)
 creates-opened call Waits e = absurd (cc)
 creates-opened call (Got m a n) e = absurd (cc)
 creates-opened call (Collected b) e = absurd (cc)
+creates-opened call (Withdrawn b) e = absurd (cc)
 creates-opened call (Attrs s) e = absurd (cc)
 creates-opened call (Notice v) e = absurd (cc)
 creates-opened call Done e = absurd (cc)

@@ -3,15 +3,15 @@ use Rattle.std.proofs.Common.{◌≡◌, ℕ, suc, ◌<◌, ◌≤◌, ◌==◌,
 use Rattle.std.specs.List.{filter}
 use Rattle.std.proofs.lemmas.Bool.{false_from_ne_true}
 use Rattle.mq_model.specs.Record.{Record, Past}
-use Rattle.mq_model.specs.Messages.{is_in, if_in, taken, taken_by, with_place, present, admitted, entered, queues, admits, blocked_sends, blocks_send}
+use Rattle.mq_model.specs.Messages.{is_in, is_send, if_in, taken, taken_by, with_place, present, admitted, entered, queues, admits, blocked_sends, blocks_send}
 use Rattle.mq_model.specs.Descriptors.{is_place, is_on, called_queue}
 use Rattle.mq_model.specs.Answer.{Legal, IsLegalNext}
 use Rattle.mq_model.proofs.Places.{split, is_in-filter, find-in}
 use Rattle.mq_model.proofs.Cases.{Says}
 use Rattle.mq_model.proofs.LegalReplies.{legal_says, got_says}
-use Rattle.mq_model.specs.declared.entries.Call.TheVariants.{MqSend, MqReceive}
+use Rattle.mq_model.specs.declared.entries.Call.{Call}
 use Rattle.mq_model.specs.declared.entries.Reply.{Reply}
-use Rattle.mq_model.specs.declared.entries.Reply.TheVariants.{Opened, Queued, Handed, Waits, Got, Collected, Attrs, Notice, Done, Refused}
+use Rattle.mq_model.specs.declared.entries.Reply.TheVariants.{Opened, Queued, Handed, Waits, Got, Collected, Attrs, Notice, Done, Refused, Withdrawn}
 
 -- every place of a list lies before n
 abbrev pub Below : ℕ → List ℕ → Type 0
@@ -74,6 +74,7 @@ taken_by-below past r legal k e = by_reply r.entry.reply (legal_says past r lega
     by_reply (Queued n) says e = absurd (cc)
     by_reply Waits says e = absurd (cc)
     by_reply (Collected by) says e = absurd (cc)
+    by_reply (Withdrawn by) says e = absurd (cc)
     by_reply (Attrs s) says e = absurd (cc)
     by_reply (Notice v) says e = absurd (cc)
     by_reply Done says e = absurd (cc)
@@ -83,17 +84,21 @@ pub taken-below : (past : Past) → Legal past → Below (length past) (taken pa
 taken-below [] legal = λ m h. absurd (cc)
 taken-below (r ∷ past) legal = below-with (length past) (taken_by (length past) r.entry.reply) (taken past) (taken-below past legal.0) (λ k e. taken_by-below past r legal.1 k e)
 
-abbrev sent : ℕ → ℕ → ℕ → ℕ → Option ℕ → List ℕ → Record
-sent p d prio len n message = record { entry = record { process = p; call = MqSend d prio len; reply = Queued n }; payload = message }
+abbrev sent : ℕ → Call → Option ℕ → List ℕ → Record
+sent p call n message = record { entry = record { process = p; call = call; reply = Queued n }; payload = message }
 
 -- a send that queues its message adds it to its queue, and leaves the others as they are
-pub present-queued : (past : Past) (p d prio len q : ℕ) (n : Option ℕ) (message : List ℕ) → Legal past → is_place q (called_queue past p (MqSend d prio len)) ≡ true →
-    present (sent p d prio len n message ∷ past) q ≡ length past ∷ present past q
-present-queued past p d prio len q n message legal on = rw (on, not-below (length past) (taken past) (taken-below past legal)) refl
+pub present-queued : (past : Past) (p : ℕ) (call : Call) (q : ℕ) (n : Option ℕ) (message : List ℕ) → Legal past → is_send call ≡ true → is_place q (called_queue past p call) ≡ true →
+    present (sent p call n message ∷ past) q ≡ length past ∷ present past q
+present-queued past p call q n message legal sends on = rw (sends, on, not-below (length past) (taken past) (taken-below past legal)) refl
 
-pub present-queued_elsewhere : (past : Past) (p d prio len q : ℕ) (n : Option ℕ) (message : List ℕ) → is_place q (called_queue past p (MqSend d prio len)) ≡ false →
-    present (sent p d prio len n message ∷ past) q ≡ present past q
-present-queued_elsewhere past p d prio len q n message off = rw off refl
+pub present-queued_elsewhere : (past : Past) (p : ℕ) (call : Call) (q : ℕ) (n : Option ℕ) (message : List ℕ) → is_place q (called_queue past p call) ≡ false →
+    present (sent p call n message ∷ past) q ≡ present past q
+present-queued_elsewhere past p call q n message off = by (is_send call) refl
+  where
+    by : (b : Bool) → is_send call ≡ b → present (sent p call n message ∷ past) q ≡ present past q
+    by true e = rw (e, off) refl
+    by false e = rw e refl
 
 -- two tests in a row
 pub filter-both : (s t : ℕ → Bool) (xs : List ℕ) → filter (λ k. not (s k || t k)) xs ≡ filter (λ k. not (s k)) (filter (λ k. not (t k)) xs)
@@ -102,18 +107,6 @@ filter-both s t (x ∷ xs) = split (t x)
     (λ yes. split (s x) (λ ys. rw (yes, ys, filter-both s t xs) refl) (λ ns. rw (yes, ns, filter-both s t xs) refl))
     (λ no. split (s x) (λ ys. rw (no, ys, filter-both s t xs) refl) (λ ns. rw (no, ns, filter-both s t xs) refl))
 
-abbrev got : ℕ → ℕ → ℕ → ℕ → Option ℕ → Option ℕ → Record
-got p d room m a n = record { entry = record { process = p; call = MqReceive d room; reply = Got m a n }; payload = [] }
-
 -- some places without one of them
 abbrev pub without : ℕ → List ℕ → List ℕ
 without m xs = filter (λ k. not (m == k)) xs
-
--- a receive takes its message out of its queue, and lets in the one that it admits
-pub present-got : (past : Past) (p d room m q : ℕ) (n : Option ℕ) →
-    present (got p d room m None n ∷ past) q ≡ without m (present past q)
-present-got past p d room m q n = filter-both (λ k. m == k) (is_in (taken past)) (admitted past q)
-
-pub present-got_admitted : (past : Past) (p d room m w q : ℕ) (n : Option ℕ) → is_in (blocked_sends past q) w ≡ true → is_in (taken past) w ≡ false →
-    present (got p d room m (Some w) n ∷ past) q ≡ without m (w ∷ present past q)
-present-got_admitted past p d room m w q n blocked fresh = rw blocked (filter-both (λ k. m == k) (is_in (taken past)) (w ∷ admitted past q) ∙ rw fresh refl)

@@ -5,28 +5,28 @@ use Rattle.std.specs.Option.{option_map, unwrap_or}
 use Rattle.std.proofs.lemmas.Bool.{and_parts, eqb-false}
 use Rattle.mq_model.specs.Record.{Record, Past, record_at}
 use Rattle.mq_model.specs.Descriptors.{is_on}
-use Rattle.mq_model.specs.Messages.{is_in, with_place, hands, admits, blocks_receive, blocks_send, blocked_sends, blocked_receives, least, waiting_sends, waiting_receives, admitted_waits, handed_waits}
+use Rattle.mq_model.specs.Messages.{is_in, with_place, ends_receive, ends_send, blocks_receive, blocks_send, blocked_sends, blocked_receives, least, waiting_sends, waiting_receives, ended_sends, ended_receives}
 use Rattle.mq_model.specs.Waits.{is_wait, names_wait, open_wait, answered_by}
 use Rattle.mq_model.specs.Answer.{Legal, IsLegalNext, may_call}
 use Rattle.mq_model.proofs.Places.{split, is_in-filter, is_in-with_place}
 use Rattle.mq_model.proofs.Cases.{Says}
 use Rattle.mq_model.proofs.LegalReplies.{legal_says}
 use Rattle.mq_model.proofs.Steps.{Below, not-below}
-use Rattle.mq_model.proofs.Prefixes.{record_at-below}
 use Rattle.mq_model.specs.Owners.{blocked, waiting}
-use Rattle.mq_model.proofs.Frames.{record_at-older}
-use Rattle.mq_model.proofs.NamedWaits.{blocked-once, blocked-cases, blocked-below, newest-receive, newest-send, unhanded, least-in}
+use Rattle.mq_model.proofs.OpenWaits.{withdrawn-open, withdrawn-other}
+use Rattle.mq_model.proofs.OthersLeave.{open_wait-below}
+use Rattle.mq_model.proofs.NamedWaits.{blocked-once, blocked-cases, blocked-below, newest-receive, newest-send, unended-receive, least-in}
 use Rattle.mq_model.specs.declared.entries.Call.{Call}
-use Rattle.mq_model.specs.declared.entries.Call.TheVariants.{MqOpen, MqClose, MqUnlink, MqSend, MqReceive, MqGetattr, MqSetattr, MqNotify, NextNotice, Collect}
+use Rattle.mq_model.specs.declared.entries.Call.TheVariants.{MqOpen, MqClose, MqUnlink, MqSend, MqReceive, MqGetattr, MqSetattr, MqNotify, NextNotice, Collect, MqTimedSend, MqTimedReceive, Withdraw}
 use Rattle.mq_model.specs.declared.entries.Reply.{Reply}
-use Rattle.mq_model.specs.declared.entries.Reply.TheVariants.{Opened, Queued, Handed, Waits, Got, Collected, Attrs, Notice, Done, Refused}
+use Rattle.mq_model.specs.declared.entries.Reply.TheVariants.{Opened, Queued, Handed, Waits, Got, Collected, Attrs, Notice, Done, Refused, Withdrawn}
 
--- the waits of a kind that an entry names
-abbrev pub named_waits : Past → Bool → List ℕ
-named_waits past true = admitted_waits past
-named_waits past false = handed_waits past
+-- the waits of a kind that ended
+abbrev pub ended_waits : Past → Bool → List ℕ
+ended_waits past true = ended_sends past
+ended_waits past false = ended_receives past
 
-pub waiting-filter : (past : Past) (sends : Bool) (q : ℕ) → waiting past sends q ≡ filter (λ w. not (is_in (named_waits past sends) w)) (blocked past sends q)
+pub waiting-filter : (past : Past) (sends : Bool) (q : ℕ) → waiting past sends q ≡ filter (λ w. not (is_in (ended_waits past sends) w)) (blocked past sends q)
 waiting-filter past true q = refl
 waiting-filter past false q = refl
 
@@ -36,18 +36,21 @@ in-filter t (x ∷ xs) m h passes = split (x == m)
     (λ e. let same : x ≡ m = eqb-true _ _ e in let pass : t x ≡ true = rw same passes in rw (pass, e) refl)
     (λ n. let rest : is_in xs m ≡ true = rw n at h in split (t x) (λ y. rw (y, n) (in-filter t xs m rest passes)) (λ z. rw z (in-filter t xs m rest passes)))
 
--- a process with an open wait that is not answered makes no call
-no-call : (past : Past) (p w : ℕ) (call : Call) → may_call past p call ≡ true → open_wait past p ≡ Some w → answered_by past p ≡ None → ⊥
-no-call past p w (MqOpen flags attr) h e a = let none : false ≡ true = rw e at h in cc
-no-call past p w (MqClose d) h e a = let none : false ≡ true = rw e at h in cc
-no-call past p w MqUnlink h e a = let none : false ≡ true = rw e at h in cc
-no-call past p w (MqSend d prio len) h e a = let none : false ≡ true = rw e at h in cc
-no-call past p w (MqReceive d room) h e a = let none : false ≡ true = rw e at h in cc
-no-call past p w (MqGetattr d) h e a = let none : false ≡ true = rw e at h in cc
-no-call past p w (MqSetattr d nonblock) h e a = let none : false ≡ true = rw e at h in cc
-no-call past p w (MqNotify d value) h e a = let none : false ≡ true = rw e at h in cc
-no-call past p w NextNotice h e a = let none : false ≡ true = rw e at h in cc
-no-call past p w Collect h e a = let none : false ≡ true = rw a at h in cc
+-- a process with an open wait that is not answered may only withdraw it
+no-call : (past : Past) (p w : ℕ) (call : Call) (reply : Reply) → Says past p call reply → may_call past p call ≡ true → open_wait past p ≡ Some w → answered_by past p ≡ None → (reply ≡ Withdrawn w → ⊥) → ⊥
+no-call past p w (MqOpen flags attr) reply says h e a not = let none : false ≡ true = rw e at h in cc
+no-call past p w (MqClose d) reply says h e a not = let none : false ≡ true = rw e at h in cc
+no-call past p w MqUnlink reply says h e a not = let none : false ≡ true = rw e at h in cc
+no-call past p w (MqSend d prio len) reply says h e a not = let none : false ≡ true = rw e at h in cc
+no-call past p w (MqTimedSend d prio len until now) reply says h e a not = let none : false ≡ true = rw e at h in cc
+no-call past p w (MqReceive d room) reply says h e a not = let none : false ≡ true = rw e at h in cc
+no-call past p w (MqTimedReceive d room until now) reply says h e a not = let none : false ≡ true = rw e at h in cc
+no-call past p w (MqGetattr d) reply says h e a not = let none : false ≡ true = rw e at h in cc
+no-call past p w (MqSetattr d nonblock) reply says h e a not = let none : false ≡ true = rw e at h in cc
+no-call past p w (MqNotify d value) reply says h e a not = let none : false ≡ true = rw e at h in cc
+no-call past p w NextNotice reply says h e a not = let none : false ≡ true = rw e at h in cc
+no-call past p w Collect reply says h e a not = let none : false ≡ true = rw a at h in cc
+no-call past p w (Withdraw now) reply says h e a not = not (rw e at says)
 
 blocks-wait : (call : Call) (reply : Reply) → blocks_receive call reply ≡ true → is_wait reply ≡ true
 blocks-wait call Waits h = refl
@@ -56,6 +59,7 @@ blocks-wait call (Queued n) h = absurd (cc)
 blocks-wait call (Handed w) h = absurd (cc)
 blocks-wait call (Got m a n) h = absurd (cc)
 blocks-wait call (Collected b) h = absurd (cc)
+blocks-wait call (Withdrawn b) h = absurd (cc)
 blocks-wait call (Attrs s) h = absurd (cc)
 blocks-wait call (Notice v) h = absurd (cc)
 blocks-wait call Done h = absurd (cc)
@@ -64,18 +68,21 @@ blocks-wait call (Refused f) h = absurd (cc)
 -- a Got admits the first waiting send of a queue
 pub admits-least : (past : Past) (p : ℕ) (call : Call) (m : ℕ) (a n : Option ℕ) → Says past p call (Got m a n) → (q : ℕ) × (a ≡ least (waiting_sends past q))
 admits-least past p (MqReceive d room) m a n says = (says.0.queue, says.3.1)
+admits-least past p (MqTimedReceive d room until now) m a n says = (says.0.queue, says.3.1)
 admits-least past p (MqOpen flags attr) m a n says = absurd says
 admits-least past p (MqClose d) m a n says = absurd says.0
 admits-least past p MqUnlink m a n says = absurd says
 admits-least past p (MqSend d prio len) m a n says = absurd says.3
+admits-least past p (MqTimedSend d prio len until now) m a n says = absurd says.3
 admits-least past p (MqGetattr d) m a n says = absurd says
 admits-least past p (MqSetattr d nonblock) m a n says = absurd says
 admits-least past p (MqNotify d value) m a n says = absurd says
 admits-least past p NextNotice m a n says = absurd (cc)
 admits-least past p Collect m a n says = absurd (cc)
+admits-least past p (Withdraw now) m a n says = absurd (cc)
 
 -- a receive that still waits is named by no reply
-not-named : (past : Past) (p q w : ℕ) (call : Call) (reply : Reply) → Says past p call reply → is_in (blocked_receives past q) w ≡ true → not (is_in (with_place (hands reply) (handed_waits past)) w) ≡ true → names_wait reply (Some w) ≡ false
+not-named : (past : Past) (p q w : ℕ) (call : Call) (reply : Reply) → Says past p call reply → is_in (blocked_receives past q) w ≡ true → not (is_in (with_place (ends_receive reply) (ended_receives past)) w) ≡ true → names_wait reply (Some w) ≡ false
 not-named past p q w call (Handed k) says stands free = split (k == w) (λ t. let bad : false ≡ true = rw t at free in absurd (cc)) (λ f. f)
 not-named past p q w call (Got m None n) says stands free = refl
 not-named past p q w call (Got m (Some v) n) says stands free = split (v == w)
@@ -90,10 +97,16 @@ not-named past p q w call (Opened d created) says stands free = refl
 not-named past p q w call (Queued n) says stands free = refl
 not-named past p q w call Waits says stands free = refl
 not-named past p q w call (Collected b) says stands free = refl
+not-named past p q w call (Withdrawn b) says stands free = refl
 not-named past p q w call (Attrs s) says stands free = refl
 not-named past p q w call (Notice v) says stands free = refl
 not-named past p q w call Done says stands free = refl
 not-named past p q w call (Refused f) says stands free = refl
+
+-- a wait that a reply ends is among those that ended
+ended-now : (w : ℕ) (ended : List ℕ) (o : Option ℕ) → o ≡ Some w → not (is_in (with_place o ended) w) ≡ true → ⊥
+ended-now w ended None e free = absurd (cc)
+ended-now w ended (Some k) e free = let same : k ≡ w = cc in let bad : false ≡ true = rw (eq-eqb k w same) at free in cc
 
 waiter-receive : (past : Past) → Legal past → (q w : ℕ) → is_in (waiting_receives past q) w ≡ true → (p : ℕ) × (open_wait past p ≡ Some w) × (answered_by past p ≡ None)
 waiter-receive [] legal q w h = absurd (cc)
@@ -106,17 +119,20 @@ waiter-receive (r ∷ past) legal q w h =
     let self : (r.entry.process == r.entry.process) ≡ true = eq-eqb r.entry.process r.entry.process refl in
     (r.entry.process, rw (self, waits) (ap Some same), rw self refl))
     (λ n. let old : is_in (blocked_receives past q) w ≡ true = (blocked-cases past r false q w parts.0).1 (eqb-false _ _ n) in
-    let free : is_in (handed_waits past) w ≡ false = split (is_in (handed_waits past) w) (λ t. let more : is_in (with_place (hands r.entry.reply) (handed_waits past)) w ≡ true = is_in-with_place (hands r.entry.reply) (handed_waits past) w t in let bad : false ≡ true = rw more at parts.1 in absurd (cc)) (λ f. f) in
+    let free : is_in (ended_receives past) w ≡ false = split (is_in (ended_receives past) w) (λ t. let more : is_in (with_place (ends_receive r.entry.reply) (ended_receives past)) w ≡ true = is_in-with_place (ends_receive r.entry.reply) (ended_receives past) w t in let bad : false ≡ true = rw more at parts.1 in absurd (cc)) (λ f. f) in
     let x = waiter-receive past legal.0 q w (in-filter _ (blocked_receives past q) w old (rw free refl)) in
     split (r.entry.process == x.0)
     (λ own. let mine : r.entry.process ≡ x.0 = eqb-true _ _ own in
-    absurd (no-call past x.0 w r.entry.call (rw mine at legal.1.turn) x.1 x.2))
+    absurd (no-call past r.entry.process w r.entry.call r.entry.reply (legal_says past r legal.1) legal.1.turn (rw mine x.1) (rw mine x.2)
+    (λ is. ended-now w (ended_receives past) (ends_receive r.entry.reply) (rw is refl) parts.1)))
     (λ other. (x.0, rw other x.1, rw (other, x.1, not-named past r.entry.process q w r.entry.call r.entry.reply (legal_says past r legal.1) old parts.1) x.2)))
 
 -- a Handed hands to the first waiting receive of a queue
 pub hands-least : (past : Past) (p : ℕ) (call : Call) (k : ℕ) → Says past p call (Handed k) → (q : ℕ) × (least (waiting_receives past q) ≡ Some k)
 hands-least past p (MqSend d prio len) k says = (says.0.queue, says.3)
+hands-least past p (MqTimedSend d prio len until now) k says = (says.0.queue, says.3)
 hands-least past p (MqReceive d room) k says = absurd says.3
+hands-least past p (MqTimedReceive d room until now) k says = absurd says.3
 hands-least past p (MqOpen flags attr) k says = absurd says
 hands-least past p (MqClose d) k says = absurd says.0
 hands-least past p MqUnlink k says = absurd says
@@ -125,9 +141,10 @@ hands-least past p (MqSetattr d nonblock) k says = absurd says
 hands-least past p (MqNotify d value) k says = absurd says
 hands-least past p NextNotice k says = absurd (cc)
 hands-least past p Collect k says = absurd (cc)
+hands-least past p (Withdraw now) k says = absurd (cc)
 
 -- a send that still waits is named by no reply
-not-named-send : (past : Past) (p q w : ℕ) (call : Call) (reply : Reply) → Says past p call reply → is_in (blocked_sends past q) w ≡ true → not (is_in (with_place (admits reply) (admitted_waits past)) w) ≡ true → names_wait reply (Some w) ≡ false
+not-named-send : (past : Past) (p q w : ℕ) (call : Call) (reply : Reply) → Says past p call reply → is_in (blocked_sends past q) w ≡ true → not (is_in (with_place (ends_send reply) (ended_sends past)) w) ≡ true → names_wait reply (Some w) ≡ false
 not-named-send past p q w call (Got m (Some v) n) says stands free = split (v == w) (λ t. let bad : false ≡ true = rw t at free in absurd (cc)) (λ f. f)
 not-named-send past p q w call (Got m None n) says stands free = refl
 not-named-send past p q w call (Handed v) says stands free = split (v == w)
@@ -142,6 +159,7 @@ not-named-send past p q w call (Opened d created) says stands free = refl
 not-named-send past p q w call (Queued n) says stands free = refl
 not-named-send past p q w call Waits says stands free = refl
 not-named-send past p q w call (Collected b) says stands free = refl
+not-named-send past p q w call (Withdrawn b) says stands free = refl
 not-named-send past p q w call (Attrs s) says stands free = refl
 not-named-send past p q w call (Notice v) says stands free = refl
 not-named-send past p q w call Done says stands free = refl
@@ -154,6 +172,7 @@ blocks-wait-send call (Got m a n) h = absurd (cc)
 blocks-wait-send call (Opened d created) h = absurd (cc)
 blocks-wait-send call (Queued n) h = absurd (cc)
 blocks-wait-send call (Collected b) h = absurd (cc)
+blocks-wait-send call (Withdrawn b) h = absurd (cc)
 blocks-wait-send call (Attrs s) h = absurd (cc)
 blocks-wait-send call (Notice v) h = absurd (cc)
 blocks-wait-send call Done h = absurd (cc)
@@ -170,17 +189,18 @@ waiter-send (r ∷ past) legal q w h =
     let self : (r.entry.process == r.entry.process) ≡ true = eq-eqb r.entry.process r.entry.process refl in
     (r.entry.process, rw (self, waits) (ap Some same), rw self refl))
     (λ n. let old : is_in (blocked_sends past q) w ≡ true = (blocked-cases past r true q w parts.0).1 (eqb-false _ _ n) in
-    let free : is_in (admitted_waits past) w ≡ false = split (is_in (admitted_waits past) w) (λ t. let more : is_in (with_place (admits r.entry.reply) (admitted_waits past)) w ≡ true = is_in-with_place (admits r.entry.reply) (admitted_waits past) w t in let bad : false ≡ true = rw more at parts.1 in absurd (cc)) (λ f. f) in
+    let free : is_in (ended_sends past) w ≡ false = split (is_in (ended_sends past) w) (λ t. let more : is_in (with_place (ends_send r.entry.reply) (ended_sends past)) w ≡ true = is_in-with_place (ends_send r.entry.reply) (ended_sends past) w t in let bad : false ≡ true = rw more at parts.1 in absurd (cc)) (λ f. f) in
     let x = waiter-send past legal.0 q w (in-filter _ (blocked_sends past q) w old (rw free refl)) in
     split (r.entry.process == x.0)
     (λ own. let mine : r.entry.process ≡ x.0 = eqb-true _ _ own in
-    absurd (no-call past x.0 w r.entry.call (rw mine at legal.1.turn) x.1 x.2))
+    absurd (no-call past r.entry.process w r.entry.call r.entry.reply (legal_says past r legal.1) legal.1.turn (rw mine x.1) (rw mine x.2)
+    (λ is. ended-now w (ended_sends past) (ends_send r.entry.reply) (rw is refl) parts.1)))
     (λ other. (x.0, rw other x.1, rw (other, x.1, not-named-send past r.entry.process q w r.entry.call r.entry.reply (legal_says past r legal.1) old parts.1) x.2)))
 
-admits-below : (past : Past) (r : Record) (k : ℕ) → IsLegalNext past r → admits r.entry.reply ≡ Some k → k < length past
-admits-below past r k legal e = by r.entry.reply (legal_says past r legal) e
+ends_send-below : (past : Past) (r : Record) (k : ℕ) → IsLegalNext past r → ends_send r.entry.reply ≡ Some k → k < length past
+ends_send-below past r k legal e = by r.entry.reply (legal_says past r legal) e
   where
-    by : (reply : Reply) → Says past r.entry.process r.entry.call reply → admits reply ≡ Some k → k < length past
+    by : (reply : Reply) → Says past r.entry.process r.entry.call reply → ends_send reply ≡ Some k → k < length past
     by (Got m a n) says e =
         let least_one = admits-least past r.entry.process r.entry.call m a n says in
         blocked-below past true least_one.0 k (is_in-filter _ (blocked_sends past least_one.0) k (least-in (waiting_sends past least_one.0) k (sym least_one.1 ∙ e))).0
@@ -189,24 +209,25 @@ admits-below past r k legal e = by r.entry.reply (legal_says past r legal) e
     by (Queued n) says e = absurd (cc)
     by Waits says e = absurd (cc)
     by (Collected b) says e = absurd (cc)
+    by (Withdrawn b) says e = let same : b ≡ k = cc in open_wait-below past r.entry.process k ((withdrawn-open past r.entry.process r.entry.call b says legal.turn).0 ∙ ap Some same)
     by (Attrs s) says e = absurd (cc)
     by (Notice v) says e = absurd (cc)
     by Done says e = absurd (cc)
     by (Refused f) says e = absurd (cc)
 
-admitted-below : (past : Past) → Legal past → Below (length past) (admitted_waits past)
-admitted-below [] legal = λ m h. absurd (cc)
-admitted-below (r ∷ past) legal = λ m h. step (admits r.entry.reply) refl (admitted-below past legal.0) m h
+ended_sends-below : (past : Past) → Legal past → Below (length past) (ended_sends past)
+ended_sends-below [] legal = λ m h. absurd (cc)
+ended_sends-below (r ∷ past) legal = λ m h. step (ends_send r.entry.reply) refl (ended_sends-below past legal.0) m h
   where
-    step : (o : Option ℕ) → admits r.entry.reply ≡ o → Below (length past) (admitted_waits past) → (m : ℕ) → is_in (with_place o (admitted_waits past)) m ≡ true → m < length (r ∷ past)
+    step : (o : Option ℕ) → ends_send r.entry.reply ≡ o → Below (length past) (ended_sends past) → (m : ℕ) → is_in (with_place o (ended_sends past)) m ≡ true → m < length (r ∷ past)
     step None e before m h = let lt = before m h in omega (arith, lt)
     step (Some k) e before m h = split (k == m)
-        (λ t. let same : k ≡ m = eqb-true _ _ t in let lt = admits-below past r k legal.1 e in omega (arith, lt))
-        (λ f. let old : is_in (admitted_waits past) m ≡ true = rw f at h in let lt = before m old in omega (arith, lt))
+        (λ t. let same : k ≡ m = eqb-true _ _ t in let lt = ends_send-below past r k legal.1 e in omega (arith, lt))
+        (λ f. let old : is_in (ended_sends past) m ≡ true = rw f at h in let lt = before m old in omega (arith, lt))
 
-unadmitted : (past : Past) → Legal past → (p w : ℕ) → open_wait past p ≡ Some w → answered_by past p ≡ None → is_in (admitted_waits past) w ≡ false
-unadmitted [] legal p w e a = absurd (cc)
-unadmitted (r ∷ past) legal p w e a = split (r.entry.process == p)
+unended-send : (past : Past) → Legal past → (p w : ℕ) → open_wait past p ≡ Some w → answered_by past p ≡ None → is_in (ended_sends past) w ≡ false
+unended-send [] legal p w e a = absurd (cc)
+unended-send (r ∷ past) legal p w e a = split (r.entry.process == p)
     (λ own. let last : (if is_wait r.entry.reply then Some (length past) else None) ≡ Some w = rw own at e in own-case (is_wait r.entry.reply) refl last)
     (λ other.
     let old : open_wait past p ≡ Some w = rw other at e in
@@ -214,36 +235,38 @@ unadmitted (r ∷ past) legal p w e a = split (r.entry.process == p)
     let rest' : (if names_wait r.entry.reply (Some w) then Some (length past) else answered_by past p) ≡ None = rw old at rest in
     split (names_wait r.entry.reply (Some w))
     (λ t. absurd (let bad : Some (length past) ≡ None = rw t at rest' in cc))
-    (λ f. let free : answered_by past p ≡ None = rw f at rest' in unlisted r.entry.reply f (unadmitted past legal.0 p w old free)))
+    (λ f. let free : answered_by past p ≡ None = rw f at rest' in unlisted r.entry.reply (λ k is. withdrawn-other past r p w k legal.1 other old is) f (unended-send past legal.0 p w old free)))
   where
-    own-case : (b : Bool) → is_wait r.entry.reply ≡ b → (if b then Some (length past) else None) ≡ Some w → is_in (admitted_waits (r ∷ past)) w ≡ false
-    own-case true is e = let place : length past ≡ w = cc in waits r.entry.reply is (rw (← place) (not-below (length past) (admitted_waits past) (admitted-below past legal.0)))
+    own-case : (b : Bool) → is_wait r.entry.reply ≡ b → (if b then Some (length past) else None) ≡ Some w → is_in (ended_sends (r ∷ past)) w ≡ false
+    own-case true is e = let place : length past ≡ w = cc in waits r.entry.reply is (rw (← place) (not-below (length past) (ended_sends past) (ended_sends-below past legal.0)))
       where
-        waits : (reply : Reply) → is_wait reply ≡ true → is_in (admitted_waits past) w ≡ false → is_in (with_place (admits reply) (admitted_waits past)) w ≡ false
+        waits : (reply : Reply) → is_wait reply ≡ true → is_in (ended_sends past) w ≡ false → is_in (with_place (ends_send reply) (ended_sends past)) w ≡ false
         waits Waits is f = f
         waits (Handed k) is f = f
         waits (Opened d created) is f = f
         waits (Queued n) is f = f
         waits (Got m a n) is f = absurd (cc)
         waits (Collected b) is f = f
+        waits (Withdrawn b) is f = absurd (cc)
         waits (Attrs s) is f = f
         waits (Notice v) is f = f
         waits Done is f = f
         waits (Refused x) is f = f
     own-case false is e = absurd (cc)
 
-    unlisted : (reply : Reply) → names_wait reply (Some w) ≡ false → is_in (admitted_waits past) w ≡ false → is_in (with_place (admits reply) (admitted_waits past)) w ≡ false
-    unlisted (Handed k) f g = g
-    unlisted Waits f g = g
-    unlisted (Opened d created) f g = g
-    unlisted (Queued n) f g = g
-    unlisted (Got m None n) f g = g
-    unlisted (Got m (Some k) n) f g = rw (f, g) refl
-    unlisted (Collected b) f g = g
-    unlisted (Attrs s) f g = g
-    unlisted (Notice v) f g = g
-    unlisted Done f g = g
-    unlisted (Refused x) f g = g
+    unlisted : (reply : Reply) → ((k : ℕ) → reply ≡ Withdrawn k → (k == w) ≡ false) → names_wait reply (Some w) ≡ false → is_in (ended_sends past) w ≡ false → is_in (with_place (ends_send reply) (ended_sends past)) w ≡ false
+    unlisted (Handed k) gone f g = g
+    unlisted Waits gone f g = g
+    unlisted (Opened d created) gone f g = g
+    unlisted (Queued n) gone f g = g
+    unlisted (Got m None n) gone f g = g
+    unlisted (Got m (Some k) n) gone f g = rw (f, g) refl
+    unlisted (Collected b) gone f g = g
+    unlisted (Withdrawn b) gone f g = rw (gone b refl, g) refl
+    unlisted (Attrs s) gone f g = g
+    unlisted (Notice v) gone f g = g
+    unlisted Done gone f g = g
+    unlisted (Refused x) gone f g = g
 
 -- a wait that no entry names is the open wait of its process, which no entry answers
 pub waiter : (past : Past) → Legal past → (sends : Bool) (q w : ℕ) → is_in (waiting past sends q) w ≡ true → (p : ℕ) × (open_wait past p ≡ Some w) × (answered_by past p ≡ None)
@@ -251,30 +274,9 @@ waiter past legal false q w h = waiter-receive past legal q w h
 waiter past legal true q w h = waiter-send past legal q w h
 
 -- no entry names an open wait that is not answered
-pub unnamed : (past : Past) → Legal past → (p w : ℕ) → open_wait past p ≡ Some w → answered_by past p ≡ None → (sends : Bool) → is_in (named_waits past sends) w ≡ false
-unnamed past legal p w e a false = unhanded past legal p w e a
-unnamed past legal p w e a true = unadmitted past legal p w e a
-
-pub open_wait-process : (past : Past) (p w : ℕ) → open_wait past p ≡ Some w → option_map (λ r. r.entry.process) (record_at past w) ≡ Some p
-open_wait-process [] p w e = absurd (cc)
-open_wait-process (r ∷ past) p w e = split (r.entry.process == p)
-    (λ own. let last : (if is_wait r.entry.reply then Some (length past) else None) ≡ Some w = rw own at e in
-    split (is_wait r.entry.reply)
-    (λ t. let here : Some (length past) ≡ Some w = rw t at last in let place : length past ≡ w = cc in let mine : r.entry.process ≡ p = eqb-true _ _ own in rw (← place, eq-eqb (length past) (length past) refl) (ap Some mine))
-    (λ f. let none : None ≡ Some w = rw f at last in absurd (cc)))
-    (λ other. let old : open_wait past p ≡ Some w = rw other at e in
-    let before = open_wait-process past p w old in
-    rw (record_at-older past r w (within past w p before)) before)
-  where
-    found : (past : Past) (w p : ℕ) (o : Option Record) → record_at past w ≡ o → option_map (λ r. r.entry.process) o ≡ Some p → w < length past
-    found past w p None e h = absurd (cc)
-    found past w p (Some r) e h = record_at-below past w r e
-
-    within : (past : Past) (w p : ℕ) → option_map (λ r. r.entry.process) (record_at past w) ≡ Some p → w < length past
-    within past w p h = found past w p (record_at past w) refl h
-
-pub same-waiter : (past : Past) (p k w : ℕ) → open_wait past p ≡ Some w → open_wait past k ≡ Some w → p ≡ k
-same-waiter past p k w e f = let a : Some p ≡ Some k = sym (open_wait-process past p w e) ∙ open_wait-process past k w f in cc
+pub unnamed : (past : Past) → Legal past → (p w : ℕ) → open_wait past p ≡ Some w → answered_by past p ≡ None → (sends : Bool) → is_in (ended_waits past sends) w ≡ false
+unnamed past legal p w e a false = unended-receive past legal p w e a
+unnamed past legal p w e a true = unended-send past legal p w e a
 
 pub least-none : (xs : List ℕ) → ((k : ℕ) → is_in xs k ≡ true → ⊥) → least xs ≡ None
 least-none [] none = refl

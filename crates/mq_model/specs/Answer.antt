@@ -8,8 +8,9 @@ use Rattle.mq_model.specs.Names.{bound_queue, attributes}
 use Rattle.mq_model.specs.Descriptors.{held, lowest_free, alive}
 use Rattle.mq_model.specs.Messages.{present, best, least, waiting_sends, waiting_receives}
 use Rattle.mq_model.specs.Notices.{registered, registered_place, notices}
-use Rattle.mq_model.specs.Waits.{open_wait, answered_by}
-use Rattle.mq_model.specs.Ladder.{open_reply, close_reply, unlink_reply, send_reply, receive_reply, status_reply, notify_reply}
+use Rattle.mq_model.specs.Deadlines.{is_over}
+use Rattle.mq_model.specs.Waits.{open_wait, wait_deadline, answered_by}
+use Rattle.mq_model.specs.Ladder.{open_reply, close_reply, unlink_reply, send_reply, receive_reply, timed_reply, status_reply, notify_reply}
 use Rattle.mq_model.specs.declared.ladder.OpenFacts.{OpenFacts}
 use Rattle.mq_model.specs.declared.ladder.SendFacts.{SendFacts}
 use Rattle.mq_model.specs.declared.ladder.ReceiveFacts.{ReceiveFacts}
@@ -19,9 +20,9 @@ use Rattle.mq_model.specs.declared.entries.Attr.{Attr}
 use Rattle.mq_model.specs.declared.entries.OpenFlags.{OpenFlags}
 use Rattle.mq_model.specs.declared.entries.Description.{Description}
 use Rattle.mq_model.specs.declared.entries.Call.{Call}
-use Rattle.mq_model.specs.declared.entries.Call.TheVariants.{MqOpen, MqClose, MqUnlink, MqSend, MqReceive, MqGetattr, MqSetattr, MqNotify, NextNotice, Collect}
+use Rattle.mq_model.specs.declared.entries.Call.TheVariants.{MqOpen, MqClose, MqUnlink, MqSend, MqReceive, MqTimedSend, MqTimedReceive, MqGetattr, MqSetattr, MqNotify, NextNotice, Collect, Withdraw}
 use Rattle.mq_model.specs.declared.entries.Reply.{Reply}
-use Rattle.mq_model.specs.declared.entries.Reply.TheVariants.{Collected, Notice, Refused}
+use Rattle.mq_model.specs.declared.entries.Reply.TheVariants.{Collected, Withdrawn, Notice, Refused}
 
 -- the facts that a reply depends on, as the definitions give them, and the replies to them -----------------------------------
 
@@ -74,19 +75,22 @@ answer_attributes past held = status_reply (option_map (status_facts past) held)
 abbrev pub answer_notify : Past → ℕ → Option Description → Option ℕ → Reply
 answer_notify past p held value = notify_reply p value (option_map (notify_facts past) held)
 
--- what a call of process p is answered, a name being that of an open or an unlink. The 0 of a collect never stands in a
--- legal journal, where a process collects only once its wait is answered
+-- what a call of process p is answered, a name being that of an open or an unlink. The 0 of a collect or a
+-- withdrawal never stands in a legal journal, where a process collects only once its wait is answered, and withdraws only a wait
 abbrev pub answer : Past → ℕ → Call → List ℕ → Reply
 answer past p (MqOpen flags attr) name = answer_open past p flags attr name
 answer past p (MqClose d) name = close_reply (held past p d)
 answer past p MqUnlink name = unlink_reply (bound_queue past name)
 answer past p (MqSend d prio len) name = answer_send past (held past p d) prio len
 answer past p (MqReceive d room) name = answer_receive past (held past p d) room
+answer past p (MqTimedSend d prio len until now) name = timed_reply until now (answer_send past (held past p d) prio len)
+answer past p (MqTimedReceive d room until now) name = timed_reply until now (answer_receive past (held past p d) room)
 answer past p (MqGetattr d) name = answer_attributes past (held past p d)
 answer past p (MqSetattr d nonblock) name = answer_attributes past (held past p d)
 answer past p (MqNotify d value) name = answer_notify past p (held past p d) value
 answer past p NextNotice name = Notice (slice_get (notices past p) 0)
 answer past p Collect name = Collected (unwrap_or (answered_by past p) 0)
+answer past p (Withdraw now) name = Withdrawn (unwrap_or (open_wait past p) 0)
 
 abbrev pub is_refused : Reply → Bool
 is_refused (Refused fault) = true
@@ -97,11 +101,14 @@ abbrev pub is_payload : Call → Reply → List ℕ → Bool
 is_payload (MqOpen flags attr) reply payload = is_name payload
 is_payload MqUnlink reply payload = is_name payload
 is_payload (MqSend d prio len) reply payload = length payload == (if is_refused reply then 0 else len)
+is_payload (MqTimedSend d prio len until now) reply payload = length payload == (if is_refused reply then 0 else len)
 is_payload _ reply payload = length payload == 0
 
--- a process with an open wait may only collect, once the wait is answered, and no other process may collect
+-- a process with an open wait may only collect, once the wait is answered, or withdraw, where its deadline has passed and it is not
+-- answered. No other process may collect or withdraw
 abbrev pub may_call : Past → ℕ → Call → Bool
 may_call past p Collect = is_some (answered_by past p)
+may_call past p (Withdraw now) = is_none (answered_by past p) && is_over (wait_deadline past p) now
 may_call past p _ = is_none (open_wait past p)
 
 -- the record may stand behind these
@@ -127,6 +134,7 @@ abbrev pub payload_of : Call → Reply → List ℕ → List ℕ
 payload_of (MqOpen flags attr) reply given = given
 payload_of MqUnlink reply given = given
 payload_of (MqSend d prio len) reply given = if is_refused reply then [] else given
+payload_of (MqTimedSend d prio len until now) reply given = if is_refused reply then [] else given
 payload_of _ reply given = []
 
 -- one record was added: this call of process p with its answer, and with the payload that the bytes given make

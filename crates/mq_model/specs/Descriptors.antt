@@ -9,7 +9,7 @@ use Rattle.mq_model.specs.declared.entries.Description.{Description}
 use Rattle.mq_model.specs.declared.entries.OpenFlags.{OpenFlags}
 use Rattle.mq_model.specs.declared.entries.Entry.{Entry}
 use Rattle.mq_model.specs.declared.entries.Call.{Call}
-use Rattle.mq_model.specs.declared.entries.Call.TheVariants.{MqOpen, MqClose, MqUnlink, MqSend, MqReceive, MqGetattr, MqSetattr, MqNotify, NextNotice, Collect}
+use Rattle.mq_model.specs.declared.entries.Call.TheVariants.{MqOpen, MqClose, MqUnlink, MqSend, MqReceive, MqGetattr, MqTimedSend, MqTimedReceive, MqSetattr, MqNotify, NextNotice, Collect, Withdraw}
 use Rattle.mq_model.specs.declared.entries.Reply.{Reply}
 use Rattle.mq_model.specs.declared.entries.Reply.TheVariants.{Opened, Attrs, Done}
 
@@ -80,11 +80,14 @@ descriptor_of (MqClose d) = Some d
 descriptor_of MqUnlink = None
 descriptor_of (MqSend d prio len) = Some d
 descriptor_of (MqReceive d room) = Some d
+descriptor_of (MqTimedSend d prio len until now) = Some d
+descriptor_of (MqTimedReceive d room until now) = Some d
 descriptor_of (MqGetattr d) = Some d
 descriptor_of (MqSetattr d nonblock) = Some d
 descriptor_of (MqNotify d value) = Some d
 descriptor_of NextNotice = None
 descriptor_of Collect = None
+descriptor_of (Withdraw now) = None
 
 -- the queue that a call is made on, by the descriptor that it names
 abbrev pub called_queue : Past → ℕ → Call → Option ℕ

@@ -3,6 +3,8 @@ use Rattle.std.specs.Prelude.{ℕ, pos, Bool, true, false, ◌&&◌, not, ◌==�
 use Rattle.std.specs.Option.{unwrap_or}
 use Rattle.mq_model.specs.Limits.{most_queues, most_priorities}
 use Rattle.mq_model.specs.Names.{are_within_limits}
+use Rattle.mq_model.specs.Deadlines.{is_moment, has_passed}
+use Rattle.mq_model.specs.declared.entries.Deadline.{Deadline}
 use Rattle.mq_model.specs.declared.entries.Access.{Access}
 use Rattle.mq_model.specs.declared.entries.Access.TheVariants.{Read, Write, Both}
 use Rattle.mq_model.specs.declared.entries.Attr.{Attr}
@@ -11,7 +13,7 @@ use Rattle.mq_model.specs.declared.entries.Description.{Description}
 use Rattle.mq_model.specs.declared.entries.Registration.{Registration}
 use Rattle.mq_model.specs.declared.entries.Reply.{Reply}
 use Rattle.mq_model.specs.declared.entries.Reply.TheVariants.{Opened, Queued, Handed, Waits, Got, Attrs, Done, Refused}
-use Rattle.mq_model.specs.declared.faults.Fault.TheVariants.{Again, BadDescriptor, Busy, Exists, Invalid, TooManyOpen, MessageSize, NoEntry, NoSpace}
+use Rattle.mq_model.specs.declared.faults.Fault.TheVariants.{Again, BadDescriptor, Busy, Exists, Invalid, TooManyOpen, MessageSize, NoEntry, NoSpace, TimedOut}
 use Rattle.mq_model.specs.declared.ladder.OpenFacts.{OpenFacts}
 use Rattle.mq_model.specs.declared.ladder.SendFacts.{SendFacts}
 use Rattle.mq_model.specs.declared.ladder.ReceiveFacts.{ReceiveFacts}
@@ -79,6 +81,14 @@ receive_reply room (Some facts) =
     if is_write_only facts.description.access then Refused BadDescriptor
     else (if int_lt (pos room) facts.attributes.msgsize then Refused MessageSize
     else found_reply facts.description.nonblock facts.best facts.waiting (if is_some facts.waiting && facts.count == 1 then facts.registered else None))
+
+-- mq_timedsend and mq_timedreceive, by the reply to the same call without a deadline: the deadline counts only where that would wait
+abbrev pub timed_reply : Deadline → Deadline → Reply → Reply
+timed_reply until now Waits =
+    if not (is_moment until) then Refused Invalid
+    else (if has_passed until now then Refused TimedOut
+    else Waits)
+timed_reply until now reply = reply
 
 -- mq_getattr, and mq_setattr, which gives the attributes from before
 abbrev pub status_reply : Option StatusFacts → Reply

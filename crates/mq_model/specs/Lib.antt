@@ -4,6 +4,7 @@ pub mod Name
 pub mod Record
 pub mod Stored
 pub mod Names
+pub mod Deadlines
 pub mod Descriptors
 pub mod Ladder
 pub mod Messages

@@ -29,6 +29,10 @@ most_message_bytes = 65536
 abbrev pub most_priorities : ℕ
 most_priorities = 32768
 
+-- nanoseconds of a second: those of a moment are fewer (mq_timedsend)
+abbrev pub nanoseconds_of_a_second : ℕ
+nanoseconds_of_a_second = 1000000000
+
 -- mq_maxmsg and mq_msgsize of a queue that is created without attributes
 abbrev pub default_messages : ℕ
 default_messages = 10

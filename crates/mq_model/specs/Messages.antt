@@ -8,19 +8,23 @@ use Rattle.mq_model.specs.Descriptors.{is_on}
 use Rattle.mq_model.specs.Ladder.{is_full_with}
 use Rattle.mq_model.specs.declared.entries.Entry.{Entry}
 use Rattle.mq_model.specs.declared.entries.Call.{Call}
-use Rattle.mq_model.specs.declared.entries.Call.TheVariants.{MqSend, MqReceive}
+use Rattle.mq_model.specs.declared.entries.Call.TheVariants.{MqSend, MqReceive, MqTimedSend, MqTimedReceive}
 use Rattle.mq_model.specs.declared.entries.Reply.{Reply}
-use Rattle.mq_model.specs.declared.entries.Reply.TheVariants.{Queued, Handed, Waits, Got}
+use Rattle.mq_model.specs.declared.entries.Reply.TheVariants.{Queued, Handed, Waits, Got, Withdrawn}
 
 abbrev pub is_in : List ℕ → ℕ → Bool
 is_in places place = list_any (λ k. k == place) places
 
+-- a send, with or without a deadline
 abbrev pub is_send : Call → Bool
 is_send (MqSend d prio len) = true
+is_send (MqTimedSend d prio len until now) = true
 is_send _ = false
 
+-- a receive, with or without a deadline
 abbrev pub is_receive : Call → Bool
 is_receive (MqReceive d room) = true
+is_receive (MqTimedReceive d room until now) = true
 is_receive _ = false
 
 -- a send whose message entered its queue at once
@@ -48,23 +52,30 @@ abbrev pub admits : Reply → Option ℕ
 admits (Got place admitted notified) = admitted
 admits _ = None
 
--- the waiting receive that a reply hands a message to
-abbrev pub hands : Reply → Option ℕ
-hands (Handed wait) = Some wait
-hands _ = None
+-- the waiting send that a reply ends: it is admitted, or withdrawn. A receive may be withdrawn too, and is none of the sends
+abbrev pub ends_send : Reply → Option ℕ
+ends_send (Got place admitted notified) = admitted
+ends_send (Withdrawn wait) = Some wait
+ends_send _ = None
+
+-- the waiting receive that a reply ends: it is handed a message, or withdrawn
+abbrev pub ends_receive : Reply → Option ℕ
+ends_receive (Handed wait) = Some wait
+ends_receive (Withdrawn wait) = Some wait
+ends_receive _ = None
 
 abbrev pub with_place : Option ℕ → List ℕ → List ℕ
 with_place None places = places
 with_place (Some k) places = k ∷ places
 
--- the waiting sends that were admitted, and the waiting receives that were handed a message
-abbrev pub admitted_waits : Past → List ℕ
-admitted_waits [] = []
-admitted_waits (r ∷ past) = with_place (admits r.entry.reply) (admitted_waits past)
+-- the sends that ended their wait, and the receives that did
+abbrev pub ended_sends : Past → List ℕ
+ended_sends [] = []
+ended_sends (r ∷ past) = with_place (ends_send r.entry.reply) (ended_sends past)
 
-abbrev pub handed_waits : Past → List ℕ
-handed_waits [] = []
-handed_waits (r ∷ past) = with_place (hands r.entry.reply) (handed_waits past)
+abbrev pub ended_receives : Past → List ℕ
+ended_receives [] = []
+ended_receives (r ∷ past) = with_place (ends_receive r.entry.reply) (ended_receives past)
 
 -- the sends to a queue that blocked, and the receives on it that blocked, the latest first
 abbrev pub blocked_sends : Past → ℕ → List ℕ
@@ -77,10 +88,10 @@ blocked_receives (r ∷ past) q = if blocks_receive r.entry.call r.entry.reply &
 
 -- the sends that wait for room in the queue, and the receives that wait for a message
 abbrev pub waiting_sends : Past → ℕ → List ℕ
-waiting_sends past q = filter (λ w. not (is_in (admitted_waits past) w)) (blocked_sends past q)
+waiting_sends past q = filter (λ w. not (is_in (ended_sends past) w)) (blocked_sends past q)
 
 abbrev pub waiting_receives : Past → ℕ → List ℕ
-waiting_receives past q = filter (λ w. not (is_in (handed_waits past) w)) (blocked_receives past q)
+waiting_receives past q = filter (λ w. not (is_in (ended_receives past) w)) (blocked_receives past q)
 
 -- this place, if it is one of these
 abbrev pub if_in : List ℕ → Option ℕ → Option ℕ
@@ -128,6 +139,7 @@ is_full past q = is_full_with (attributes past q) (length (present past q))
 
 abbrev pub priority_given : Call → ℕ
 priority_given (MqSend d prio len) = prio
+priority_given (MqTimedSend d prio len until now) = prio
 priority_given _ = 0
 
 -- the priority of a message

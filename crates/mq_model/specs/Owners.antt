@@ -7,7 +7,7 @@ use Rattle.mq_model.specs.Limits.{most_descriptors}
 use Rattle.mq_model.specs.Record.{Past}
 use Rattle.mq_model.specs.Descriptors.{held, is_place, with_nonblock, descriptor_numbers}
 use Rattle.mq_model.specs.Messages.{is_in, blocked_sends, blocked_receives, waiting_sends, waiting_receives}
-use Rattle.mq_model.specs.Waits.{open_wait, answered_by}
+use Rattle.mq_model.specs.Waits.{open_wait, wait_deadline, answered_by}
 use Rattle.mq_model.specs.declared.entries.Description.{Description}
 use Rattle.mq_model.specs.declared.owners.OpenWait.{OpenWait}
 use Rattle.mq_model.specs.declared.owners.Owner.{Owner}
@@ -105,4 +105,5 @@ pub record OwnersMirror (past : Past) (owners : List Owner) : Type 0 where
   pub held : (p d : ℕ) → held_in owners p d ≡ held past p d
   pub waits : (p : ℕ) → option_map (λ w. w.place) (wait_in owners p) ≡ open_wait past p
   pub blocked : (p : ℕ) (w : OpenWait) → wait_in owners p ≡ Some w → is_in (blocked past w.sends w.queue) w.place ≡ true
+  pub deadlines : (p : ℕ) → option_and_then (λ w. w.until) (wait_in owners p) ≡ wait_deadline past p
   pub answers : (p : ℕ) → answer_in owners p ≡ answered_by past p

@@ -2,9 +2,11 @@
 use Rattle.std.specs.Prelude.{ℕ, ◌≡◌, Bool, true, false, not, ◌==◌, List, [], ◌∷◌, ◌++◌, length, Option, Some, None, is_some, if◌then◌else◌}
 use Rattle.std.specs.List.{list_all}
 use Rattle.mq_model.specs.Record.{Record, Past}
+use Rattle.mq_model.specs.Deadlines.{deadline_of}
 use Rattle.mq_model.specs.Descriptors.{is_place}
+use Rattle.mq_model.specs.declared.entries.Deadline.{Deadline}
 use Rattle.mq_model.specs.declared.entries.Reply.{Reply}
-use Rattle.mq_model.specs.declared.entries.Reply.TheVariants.{Handed, Waits, Got}
+use Rattle.mq_model.specs.declared.entries.Reply.TheVariants.{Handed, Waits, Got, Withdrawn}
 
 abbrev pub is_wait : Reply → Bool
 is_wait Waits = true
@@ -17,11 +19,23 @@ open_wait (r ∷ past) p =
     if r.entry.process == p then (if is_wait r.entry.reply then Some (length past) else None)
     else open_wait past p
 
+-- the moment until which a process waits: the deadline of the call in which it waits
+abbrev pub wait_deadline : Past → ℕ → Option Deadline
+wait_deadline [] p = None
+wait_deadline (r ∷ past) p =
+    if r.entry.process == p then (if is_wait r.entry.reply then deadline_of r.entry.call else None)
+    else wait_deadline past p
+
 -- the wait that a reply names: the receive that it hands a message to, or the send that it admits
 abbrev pub named_wait : Reply → Option ℕ
 named_wait (Handed wait) = Some wait
 named_wait (Got place admitted notified) = admitted
 named_wait _ = None
+
+-- the wait that a reply ends: the one that it names, or one that is withdrawn
+abbrev pub ended_wait : Reply → Option ℕ
+ended_wait (Withdrawn wait) = Some wait
+ended_wait reply = named_wait reply
 
 -- the reply names this wait
 abbrev pub names_wait : Reply → Option ℕ → Bool

@@ -1,6 +1,7 @@
 //! Calls and their replies, as the journal keeps them.
 ghost use Rattle.std.specs.Prelude.{◌≡◌, true, false};
-ghost use Rattle.mq_model.specs.Messages.{priority_given};
+ghost use Rattle.mq_model.specs.Messages.{priority_given, is_send};
+ghost use Rattle.mq_model.specs.Deadlines.{deadline_of};
 
 use crate::faults::Fault;
 
@@ -122,6 +123,16 @@ pub struct Received {
     pub prio: u32,
 }
 
+/// A moment of a clock, and the moment until which a timed call waits (`struct timespec` of `mq_timedsend` and `mq_timedreceive`).
+/// Of two moments the later is that of more seconds, and of equal seconds that of more nanoseconds.
+#[derive(Clone, Copy, Debug, PartialEq, Eq)]
+pub struct Deadline {
+    /// Seconds since the start of the caller's clock, or before it.
+    pub sec: i64,
+    /// Nanoseconds, 0 to 999,999,999. A timed call that would wait is refused with `Invalid` where its deadline has others.
+    pub nsec: i64,
+}
+
 /// A call that a process made inside the lock. The name of an open or unlink, and the message of a send, stand in the payload of the
 /// record.
 #[derive(Clone, Copy, Debug, PartialEq, Eq)]
@@ -148,6 +159,23 @@ pub enum Call {
         d: u32,
         room: u64,
     },
+    /// `mq_timedsend` by descriptor `d`, of a message of `len` bytes with priority `prio`: a send that waits until the moment `until`.
+    /// It was made at the moment `now` of the caller's clock.
+    MqTimedSend {
+        d: u32,
+        prio: u32,
+        len: u64,
+        until: Deadline,
+        now: Deadline,
+    },
+    /// `mq_timedreceive` by descriptor `d`, into a buffer of `room` bytes: a receive that waits until the moment `until`. It was made at
+    /// the moment `now` of the caller's clock.
+    MqTimedReceive {
+        d: u32,
+        room: u64,
+        until: Deadline,
+        now: Deadline,
+    },
     /// `mq_getattr` of descriptor `d`.
     MqGetattr {
         d: u32,
@@ -166,6 +194,11 @@ pub enum Call {
     NextNotice,
     /// The end of the open wait of the process, once an entry names it. This library's own: in POSIX the blocked call returns.
     Collect,
+    /// The end of the open wait of the process, which no entry names and whose deadline has passed at the moment `now` of the caller's
+    /// clock. This library's own: in POSIX the blocked timed call returns `ETIMEDOUT`.
+    Withdraw {
+        now: Deadline,
+    },
 }
 
 impl Call {
@@ -175,7 +208,47 @@ impl Call {
     {
         match self {
             Call::MqSend { d: _, prio, len: _ } => prio,
+            Call::MqTimedSend {
+                d: _,
+                prio,
+                len: _,
+                until: _,
+                now: _,
+            } => prio,
             _ => 0,
+        }
+    }
+
+    /// The call sends a message, with or without a deadline.
+    pub fn is_send(self) -> bool
+        ensures { result ≡ is_send self }
+    {
+        match self {
+            Call::MqSend { .. } => true,
+            Call::MqTimedSend { .. } => true,
+            _ => false,
+        }
+    }
+
+    /// The moment until which a timed call waits, and none of any other call.
+    pub fn deadline(self) -> Option<Deadline>
+        ensures { result ≡ deadline_of self }
+    {
+        match self {
+            Call::MqTimedSend {
+                d: _,
+                prio: _,
+                len: _,
+                until,
+                now: _,
+            } => Some(until),
+            Call::MqTimedReceive {
+                d: _,
+                room: _,
+                until,
+                now: _,
+            } => Some(until),
+            _ => None,
         }
     }
 }
@@ -209,6 +282,10 @@ pub enum Reply {
     /// The open wait ended; the place of the entry that names it.
     Collected {
         by: u64,
+    },
+    /// The open wait that stood at the place `wait` ended without an answer.
+    Withdrawn {
+        wait: u64,
     },
     /// The attributes: of a getattr now, of a setattr from before the call.
     Attrs(Status),

@@ -15,7 +15,7 @@ pub enum Fault {
     Busy,
     /// The name is bound, and the open asks for a new queue.
     Exists,
-    /// A priority, attributes, a name's form or a removal that the call does not allow.
+    /// A priority, attributes, a name's form, a removal or a deadline that the call does not allow.
     Invalid,
     /// The process holds 16 descriptors.
     TooManyOpen,
@@ -29,12 +29,14 @@ pub enum Fault {
     NoSpace,
     /// A growth was refused. Nothing has changed.
     NoMemory,
+    /// The call would wait, and its deadline has passed; or the deadline passed while it waited.
+    TimedOut,
 }
 
 impl Fault {
     ghost use Rattle.mq_model.specs.Fault.{number_of, text_of};
 
-    /// This project's own number of the fault, from 1 to 11.
+    /// This project's own number of the fault, from 1 to 12.
     pub fn number(&self) -> u32
         ensures { result ≡ number_of self.now }
     {
@@ -50,6 +52,7 @@ impl Fault {
             Fault::NoEntry => 9,
             Fault::NoSpace => 10,
             Fault::NoMemory => 11,
+            Fault::TimedOut => 12,
         }
     }
 
@@ -69,6 +72,7 @@ impl Fault {
             Fault::NoEntry => "ENOENT",
             Fault::NoSpace => "ENOSPC",
             Fault::NoMemory => "NOMEMORY",
+            Fault::TimedOut => "ETIMEDOUT",
         }
     }
 }

@@ -3,7 +3,9 @@
 ghost use Rattle.std.specs.Prelude.{◌≡◌, ◌<◌, ◌^◌, IfSome, pos, int_lt, int_le};
 ghost use Rattle.mq_model.specs.Names.{attributes_given, are_within_limits};
 
-use crate::entries::{Access, Attr, Call, Description, OpenFlags, Registration, Reply, Status};
+use crate::entries::{
+    Access, Attr, Call, Deadline, Description, OpenFlags, Registration, Reply, Status,
+};
 use crate::faults::Fault;
 use crate::limits;
 
@@ -54,7 +56,8 @@ pub struct NotifyFacts {
     pub registered: Option<Registration>,
 }
 
-ghost use Rattle.mq_model.specs.Ladder.{is_read_only, is_write_only, is_full_with, is_of, open_reply, close_reply, unlink_reply, accepted_reply, send_reply, found_reply, receive_reply, status_reply, notify_reply};
+ghost use Rattle.mq_model.specs.Deadlines.{is_moment, has_passed, is_over};
+ghost use Rattle.mq_model.specs.Ladder.{timed_reply, is_read_only, is_write_only, is_full_with, is_of, open_reply, close_reply, unlink_reply, accepted_reply, send_reply, found_reply, receive_reply, status_reply, notify_reply};
 
 /// `maxmsg` and `msgsize` of a queue that is created without attributes.
 pub const DEFAULT_ATTRIBUTES: Attr = Attr {
@@ -255,6 +258,45 @@ pub fn receive(room: u64, facts: Option<ReceiveFacts>) -> Reply
         facts.waiting,
         notified,
     )
+}
+
+fn is_moment(moment: Deadline) -> bool
+    ensures { result ≡ is_moment moment }
+{
+    0 <= moment.nsec && moment.nsec < limits::NANOSECONDS
+}
+
+fn has_passed(until: Deadline, now: Deadline) -> bool
+    ensures { result ≡ has_passed until now }
+{
+    until.sec < now.sec || (until.sec == now.sec && until.nsec <= now.nsec)
+}
+
+/// The deadline of a wait, if it has one, has passed at a moment.
+pub fn is_over(until: Option<Deadline>, now: Deadline) -> bool
+    ensures { result ≡ is_over until now }
+{
+    match until {
+        None => false,
+        Some(until) => has_passed(until, now),
+    }
+}
+
+/// The reply to a send or a receive with a deadline, made at the moment `now`, by the reply to the same call without one: the deadline
+/// counts only where that would wait (`mq_timedsend`, `mq_timedreceive`).
+pub fn timed(until: Deadline, now: Deadline, reply: Reply) -> Reply
+    ensures { result ≡ timed_reply until now reply }
+{
+    let Reply::Waits = reply else {
+        return reply;
+    };
+    if !is_moment(until) {
+        return Reply::Refused(Fault::Invalid);
+    }
+    if has_passed(until, now) {
+        return Reply::Refused(Fault::TimedOut);
+    }
+    Reply::Waits
 }
 
 /// The reply to a getattr or a setattr, on a descriptor of which this is so, or on none (`mq_getattr`, `mq_setattr`).

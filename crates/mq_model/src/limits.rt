@@ -22,6 +22,9 @@ pub const MESSAGE_BYTES: i64 = 65536;
 /// How many priorities there are, numbered from 0 (`MQ_PRIO_MAX`).
 pub const PRIORITIES: u32 = 32768;
 
+/// How many nanoseconds a second has: those of a moment are fewer (`mq_timedsend`).
+pub const NANOSECONDS: i64 = 1_000_000_000;
+
 /// `mq_maxmsg` of a queue that is created without attributes.
 pub const DEFAULT_MESSAGES: i64 = 10;
 

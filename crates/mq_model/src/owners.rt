@@ -4,17 +4,17 @@ ghost use Rattle.std.specs.Prelude.{◌≡◌, ◌<◌, ◌≤◌, ℕ, length, 
 ghost use Rattle.std.specs.Option.{option_map};
 ghost use Rattle.std.specs.List.{list_any, position};
 ghost use Rattle.mq_model.specs.Descriptors.{is_place};
-ghost use Rattle.mq_model.specs.Messages.{is_send};
 
-use crate::entries::{Call, Description, Entry, Reply};
+use crate::entries::{Call, Deadline, Description, Entry, Reply};
 use crate::limits::DESCRIPTORS;
 
-/// A call that blocked: its place, its queue, and whether it is a send.
+/// A call that blocked: its place, its queue, whether it is a send, and the moment until which it waits.
 #[derive(Clone, Copy, Debug, PartialEq, Eq)]
 pub struct OpenWait {
     pub place: u64,
     pub queue: u64,
     pub sends: bool,
+    pub until: Option<Deadline>,
 }
 
 /// What a process has: what it holds under each descriptor, the call that it waits in, and the place of the entry that
@@ -213,15 +213,6 @@ pub fn is_held(owners: &[Owner], q: u64) -> bool
     owners.iter().any(|owner| holds(owner, q))
 }
 
-fn is_send(call: Call) -> bool
-    ensures { result ≡ is_send call }
-{
-    match call {
-        Call::MqSend { .. } => true,
-        _ => false,
-    }
-}
-
 // The wait at this place, if a process has it, is answered by the entry at place `here`.
 fn answer_wait(owners: &mut [Owner], wait: u64, here: u64)
     ensures { owners.new ≡ with_answer_at owners.old (waiter_in owners.old wait) here }
@@ -291,11 +282,13 @@ fn note_reply(owners: &mut [Owner], here: u64, entry: Entry, queue: u64)
             let wait = OpenWait {
                 place: here,
                 queue,
-                sends: is_send(entry.call),
+                sends: entry.call.is_send(),
+                until: entry.call.deadline(),
             };
             set_wait(owners, p, Some(wait));
         }
         Reply::Collected { by: _ } => set_wait(owners, p, None),
+        Reply::Withdrawn { wait: _ } => set_wait(owners, p, None),
         Reply::Handed { wait } => answer_wait(owners, wait, here),
         Reply::Got {
             place: _,
