@@ -1,6 +1,7 @@
 //! Clocks that timed calls are lent.
 ghost use Rattle.std.specs.Prelude.{◌≡◌, true};
 ghost use Rattle.mq_model.specs.Deadlines.{is_moment};
+ghost use Rattle.mq_model.specs.declared.entries.Deadline.{Deadline};
 
 use crate::entries::Deadline;
 
