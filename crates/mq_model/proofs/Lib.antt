@@ -3,6 +3,7 @@ pub mod Prefixes
 pub mod Records
 pub mod Cases
 pub mod LegalReplies
+pub mod NoWant
 pub mod Best
 pub mod Frames
 pub mod OpenWaits

@@ -1,6 +1,6 @@
 //! Calls and their replies, as the journal keeps them.
 ghost use Rattle.std.specs.Prelude.{◌≡◌, true, false};
-ghost use Rattle.mq_model.specs.Messages.{priority_given, is_send};
+ghost use Rattle.mq_model.specs.Messages.{priority_given, is_send, is_receive};
 ghost use Rattle.mq_model.specs.Deadlines.{deadline_of};
 
 use crate::faults::Fault;
@@ -226,6 +226,17 @@ impl Call {
         match self {
             Call::MqSend { .. } => true,
             Call::MqTimedSend { .. } => true,
+            _ => false,
+        }
+    }
+
+    /// The call receives a message, with or without a deadline.
+    pub fn is_receive(self) -> bool
+        ensures { result ≡ is_receive self }
+    {
+        match self {
+            Call::MqReceive { .. } => true,
+            Call::MqTimedReceive { .. } => true,
             _ => false,
         }
     }

@@ -7,24 +7,25 @@ use Rattle.std.proofs.lemmas.Bool.Decides.{nat_tests}
 use Rattle.mq_model.specs.Record.{Record, Past, record_at}
 use Rattle.mq_model.specs.Names.{attributes}
 use Rattle.mq_model.specs.Descriptors.{held, called_queue, is_place, is_on}
-use Rattle.mq_model.specs.Messages.{is_in, is_send, is_receive, with_place, if_in, queues, admits, blocks_send, blocks_receive, blocked_sends, blocked_receives, waiting_sends, waiting_receives, admitted_waits, handed_waits, entered, admitted, present}
+use Rattle.mq_model.specs.Messages.{is_in, is_send, is_receive, with_place, if_in, queues, admits, blocks_send, blocks_receive, blocked_sends, blocked_receives, waiting_sends, waiting_receives, least, ended_sends, ended_receives, entered, admitted, present}
 use Rattle.mq_model.specs.Waits.{open_wait, names_wait, answered_by}
 use Rattle.mq_model.specs.Answer.{Legal, IsLegalNext, answer, is_refused, is_payload}
 use Rattle.mq_model.specs.declared.entries.Call.{Call}
-use Rattle.mq_model.specs.declared.entries.Call.TheVariants.{MqOpen, MqClose, MqUnlink, MqSend, MqReceive, MqGetattr, MqSetattr, MqNotify, NextNotice, Collect}
+use Rattle.mq_model.specs.declared.entries.Call.TheVariants.{MqOpen, MqClose, MqUnlink, MqSend, MqReceive, MqGetattr, MqSetattr, MqNotify, NextNotice, Collect, MqTimedSend, MqTimedReceive, Withdraw}
 use Rattle.mq_model.specs.declared.entries.Reply.{Reply}
-use Rattle.mq_model.specs.declared.entries.Reply.TheVariants.{Opened, Queued, Handed, Waits, Got, Collected, Attrs, Notice, Done, Refused}
+use Rattle.mq_model.specs.declared.entries.Reply.TheVariants.{Opened, Queued, Handed, Waits, Got, Collected, Attrs, Notice, Done, Refused, Withdrawn}
 use Rattle.mq_model.proofs.Places.{split, clash, find-in, is_in-filter}
-use Rattle.mq_model.proofs.Cases.{Says, answer_says}
+use Rattle.mq_model.proofs.Cases.{Says, SendSays, ReceiveSays, MayReceive, BestReply, answer_says}
+use Rattle.mq_model.proofs.Waiters.{admits-least}
 use Rattle.mq_model.proofs.LegalReplies.{legal_says}
 use Rattle.mq_model.proofs.Frames.{record_at-older, attributes-older}
 use Rattle.mq_model.proofs.Steps.{if_in-inside}
 use Rattle.mq_model.proofs.Presence.{sent_to, present-admitted}
 use Rattle.mq_model.proofs.NamedWaits.{least-in}
-use Rattle.mq_model.proofs.Waiters.{open_wait-process}
+use Rattle.mq_model.proofs.OpenWaits.{open_wait-process}
 use Rattle.mq_model.proofs.Prefixes.{record_at-below}
 use Rattle.mq_model.proofs.HeldQueues.{called-alive}
-use Rattle.mq_state.specs.Buffers.{message_at, Fits}
+use Rattle.mq_state.specs.Buffers.{message_at, room_of, Fits}
 use Rattle.mq_model.specs.declared.entries.Attr.{Attr}
 use Rattle.mq_model.specs.declared.entries.Description.{Description}
 use Rattle.mq_state.proofs.QueuesNoted.{sent_to-below}
@@ -59,6 +60,7 @@ blocks-facts call (Queued n) e = absurd (cc)
 blocks-facts call (Handed w) e = absurd (cc)
 blocks-facts call (Got m a n) e = absurd (cc)
 blocks-facts call (Collected b) e = absurd (cc)
+blocks-facts call (Withdrawn b) e = absurd (cc)
 blocks-facts call (Attrs s) e = absurd (cc)
 blocks-facts call (Notice v) e = absurd (cc)
 blocks-facts call Done e = absurd (cc)
@@ -71,6 +73,7 @@ queues-facts call (Handed w) e = absurd (cc)
 queues-facts call Waits e = absurd (cc)
 queues-facts call (Got m a n) e = absurd (cc)
 queues-facts call (Collected b) e = absurd (cc)
+queues-facts call (Withdrawn b) e = absurd (cc)
 queues-facts call (Attrs s) e = absurd (cc)
 queues-facts call (Notice v) e = absurd (cc)
 queues-facts call Done e = absurd (cc)
@@ -109,9 +112,9 @@ admitted-sent (s ∷ past) q m h = by (entered past s.entry q) refl h (λ rest. 
         (λ f. let old : is_in (admitted past q) m ≡ true = rw f at h' in sent-older past s q m (rest old))
 
 -- what a send that was not refused says of its length
-send-fits : (past : Past) (p : ℕ) (call : Call) (reply : Reply) (payload : List ℕ) (q : ℕ) → Says past p call reply → is_payload call reply payload ≡ true → is_send call ≡ true → is_refused reply ≡ false → called_queue past p call ≡ Some q →
+message-fits : (past : Past) (p d prio len : ℕ) (reply : Reply) (payload : List ℕ) (q : ℕ) → SendSays past (held past p d) prio len reply → (length payload == (if is_refused reply then 0 else len)) ≡ true → is_refused reply ≡ false → option_map (λ h. h.queue) (held past p d) ≡ Some q →
     int_lt (attributes past q).msgsize (pos (length payload)) ≡ false
-send-fits past p (MqSend d prio len) reply payload q says paid sends goes on = by reply says goes paid
+message-fits past p d prio len reply payload q says paid goes on = by reply says goes paid
   where
     facts : (h : Description) → held past p d ≡ Some h → int_lt (attributes past h.queue).msgsize (pos len) ≡ false → length payload ≡ len → int_lt (attributes past q).msgsize (pos (length payload)) ≡ false
     facts h is fits long =
@@ -122,7 +125,7 @@ send-fits past p (MqSend d prio len) reply payload q says paid sends goes on = b
     long : (reply : Reply) → is_refused reply ≡ false → (length payload == (if is_refused reply then 0 else len)) ≡ true → length payload ≡ len
     long reply goes paid = eqb-true _ _ (rw goes at paid)
 
-    by : (reply : Reply) → Says past p (MqSend d prio len) reply → is_refused reply ≡ false → is_payload (MqSend d prio len) reply payload ≡ true → int_lt (attributes past q).msgsize (pos (length payload)) ≡ false
+    by : (reply : Reply) → SendSays past (held past p d) prio len reply → is_refused reply ≡ false → (length payload == (if is_refused reply then 0 else len)) ≡ true → int_lt (attributes past q).msgsize (pos (length payload)) ≡ false
     by (Queued n) says goes paid = facts says.0 says.1 says.2.fits (long (Queued n) refl paid)
     by (Handed w) says goes paid = facts says.0 says.1 says.2.fits (long (Handed w) refl paid)
     by Waits says goes paid = facts says.0 says.1 says.2.fits (long Waits refl paid)
@@ -130,18 +133,26 @@ send-fits past p (MqSend d prio len) reply payload q says paid sends goes on = b
     by (Opened e c) says goes paid = absurd says.3
     by (Got m a n) says goes paid = absurd says.3
     by (Collected b) says goes paid = absurd says.3
+    by (Withdrawn w) says goes paid = absurd says.3
     by (Attrs s) says goes paid = absurd says.3
     by (Notice v) says goes paid = absurd says.3
     by Done says goes paid = absurd says.3
+
+send-fits : (past : Past) (p : ℕ) (call : Call) (reply : Reply) (payload : List ℕ) (q : ℕ) → Says past p call reply → is_payload call reply payload ≡ true → is_send call ≡ true → is_refused reply ≡ false → called_queue past p call ≡ Some q →
+    int_lt (attributes past q).msgsize (pos (length payload)) ≡ false
+send-fits past p (MqSend d prio len) reply payload q says paid sends goes on = message-fits past p d prio len reply payload q says paid goes on
+send-fits past p (MqTimedSend d prio len until now) reply payload q says paid sends goes on = message-fits past p d prio len reply payload q says paid goes on
 send-fits past p (MqOpen flags attr) reply payload q says paid sends goes on = absurd (cc)
 send-fits past p (MqClose d) reply payload q says paid sends goes on = absurd (cc)
 send-fits past p MqUnlink reply payload q says paid sends goes on = absurd (cc)
 send-fits past p (MqReceive d room) reply payload q says paid sends goes on = absurd (cc)
+send-fits past p (MqTimedReceive d room until now) reply payload q says paid sends goes on = absurd (cc)
 send-fits past p (MqGetattr d) reply payload q says paid sends goes on = absurd (cc)
 send-fits past p (MqSetattr d nonblock) reply payload q says paid sends goes on = absurd (cc)
 send-fits past p (MqNotify d value) reply payload q says paid sends goes on = absurd (cc)
 send-fits past p NextNotice reply payload q says paid sends goes on = absurd (cc)
 send-fits past p Collect reply payload q says paid sends goes on = absurd (cc)
+send-fits past p (Withdraw now) reply payload q says paid sends goes on = absurd (cc)
 
 -- a message that was sent to a queue is at most its msgsize long
 pub sent-fits : (past : Past) → Legal past → (q m : ℕ) → IsSentTo past q m → int_lt (attributes past q).msgsize (pos (length (message_at past m))) ≡ false
@@ -165,42 +176,57 @@ int-chain : (a : ℤ) (m n : ℕ) → int_lt a (pos m) ≡ false → int_lt (pos
 int-chain (pos k) m n h g = grind (arith, nat_tests)
 int-chain (negsuc k) m n h g = absurd (let bad : true ≡ false = h in cc)
 
--- the message that a receive gets fits its buffer
-pub received-fits : (past : Past) → Legal past → (p d room m : ℕ) (a n : Option ℕ) → Says past p (MqReceive d room) (Got m a n) → length (message_at past m) ≤ room
-received-fits past legal p d room m a n says =
-    let inside = (find-in _ (present past says.0.queue) m says.3.0).0 in
-    int-chain (attributes past says.0.queue).msgsize (length (message_at past m)) room
-    (sent-fits past legal says.0.queue m (admitted-sent past says.0.queue m (present-admitted past says.0.queue m inside)))
-    says.2.fits
+unless : (past : Past) (o : Option Description) (room : ℕ) (reply : Reply) → ReceiveSays past o room reply → is_refused reply ≡ false → (h : Description) × (o ≡ Some h) × MayReceive past h room × BestReply past h reply
+unless past o room (Refused f) says goes = absurd (let bad : true ≡ false = goes in cc)
+unless past o room reply says goes = says
 
-pub reply-fits : (past : Past) → Legal past → (p d room : ℕ) (reply : Reply) → reply ≡ answer past p (MqReceive d room) [] → Fits past reply room
-reply-fits past legal p d room reply is = by reply (subst (Says past p (MqReceive d room)) (sym is) (answer_says past p (MqReceive d room) []))
+-- what a receive that was not refused says: its queue, its buffer, and what it gets
+record ReceivesOn (past : Past) (p : ℕ) (call : Call) (reply : Reply) (h : Description) : Type 0 where
+  held_at : called_queue past p call ≡ Some h.queue
+  roomy : int_lt (pos (room_of call)) (attributes past h.queue).msgsize ≡ false
+  best_reply : BestReply past h reply
+
+receives-on : (past : Past) (p : ℕ) (call : Call) (reply : Reply) → Says past p call reply → is_receive call ≡ true → is_refused reply ≡ false → (h : Description) × ReceivesOn past p call reply h
+receives-on past p (MqReceive d room) reply says receives goes = let x = unless past (held past p d) room reply says goes in (x.0, record { held_at = ap (option_map (λ (y : Description). y.queue)) x.1; roomy = x.2.fits; best_reply = x.3 })
+receives-on past p (MqTimedReceive d room until now) reply says receives goes = let x = unless past (held past p d) room reply says goes in (x.0, record { held_at = ap (option_map (λ (y : Description). y.queue)) x.1; roomy = x.2.fits; best_reply = x.3 })
+receives-on past p (MqOpen flags attr) reply says receives goes = absurd (cc)
+receives-on past p (MqClose d) reply says receives goes = absurd (cc)
+receives-on past p MqUnlink reply says receives goes = absurd (cc)
+receives-on past p (MqSend d prio len) reply says receives goes = absurd (cc)
+receives-on past p (MqTimedSend d prio len until now) reply says receives goes = absurd (cc)
+receives-on past p (MqGetattr d) reply says receives goes = absurd (cc)
+receives-on past p (MqSetattr d nonblock) reply says receives goes = absurd (cc)
+receives-on past p (MqNotify d value) reply says receives goes = absurd (cc)
+receives-on past p NextNotice reply says receives goes = absurd (cc)
+receives-on past p Collect reply says receives goes = absurd (cc)
+receives-on past p (Withdraw now) reply says receives goes = absurd (cc)
+
+-- the message that a receive gets fits its buffer
+pub received-fits : (past : Past) → Legal past → (p : ℕ) (call : Call) (m : ℕ) (a n : Option ℕ) → Says past p call (Got m a n) → is_receive call ≡ true → length (message_at past m) ≤ room_of call
+received-fits past legal p call m a n says receives =
+    let x = receives-on past p call (Got m a n) says receives refl in
+    let inside = (find-in _ (present past x.0.queue) m x.1.best_reply.0).0 in
+    int-chain (attributes past x.0.queue).msgsize (length (message_at past m)) (room_of call)
+    (sent-fits past legal x.0.queue m (admitted-sent past x.0.queue m (present-admitted past x.0.queue m inside)))
+    x.1.roomy
+
+pub reply-fits : (past : Past) → Legal past → (p : ℕ) (call : Call) (reply : Reply) → reply ≡ answer past p call [] → is_receive call ≡ true → Fits past reply (room_of call)
+reply-fits past legal p call reply is receives = by reply (subst (Says past p call) (sym is) (answer_says past p call []))
   where
-    by : (reply : Reply) → Says past p (MqReceive d room) reply → Fits past reply room
-    by (Got m a n) says = received-fits past legal p d room m a n says
+    by : (reply : Reply) → Says past p call reply → Fits past reply (room_of call)
+    by (Got m a n) says = received-fits past legal p call m a n says receives
     by (Opened e c) says = tt
     by (Queued n) says = tt
     by (Handed w) says = tt
     by Waits says = tt
     by (Collected b) says = tt
+    by (Withdrawn w) says = tt
     by (Attrs s) says = tt
     by (Notice v) says = tt
     by Done says = tt
     by (Refused f) says = tt
 
 -- what answers a waiting receive -----------------------------------------------------------------------------------------
-
-not-receive : (call : Call) (reply : Reply) → is_receive call ≡ false → blocks_receive call reply ≡ true → ⊥
-not-receive call Waits off b = clash (is_receive call) b off
-not-receive call (Opened x y) off b = cc
-not-receive call (Queued n) off b = cc
-not-receive call (Handed k) off b = cc
-not-receive call (Got m a n) off b = cc
-not-receive call (Collected k) off b = cc
-not-receive call (Attrs x) off b = cc
-not-receive call (Notice v) off b = cc
-not-receive call Done off b = cc
-not-receive call (Refused f) off b = cc
 
 blocked-on-below : (past : Past) → Legal past → (q w : ℕ) → is_in (blocked_receives past q) w ≡ true → q < length past
 blocked-on-below [] legal q w h = absurd (cc)
@@ -216,52 +242,46 @@ blocked-on-below (s ∷ past) legal q w h = split (blocks_receive s.entry.call s
 -- a receive that blocked on queue q has a buffer as long as its msgsize
 pub record IsReceiveOn (past : Past) (q w : ℕ) : Type 0 where
   pub r : Record
-  pub d : ℕ
-  pub room : ℕ
   pub at : record_at past w ≡ Some r
-  pub call : r.entry.call ≡ MqReceive d room
-  pub roomy : int_lt (pos room) (attributes past q).msgsize ≡ false
+  pub receives : is_receive r.entry.call ≡ true
+  pub roomy : int_lt (pos (room_of r.entry.call)) (attributes past q).msgsize ≡ false
 
 receive-older : (past : Past) (s : Record) (q w : ℕ) → q < length past → IsReceiveOn past q w → IsReceiveOn (s ∷ past) q w
 receive-older past s q w lt x =
     let below = record_at-below past w x.r x.at in
-    record { r = x.r; d = x.d; room = x.room; at = record_at-older past s w below ∙ x.at; call = x.call; roomy = ap (λ (b : Attr). int_lt (pos x.room) b.msgsize) (attributes-older past s q lt) ∙ x.roomy }
+    record { r = x.r; at = record_at-older past s w below ∙ x.at; receives = x.receives; roomy = ap (λ (b : Attr). int_lt (pos (room_of x.r.entry.call)) b.msgsize) (attributes-older past s q lt) ∙ x.roomy }
+
+blocks-receive-facts : (call : Call) (reply : Reply) → blocks_receive call reply ≡ true → (is_receive call ≡ true) × (is_refused reply ≡ false)
+blocks-receive-facts call Waits e = (e, refl)
+blocks-receive-facts call (Opened d c) e = absurd (cc)
+blocks-receive-facts call (Queued n) e = absurd (cc)
+blocks-receive-facts call (Handed w) e = absurd (cc)
+blocks-receive-facts call (Got m a n) e = absurd (cc)
+blocks-receive-facts call (Collected b) e = absurd (cc)
+blocks-receive-facts call (Withdrawn b) e = absurd (cc)
+blocks-receive-facts call (Attrs s) e = absurd (cc)
+blocks-receive-facts call (Notice v) e = absurd (cc)
+blocks-receive-facts call Done e = absurd (cc)
+blocks-receive-facts call (Refused f) e = absurd (cc)
 
 receive-here : (past : Past) → Legal past → (s : Record) (q : ℕ) → Says past s.entry.process s.entry.call s.entry.reply → blocks_receive s.entry.call s.entry.reply ≡ true → is_place q (called_queue past s.entry.process s.entry.call) ≡ true → IsReceiveOn (s ∷ past) q (length past)
-receive-here past legal s q says blocks on = by s.entry.call refl s.entry.reply refl says blocks on
+receive-here past legal s q says blocks on =
+    let facts = blocks-receive-facts s.entry.call s.entry.reply blocks in
+    let x = receives-on past s.entry.process s.entry.call s.entry.reply says facts.0 facts.1 in
+    let called : called_queue past s.entry.process s.entry.call ≡ Some q = place-is _ q on in
+    let lt = alive-below past q (called-alive past legal s.entry.process s.entry.call q called) in
+    let at : Some x.0.queue ≡ Some q = sym x.1.held_at ∙ called in
+    let same : x.0.queue ≡ q = cc in
+    record {
+      r = s;
+      at = rw (eq-eqb (length past) (length past) refl) refl;
+      receives = facts.0;
+      roomy = ap (λ (b : Attr). int_lt (pos (room_of s.entry.call)) b.msgsize) (attributes-older past s q lt) ∙ ap (λ k. int_lt (pos (room_of s.entry.call)) (attributes past k).msgsize) (sym same) ∙ x.1.roomy;
+    }
   where
     place-is : (o : Option ℕ) (q : ℕ) → is_place q o ≡ true → o ≡ Some q
     place-is None q e = absurd (cc)
     place-is (Some k) q e = ap Some (eqb-true _ _ e)
-
-    waits : (d room : ℕ) → s.entry.call ≡ MqReceive d room → (h : Description) → held past s.entry.process d ≡ Some h → int_lt (pos room) (attributes past h.queue).msgsize ≡ false → is_place q (called_queue past s.entry.process (MqReceive d room)) ≡ true → IsReceiveOn (s ∷ past) q (length past)
-    waits d room is h held_at fits on =
-        let called : called_queue past s.entry.process (MqReceive d room) ≡ Some q = place-is _ q on in
-        let lt = alive-below past q (called-alive past legal s.entry.process (MqReceive d room) q called) in
-        let at : Some h.queue ≡ Some q = rw held_at at called in
-        let same : h.queue ≡ q = cc in
-        record { r = s; d = d; room = room; at = rw (eq-eqb (length past) (length past) refl) refl; call = is; roomy = ap (λ (b : Attr). int_lt (pos room) b.msgsize) (attributes-older past s q lt) ∙ ap (λ k. int_lt (pos room) (attributes past k).msgsize) (sym same) ∙ fits }
-
-    by : (call : Call) → s.entry.call ≡ call → (reply : Reply) → s.entry.reply ≡ reply → Says past s.entry.process call reply → blocks_receive call reply ≡ true → is_place q (called_queue past s.entry.process call) ≡ true → IsReceiveOn (s ∷ past) q (length past)
-    by (MqReceive d room) c Waits e says b on = waits d room c says.0 says.1 says.2.fits on
-    by (MqReceive d room) c (Opened x y) e says b on = absurd (cc)
-    by (MqReceive d room) c (Queued n) e says b on = absurd (cc)
-    by (MqReceive d room) c (Handed k) e says b on = absurd (cc)
-    by (MqReceive d room) c (Got m a n) e says b on = absurd (cc)
-    by (MqReceive d room) c (Collected k) e says b on = absurd (cc)
-    by (MqReceive d room) c (Attrs x) e says b on = absurd (cc)
-    by (MqReceive d room) c (Notice v) e says b on = absurd (cc)
-    by (MqReceive d room) c Done e says b on = absurd (cc)
-    by (MqReceive d room) c (Refused f) e says b on = absurd (cc)
-    by (MqOpen flags attr) c reply e says b on = absurd (not-receive (MqOpen flags attr) reply refl b)
-    by (MqClose d) c reply e says b on = absurd (not-receive (MqClose d) reply refl b)
-    by MqUnlink c reply e says b on = absurd (not-receive MqUnlink reply refl b)
-    by (MqSend d prio len) c reply e says b on = absurd (not-receive (MqSend d prio len) reply refl b)
-    by (MqGetattr d) c reply e says b on = absurd (not-receive (MqGetattr d) reply refl b)
-    by (MqSetattr d nonblock) c reply e says b on = absurd (not-receive (MqSetattr d nonblock) reply refl b)
-    by (MqNotify d value) c reply e says b on = absurd (not-receive (MqNotify d value) reply refl b)
-    by NextNotice c reply e says b on = absurd (not-receive NextNotice reply refl b)
-    by Collect c reply e says b on = absurd (not-receive Collect reply refl b)
 
 blocked-receive : (past : Past) → Legal past → (q w : ℕ) → is_in (blocked_receives past q) w ≡ true → IsReceiveOn past q w
 blocked-receive [] legal q w h = absurd (cc)
@@ -298,71 +318,81 @@ message-newest past s = rw (eq-eqb (length past) (length past) refl) refl
 message-older : (past : Past) (s : Record) (m : ℕ) → m < length past → message_at (s ∷ past) m ≡ message_at past m
 message-older past s m lt = ap (λ o. unwrap_or (option_map (λ (y : Record). y.payload) o) []) (record_at-older past s m lt)
 
+not-both : (call : Call) → is_send call ≡ true → is_receive call ≡ true → ⊥
+not-both (MqSend d prio len) h g = let bad : false ≡ true = g in cc
+not-both (MqTimedSend d prio len until now) h g = let bad : false ≡ true = g in cc
+not-both call h g = let bad : false ≡ true = h in cc
+
+-- a reply that names a wait hands a message over, or admits one
+data Names (past : Past) (p : ℕ) (call : Call) (reply : Reply) (w : ℕ) : Type 0 where
+  hands : (q : ℕ) → is_send call ≡ true → is_refused reply ≡ false → called_queue past p call ≡ Some q → least (waiting_receives past q) ≡ Some w → Names past p call reply w
+  admits_to : (q : ℕ) → least (waiting_sends past q) ≡ Some w → Names past p call reply w
+
+handed-by : (past : Past) (p : ℕ) (call : Call) (k : ℕ) → Says past p call (Handed k) → Names past p call (Handed k) k
+handed-by past p (MqSend d prio len) k says = hands says.0.queue refl refl (rw says.1 refl) says.3
+handed-by past p (MqTimedSend d prio len until now) k says = hands says.0.queue refl refl (rw says.1 refl) says.3
+handed-by past p (MqReceive d room) k says = absurd says.3
+handed-by past p (MqTimedReceive d room until now) k says = absurd says.3
+handed-by past p (MqOpen flags attr) k says = absurd says
+handed-by past p (MqClose d) k says = absurd says.0
+handed-by past p MqUnlink k says = absurd says
+handed-by past p (MqGetattr d) k says = absurd says
+handed-by past p (MqSetattr d nonblock) k says = absurd says
+handed-by past p (MqNotify d value) k says = absurd says
+handed-by past p NextNotice k says = absurd (cc)
+handed-by past p Collect k says = absurd (cc)
+handed-by past p (Withdraw now) k says = absurd (cc)
+
+names : (past : Past) (p : ℕ) (call : Call) (reply : Reply) (w : ℕ) → Says past p call reply → names_wait reply (Some w) ≡ true → Names past p call reply w
+names past p call (Handed k) w says named = let same : k ≡ w = eqb-true _ _ named in subst (λ j. Names past p call (Handed k) j) same (handed-by past p call k says)
+names past p call (Got m (Some k) n) w says named =
+    let same : k ≡ w = eqb-true _ _ named in
+    let x = admits-least past p call m (Some k) n says in
+    admits_to x.0 (sym x.1 ∙ ap Some same)
+names past p call (Got m None n) w says named = absurd (cc)
+names past p call (Opened x y) w says named = absurd (cc)
+names past p call (Queued n) w says named = absurd (cc)
+names past p call Waits w says named = absurd (cc)
+names past p call (Collected k) w says named = absurd (cc)
+names past p call (Withdrawn k) w says named = absurd (cc)
+names past p call (Attrs x) w says named = absurd (cc)
+names past p call (Notice v) w says named = absurd (cc)
+names past p call Done w says named = absurd (cc)
+names past p call (Refused f) w says named = absurd (cc)
+
 -- the entry that names a waiting receive hands it a message that fits
-handed-here : (past : Past) → Legal past → (s : Record) → IsLegalNext past s → (w : ℕ) → names_wait s.entry.reply (Some w) ≡ true → (r : Record) (d room : ℕ) → record_at past w ≡ Some r → r.entry.call ≡ MqReceive d room → length s.payload ≤ room
-handed-here past legal s next w named r d room at call = by s.entry.call s.entry.reply (legal_says past s next) next.payload named
+handed-here : (past : Past) → Legal past → (s : Record) → IsLegalNext past s → (w : ℕ) → names_wait s.entry.reply (Some w) ≡ true → (r : Record) → record_at past w ≡ Some r → is_receive r.entry.call ≡ true → length s.payload ≤ room_of r.entry.call
+handed-here past legal s next w named r at receives = by (names past s.entry.process s.entry.call s.entry.reply w says named)
   where
-    same-room : (q : ℕ) → is_in (blocked_receives past q) w ≡ true → int_lt (pos room) (attributes past q).msgsize ≡ false
+    says : Says past s.entry.process s.entry.call s.entry.reply
+    says = legal_says past s next
+
+    same-room : (q : ℕ) → is_in (blocked_receives past q) w ≡ true → int_lt (pos (room_of r.entry.call)) (attributes past q).msgsize ≡ false
     same-room q h =
         let x = blocked-receive past legal q w h in
         let one : Some x.r ≡ Some r = sym x.at ∙ at in
         let same : x.r ≡ r = cc in
-        let calls : MqReceive x.d x.room ≡ MqReceive d room = sym x.call ∙ ap (λ (y : Record). y.entry.call) same ∙ call in
-        let rooms : x.room ≡ room = cc in
-        ap (λ n. int_lt (pos n) (attributes past q).msgsize) (sym rooms) ∙ x.roomy
+        ap (λ (y : Record). int_lt (pos (room_of y.entry.call)) (attributes past q).msgsize) (sym same) ∙ x.roomy
 
     not-sent : (q : ℕ) → is_in (blocked_sends past q) w ≡ true → ⊥
     not-sent q h =
         let x = blocked-sent past q w h in
         let one : Some x.r ≡ Some r = sym x.at ∙ at in
         let same : x.r ≡ r = cc in
-        let sends : is_send (MqReceive d room) ≡ true = ap is_send (sym call ∙ ap (λ (y : Record). y.entry.call) (sym same)) ∙ x.sends in
-        cc
+        not-both r.entry.call (ap (λ (y : Record). is_send y.entry.call) (sym same) ∙ x.sends) receives
 
-    by : (c : Call) (y : Reply) → Says past s.entry.process c y → is_payload c y s.payload ≡ true → names_wait y (Some w) ≡ true → length s.payload ≤ room
-    by (MqSend e prio len) (Handed k) says paid named =
-        let same : k ≡ w = eqb-true _ _ named in
-        let waits : is_in (blocked_receives past says.0.queue) w ≡ true = rw (← same) (is_in-filter (λ j. not (is_in (handed_waits past) j)) (blocked_receives past says.0.queue) k (least-in (waiting_receives past says.0.queue) k says.3)).0 in
-        let on : called_queue past s.entry.process (MqSend e prio len) ≡ Some says.0.queue = rw says.1 refl in
-        int-chain (attributes past says.0.queue).msgsize (length s.payload) room
-        (send-fits past s.entry.process (MqSend e prio len) (Handed k) s.payload says.0.queue says paid refl refl on)
-        (same-room says.0.queue waits)
-    by (MqReceive e rm) (Got m (Some k) n) says paid named =
-        let same : k ≡ w = eqb-true _ _ named in
-        let waits = (is_in-filter (λ j. not (is_in (admitted_waits past) j)) (blocked_sends past says.0.queue) k (least-in (waiting_sends past says.0.queue) k (sym says.3.1))).0 in
-        absurd (not-sent says.0.queue (rw (← same) waits))
-    by c (Got m None n) says paid named = absurd (cc)
-    by c (Opened x y) says paid named = absurd (cc)
-    by c (Queued n) says paid named = absurd (cc)
-    by c Waits says paid named = absurd (cc)
-    by c (Collected k) says paid named = absurd (cc)
-    by c (Attrs x) says paid named = absurd (cc)
-    by c (Notice v) says paid named = absurd (cc)
-    by c Done says paid named = absurd (cc)
-    by c (Refused f) says paid named = absurd (cc)
-    by (MqOpen flags attr) (Handed k) says paid named = absurd says
-    by (MqClose e) (Handed k) says paid named = absurd says.0
-    by MqUnlink (Handed k) says paid named = absurd says
-    by (MqReceive e rm) (Handed k) says paid named = absurd says.3
-    by (MqGetattr e) (Handed k) says paid named = absurd says
-    by (MqSetattr e nonblock) (Handed k) says paid named = absurd says
-    by (MqNotify e value) (Handed k) says paid named = absurd says
-    by NextNotice (Handed k) says paid named = absurd (cc)
-    by Collect (Handed k) says paid named = absurd (cc)
-    by (MqOpen flags attr) (Got m (Some k) n) says paid named = absurd says
-    by (MqClose e) (Got m (Some k) n) says paid named = absurd says.0
-    by MqUnlink (Got m (Some k) n) says paid named = absurd says
-    by (MqSend e prio len) (Got m (Some k) n) says paid named = absurd says.3
-    by (MqGetattr e) (Got m (Some k) n) says paid named = absurd says
-    by (MqSetattr e nonblock) (Got m (Some k) n) says paid named = absurd says
-    by (MqNotify e value) (Got m (Some k) n) says paid named = absurd says
-    by NextNotice (Got m (Some k) n) says paid named = absurd (cc)
-    by Collect (Got m (Some k) n) says paid named = absurd (cc)
+    by : Names past s.entry.process s.entry.call s.entry.reply w → length s.payload ≤ room_of r.entry.call
+    by (hands q sends goes on first) =
+        let waits = (is_in-filter (λ j. not (is_in (ended_receives past) j)) (blocked_receives past q) w (least-in (waiting_receives past q) w first)).0 in
+        int-chain (attributes past q).msgsize (length s.payload) (room_of r.entry.call)
+        (send-fits past s.entry.process s.entry.call s.entry.reply s.payload q says next.payload sends goes on)
+        (same-room q waits)
+    by (admits_to q first) = absurd (not-sent q (is_in-filter (λ j. not (is_in (ended_sends past) j)) (blocked_sends past q) w (least-in (waiting_sends past q) w first)).0)
 
 -- the message that a waiting receive was handed fits its buffer
-pub handed-fits : (past : Past) → Legal past → (p w b : ℕ) → open_wait past p ≡ Some w → answered_by past p ≡ Some b → (r : Record) (d room : ℕ) → record_at past w ≡ Some r → r.entry.call ≡ MqReceive d room → length (message_at past b) ≤ room
-handed-fits [] legal p w b open_at answered r d room at call = absurd (cc)
-handed-fits (s ∷ past) legal p w b open_at answered r d room at call = split (s.entry.process == p)
+pub handed-fits : (past : Past) → Legal past → (p w b : ℕ) → open_wait past p ≡ Some w → answered_by past p ≡ Some b → (r : Record) → record_at past w ≡ Some r → is_receive r.entry.call ≡ true → length (message_at past b) ≤ room_of r.entry.call
+handed-fits [] legal p w b open_at answered r at receives = absurd (cc)
+handed-fits (s ∷ past) legal p w b open_at answered r at receives = split (s.entry.process == p)
     (λ own. let bad : None ≡ Some b = rw own at answered in absurd (cc))
     (λ other.
     let old_wait : open_wait past p ≡ Some w = rw other at open_at in
@@ -372,6 +402,6 @@ handed-fits (s ∷ past) legal p w b open_at answered r d room at call = split (
     let old_at : record_at past w ≡ Some r = sym (record_at-older past s w lt) ∙ at in
     split (names_wait s.entry.reply (Some w))
     (λ t. let here : Some (length past) ≡ Some b = rw t at rest' in let same : length past ≡ b = cc in
-    subst (λ k. length (message_at (s ∷ past) k) ≤ room) same (subst (λ xs. length xs ≤ room) (sym (message-newest past s)) (handed-here past legal.0 s legal.1 w t r d room old_at call)))
+    subst (λ k. length (message_at (s ∷ past) k) ≤ room_of r.entry.call) same (subst (λ xs. length xs ≤ room_of r.entry.call) (sym (message-newest past s)) (handed-here past legal.0 s legal.1 w t r old_at receives)))
     (λ f. let old : answered_by past p ≡ Some b = rw f at rest' in
-    subst (λ xs. length xs ≤ room) (sym (message-older past s b (answered-below past p b old))) (handed-fits past legal.0 p w b old_wait old r d room old_at call)))
+    subst (λ xs. length xs ≤ room_of r.entry.call) (sym (message-older past s b (answered-below past p b old))) (handed-fits past legal.0 p w b old_wait old r old_at receives)))

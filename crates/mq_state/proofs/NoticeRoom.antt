@@ -10,9 +10,9 @@ use Rattle.mq_model.specs.declared.owners.Owner.{Owner}
 use Rattle.mq_model.specs.declared.entries.Entry.{Entry}
 use Rattle.mq_model.specs.declared.entries.Registration.{Registration}
 use Rattle.mq_model.specs.declared.entries.Call.{Call}
-use Rattle.mq_model.specs.declared.entries.Call.TheVariants.{MqOpen, MqClose, MqUnlink, MqSend, MqReceive, MqGetattr, MqSetattr, MqNotify, NextNotice, Collect}
+use Rattle.mq_model.specs.declared.entries.Call.TheVariants.{MqOpen, MqClose, MqUnlink, MqSend, MqReceive, MqGetattr, MqSetattr, MqNotify, NextNotice, Collect, MqTimedSend, MqTimedReceive, Withdraw}
 use Rattle.mq_model.specs.declared.entries.Reply.{Reply}
-use Rattle.mq_model.specs.declared.entries.Reply.TheVariants.{Opened, Queued, Handed, Waits, Got, Collected, Attrs, Notice, Done, Refused}
+use Rattle.mq_model.specs.declared.entries.Reply.TheVariants.{Opened, Queued, Handed, Waits, Got, Collected, Attrs, Notice, Done, Refused, Withdrawn}
 use Rattle.mq_model.proofs.Places.{split}
 use Rattle.mq_model.proofs.LegalReplies.{legal_says}
 use Rattle.mq_model.proofs.NoticeSteps.{made-of}
@@ -196,11 +196,14 @@ makes-none here p (MqOpen flags attr) other k n e = absurd (cc)
 makes-none here p (MqClose d) other k n e = absurd (cc)
 makes-none here p MqUnlink other k n e = absurd (cc)
 makes-none here p (MqSend d prio len) other k n e = absurd (cc)
+makes-none here p (MqTimedSend d prio len until now) other k n e = absurd (cc)
 makes-none here p (MqReceive d room) other k n e = absurd (cc)
+makes-none here p (MqTimedReceive d room until now) other k n e = absurd (cc)
 makes-none here p (MqGetattr d) other k n e = absurd (cc)
 makes-none here p (MqSetattr d nonblock) other k n e = absurd (cc)
 makes-none here p NextNotice other k n e = absurd (cc)
 makes-none here p Collect other k n e = absurd (cc)
+makes-none here p (Withdraw now) other k n e = absurd (cc)
 
 done-room : (past : Past) (p : ℕ) (call : Call) (queues : List QueueShown) (inboxes after : List InboxShown) (q : ℕ) → HasNoticeRoom queues inboxes → KeepsRoom queues inboxes after q Done → HasRoomToRegister queues inboxes p call Done → (k : ℕ) →
     registrations_in (map (reregistered q (length past) (record { process = p; call = call; reply = Done })) queues) k ≤ room_in after k
@@ -236,6 +239,7 @@ lines-room past legal queues m p call reply payload next inboxes after has kept 
     by (Handed w) next kept room = quiet (Handed w) kept refl (λ n e. cc)
     by Waits next kept room = quiet Waits kept refl (λ n e. cc)
     by (Collected b) next kept room = quiet (Collected b) kept refl (λ n e. cc)
+    by (Withdrawn b) next kept room = quiet (Withdrawn b) kept refl (λ n e. cc)
     by (Attrs s) next kept room = quiet (Attrs s) kept refl (λ n e. cc)
     by (Notice v) next kept room = quiet (Notice v) kept refl (λ n e. cc)
     by (Refused f) next kept room = quiet (Refused f) kept refl (λ n e. cc)

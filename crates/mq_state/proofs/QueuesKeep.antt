@@ -7,13 +7,13 @@ use Rattle.std.proofs.lemmas.Grind.{common_steps}
 use Rattle.mq_model.specs.Record.{Record, Past}
 use Rattle.mq_model.specs.Names.{bound_queue}
 use Rattle.mq_model.specs.Descriptors.{alive, created, is_named, is_held, called_queue, opened_queue}
-use Rattle.mq_model.specs.Messages.{is_in, present, priority, priority_given, waiting_sends, blocked_sends, admitted_waits, least}
+use Rattle.mq_model.specs.Messages.{is_in, is_send, present, priority, priority_given, waiting_sends, blocked_sends, ended_sends, least}
 use Rattle.mq_model.specs.Notices.{registration_after}
 use Rattle.mq_model.specs.Answer.{Legal}
 use Rattle.mq_model.specs.declared.entries.Entry.{Entry}
 use Rattle.mq_model.specs.declared.entries.Registration.{Registration}
 use Rattle.mq_model.specs.declared.entries.Call.{Call}
-use Rattle.mq_model.specs.declared.entries.Call.TheVariants.{MqOpen, MqClose, MqUnlink, MqSend, MqReceive, MqGetattr, MqSetattr, MqNotify, NextNotice, Collect}
+use Rattle.mq_model.specs.declared.entries.Call.TheVariants.{MqOpen, MqClose, MqUnlink, MqSend, MqReceive, MqGetattr, MqSetattr, MqNotify, NextNotice, Collect, MqTimedSend, MqTimedReceive, Withdraw}
 use Rattle.mq_model.specs.declared.entries.Reply.{Reply}
 use Rattle.mq_model.specs.declared.entries.Reply.TheVariants.{Opened, Queued, Handed, Waits, Got, Done}
 use Rattle.mq_model.proofs.Places.{split, is_in-filter}
@@ -177,27 +177,33 @@ presence-quiet past p call reply payload q prio same keeps = record {
   here = λ x is lt. keeps x ∙ same-slots past (rec p call reply payload) q x is (same q);
 }
 
-presence-queued : (past : Past) → Legal past → (p : ℕ) (call : Call) (n : Option ℕ) (payload : List ℕ) (q prio : ℕ) → Says past p call (Queued n) → called_queue past p call ≡ Some q → Presence past p call (Queued n) payload q prio
-presence-queued past legal p (MqSend d pr len) n payload q prio says on = record {
-  elsewhere = λ k lt ne. present-queued_elsewhere past p d pr len k n payload (rw on (ne_eqb q k (λ e. ne (sym e))));
+presence-sent : (past : Past) → Legal past → (p : ℕ) (call : Call) (n : Option ℕ) (payload : List ℕ) (q prio : ℕ) → is_send call ≡ true → called_queue past p call ≡ Some q → Presence past p call (Queued n) payload q prio
+presence-sent past legal p call n payload q prio sends on = record {
+  elsewhere = λ k lt ne. present-queued_elsewhere past p call k n payload (rw on (ne_eqb q k (λ e. ne (sym e))));
   here = λ x is lt.
-      let r : Record = rec p (MqSend d pr len) (Queued n) payload in
-      let now : present (r ∷ past) q ≡ length past ∷ present past q = present-queued past p d pr len q n payload legal (rw on (eq-eqb q q refl)) in
-      let newest : slot_of (r ∷ past) (length past) ≡ record { prio = pr; place = length past } = rw (eq-eqb (length past) (length past) refl) refl in
-      let s : Slot = record { prio = pr; place = length past } in
+      let r : Record = rec p call (Queued n) payload in
+      let now : present (r ∷ past) q ≡ length past ∷ present past q = present-queued past p call q n payload legal sends (rw on (eq-eqb q q refl)) in
+      let s : Slot = record { prio = priority_given call; place = length past } in
+      let newest : slot_of (r ∷ past) (length past) ≡ s = rw (eq-eqb (length past) (length past) refl) refl in
       ap (λ xs. s ∷ xs) (is ∙ sym (slots_of-older past r (present past q) (present-below past q)))
       ∙ ap (λ y. y ∷ slots_of (r ∷ past) (present past q)) (sym newest)
       ∙ ap (slots_of (r ∷ past)) (sym now);
 }
+
+presence-queued : (past : Past) → Legal past → (p : ℕ) (call : Call) (n : Option ℕ) (payload : List ℕ) (q prio : ℕ) → Says past p call (Queued n) → called_queue past p call ≡ Some q → Presence past p call (Queued n) payload q prio
+presence-queued past legal p (MqSend d pr len) n payload q prio says on = presence-sent past legal p (MqSend d pr len) n payload q prio refl on
+presence-queued past legal p (MqTimedSend d pr len until now) n payload q prio says on = presence-sent past legal p (MqTimedSend d pr len until now) n payload q prio refl on
 presence-queued past legal p (MqOpen flags attr) n payload q prio says on = absurd says
 presence-queued past legal p (MqClose d) n payload q prio says on = absurd says.0
 presence-queued past legal p MqUnlink n payload q prio says on = absurd says
 presence-queued past legal p (MqReceive d room) n payload q prio says on = absurd says.3
+presence-queued past legal p (MqTimedReceive d room until now) n payload q prio says on = absurd says.3
 presence-queued past legal p (MqGetattr d) n payload q prio says on = absurd says
 presence-queued past legal p (MqSetattr d nonblock) n payload q prio says on = absurd says
 presence-queued past legal p (MqNotify d value) n payload q prio says on = absurd says
 presence-queued past legal p NextNotice n payload q prio says on = absurd (cc)
 presence-queued past legal p Collect n payload q prio says on = absurd (cc)
+presence-queued past legal p (Withdraw now) n payload q prio says on = absurd (cc)
 
 below-without : (n m : ℕ) (xs : List ℕ) → Below n xs → Below n (without m xs)
 below-without n m xs below = λ k h. below k (is_in-filter (λ j. not (m == j)) xs k h).0
@@ -227,7 +233,7 @@ presence-got past legal p call m (Some w) n payload q prio got = record {
 }
   where
     waiting-below : (past : Past) (q w : ℕ) → Some w ≡ least (waiting_sends past q) → w < length past
-    waiting-below past q w e = blocked_sends-below past q w (is_in-filter (λ w. not (is_in (admitted_waits past) w)) (blocked_sends past q) w (least-in (waiting_sends past q) w (sym e))).0
+    waiting-below past q w e = blocked_sends-below past q w (is_in-filter (λ w. not (is_in (ended_sends past) w)) (blocked_sends past q) w (least-in (waiting_sends past q) w (sym e))).0
 
 pub presence : (past : Past) → Legal past → (p : ℕ) (call : Call) (reply : Reply) (payload : List ℕ) (q prio : ℕ) → Says past p call reply → EntryOn past p call payload reply q prio → Presence past p call reply payload q prio
 presence past legal p call (Queued n) payload q prio says on = presence-queued past legal p call n payload q prio says on

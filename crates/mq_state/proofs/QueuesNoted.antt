@@ -18,9 +18,9 @@ use Rattle.mq_model.specs.declared.entries.Entry.{Entry}
 use Rattle.mq_model.specs.declared.entries.Registration.{Registration}
 use Rattle.mq_model.specs.declared.entries.Description.{Description}
 use Rattle.mq_model.specs.declared.entries.Call.{Call}
-use Rattle.mq_model.specs.declared.entries.Call.TheVariants.{MqOpen, MqClose, MqUnlink, MqSend, MqReceive, MqGetattr, MqSetattr, MqNotify, NextNotice, Collect}
+use Rattle.mq_model.specs.declared.entries.Call.TheVariants.{MqOpen, MqClose, MqUnlink, MqSend, MqReceive, MqGetattr, MqSetattr, MqNotify, NextNotice, Collect, MqTimedSend, MqTimedReceive, Withdraw}
 use Rattle.mq_model.specs.declared.entries.Reply.{Reply}
-use Rattle.mq_model.specs.declared.entries.Reply.TheVariants.{Opened, Queued, Handed, Waits, Got, Collected, Attrs, Notice, Done, Refused}
+use Rattle.mq_model.specs.declared.entries.Reply.TheVariants.{Opened, Queued, Handed, Waits, Got, Collected, Attrs, Notice, Done, Refused, Withdrawn}
 use Rattle.mq_model.specs.declared.owners.Owner.{Owner}
 use Rattle.mq_model.proofs.Places.{split}
 use Rattle.mq_model.proofs.Cases.{Says}
@@ -74,6 +74,7 @@ named-keeps past p call (Handed w) payload q prio next on k lt x is = named-quie
 named-keeps past p call Waits payload q prio next on k lt x is = named-quiet past p call Waits payload q prio k lt x is refl refl
 named-keeps past p call (Got m a n) payload q prio next on k lt x is = named-quiet past p call (Got m a n) payload q prio k lt x is refl refl
 named-keeps past p call (Collected b) payload q prio next on k lt x is = named-quiet past p call (Collected b) payload q prio k lt x is refl refl
+named-keeps past p call (Withdrawn b) payload q prio next on k lt x is = named-quiet past p call (Withdrawn b) payload q prio k lt x is refl refl
 named-keeps past p call (Attrs s) payload q prio next on k lt x is = named-quiet past p call (Attrs s) payload q prio k lt x is refl refl
 named-keeps past p call (Notice v) payload q prio next on k lt x is = named-quiet past p call (Notice v) payload q prio k lt x is refl refl
 named-keeps past p call Done payload q prio next on k lt x is = named-quiet past p call Done payload q prio k lt x is refl refl
@@ -92,17 +93,21 @@ registered-keeps past p call reply payload q prio k on before is =
     notify-on (MqClose e) reply on d v c is = absurd (cc)
     notify-on MqUnlink reply on d v c is = absurd (cc)
     notify-on (MqSend e prio len) reply on d v c is = absurd (cc)
+    notify-on (MqTimedSend e prio len until now) reply on d v c is = absurd (cc)
     notify-on (MqReceive e room) reply on d v c is = absurd (cc)
+    notify-on (MqTimedReceive e room until now) reply on d v c is = absurd (cc)
     notify-on (MqGetattr e) reply on d v c is = absurd (cc)
     notify-on (MqSetattr e nonblock) reply on d v c is = absurd (cc)
     notify-on NextNotice reply on d v c is = absurd (cc)
     notify-on Collect reply on d v c is = absurd (cc)
+    notify-on (Withdraw now) reply on d v c is = absurd (cc)
     notify-on (MqNotify e w) (Opened x y) on d v c is = absurd (cc)
     notify-on (MqNotify e w) (Queued x) on d v c is = absurd (cc)
     notify-on (MqNotify e w) (Handed x) on d v c is = absurd (cc)
     notify-on (MqNotify e w) Waits on d v c is = absurd (cc)
     notify-on (MqNotify e w) (Got x y z) on d v c is = absurd (cc)
     notify-on (MqNotify e w) (Collected x) on d v c is = absurd (cc)
+    notify-on (MqNotify e w) (Withdrawn x) on d v c is = absurd (cc)
     notify-on (MqNotify e w) (Attrs x) on d v c is = absurd (cc)
     notify-on (MqNotify e w) (Notice x) on d v c is = absurd (cc)
     notify-on (MqNotify e w) (Refused x) on d v c is = absurd (cc)
@@ -246,12 +251,15 @@ alive-noted past legal p call (Opened d created) payload q prio next on c = by c
     by (MqClose e) says c on next = absurd says.0
     by MqUnlink says c on next = absurd says
     by (MqSend e prio len) says c on next = absurd says.3
+    by (MqTimedSend e prio len until now) says c on next = absurd says.3
     by (MqReceive e room) says c on next = absurd says.3
+    by (MqTimedReceive e room until now) says c on next = absurd says.3
     by (MqGetattr e) says c on next = absurd says
     by (MqSetattr e nonblock) says c on next = absurd says
     by (MqNotify e value) says c on next = absurd says
     by NextNotice says c on next = absurd (cc)
     by Collect says c on next = absurd (cc)
+    by (Withdraw now) says c on next = absurd (cc)
 alive-noted past legal p call Done payload q prio next on c = alive-same_queues past (rec p call Done payload) refl refl (λ e. refl)
 alive-noted past legal p call (Attrs s) payload q prio next on c = alive-same_queues past (rec p call (Attrs s) payload) refl refl (λ e. setattr-queue call e (held past p e))
 alive-noted past legal p call (Queued n) payload q prio next on c = alive-same_queues past (rec p call (Queued n) payload) refl refl (λ e. refl)
@@ -259,6 +267,7 @@ alive-noted past legal p call (Handed w) payload q prio next on c = alive-same_q
 alive-noted past legal p call Waits payload q prio next on c = alive-same_queues past (rec p call Waits payload) refl refl (λ e. refl)
 alive-noted past legal p call (Got m a n) payload q prio next on c = alive-same_queues past (rec p call (Got m a n) payload) refl refl (λ e. refl)
 alive-noted past legal p call (Collected b) payload q prio next on c = alive-same_queues past (rec p call (Collected b) payload) refl refl (λ e. refl)
+alive-noted past legal p call (Withdrawn b) payload q prio next on c = alive-same_queues past (rec p call (Withdrawn b) payload) refl refl (λ e. refl)
 alive-noted past legal p call (Notice v) payload q prio next on c = alive-same_queues past (rec p call (Notice v) payload) refl refl (λ e. refl)
 alive-noted past legal p call (Refused f) payload q prio next on c = alive-same_queues past (rec p call (Refused f) payload) refl refl (λ e. refl)
 
@@ -287,18 +296,22 @@ freed-alive past legal p (MqClose d) Done payload q prio on f = called-alive pas
 freed-alive past legal p MqUnlink Done payload q prio on f = bound-alive past payload q on
 freed-alive past legal p (MqOpen flags attr) Done payload q prio on f = absurd (let bad : false ≡ true = f in cc)
 freed-alive past legal p (MqSend d pr len) Done payload q prio on f = absurd (let bad : false ≡ true = f in cc)
+freed-alive past legal p (MqTimedSend d pr len until now) Done payload q prio on f = absurd (let bad : false ≡ true = f in cc)
 freed-alive past legal p (MqReceive d room) Done payload q prio on f = absurd (let bad : false ≡ true = f in cc)
+freed-alive past legal p (MqTimedReceive d room until now) Done payload q prio on f = absurd (let bad : false ≡ true = f in cc)
 freed-alive past legal p (MqGetattr d) Done payload q prio on f = absurd (let bad : false ≡ true = f in cc)
 freed-alive past legal p (MqSetattr d nonblock) Done payload q prio on f = absurd (let bad : false ≡ true = f in cc)
 freed-alive past legal p (MqNotify d value) Done payload q prio on f = absurd (let bad : false ≡ true = f in cc)
 freed-alive past legal p NextNotice Done payload q prio on f = absurd (let bad : false ≡ true = f in cc)
 freed-alive past legal p Collect Done payload q prio on f = absurd (let bad : false ≡ true = f in cc)
+freed-alive past legal p (Withdraw now) Done payload q prio on f = absurd (let bad : false ≡ true = f in cc)
 freed-alive past legal p call (Opened d c) payload q prio on f = absurd (let bad : false ≡ true = f in cc)
 freed-alive past legal p call (Queued n) payload q prio on f = absurd (let bad : false ≡ true = f in cc)
 freed-alive past legal p call (Handed w) payload q prio on f = absurd (let bad : false ≡ true = f in cc)
 freed-alive past legal p call Waits payload q prio on f = absurd (let bad : false ≡ true = f in cc)
 freed-alive past legal p call (Got m a n) payload q prio on f = absurd (let bad : false ≡ true = f in cc)
 freed-alive past legal p call (Collected b) payload q prio on f = absurd (let bad : false ≡ true = f in cc)
+freed-alive past legal p call (Withdrawn b) payload q prio on f = absurd (let bad : false ≡ true = f in cc)
 freed-alive past legal p call (Attrs s) payload q prio on f = absurd (let bad : false ≡ true = f in cc)
 freed-alive past legal p call (Notice v) payload q prio on f = absurd (let bad : false ≡ true = f in cc)
 freed-alive past legal p call (Refused x) payload q prio on f = absurd (let bad : false ≡ true = f in cc)
@@ -448,6 +461,7 @@ line-room past queues m p call (Opened d c) payload q prio on free x found = tt
 line-room past queues m p call (Handed w) payload q prio on free x found = tt
 line-room past queues m p call Waits payload q prio on free x found = tt
 line-room past queues m p call (Collected b) payload q prio on free x found = tt
+line-room past queues m p call (Withdrawn b) payload q prio on free x found = tt
 line-room past queues m p call (Attrs s) payload q prio on free x found = tt
 line-room past queues m p call (Notice v) payload q prio on free x found = tt
 line-room past queues m p call Done payload q prio on free x found = tt

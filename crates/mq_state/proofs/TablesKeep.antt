@@ -15,9 +15,9 @@ use Rattle.mq_model.specs.declared.entries.Entry.{Entry}
 use Rattle.mq_model.specs.declared.entries.Registration.{Registration}
 use Rattle.mq_model.specs.declared.entries.Description.{Description}
 use Rattle.mq_model.specs.declared.entries.Call.{Call}
-use Rattle.mq_model.specs.declared.entries.Call.TheVariants.{MqOpen, MqClose, MqUnlink, MqSend, MqReceive, MqGetattr, MqSetattr, MqNotify, NextNotice, Collect}
+use Rattle.mq_model.specs.declared.entries.Call.TheVariants.{MqOpen, MqClose, MqUnlink, MqSend, MqReceive, MqGetattr, MqSetattr, MqNotify, NextNotice, Collect, MqTimedSend, MqTimedReceive, Withdraw}
 use Rattle.mq_model.specs.declared.entries.Reply.{Reply}
-use Rattle.mq_model.specs.declared.entries.Reply.TheVariants.{Opened, Queued, Handed, Waits, Got, Collected, Attrs, Notice, Done, Refused}
+use Rattle.mq_model.specs.declared.entries.Reply.TheVariants.{Opened, Queued, Handed, Waits, Got, Collected, Attrs, Notice, Done, Refused, Withdrawn}
 use Rattle.mq_model.proofs.Places.{find-in}
 use Rattle.mq_model.proofs.Cases.{Says}
 use Rattle.mq_model.proofs.LegalReplies.{legal_says}
@@ -59,27 +59,35 @@ done-on past p (MqNotify d value) payload is says = by (held past p d) refl
     by (Some h) e = held-called past p d h e
 done-on past p (MqOpen flags attr) payload is says = absurd says
 done-on past p (MqSend d prio len) payload is says = absurd says.3
+done-on past p (MqTimedSend d prio len until now) payload is says = absurd says.3
 done-on past p (MqReceive d room) payload is says = absurd says.3
+done-on past p (MqTimedReceive d room until now) payload is says = absurd says.3
 done-on past p (MqGetattr d) payload is says = absurd says
 done-on past p (MqSetattr d nonblock) payload is says = absurd says
 done-on past p NextNotice payload is says = absurd (cc)
 done-on past p Collect payload is says = absurd (cc)
+done-on past p (Withdraw now) payload is says = absurd (cc)
 
 queued-on : (past : Past) (p : ℕ) (call : Call) (n : Option ℕ) (payload : List ℕ) → Says past p call (Queued n) → called_queue past p call ≡ Some (entry_queue past p call payload)
 queued-on past p (MqSend d prio len) n payload says = held-called past p d says.0 says.1
+queued-on past p (MqTimedSend d prio len until now) n payload says = held-called past p d says.0 says.1
 queued-on past p (MqOpen flags attr) n payload says = absurd says
 queued-on past p (MqClose d) n payload says = absurd says.0
 queued-on past p MqUnlink n payload says = absurd says
 queued-on past p (MqReceive d room) n payload says = absurd says.3
+queued-on past p (MqTimedReceive d room until now) n payload says = absurd says.3
 queued-on past p (MqGetattr d) n payload says = absurd says
 queued-on past p (MqSetattr d nonblock) n payload says = absurd says
 queued-on past p (MqNotify d value) n payload says = absurd says
 queued-on past p NextNotice n payload says = absurd (cc)
 queued-on past p Collect n payload says = absurd (cc)
+queued-on past p (Withdraw now) n payload says = absurd (cc)
 
 waits-on : (past : Past) (p : ℕ) (call : Call) (payload : List ℕ) → Says past p call Waits → called_queue past p call ≡ Some (entry_queue past p call payload)
 waits-on past p (MqSend d prio len) payload says = held-called past p d says.0 says.1
+waits-on past p (MqTimedSend d prio len until now) payload says = held-called past p d says.0 says.1
 waits-on past p (MqReceive d room) payload says = held-called past p d says.0 says.1
+waits-on past p (MqTimedReceive d room until now) payload says = held-called past p d says.0 says.1
 waits-on past p (MqOpen flags attr) payload says = absurd says
 waits-on past p (MqClose d) payload says = absurd says.0
 waits-on past p MqUnlink payload says = absurd says
@@ -88,9 +96,19 @@ waits-on past p (MqSetattr d nonblock) payload says = absurd says
 waits-on past p (MqNotify d value) payload says = absurd says
 waits-on past p NextNotice payload says = absurd (cc)
 waits-on past p Collect payload says = absurd (cc)
+waits-on past p (Withdraw now) payload says = absurd (cc)
 
 got-on : (past : Past) (p : ℕ) (call : Call) (m : ℕ) (a n : Option ℕ) (payload : List ℕ) → Says past p call (Got m a n) → GotOn past (entry_queue past p call payload) (admitted_priority past (Got m a n)) m a
 got-on past p (MqReceive d room) m a n payload says =
+    let q : ℕ = unwrap_or (option_map (λ h. h.queue) (held past p d)) (length past) in
+    let at : q ≡ says.0.queue = rw says.1 refl in
+    let facts : GotFacts past says.0.queue m a = record { inside = (find-in _ (present past says.0.queue) m says.3.0).0; admitted = says.3.1 } in
+    record { facts = subst (λ k. GotFacts past k m a) (sym at) facts; prio_is = prio a }
+  where
+    prio : (a : Option ℕ) (w : ℕ) → a ≡ Some w → admitted_priority past (Got m a n) ≡ priority past w
+    prio None w e = absurd (cc)
+    prio (Some v) w e = let same : v ≡ w = cc in ap (priority past) same
+got-on past p (MqTimedReceive d room until now) m a n payload says =
     let q : ℕ = unwrap_or (option_map (λ h. h.queue) (held past p d)) (length past) in
     let at : q ≡ says.0.queue = rw says.1 refl in
     let facts : GotFacts past says.0.queue m a = record { inside = (find-in _ (present past says.0.queue) m says.3.0).0; admitted = says.3.1 } in
@@ -103,11 +121,13 @@ got-on past p (MqOpen flags attr) m a n payload says = absurd says
 got-on past p (MqClose d) m a n payload says = absurd says.0
 got-on past p MqUnlink m a n payload says = absurd says
 got-on past p (MqSend d prio len) m a n payload says = absurd says.3
+got-on past p (MqTimedSend d prio len until now) m a n payload says = absurd says.3
 got-on past p (MqGetattr d) m a n payload says = absurd says
 got-on past p (MqSetattr d nonblock) m a n payload says = absurd says
 got-on past p (MqNotify d value) m a n payload says = absurd says
 got-on past p NextNotice m a n payload says = absurd (cc)
 got-on past p Collect m a n payload says = absurd (cc)
+got-on past p (Withdraw now) m a n payload says = absurd (cc)
 
 opened-on : (past : Past) (p : ℕ) (call : Call) (d : ℕ) (created : Bool) (payload : List ℕ) → Opened d created ≡ answer past p call payload → Says past p call (Opened d created) → entry_queue past p call payload ≡ opened_queue past payload created
 opened-on past p (MqOpen flags attr) d created payload is says = by (bound_queue past payload) refl created (opened-says past p flags attr payload d created is).new
@@ -120,12 +140,15 @@ opened-on past p (MqOpen flags attr) d created payload is says = by (bound_queue
 opened-on past p (MqClose e) d created payload is says = absurd says.0
 opened-on past p MqUnlink d created payload is says = absurd says
 opened-on past p (MqSend e prio len) d created payload is says = absurd says.3
+opened-on past p (MqTimedSend e prio len until now) d created payload is says = absurd says.3
 opened-on past p (MqReceive e room) d created payload is says = absurd says.3
+opened-on past p (MqTimedReceive e room until now) d created payload is says = absurd says.3
 opened-on past p (MqGetattr e) d created payload is says = absurd says
 opened-on past p (MqSetattr e nonblock) d created payload is says = absurd says
 opened-on past p (MqNotify e value) d created payload is says = absurd says
 opened-on past p NextNotice d created payload is says = absurd (cc)
 opened-on past p Collect d created payload is says = absurd (cc)
+opened-on past p (Withdraw now) d created payload is says = absurd (cc)
 
 pub entry-on : (past : Past) (p : ℕ) (call : Call) (reply : Reply) (payload : List ℕ) → IsLegalNext past (rec p call reply payload) → EntryOn past p call payload reply (entry_queue past p call payload) (admitted_priority past reply)
 entry-on past p call (Opened d created) payload next = opened-on past p call d created payload next.reply (legal_says past (rec p call (Opened d created) payload) next)
@@ -135,6 +158,7 @@ entry-on past p call (Got m a n) payload next = got-on past p call m a n payload
 entry-on past p call Done payload next = done-on past p call payload next.reply (legal_says past (rec p call Done payload) next)
 entry-on past p call (Handed w) payload next = tt
 entry-on past p call (Collected b) payload next = tt
+entry-on past p call (Withdrawn b) payload next = tt
 entry-on past p call (Attrs s) payload next = tt
 entry-on past p call (Notice v) payload next = tt
 entry-on past p call (Refused f) payload next = tt
@@ -147,6 +171,7 @@ entry-queue past p call (Got m a n) payload q prio on = tt
 entry-queue past p call Done payload q prio on = tt
 entry-queue past p call (Handed w) payload q prio on = tt
 entry-queue past p call (Collected b) payload q prio on = tt
+entry-queue past p call (Withdrawn b) payload q prio on = tt
 entry-queue past p call (Attrs s) payload q prio on = tt
 entry-queue past p call (Notice v) payload q prio on = tt
 entry-queue past p call (Refused f) payload q prio on = tt
@@ -174,29 +199,39 @@ pub queued-notified : (past : Past) (p : ℕ) (call : Call) (k : ℕ) (payload :
 queued-notified past p (MqSend d prio len) k payload says =
     let at : unwrap_or (option_map (λ h. h.queue) (held past p d)) (length past) ≡ says.0.queue = rw says.1 refl in
     subst (λ q. IsNotified past q k) (sym at) (notified-of past says.0.queue k (chosen (length (present past says.0.queue) == 0) (registered_place past says.0.queue) k says.3.2))
+queued-notified past p (MqTimedSend d prio len until now) k payload says =
+    let at : unwrap_or (option_map (λ h. h.queue) (held past p d)) (length past) ≡ says.0.queue = rw says.1 refl in
+    subst (λ q. IsNotified past q k) (sym at) (notified-of past says.0.queue k (chosen (length (present past says.0.queue) == 0) (registered_place past says.0.queue) k says.3.2))
 queued-notified past p (MqOpen flags attr) k payload says = absurd says
 queued-notified past p (MqClose d) k payload says = absurd says.0
 queued-notified past p MqUnlink k payload says = absurd says
 queued-notified past p (MqReceive d room) k payload says = absurd says.3
+queued-notified past p (MqTimedReceive d room until now) k payload says = absurd says.3
 queued-notified past p (MqGetattr d) k payload says = absurd says
 queued-notified past p (MqSetattr d nonblock) k payload says = absurd says
 queued-notified past p (MqNotify d value) k payload says = absurd says
 queued-notified past p NextNotice k payload says = absurd (cc)
 queued-notified past p Collect k payload says = absurd (cc)
+queued-notified past p (Withdraw now) k payload says = absurd (cc)
 
 pub got-notified : (past : Past) (p : ℕ) (call : Call) (m : ℕ) (a : Option ℕ) (k : ℕ) (payload : List ℕ) → Says past p call (Got m a (Some k)) → IsNotified past (entry_queue past p call payload) k
 got-notified past p (MqReceive d room) m a k payload says =
+    let at : unwrap_or (option_map (λ h. h.queue) (held past p d)) (length past) ≡ says.0.queue = rw says.1 refl in
+    subst (λ q. IsNotified past q k) (sym at) (notified-of past says.0.queue k (chosen (is_some a && length (present past says.0.queue) == 1) (registered_place past says.0.queue) k says.3.2))
+got-notified past p (MqTimedReceive d room until now) m a k payload says =
     let at : unwrap_or (option_map (λ h. h.queue) (held past p d)) (length past) ≡ says.0.queue = rw says.1 refl in
     subst (λ q. IsNotified past q k) (sym at) (notified-of past says.0.queue k (chosen (is_some a && length (present past says.0.queue) == 1) (registered_place past says.0.queue) k says.3.2))
 got-notified past p (MqOpen flags attr) m a k payload says = absurd says
 got-notified past p (MqClose d) m a k payload says = absurd says.0
 got-notified past p MqUnlink m a k payload says = absurd says
 got-notified past p (MqSend d prio len) m a k payload says = absurd says.3
+got-notified past p (MqTimedSend d prio len until now) m a k payload says = absurd says.3
 got-notified past p (MqGetattr d) m a k payload says = absurd says
 got-notified past p (MqSetattr d nonblock) m a k payload says = absurd says
 got-notified past p (MqNotify d value) m a k payload says = absurd says
 got-notified past p NextNotice m a k payload says = absurd (cc)
 got-notified past p Collect m a k payload says = absurd (cc)
+got-notified past p (Withdraw now) m a k payload says = absurd (cc)
 
 -- a reply that notifies nobody brings nothing
 brings-nothing : (o : Option Registration) (reply : Reply) (k : ℕ) (values : List ℕ) → notified reply ≡ None → notified_values o reply k values ≡ values
@@ -226,6 +261,7 @@ notices-keep past legal p call (Opened d c) payload next o same k = brings-nothi
 notices-keep past legal p call (Handed w) payload next o same k = brings-nothing o (Handed w) k (notices past k) refl ∙ sym (notices-same past (rec p call (Handed w) payload) k refl refl)
 notices-keep past legal p call Waits payload next o same k = brings-nothing o Waits k (notices past k) refl ∙ sym (notices-same past (rec p call Waits payload) k refl refl)
 notices-keep past legal p call (Collected b) payload next o same k = brings-nothing o (Collected b) k (notices past k) refl ∙ sym (notices-same past (rec p call (Collected b) payload) k refl refl)
+notices-keep past legal p call (Withdrawn b) payload next o same k = brings-nothing o (Withdrawn b) k (notices past k) refl ∙ sym (notices-same past (rec p call (Withdrawn b) payload) k refl refl)
 notices-keep past legal p call (Attrs s) payload next o same k = brings-nothing o (Attrs s) k (notices past k) refl ∙ sym (notices-same past (rec p call (Attrs s) payload) k refl refl)
 notices-keep past legal p call Done payload next o same k = brings-nothing o Done k (notices past k) refl ∙ sym (notices-same past (rec p call Done payload) k refl refl)
 notices-keep past legal p call (Refused f) payload next o same k = brings-nothing o (Refused f) k (notices past k) refl ∙ sym (notices-same past (rec p call (Refused f) payload) k refl refl)
@@ -237,19 +273,23 @@ notifies-alive past legal p call (Got m a n) payload next e = by call (legal_say
   where
     by : (call : Call) → Says past p call (Got m a n) → is_in (alive past) (entry_queue past p call payload) ≡ true
     by (MqReceive d room) says = called-alive past legal p (MqReceive d room) (entry_queue past p (MqReceive d room) payload) (held-called past p d says.0 says.1)
+    by (MqTimedReceive d room until now) says = called-alive past legal p (MqTimedReceive d room until now) (entry_queue past p (MqTimedReceive d room until now) payload) (held-called past p d says.0 says.1)
     by (MqOpen flags attr) says = absurd says
     by (MqClose d) says = absurd says.0
     by MqUnlink says = absurd says
     by (MqSend d prio len) says = absurd says.3
+    by (MqTimedSend d prio len until now) says = absurd says.3
     by (MqGetattr d) says = absurd says
     by (MqSetattr d nonblock) says = absurd says
     by (MqNotify d value) says = absurd says
     by NextNotice says = absurd (cc)
     by Collect says = absurd (cc)
+    by (Withdraw now) says = absurd (cc)
 notifies-alive past legal p call (Opened d c) payload next e = absurd (cc)
 notifies-alive past legal p call (Handed w) payload next e = absurd (cc)
 notifies-alive past legal p call Waits payload next e = absurd (cc)
 notifies-alive past legal p call (Collected b) payload next e = absurd (cc)
+notifies-alive past legal p call (Withdrawn b) payload next e = absurd (cc)
 notifies-alive past legal p call (Attrs s) payload next e = absurd (cc)
 notifies-alive past legal p call (Notice v) payload next e = absurd (cc)
 notifies-alive past legal p call Done payload next e = absurd (cc)
@@ -273,9 +313,13 @@ creates-open past legal owners queues m p (MqClose e) (Opened d false) payload q
 creates-open past legal owners queues m p MqUnlink (Opened d true) payload q prio len capacity o next on c f = absurd (let bad : false ≡ true = c in cc)
 creates-open past legal owners queues m p MqUnlink (Opened d false) payload q prio len capacity o next on c f = absurd (let bad : false ≡ true = c in cc)
 creates-open past legal owners queues m p (MqSend e pr l) (Opened d true) payload q prio len capacity o next on c f = absurd (let bad : false ≡ true = c in cc)
+creates-open past legal owners queues m p (MqTimedSend e pr l until now) (Opened d true) payload q prio len capacity o next on c f = absurd (let bad : false ≡ true = c in cc)
 creates-open past legal owners queues m p (MqSend e pr l) (Opened d false) payload q prio len capacity o next on c f = absurd (let bad : false ≡ true = c in cc)
+creates-open past legal owners queues m p (MqTimedSend e pr l until now) (Opened d false) payload q prio len capacity o next on c f = absurd (let bad : false ≡ true = c in cc)
 creates-open past legal owners queues m p (MqReceive e rm) (Opened d true) payload q prio len capacity o next on c f = absurd (let bad : false ≡ true = c in cc)
+creates-open past legal owners queues m p (MqTimedReceive e rm until now) (Opened d true) payload q prio len capacity o next on c f = absurd (let bad : false ≡ true = c in cc)
 creates-open past legal owners queues m p (MqReceive e rm) (Opened d false) payload q prio len capacity o next on c f = absurd (let bad : false ≡ true = c in cc)
+creates-open past legal owners queues m p (MqTimedReceive e rm until now) (Opened d false) payload q prio len capacity o next on c f = absurd (let bad : false ≡ true = c in cc)
 creates-open past legal owners queues m p (MqGetattr e) (Opened d true) payload q prio len capacity o next on c f = absurd (let bad : false ≡ true = c in cc)
 creates-open past legal owners queues m p (MqGetattr e) (Opened d false) payload q prio len capacity o next on c f = absurd (let bad : false ≡ true = c in cc)
 creates-open past legal owners queues m p (MqSetattr e nb) (Opened d true) payload q prio len capacity o next on c f = absurd (let bad : false ≡ true = c in cc)
@@ -285,12 +329,15 @@ creates-open past legal owners queues m p (MqNotify e v) (Opened d false) payloa
 creates-open past legal owners queues m p NextNotice (Opened d true) payload q prio len capacity o next on c f = absurd (let bad : false ≡ true = c in cc)
 creates-open past legal owners queues m p NextNotice (Opened d false) payload q prio len capacity o next on c f = absurd (let bad : false ≡ true = c in cc)
 creates-open past legal owners queues m p Collect (Opened d true) payload q prio len capacity o next on c f = absurd (let bad : false ≡ true = c in cc)
+creates-open past legal owners queues m p (Withdraw now) (Opened d true) payload q prio len capacity o next on c f = absurd (let bad : false ≡ true = c in cc)
 creates-open past legal owners queues m p Collect (Opened d false) payload q prio len capacity o next on c f = absurd (let bad : false ≡ true = c in cc)
+creates-open past legal owners queues m p (Withdraw now) (Opened d false) payload q prio len capacity o next on c f = absurd (let bad : false ≡ true = c in cc)
 creates-open past legal owners queues m p call (Queued n) payload q prio len capacity o next on c f = absurd (let bad : false ≡ true = c in cc)
 creates-open past legal owners queues m p call (Handed w) payload q prio len capacity o next on c f = absurd (let bad : false ≡ true = c in cc)
 creates-open past legal owners queues m p call Waits payload q prio len capacity o next on c f = absurd (let bad : false ≡ true = c in cc)
 creates-open past legal owners queues m p call (Got k a n) payload q prio len capacity o next on c f = absurd (let bad : false ≡ true = c in cc)
 creates-open past legal owners queues m p call (Collected b) payload q prio len capacity o next on c f = absurd (let bad : false ≡ true = c in cc)
+creates-open past legal owners queues m p call (Withdrawn b) payload q prio len capacity o next on c f = absurd (let bad : false ≡ true = c in cc)
 creates-open past legal owners queues m p call (Attrs s) payload q prio len capacity o next on c f = absurd (let bad : false ≡ true = c in cc)
 creates-open past legal owners queues m p call (Notice v) payload q prio len capacity o next on c f = absurd (let bad : false ≡ true = c in cc)
 creates-open past legal owners queues m p call Done payload q prio len capacity o next on c f = absurd (let bad : false ≡ true = c in cc)
@@ -332,12 +379,17 @@ queued-free past p call reply payload next n e = by call (subst (Says past p cal
     by (MqSend d prio len) says =
         let at : unwrap_or (option_map (λ h. h.queue) (held past p d)) (length past) ≡ says.0.queue = rw says.1 refl in
         ap (is_full past) at ∙ says.3.1
+    by (MqTimedSend d prio len until now) says =
+        let at : unwrap_or (option_map (λ h. h.queue) (held past p d)) (length past) ≡ says.0.queue = rw says.1 refl in
+        ap (is_full past) at ∙ says.3.1
     by (MqOpen flags attr) says = absurd says
     by (MqClose d) says = absurd says.0
     by MqUnlink says = absurd says
     by (MqReceive d room) says = absurd says.3
+    by (MqTimedReceive d room until now) says = absurd says.3
     by (MqGetattr d) says = absurd says
     by (MqSetattr d nonblock) says = absurd says
     by (MqNotify d value) says = absurd says
     by NextNotice says = absurd (cc)
     by Collect says = absurd (cc)
+    by (Withdraw now) says = absurd (cc)

@@ -4,6 +4,7 @@ use Rattle.std.specs.Prelude.{IsTrue}
 use Rattle.std.specs.Option.{option_map, option_and_then}
 use Rattle.mq_model.specs.Record.{Past}
 use Rattle.mq_model.specs.Messages.{is_send}
+use Rattle.mq_model.specs.Deadlines.{deadline_of}
 use Rattle.mq_model.specs.Waits.{open_wait, answered_by}
 use Rattle.mq_model.specs.Answer.{may_call}
 use Rattle.mq_model.specs.Owners.{wait_in, with_wait, waiter_in, waits_count, OwnersMirror}
@@ -11,11 +12,12 @@ use Rattle.mq_model.specs.OwnersNoted.{noted, noted_open, noted_done, noted_attr
 use Rattle.mq_model.specs.declared.owners.OpenWait.{OpenWait}
 use Rattle.mq_model.specs.declared.owners.Owner.{Owner}
 use Rattle.mq_model.specs.declared.entries.Call.{Call}
-use Rattle.mq_model.specs.declared.entries.Call.TheVariants.{MqOpen, MqClose, MqUnlink, MqSend, MqReceive, MqGetattr, MqSetattr, MqNotify, NextNotice, Collect}
+use Rattle.mq_model.specs.declared.entries.Call.TheVariants.{MqOpen, MqClose, MqUnlink, MqSend, MqReceive, MqGetattr, MqSetattr, MqNotify, NextNotice, Collect, MqTimedSend, MqTimedReceive, Withdraw}
 use Rattle.mq_model.specs.declared.entries.Reply.{Reply}
-use Rattle.mq_model.specs.declared.entries.Reply.TheVariants.{Opened, Queued, Handed, Waits, Got, Collected, Attrs, Notice, Done, Refused}
+use Rattle.mq_model.specs.declared.entries.Reply.TheVariants.{Opened, Queued, Handed, Waits, Got, Collected, Attrs, Notice, Done, Refused, Withdrawn}
 use Rattle.mq_model.proofs.Frames.{answered_by-none}
 use Rattle.mq_model.proofs.Cases.{Says}
+use Rattle.mq_model.proofs.OpenWaits.{withdrawn-open}
 use Rattle.mq_model.proofs.OwnersKeep.{turn-none}
 use Rattle.mq_model.proofs.OwnerLines.{length-with_slot, length-with_wait, length-with_answer, waits_count-with_slot, waits_count-with_wait, waits_count-with_answer, waits_count-no_wait, no-wait}
 use Rattle.mq_state.specs.Kept.{HasEntryRoom}
@@ -42,6 +44,7 @@ length-noted owners here p call Done q = done-length owners p call
 length-noted owners here p call (Attrs s) q = attributes-length owners p call
 length-noted owners here p call Waits q = length-with_wait owners p _
 length-noted owners here p call (Collected b) q = length-with_wait owners p _
+length-noted owners here p call (Withdrawn b) q = length-with_wait owners p _
 length-noted owners here p call (Handed w) q = answer-at-length owners (waiter_in owners w) here
 length-noted owners here p call (Got m a n) q = answer-at-length owners (option_and_then (waiter_in owners) a) here
 length-noted owners here p call (Queued n) q = refl
@@ -87,9 +90,9 @@ waits-noted past owners m p call (Opened d created) q room says turn lt has = le
 waits-noted past owners m p call Done q room says turn lt has = let e = done-waits owners p call in omega (arith, e)
 waits-noted past owners m p call (Attrs s) q room says turn lt has = let e = attributes-waits owners p call in omega (arith, e)
 waits-noted past owners m p call Waits q room says turn lt has =
-    let free : open_wait past p ≡ None = turn-none past p call Waits says turn (λ by e. cc) in
+    let free : open_wait past p ≡ None = turn-none past p call Waits says turn refl in
     let none : wait_in owners p ≡ None = no-wait (wait_in owners p) (m.waits p ∙ free) in
-    let e = waits_count-with_wait owners p (record { place = length past; queue = q; sends = is_send call }) lt none in omega (arith, e)
+    let e = waits_count-with_wait owners p (record { place = length past; queue = q; sends = is_send call; until = deadline_of call }) lt none in omega (arith, e)
 waits-noted past owners m p call (Collected b) q room says turn lt has = by call says turn
   where
     by : (call : Call) → Says past p call (Collected b) → IsTrue (may_call past p call) → waits_count (with_wait owners p None) + 1 ≤ room
@@ -106,10 +109,17 @@ waits-noted past owners m p call (Collected b) q room says turn lt has = by call
     by MqUnlink says turn = absurd says
     by (MqSend d prio len) says turn = absurd says.3
     by (MqReceive d rm) says turn = absurd says.3
+    by (MqTimedSend d prio len until now) says turn = absurd says.3
+    by (MqTimedReceive d rm until now) says turn = absurd says.3
     by (MqGetattr d) says turn = absurd says
     by (MqSetattr d nonblock) says turn = absurd says
     by (MqNotify d value) says turn = absurd says
     by NextNotice says turn = absurd (cc)
+    by (Withdraw now) says turn = absurd (cc)
+waits-noted past owners m p call (Withdrawn w) q room says turn lt has =
+    let open_at = (withdrawn-open past p call w says turn).0 in
+    let x = waits-here past owners m p w open_at in
+    let e = waits_count-no_wait owners p x.0 x.1 in omega (arith, e)
 waits-noted past owners m p call (Handed w) q room says turn lt has = let e = answer-at-waits owners (waiter_in owners w) (length past) in omega (arith, e)
 waits-noted past owners m p call (Got k a n) q room says turn lt has = let e = answer-at-waits owners (option_and_then (waiter_in owners) a) (length past) in omega (arith, e)
 waits-noted past owners m p call (Queued n) q room says turn lt has = has

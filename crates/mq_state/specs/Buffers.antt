@@ -1,12 +1,12 @@
 -- What a receive and a collect put into their buffer.
-use Rattle.std.specs.Prelude.{ℕ, ◌≤◌, List, [], ◌++◌, drop, length, Option, Some, None}
+use Rattle.std.specs.Prelude.{ℕ, ◌≡◌, true, ◌≤◌, List, [], ◌++◌, drop, length, Option, Some, None, if◌then◌else◌}
 use Rattle.std.specs.Option.{option_map, option_and_then, unwrap_or}
 use Rattle.mq_model.specs.Record.{Past, record_at}
-use Rattle.mq_model.specs.Messages.{priority}
+use Rattle.mq_model.specs.Messages.{priority, is_receive}
 use Rattle.mq_model.specs.Waits.{open_wait, answered_by}
 use Rattle.mq_model.specs.declared.entries.Received.{Received}
 use Rattle.mq_model.specs.declared.entries.Call.{Call}
-use Rattle.mq_model.specs.declared.entries.Call.TheVariants.{MqReceive, Collect}
+use Rattle.mq_model.specs.declared.entries.Call.TheVariants.{MqSend, MqReceive, MqTimedSend, MqTimedReceive, Collect}
 use Rattle.mq_model.specs.declared.entries.Reply.{Reply}
 use Rattle.mq_model.specs.declared.entries.Reply.TheVariants.{Got}
 use Rattle.mq_state.specs.declared.collected.Collected.{Collected}
@@ -40,8 +40,7 @@ waiting_call past p = unwrap_or (option_map (λ r. r.entry.call) (option_and_the
 
 abbrev pub collected_by : Past → Call → Option ℕ → Option Collected
 collected_by past call None = None
-collected_by past (MqReceive d room) (Some by) = Some (GotMessage (received_at past by))
-collected_by past _ (Some by) = Some Sent
+collected_by past call (Some by) = if is_receive call then Some (GotMessage (received_at past by)) else Some Sent
 
 -- what the open wait of process p came to, if it is answered: a receive has the message of the send that names it
 abbrev pub collected : Past → ℕ → Option Collected
@@ -49,16 +48,23 @@ collected past p = collected_by past (waiting_call past p) (answered_by past p)
 
 abbrev pub into_by : Past → Call → Option ℕ → List ℕ → List ℕ
 into_by past call None buffer = buffer
-into_by past (MqReceive d room) (Some by) buffer = with_front (message_at past by) buffer
-into_by past _ (Some by) buffer = buffer
+into_by past call (Some by) buffer = if is_receive call then with_front (message_at past by) buffer else buffer
 
 -- what the buffer of a collect holds then
 abbrev pub collected_into : Past → ℕ → List ℕ → List ℕ
 collected_into past p buffer = into_by past (waiting_call past p) (answered_by past p) buffer
 
+-- the length of a receive's buffer, and 0 of any other call
 abbrev pub room_of : Call → ℕ
 room_of (MqReceive d room) = room
+room_of (MqTimedReceive d room until now) = room
 room_of _ = 0
+
+-- the length of a send's message, and 0 of any other call
+abbrev pub length_sent : Call → ℕ
+length_sent (MqSend d prio len) = len
+length_sent (MqTimedSend d prio len until now) = len
+length_sent _ = 0
 
 -- the length of the buffer of the receive that waits, or 0 for a send
 abbrev pub waiting_room : Past → ℕ → Option ℕ
@@ -66,5 +72,4 @@ waiting_room past p = option_map (λ w. room_of (waiting_call past p)) (open_wai
 
 -- the message that a wait in a call comes to, answered at place `by`, has room in a buffer
 abbrev pub FitsOutcome : Past → Call → ℕ → ℕ → Type 0
-FitsOutcome past (MqReceive d room) by len = length (message_at past by) ≤ len
-FitsOutcome past _ by len = Unit {0}
+FitsOutcome past call by len = is_receive call ≡ true → length (message_at past by) ≤ len

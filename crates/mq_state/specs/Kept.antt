@@ -6,7 +6,7 @@ use Rattle.mq_model.specs.declared.entries.Call.{Call}
 use Rattle.mq_model.specs.declared.faults.Fault.TheVariants.{NoMemory}
 use Rattle.mq_model.specs.Owners.{waits_count}
 use Rattle.mq_model.specs.declared.entries.Reply.{Reply}
-use Rattle.mq_model.specs.declared.entries.Reply.TheVariants.{Waits, Collected, Refused}
+use Rattle.mq_model.specs.declared.entries.Reply.TheVariants.{Waits, Collected, Withdrawn, Refused}
 use Rattle.mq_state.specs.Tables.{TablesMirror, AreAtMost, HasNoticeRoom}
 use Rattle.mq_state.specs.declared.tables.Tables.{Tables}
 
@@ -22,7 +22,7 @@ abbrev pub Mirrors : Shown → Tables → Type 0
 Mirrors j t = TablesMirror j.records t.n t.owners.items t.queues.items t.inboxes.items
 
 -- the journal is legal and has entries of the first n processes alone, the tables are those of the journal, and there is
--- room for the collect entry of each open wait and for the notice of each registration
+-- room for the entry that ends each open wait and for the notice of each registration
 pub record IsKeptBy (j : Shown) (t : Tables) : Type 0 where
   pub legal : Legal j.records
   pub few : t.n ≤ 32
@@ -44,9 +44,10 @@ pub record IsCalled (j j' : Shown) (t t' : Tables) (p : ℕ) (call : Call) (give
   pub kept : IsKeptBy j' t'
   pub n : t'.n ≡ t.n
 
--- room for the entry, for the collect entry of each open wait, and for that of a wait that the entry begins. The collect
--- entry itself stands in the room that was kept for it
+-- room for the entry, for the entry that ends each open wait, and for that of a wait that the entry begins. A collect or a
+-- withdrawal itself stands in the room that was kept for it
 abbrev pub HasEntryRoom : Reply → ℕ → ℕ → Type 0
 HasEntryRoom Waits waits room = waits + 2 ≤ room
 HasEntryRoom (Collected by) waits room = waits ≤ room
+HasEntryRoom (Withdrawn wait) waits room = waits ≤ room
 HasEntryRoom _ waits room = waits + 1 ≤ room

@@ -3,8 +3,9 @@
 //! Each call is made by a process p from 1 to n that has no open wait, appends exactly one entry, the call with the answer
 //! that the definitions give, and returns that reply. A call that is answered `Refused(NoMemory)` has no entry and changes
 //! nothing; it comes only where a growth was refused.
-ghost use Rattle.std.specs.Prelude.{◌≡◌, ◌≢◌, ◌<◌, ◌≤◌, ◌+◌, IfOk, IfSome, IsSome, IsTrue, ◌↔◌, Some, None, length, [], All};
-ghost use Rattle.mq_model.specs.Waits.{open_wait, answered_by, is_answered};
+ghost use Rattle.std.specs.Prelude.{◌≡◌, ◌≢◌, ◌<◌, ◌≤◌, ◌+◌, IfOk, IfSome, IsSome, IsTrue, ◌↔◌, Some, None, length, [], All, false, ◌&&◌, is_none};
+ghost use Rattle.mq_model.specs.Deadlines.{is_over};
+ghost use Rattle.mq_model.specs.Waits.{open_wait, wait_deadline, answered_by, is_answered};
 ghost use Rattle.mq_model.specs.Descriptors.{lowest_held};
 ghost use Rattle.mq_model.specs.Answer.{Appends, Legal};
 ghost use Rattle.mq_state.specs.Buffers.{filled, collected, collected_into, collected_by, into_by, waiting_call, waiting_room, room_of, FitsOutcome};
@@ -13,7 +14,7 @@ ghost use Rattle.mq_state.specs.Kept.{IsKeptBy};
 use crate::buffers;
 use crate::collected::{Collected, received};
 use crate::tables::Tables;
-use mq_model::entries::{Attr, Call, OpenFlags, Reply, Status};
+use mq_model::entries::{Attr, Call, Deadline, OpenFlags, Reply, Status};
 use mq_model::faults::Fault;
 use mq_model::journals::Journal;
 use mq_model::names::Name;
@@ -175,6 +176,51 @@ impl Books {
         tables.receive(journal, p, d, buf)
     }
 
+    /// A send of a message to the queue of descriptor d, made at the moment `now`, which would wait until the moment `until`
+    /// (`mq_timedsend`). Replies as [`send`](Books::send), and refuses besides, where that would wait, with `Invalid` if the nanoseconds of
+    /// `until` are not those of a moment, and with `TimedOut` if that moment is now or has passed.
+    pub fn timed_send(
+        &mut self,
+        p: u32,
+        d: u32,
+        bytes: &[u8],
+        prio: u32,
+        until: Deadline,
+        now: Deadline,
+    ) -> Reply
+        requires process { (1 ≤ p) × (p ≤ self.old.n) }
+        requires no_wait { open_wait self.old.records p ≡ None }
+        ensures entry { result ≢ Reply.Refused Fault.NoMemory → Appends self.old.records self.new.records p (Call.MqTimedSend d prio (length bytes.now) until now) bytes.now result }
+        ensures no_memory { result ≡ Reply.Refused Fault.NoMemory → self.new.records ≡ self.old.records }
+        ensures refused { (fault : Fault) → result ≡ Reply.Refused fault → fault ≢ Fault.NoMemory → self.new.byte_room ≡ self.old.byte_room }
+        ensures processes { self.new.n ≡ self.old.n }
+    {
+        let Shelf { journal, tables } = &mut *self.shelf;
+        tables.timed_send(journal, p, d, bytes, prio, until, now)
+    }
+
+    /// A receive from the queue of descriptor d, made at the moment `now`, which would wait until the moment `until`
+    /// (`mq_timedreceive`). Replies as [`receive`](Books::receive), and refuses besides, where that would wait, with `Invalid` if the
+    /// nanoseconds of `until` are not those of a moment, and with `TimedOut` if that moment is now or has passed.
+    pub fn timed_receive(
+        &mut self,
+        p: u32,
+        d: u32,
+        buf: &mut [u8],
+        until: Deadline,
+        now: Deadline,
+    ) -> Reply
+        requires process { (1 ≤ p) × (p ≤ self.old.n) }
+        requires no_wait { open_wait self.old.records p ≡ None }
+        ensures entry { result ≢ Reply.Refused Fault.NoMemory → Appends self.old.records self.new.records p (Call.MqTimedReceive d (length buf.old) until now) [] result }
+        ensures no_memory { result ≡ Reply.Refused Fault.NoMemory → self.new.records ≡ self.old.records }
+        ensures processes { self.new.n ≡ self.old.n }
+        ensures buffer { buf.new ≡ filled self.old.records result buf.old }
+    {
+        let Shelf { journal, tables } = &mut *self.shelf;
+        tables.timed_receive(journal, p, d, buf, until, now)
+    }
+
     /// `None` where process p has no open wait, else the length of the buffer of the receive that waits, or 0 for a send.
     pub fn waiting(&self, p: u32) -> Option<usize>
         ensures { result ≡ waiting_room self.now.records p }
@@ -214,6 +260,20 @@ impl Books {
         Some(outcome)
     }
 
+    /// Ends the open wait of process p without an answer, if a timed call began it, no entry answers it, and its deadline has passed at
+    /// the moment `now`; then it is true. Takes no memory.
+    pub fn withdraw(&mut self, p: u32, now: Deadline) -> bool
+        requires process { (1 ≤ p) × (p ≤ self.old.n) }
+        ensures value { result ≡ (is_none (answered_by self.old.records p) && is_over (wait_deadline self.old.records p) now) }
+        ensures entry { IsTrue result → IfSome (open_wait self.old.records p) (λ wait. Appends self.old.records self.new.records p (Call.Withdraw now) [] (Reply.Withdrawn wait)) }
+        ensures waited { IsTrue result → IsSome (open_wait self.old.records p) }
+        ensures none { result ≡ false → self.new.records ≡ self.old.records }
+        ensures processes { self.new.n ≡ self.old.n }
+    {
+        let Shelf { journal, tables } = &mut *self.shelf;
+        tables.withdraw(journal, p, now)
+    }
+
     /// The lowest descriptor that process p holds.
     pub fn lowest_open(&self, p: u32) -> Option<u32>
         ensures { result ≡ lowest_held self.now.records p }
@@ -245,6 +305,12 @@ fn room_of(call: Call) -> usize
 {
     match call {
         Call::MqReceive { d: _, room } => room as usize,
+        Call::MqTimedReceive {
+            d: _,
+            room,
+            until: _,
+            now: _,
+        } => room as usize,
         _ => 0,
     }
 }
@@ -269,11 +335,9 @@ fn outcome(journal: &Journal, call: Call, by: u64, buf: &mut [u8]) -> Collected
     ensures value { Some result ≡ collected_by journal.now.records call (Some by) }
     ensures buffer { buf.new ≡ into_by journal.now.records call (Some by) buf.old }
 {
-    match call {
-        Call::MqReceive { .. } => {
-            buffers::put_message(journal, by, buf);
-            Collected::Got(received(journal, by))
-        }
-        _ => Collected::Sent,
+    if !call.is_receive() {
+        return Collected::Sent;
     }
+    buffers::put_message(journal, by, buf);
+    Collected::Got(received(journal, by))
 }

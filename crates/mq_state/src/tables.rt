@@ -91,10 +91,12 @@ impl Tables {
             Call::MqClose { d }
             | Call::MqSend { d, .. }
             | Call::MqReceive { d, .. }
+            | Call::MqTimedSend { d, .. }
+            | Call::MqTimedReceive { d, .. }
             | Call::MqGetattr { d }
             | Call::MqSetattr { d, .. }
             | Call::MqNotify { d, .. } => self.descriptor_queue(journal, p, d),
-            Call::NextNotice | Call::Collect => journal.len(),
+            Call::NextNotice | Call::Collect | Call::Withdraw { .. } => journal.len(),
         }
     }
 }

@@ -1,23 +1,23 @@
 //! The calls: each makes room, decides its reply, and appends its entry, which the tables note.
-ghost use Rattle.std.specs.Prelude.{◌≡◌, ◌≢◌, ◌<◌, ◌≤◌, ◌+◌, ◌-◌, IfOk, OnOk, IsTrue, Some, None, false, ℕ, length, [], ◌∷◌, is_some, vec_len, vec_capacity, if◌then◌else◌};
+ghost use Rattle.std.specs.Prelude.{◌≡◌, ◌≢◌, ◌<◌, ◌≤◌, ◌+◌, ◌-◌, IfOk, IfSome, IsSome, OnOk, IsTrue, Some, None, true, false, ℕ, length, [], ◌∷◌, is_some, vec_len, vec_capacity, if◌then◌else◌};
 ghost use Rattle.mq_model.specs.Name.{is_name};
 ghost use Rattle.mq_model.specs.Names.{creates};
 ghost use Rattle.mq_model.specs.Waits.{open_wait, answered_by};
 ghost use Rattle.mq_model.specs.Answer.{Appends, answer, may_call, is_payload, payload_of, is_refused, Legal, IsLegalNext};
 ghost use Rattle.std.specs.Option.{option_map};
 ghost use Rattle.mq_model.specs.Owners.{waits_count, answer_in, wait_in, lowest_held_in};
-ghost use Rattle.mq_state.specs.Buffers.{filled};
+ghost use Rattle.mq_model.specs.Messages.{is_send, is_receive};
+ghost use Rattle.mq_state.specs.Buffers.{filled, room_of, length_sent};
 ghost use Rattle.mq_state.specs.Tables.{entry_queue, HasRoomToRegister, BringsOrder};
 ghost use Rattle.mq_state.specs.Kept.{IsKeptBy, HasEntryRoom, MayCall, IsCalled};
 
 use crate::order::{Order, slots_for};
 use crate::tables::Tables;
 use crate::{buffers, notices};
-use mq_model::entries::{Attr, Call, Entry, OpenFlags, Reply};
+use mq_model::entries::{Attr, Call, Deadline, Entry, OpenFlags, Reply};
 use mq_model::faults::Fault;
 use mq_model::journals::Journal;
-use mq_model::ladder::attributes_given;
-use mq_model::owners;
+use mq_model::{ladder, owners};
 use std::alloc::{AllocError, Global};
 
 // The payload of a call that was given these bytes.
@@ -27,7 +27,7 @@ fn payload_of(call: Call, reply: Reply, given: &[u8]) -> &[u8]
 {
     match call {
         Call::MqOpen { .. } | Call::MqUnlink => given,
-        Call::MqSend { .. } => match reply {
+        Call::MqSend { .. } | Call::MqTimedSend { .. } => match reply {
             Reply::Refused(_) => &[],
             _ => given,
         },
@@ -148,7 +148,7 @@ impl Tables {
                 d: _,
                 created: true,
             } => {
-                let room = slots_for(attributes_given(Call::MqOpen { flags, attr }));
+                let room = slots_for(ladder::attributes_given(Call::MqOpen { flags, attr }));
                 self.queues.reserve(1)?;
                 let order = Order::new(self.alloc, room)?;
                 Ok(Some(order))
@@ -263,19 +263,26 @@ impl Tables {
         self.settle(journal, p, Call::NextNotice, reply, &[])
     }
 
-    /// A send of a message (`mq_send`). Room for its bytes is made only once nothing refuses it.
-    pub fn send(&mut self, journal: &mut Journal, p: u32, d: u32, bytes: &[u8], prio: u32) -> Reply
-        requires { MayCall journal.old self.old p }
-        ensures called { IsCalled journal.old journal.new self.old self.new p (Call.MqSend d prio (length bytes.now)) bytes.now result }
+    // Settles a send: makes room for its entry, and only once nothing refuses it for the bytes of its message, and appends it.
+    fn settle_send(
+        &mut self,
+        journal: &mut Journal,
+        p: u32,
+        call: Call,
+        reply: Reply,
+        bytes: &[u8],
+    ) -> Reply
+        requires may_call { MayCall journal.old self.old p }
+        requires sends { is_send call ≡ true }
+        requires length { length_sent call ≡ length bytes.now }
+        requires answers { reply ≡ answer journal.old.records p call bytes.now }
+        ensures called { IsCalled journal.old journal.new self.old self.new p call bytes.now result }
         ensures refused { (fault : Fault) → result ≡ Reply.Refused fault → fault ≢ Fault.NoMemory → journal.new.byte_room ≡ journal.old.byte_room }
     {
         let entries = self.open_waits() + 2;
         if journal.reserve(entries, 0).is_err() {
             return Reply::Refused(Fault::NoMemory);
         }
-        let len = bytes.len() as u64;
-        let call = Call::MqSend { d, prio, len };
-        let reply = self.answer_send(journal, p, d, prio, len);
         let kept = payload_of(call, reply, bytes);
         if journal.reserve(0, kept.len()).is_err() {
             return Reply::Refused(Fault::NoMemory);
@@ -284,20 +291,102 @@ impl Tables {
         reply
     }
 
-    /// A receive, which fills the front of the buffer where it gets a message (`mq_receive`).
-    pub fn receive(&mut self, journal: &mut Journal, p: u32, d: u32, buf: &mut [u8]) -> Reply
+    /// A send of a message (`mq_send`).
+    pub fn send(&mut self, journal: &mut Journal, p: u32, d: u32, bytes: &[u8], prio: u32) -> Reply
         requires { MayCall journal.old self.old p }
-        ensures called { IsCalled journal.old journal.new self.old self.new p (Call.MqReceive d (length buf.old)) [] result }
+        ensures called { IsCalled journal.old journal.new self.old self.new p (Call.MqSend d prio (length bytes.now)) bytes.now result }
+        ensures refused { (fault : Fault) → result ≡ Reply.Refused fault → fault ≢ Fault.NoMemory → journal.new.byte_room ≡ journal.old.byte_room }
+    {
+        let len = bytes.len() as u64;
+        let reply = self.answer_send(journal, p, d, prio, len);
+        self.settle_send(journal, p, Call::MqSend { d, prio, len }, reply, bytes)
+    }
+
+    /// A send with a deadline (`mq_timedsend`).
+    pub fn timed_send(
+        &mut self,
+        journal: &mut Journal,
+        p: u32,
+        d: u32,
+        bytes: &[u8],
+        prio: u32,
+        until: Deadline,
+        now: Deadline,
+    ) -> Reply
+        requires { MayCall journal.old self.old p }
+        ensures called { IsCalled journal.old journal.new self.old self.new p (Call.MqTimedSend d prio (length bytes.now) until now) bytes.now result }
+        ensures refused { (fault : Fault) → result ≡ Reply.Refused fault → fault ≢ Fault.NoMemory → journal.new.byte_room ≡ journal.old.byte_room }
+    {
+        let len = bytes.len() as u64;
+        let reply = ladder::timed(until, now, self.answer_send(journal, p, d, prio, len));
+        let call = Call::MqTimedSend {
+            d,
+            prio,
+            len,
+            until,
+            now,
+        };
+        self.settle_send(journal, p, call, reply, bytes)
+    }
+
+    // Settles a receive: makes room for its entry, fills the front of the buffer where it gets a message, and appends it.
+    fn settle_receive(
+        &mut self,
+        journal: &mut Journal,
+        p: u32,
+        call: Call,
+        reply: Reply,
+        buf: &mut [u8],
+    ) -> Reply
+        requires may_call { MayCall journal.old self.old p }
+        requires receives { is_receive call ≡ true }
+        requires room { room_of call ≡ length buf.old }
+        requires answers { reply ≡ answer journal.old.records p call [] }
+        ensures called { IsCalled journal.old journal.new self.old self.new p call [] result }
         ensures buffer { buf.new ≡ filled journal.old.records result buf.old }
     {
         if journal.reserve(self.open_waits() + 2, 0).is_err() {
             return Reply::Refused(Fault::NoMemory);
         }
+        buffers::fill(journal, reply, buf);
+        self.record(journal, p, call, reply, &[], None);
+        reply
+    }
+
+    /// A receive (`mq_receive`).
+    pub fn receive(&mut self, journal: &mut Journal, p: u32, d: u32, buf: &mut [u8]) -> Reply
+        requires { MayCall journal.old self.old p }
+        ensures called { IsCalled journal.old journal.new self.old self.new p (Call.MqReceive d (length buf.old)) [] result }
+        ensures buffer { buf.new ≡ filled journal.old.records result buf.old }
+    {
         let room = buf.len() as u64;
         let reply = self.answer_receive(journal, p, d, room);
-        buffers::fill(journal, reply, buf);
-        self.record(journal, p, Call::MqReceive { d, room }, reply, &[], None);
-        reply
+        self.settle_receive(journal, p, Call::MqReceive { d, room }, reply, buf)
+    }
+
+    /// A receive with a deadline (`mq_timedreceive`).
+    pub fn timed_receive(
+        &mut self,
+        journal: &mut Journal,
+        p: u32,
+        d: u32,
+        buf: &mut [u8],
+        until: Deadline,
+        now: Deadline,
+    ) -> Reply
+        requires { MayCall journal.old self.old p }
+        ensures called { IsCalled journal.old journal.new self.old self.new p (Call.MqTimedReceive d (length buf.old) until now) [] result }
+        ensures buffer { buf.new ≡ filled journal.old.records result buf.old }
+    {
+        let room = buf.len() as u64;
+        let reply = ladder::timed(until, now, self.answer_receive(journal, p, d, room));
+        let call = Call::MqTimedReceive {
+            d,
+            room,
+            until,
+            now,
+        };
+        self.settle_receive(journal, p, call, reply, buf)
     }
 
     /// The open wait of process p with the place of the entry that answers it, if one does.
@@ -341,5 +430,28 @@ impl Tables {
             &[],
             None,
         );
+    }
+
+    /// Ends the open wait of process p without an answer, where a timed call began it, no entry answers it, and its deadline has passed
+    /// at the moment `now`.
+    pub fn withdraw(&mut self, journal: &mut Journal, p: u32, now: Deadline) -> bool
+        requires kept { IsKeptBy journal.old self.old }
+        requires process { (1 ≤ p) × (p ≤ self.old.n) }
+        ensures value { result ≡ may_call journal.old.records p (Call.Withdraw now) }
+        ensures entry { IsTrue result → IfSome (open_wait journal.old.records p) (λ wait. Appends journal.old.records journal.new.records p (Call.Withdraw now) [] (Reply.Withdrawn wait)) }
+        ensures waited { IsTrue result → IsSome (open_wait journal.old.records p) }
+        ensures none { result ≡ false → journal.new.records ≡ journal.old.records }
+        ensures kept { IsKeptBy journal.new self.new }
+        ensures n { self.new.n ≡ self.old.n }
+    {
+        let Some(wait) = owners::wait(&self.owners, p) else {
+            return false;
+        };
+        if self.answer(p).is_some() || !ladder::is_over(wait.until, now) {
+            return false;
+        }
+        let reply = Reply::Withdrawn { wait: wait.place };
+        self.record(journal, p, Call::Withdraw { now }, reply, &[], None);
+        true
     }
 }
