@@ -7,9 +7,9 @@ use Rattle.mq_model.specs.Waits.{open_wait, is_wait}
 use Rattle.mq_model.specs.Answer.{Legal}
 use Rattle.mq_model.proofs.Places.{split}
 use Rattle.mq_model.specs.declared.entries.Call.{Call}
-use Rattle.mq_model.specs.declared.entries.Call.TheVariants.{Collect}
+use Rattle.mq_model.specs.declared.entries.Call.TheVariants.{Collect, Withdraw}
 use Rattle.mq_model.specs.declared.entries.Reply.{Reply}
-use Rattle.mq_model.specs.declared.entries.Reply.TheVariants.{Opened, Queued, Handed, Waits, Got, Collected, Attrs, Notice, Done, Refused}
+use Rattle.mq_model.specs.declared.entries.Reply.TheVariants.{Opened, Queued, Handed, Waits, Got, Collected, Attrs, Notice, Done, Refused, Withdrawn}
 use Rattle.mq_state.specs.Kept.{Kept}
 use Rattle.mq_state.specs.Buffers.{waiting_call, waiting_room, room_of}
 use Rattle.fast_mutex.specs.Items.{LockId, Ticket, Grows, GrowsBy, items_of}
@@ -94,6 +94,7 @@ is-waits (Queued n) e = absurd (cc)
 is-waits (Handed w) e = absurd (cc)
 is-waits (Got m a n) e = absurd (cc)
 is-waits (Collected by) e = absurd (cc)
+is-waits (Withdrawn by) e = absurd (cc)
 is-waits (Attrs s) e = absurd (cc)
 is-waits (Notice v) e = absurd (cc)
 is-waits Done e = absurd (cc)
@@ -106,6 +107,7 @@ not-begun (Queued n) room e = refl
 not-begun (Handed w) room e = refl
 not-begun (Got m a n) room e = refl
 not-begun (Collected by) room e = refl
+not-begun (Withdrawn by) room e = refl
 not-begun (Attrs s) room e = refl
 not-begun (Notice v) room e = refl
 not-begun Done room e = refl

@@ -4,20 +4,21 @@ use Rattle.std.specs.List.{All}
 use Rattle.std.specs.Option.{option_map}
 use Rattle.std.proofs.lemmas.List.Elements.{All-nil, All-cons}
 use Rattle.mq_model.specs.Record.{Record, Past}
+use Rattle.mq_model.specs.Messages.{is_receive}
 use Rattle.mq_model.specs.Waits.{open_wait, answered_by, is_answered}
 use Rattle.mq_model.specs.Answer.{Legal, Appends}
 use Rattle.mq_model.specs.declared.entries.Received.{Received}
 use Rattle.mq_model.specs.declared.entries.Call.{Call}
-use Rattle.mq_model.specs.declared.entries.Call.TheVariants.{MqSend, MqReceive, Collect}
+use Rattle.mq_model.specs.declared.entries.Call.TheVariants.{Collect}
 use Rattle.mq_model.specs.declared.entries.Reply.{Reply}
-use Rattle.mq_model.specs.declared.entries.Reply.TheVariants.{Waits, Collected}
+use Rattle.mq_model.specs.declared.entries.Reply.TheVariants.{Waits, Collected, Withdrawn}
 use Rattle.mq_state.specs.Kept.{Kept}
 use Rattle.mq_state.specs.Buffers.{waiting_call, waiting_room, room_of, collected, collected_by, collected_into, received_at, message_at, with_front}
 use Rattle.mq_state.specs.declared.collected.Collected.{Collected as Outcome}
 use Rattle.fast_mutex.specs.Items.{LockId, Ticket, Grows, GrowsBy}
-use Rattle.mq_state.specs.declared.collected.Collected.TheVariants.{Got as GotMessage}
+use Rattle.mq_state.specs.declared.collected.Collected.TheVariants.{Got as GotMessage, Sent}
 use Rattle.mq.specs.Says.{start_send_says, start_receive_says}
-use Rattle.mq.specs.Calls.{owner, recorded, Calls, Came, Collects, StillWaits, Waited, OneCall, ReceiveCall, SendCall, WholeReceive}
+use Rattle.mq.specs.Calls.{owner, recorded, Calls, Came, Collects, StillWaits, Waited, OneCall, ReceiveCall, WaitedSend, WaitedReceive}
 use Rattle.mq.proofs.Replies.{send-waits, receive-waits}
 use Rattle.mq.proofs.Messages.{message-kept, received-kept}
 use Rattle.mq.proofs.Growing.{own-recorded, calls-on}
@@ -123,28 +124,34 @@ pub waited : {old mid new : Ticket Record} {result : Outcome} {before after : Li
 waited call given first c = record { calls = calls-on (λ n. recorded n Collect [] (Collected c.by) ∷ []) first c.calls }
 
 -- a send waits where its start says so
-pub send-waited : {old mid new : Ticket Record} {outcome : Outcome} {before after : List ℕ} {d prio : ℕ} {bytes : List ℕ} → OneCall start_send_says old mid (MqSend d prio (length bytes)) bytes (Ok false) → Collects mid new outcome before after → SendCall old new d bytes prio (Ok tt)
-send-waited {old} {mid} {new} {outcome} {before} {after} {d} {prio} {bytes} start c =
+pub send-waited : {old mid new : Ticket Record} {outcome : Outcome} {before after : List ℕ} {call : Call} {bytes : List ℕ} → OneCall start_send_says old mid call bytes (Ok false) → Collects mid new outcome before after → WaitedSend old new call bytes (Ok tt)
+send-waited {old} {mid} {new} {outcome} {before} {after} {call} {bytes} start c =
     let waits : start.reply ≡ Waits = send-waits start.reply (Ok false) start.says_so refl in
-    let first : Calls old mid (recorded old.number (MqSend d prio (length bytes)) bytes Waits ∷ []) = rw waits at start.calls in
-    inr (record { by = c.by; waited = waited (MqSend d prio (length bytes)) bytes first c; is = refl })
+    let first : Calls old mid (recorded old.number call bytes Waits ∷ []) = rw waits at start.calls in
+    record { by = c.by; waited = waited call bytes first c; is = refl }
 
 -- and a receive: then the message is that of the send that answered it
-pub receive-waited : {old mid new : Ticket Record} {received : Received} {before between after : List ℕ} {d : ℕ} → ReceiveCall start_receive_says old mid d before between (Ok None)
-    → waiting_call mid.left mid.number ≡ MqReceive d (length before) → Collects mid new (GotMessage received) between after → WholeReceive old new d before after (Ok received)
-receive-waited {old} {mid} {new} {received} {before} {between} {after} {d} start called c =
+pub receive-waited : {old mid new : Ticket Record} {received : Received} {before between after : List ℕ} {call : Call} → is_receive call ≡ true → ReceiveCall start_receive_says old mid call before between (Ok None)
+    → waiting_call mid.left mid.number ≡ call → Collects mid new (GotMessage received) between after → WaitedReceive old new call before after (Ok received)
+receive-waited {old} {mid} {new} {received} {before} {between} {after} {call} receives start called c =
     let waits : start.reply ≡ Waits = receive-waits mid.left start.reply (Ok None) start.says_so refl in
-    let first : Calls old mid (recorded old.number (MqReceive d (length before)) [] Waits ∷ []) = rw waits at start.calls in
-    let call : waiting_call c.found mid.number ≡ MqReceive d (length before) = c.call ∙ called in
-    let value : Some (GotMessage (received_at c.found c.by)) ≡ Some (GotMessage received) = rw (call, c.answered) at c.value in
+    let first : Calls old mid (recorded old.number call [] Waits ∷ []) = rw waits at start.calls in
+    let same_call : waiting_call c.found mid.number ≡ call = c.call ∙ called in
+    let value : Some (GotMessage (received_at c.found c.by)) ≡ Some (GotMessage received) = rw (same_call, c.answered, receives) at c.value in
     let same : received_at c.found c.by ≡ received = cc in
     let untouched : between ≡ before = rw waits at start.buffer in
-    let filled_is : after ≡ with_front (message_at c.found c.by) between = rw (call, c.answered) at c.buffer in
+    let filled_is : after ≡ with_front (message_at c.found c.by) between = rw (same_call, c.answered, receives) at c.buffer in
     let kept = received-kept c.found (recorded mid.number Collect [] (Collected c.by)) c.by refl refl in
     let message = message-kept c.found (recorded mid.number Collect [] (Collected c.by)) c.by refl in
-    inr (record {
+    record {
       by = c.by;
-      waited = waited (MqReceive d (length before)) [] first c;
+      waited = waited call [] first c;
       is = ap (λ (r : Received). Ok r) (rw c.added (sym same ∙ sym kept));
       buffer = rw (c.added, message, sym untouched) filled_is;
-    })
+    }
+
+-- a wait that was answered by a receive of this call gives a message
+pub receive-gets : {mid new : Ticket Record} {before after : List ℕ} {call : Call} → is_receive call ≡ true → waiting_call mid.left mid.number ≡ call → Collects mid new Sent before after → ⊥
+receive-gets {mid} {new} {before} {after} {call} receives called c =
+    let same_call : waiting_call c.found mid.number ≡ call = c.call ∙ called in
+    let value : Some (GotMessage (received_at c.found c.by)) ≡ Some Sent = rw (same_call, c.answered, receives) at c.value in cc

@@ -1,12 +1,13 @@
 -- A message that was received has room in the buffer that it was put into.
 use Rattle.std.proofs.Common.{◌≡◌, ◌≤◌, ◌+◌, ℕ, List, length, drop, ap, subst, ◌∙◌, arith, length-append, Option, Some, None, Result, Ok, Err, IfOk, IfSome}
 use Rattle.mq_model.specs.Record.{Past}
+use Rattle.mq_model.specs.Messages.{is_receive}
 use Rattle.mq_model.specs.Waits.{answered_by}
+use Rattle.mq_model.proofs.Places.{split}
 use Rattle.mq_model.specs.declared.entries.Received.{Received}
 use Rattle.mq_model.specs.declared.entries.Call.{Call}
-use Rattle.mq_model.specs.declared.entries.Call.TheVariants.{MqOpen, MqClose, MqUnlink, MqSend, MqReceive, MqGetattr, MqSetattr, MqNotify, NextNotice, Collect}
 use Rattle.mq_model.specs.declared.entries.Reply.{Reply}
-use Rattle.mq_model.specs.declared.entries.Reply.TheVariants.{Opened, Queued, Handed, Waits, Got, Collected, Attrs, Notice, Done, Refused}
+use Rattle.mq_model.specs.declared.entries.Reply.TheVariants.{Opened, Queued, Handed, Waits, Got, Collected, Attrs, Notice, Done, Refused, Withdrawn}
 use Rattle.mq_model.specs.declared.faults.Fault.{Fault}
 use Rattle.mq_state.specs.Buffers.{filled, message_at, received_at, with_front, collected, collected_by, collected_into, into_by, waiting_call}
 use Rattle.mq_state.specs.declared.collected.Collected.{Collected as Outcome}
@@ -32,6 +33,7 @@ start-fits past (Opened d created) result before after says fill same = absurd (
 start-fits past (Queued notified) result before after says fill same = absurd (cc)
 start-fits past (Handed wait) result before after says fill same = absurd (cc)
 start-fits past (Collected by) result before after says fill same = absurd (cc)
+start-fits past (Withdrawn by) result before after says fill same = absurd (cc)
 start-fits past (Attrs status) result before after says fill same = absurd (cc)
 start-fits past (Notice value) result before after says fill same = absurd (cc)
 start-fits past Done result before after says fill same = absurd (cc)
@@ -41,14 +43,11 @@ collect-fits past p Sent before after value fill same = tt
 collect-fits past p (GotMessage received) before after value fill same = by (waiting_call past p) (answered_by past p) value fill
   where
     by : (call : Call) (o : Option ℕ) → Some (GotMessage received) ≡ collected_by past call o → after ≡ into_by past call o before → received.len ≤ length before
-    by (MqReceive d room) (Some k) v f = let is : received ≡ received_at past k = cc in rw is (front-fits (message_at past k) before after f same)
-    by (MqOpen flags attr) (Some k) v f = absurd (cc)
-    by (MqClose d) (Some k) v f = absurd (cc)
-    by MqUnlink (Some k) v f = absurd (cc)
-    by (MqSend d prio len) (Some k) v f = absurd (cc)
-    by (MqGetattr d) (Some k) v f = absurd (cc)
-    by (MqSetattr d nonblock) (Some k) v f = absurd (cc)
-    by (MqNotify d v') (Some k) v f = absurd (cc)
-    by NextNotice (Some k) v f = absurd (cc)
-    by Collect (Some k) v f = absurd (cc)
     by call None v f = absurd (cc)
+    by call (Some k) v f = split (is_receive call)
+        (λ yes.
+        let gets : Some (GotMessage received) ≡ Some (GotMessage (received_at past k)) = rw yes at v in
+        let is : received ≡ received_at past k = cc in
+        let put : after ≡ with_front (message_at past k) before = rw yes at f in
+        rw is (front-fits (message_at past k) before after put same))
+        (λ not. let bad : Some (GotMessage received) ≡ Some Sent = rw not at v in absurd (cc))

@@ -2,16 +2,16 @@
 use Rattle.std.proofs.Common.{◌≡◌, ℕ, ◌<◌, ◌==◌, Bool, true, false, List, [], ◌∷◌, ◌++◌, length, Option, Some, None, refl, ap, sym, ◌∙◌, arith, eqb-true}
 use Rattle.std.specs.Option.{option_map, unwrap_or}
 use Rattle.mq_model.specs.Record.{Record, Past, record_at}
-use Rattle.mq_model.specs.Messages.{priority, priority_given}
+use Rattle.mq_model.specs.Messages.{is_send, is_receive, priority, priority_given}
 use Rattle.mq_model.proofs.Places.{split}
 use Rattle.mq_model.proofs.Prefixes.{record_at-below}
 use Rattle.mq_model.specs.declared.entries.Received.{Received}
 use Rattle.mq_model.specs.declared.entries.Call.{Call}
-use Rattle.mq_model.specs.declared.entries.Call.TheVariants.{MqReceive, Collect}
+use Rattle.mq_model.specs.declared.entries.Call.TheVariants.{MqReceive, MqTimedReceive, Collect}
 use Rattle.mq_model.specs.declared.entries.Reply.{Reply}
-use Rattle.mq_model.specs.declared.entries.Reply.TheVariants.{Opened, Queued, Handed, Waits, Got, Collected, Attrs, Notice, Done, Refused}
+use Rattle.mq_model.specs.declared.entries.Reply.TheVariants.{Opened, Queued, Handed, Waits, Got, Collected, Attrs, Notice, Done, Refused, Withdrawn}
 use Rattle.mq_model.specs.Answer.{payload_of}
-use Rattle.mq_state.specs.Buffers.{message_at, received_at, with_front, filled}
+use Rattle.mq_state.specs.Buffers.{message_at, received_at, with_front, filled, room_of}
 use Rattle.mq.specs.Calls.{recorded, made, is_no_memory}
 
 none-here : (past : Past) (m : ℕ) → m ≡ length past → record_at past m ≡ None
@@ -37,15 +37,27 @@ received-kept past r m empty low =
     let prio = priority-kept past r m low in
     ap (λ (bytes : List ℕ). record { len = length bytes; prio = priority (r ∷ past) m }) message ∙ ap (λ (n : ℕ). record { len = length (message_at past m); prio = n }) prio
 
+-- a send needs no buffer
+pub no-room : (call : Call) → is_send call ≡ true → room_of call ≡ 0
+no-room (MqReceive d room) sends = absurd (cc)
+no-room (MqTimedReceive d room until now) sends = absurd (cc)
+no-room call sends = refl
+
+no-payload : (call : Call) (reply : Reply) → is_receive call ≡ true → payload_of call reply [] ≡ []
+no-payload (MqReceive d room) reply receives = refl
+no-payload (MqTimedReceive d room until now) reply receives = refl
+no-payload call reply receives = absurd (cc)
+
 -- the buffer that a receive fills, by the journal it leaves
-pub filled-kept : (past : Past) (p d room : ℕ) (reply : Reply) (buffer : List ℕ) → filled (made p (MqReceive d room) [] reply ++ past) reply buffer ≡ filled past reply buffer
-filled-kept past p d room (Got m a n) buffer = ap (λ (bytes : List ℕ). with_front bytes buffer) (message-kept past (recorded p (MqReceive d room) [] (Got m a n)) m refl)
-filled-kept past p d room (Opened e c) buffer = refl
-filled-kept past p d room (Queued n) buffer = refl
-filled-kept past p d room (Handed w) buffer = refl
-filled-kept past p d room Waits buffer = refl
-filled-kept past p d room (Collected by) buffer = refl
-filled-kept past p d room (Attrs s) buffer = refl
-filled-kept past p d room (Notice v) buffer = refl
-filled-kept past p d room Done buffer = refl
-filled-kept past p d room (Refused f) buffer = refl
+pub filled-kept : (past : Past) (p : ℕ) (call : Call) (reply : Reply) (buffer : List ℕ) → is_receive call ≡ true → filled (made p call [] reply ++ past) reply buffer ≡ filled past reply buffer
+filled-kept past p call (Got m a n) buffer receives = ap (λ (bytes : List ℕ). with_front bytes buffer) (message-kept past (recorded p call [] (Got m a n)) m (no-payload call (Got m a n) receives))
+filled-kept past p call (Opened e c) buffer receives = refl
+filled-kept past p call (Queued n) buffer receives = refl
+filled-kept past p call (Handed w) buffer receives = refl
+filled-kept past p call Waits buffer receives = refl
+filled-kept past p call (Collected by) buffer receives = refl
+filled-kept past p call (Withdrawn wait) buffer receives = refl
+filled-kept past p call (Attrs s) buffer receives = refl
+filled-kept past p call (Notice v) buffer receives = refl
+filled-kept past p call Done buffer receives = refl
+filled-kept past p call (Refused f) buffer receives = refl

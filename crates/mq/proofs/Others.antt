@@ -9,7 +9,7 @@ use Rattle.mq_model.proofs.OthersLeave.{others-leave, open_wait-below}
 use Rattle.mq_model.proofs.Places.{split}
 use Rattle.mq_model.proofs.Frames.{record_at-older}
 use Rattle.mq_model.specs.declared.entries.Call.{Call}
-use Rattle.mq_model.specs.declared.entries.Call.TheVariants.{Collect}
+use Rattle.mq_model.specs.declared.entries.Call.TheVariants.{Collect, Withdraw}
 use Rattle.mq_state.specs.Buffers.{waiting_call, waiting_room, room_of}
 use Rattle.fast_mutex.specs.Items.{Grows, items_of}
 use Rattle.mq.specs.Calls.{owner}

@@ -7,9 +7,9 @@ use Rattle.mq_model.proofs.Places.{split}
 use Rattle.mq_model.proofs.Cases.{Says, answer_says, OpenReply, DoneReply, AttrsReply, SendSays, ReceiveSays}
 use Rattle.mq_model.specs.declared.entries.Description.{Description}
 use Rattle.mq_model.specs.declared.entries.Call.{Call}
-use Rattle.mq_model.specs.declared.entries.Call.TheVariants.{MqOpen, MqClose, MqUnlink, MqSend, MqReceive, MqGetattr, MqSetattr, MqNotify, NextNotice, Collect}
+use Rattle.mq_model.specs.declared.entries.Call.TheVariants.{MqOpen, MqClose, MqUnlink, MqSend, MqReceive, MqGetattr, MqSetattr, MqNotify, NextNotice, Collect, MqTimedSend, MqTimedReceive, Withdraw}
 use Rattle.mq_model.specs.declared.entries.Reply.{Reply}
-use Rattle.mq_model.specs.declared.entries.Reply.TheVariants.{Opened, Queued, Handed, Waits, Got, Collected, Attrs, Notice, Done, Refused}
+use Rattle.mq_model.specs.declared.entries.Reply.TheVariants.{Opened, Queued, Handed, Waits, Got, Collected, Attrs, Notice, Done, Refused, Withdrawn}
 use Rattle.mq_model.specs.declared.faults.Fault.{Fault}
 use Rattle.mq_model.specs.declared.faults.Fault.TheVariants.{Again, BadDescriptor, Busy, Exists, Invalid, TooManyOpen, MessageSize, NameTooLong, NoEntry, NoSpace, NoMemory}
 use Rattle.mq_model.specs.declared.entries.Received.{Received}
@@ -26,6 +26,7 @@ opened (Handed w) says = absurd says
 opened Waits says = absurd says
 opened (Got m a n) says = absurd says
 opened (Collected by) says = absurd says
+opened (Withdrawn by) says = absurd says
 opened (Attrs s) says = absurd says
 opened (Notice v) says = absurd says
 opened Done says = absurd says
@@ -39,6 +40,7 @@ done (Handed w) says = absurd says
 done Waits says = absurd says
 done (Got m a n) says = absurd says
 done (Collected by) says = absurd says
+done (Withdrawn by) says = absurd says
 done (Attrs s) says = absurd says
 done (Notice v) says = absurd says
 
@@ -52,6 +54,7 @@ attributes (Handed w) says = absurd says
 attributes Waits says = absurd says
 attributes (Got m a n) says = absurd says
 attributes (Collected by) says = absurd says
+attributes (Withdrawn by) says = absurd says
 attributes (Notice v) says = absurd says
 
 sent : (past : Past) (o : Option Description) (prio len : ℕ) (reply : Reply) → SendSays past o prio len reply → is_sent reply ≡ true
@@ -62,6 +65,7 @@ sent past o prio len (Refused f) says = refl
 sent past o prio len (Opened d c) says = absurd says.3
 sent past o prio len (Got m a n) says = absurd says.3
 sent past o prio len (Collected by) says = absurd says.3
+sent past o prio len (Withdrawn by) says = absurd says.3
 sent past o prio len (Attrs s) says = absurd says.3
 sent past o prio len (Notice v) says = absurd says.3
 sent past o prio len Done says = absurd says.3
@@ -74,6 +78,7 @@ received past o room (Queued n) says = absurd says.3
 received past o room (Handed w) says = absurd says.3
 received past o room (Opened d c) says = absurd says.3
 received past o room (Collected by) says = absurd says.3
+received past o room (Withdrawn by) says = absurd says.3
 received past o room (Attrs s) says = absurd says.3
 received past o room (Notice v) says = absurd says.3
 received past o room Done says = absurd says.3
@@ -84,12 +89,15 @@ may-answer past p (MqOpen flags attr) given = opened _ (answer_says past p (MqOp
 may-answer past p (MqClose d) given = done _ ((answer_says past p (MqClose d) given).0)
 may-answer past p MqUnlink given = done _ (answer_says past p MqUnlink given)
 may-answer past p (MqSend d prio len) given = sent past _ prio len _ (answer_says past p (MqSend d prio len) given)
+may-answer past p (MqTimedSend d prio len until now) given = sent past _ prio len _ (answer_says past p (MqTimedSend d prio len until now) given)
 may-answer past p (MqReceive d room) given = received past _ room _ (answer_says past p (MqReceive d room) given)
+may-answer past p (MqTimedReceive d room until now) given = received past _ room _ (answer_says past p (MqTimedReceive d room until now) given)
 may-answer past p (MqGetattr d) given = attributes _ (answer_says past p (MqGetattr d) given)
 may-answer past p (MqSetattr d nonblock) given = attributes _ (answer_says past p (MqSetattr d nonblock) given)
 may-answer past p (MqNotify d value) given = done _ (answer_says past p (MqNotify d value) given)
 may-answer past p NextNotice given = refl
 may-answer past p Collect given = refl
+may-answer past p (Withdraw now) given = refl
 
 pub no-memory : (reply : Reply) → is_no_memory reply ≡ true → reply ≡ Refused NoMemory
 no-memory (Refused NoMemory) e = refl
@@ -109,6 +117,7 @@ no-memory (Handed w) e = absurd (cc)
 no-memory Waits e = absurd (cc)
 no-memory (Got m a n) e = absurd (cc)
 no-memory (Collected by) e = absurd (cc)
+no-memory (Withdrawn by) e = absurd (cc)
 no-memory (Attrs s) e = absurd (cc)
 no-memory (Notice v) e = absurd (cc)
 no-memory Done e = absurd (cc)
@@ -138,6 +147,7 @@ not-opened (Queued n) e = refl
 not-opened (Handed w) e = refl
 not-opened (Got m a n) e = refl
 not-opened (Collected by) e = refl
+not-opened (Withdrawn by) e = refl
 not-opened (Attrs s) e = refl
 not-opened (Notice v) e = refl
 not-opened Done e = refl
@@ -150,6 +160,7 @@ not-done (Queued n) e = refl
 not-done (Handed w) e = refl
 not-done (Got m a n) e = refl
 not-done (Collected by) e = refl
+not-done (Withdrawn by) e = refl
 not-done (Attrs s) e = refl
 not-done (Notice v) e = refl
 not-done Done e = refl
@@ -162,6 +173,7 @@ not-attributes (Queued n) e = refl
 not-attributes (Handed w) e = refl
 not-attributes (Got m a n) e = refl
 not-attributes (Collected by) e = refl
+not-attributes (Withdrawn by) e = refl
 not-attributes (Attrs s) e = refl
 not-attributes (Notice v) e = refl
 not-attributes Done e = refl
@@ -174,6 +186,7 @@ not-notice (Queued n) e = refl
 not-notice (Handed w) e = refl
 not-notice (Got m a n) e = refl
 not-notice (Collected by) e = refl
+not-notice (Withdrawn by) e = refl
 not-notice (Attrs s) e = refl
 not-notice (Notice v) e = refl
 not-notice Done e = refl
@@ -188,8 +201,11 @@ plain-answered NextNotice reply plain may = not-notice reply may
 plain-answered (MqOpen flags attr) reply plain may = absurd (cc)
 plain-answered MqUnlink reply plain may = absurd (cc)
 plain-answered (MqSend d prio len) reply plain may = absurd (cc)
+plain-answered (MqTimedSend d prio len until now) reply plain may = absurd (cc)
 plain-answered (MqReceive d room) reply plain may = absurd (cc)
+plain-answered (MqTimedReceive d room until now) reply plain may = absurd (cc)
 plain-answered Collect reply plain may = absurd (cc)
+plain-answered (Withdraw now) reply plain may = absurd (cc)
 
 -- nor does one by a name
 pub named-answered : (call : Call) (reply : Reply) → is_of_name call ≡ true → may_reply call reply ≡ true → is_wait reply ≡ false
@@ -201,8 +217,11 @@ named-answered (MqSetattr d nonblock) reply named may = absurd (cc)
 named-answered (MqNotify d value) reply named may = absurd (cc)
 named-answered NextNotice reply named may = absurd (cc)
 named-answered (MqSend d prio len) reply named may = absurd (cc)
+named-answered (MqTimedSend d prio len until now) reply named may = absurd (cc)
 named-answered (MqReceive d room) reply named may = absurd (cc)
+named-answered (MqTimedReceive d room until now) reply named may = absurd (cc)
 named-answered Collect reply named may = absurd (cc)
+named-answered (Withdraw now) reply named may = absurd (cc)
 
 -- a send waits where its result says so, and there alone
 pub send-waits : (reply : Reply) (result : Result Bool Fault) → start_send_says reply ≡ Some result → result ≡ Ok false → reply ≡ Waits
@@ -213,6 +232,7 @@ send-waits (Refused f) result says is = absurd (let bad : Some (Err f) ≡ Some 
 send-waits (Opened d c) result says is = absurd (cc)
 send-waits (Got m a n) result says is = absurd (cc)
 send-waits (Collected by) result says is = absurd (cc)
+send-waits (Withdrawn by) result says is = absurd (cc)
 send-waits (Attrs s) result says is = absurd (cc)
 send-waits (Notice v) result says is = absurd (cc)
 send-waits Done result says is = absurd (cc)
@@ -225,6 +245,7 @@ send-answered (Refused f) result says other = refl
 send-answered (Opened d c) result says other = refl
 send-answered (Got m a n) result says other = refl
 send-answered (Collected by) result says other = refl
+send-answered (Withdrawn by) result says other = refl
 send-answered (Attrs s) result says other = refl
 send-answered (Notice v) result says other = refl
 send-answered Done result says other = refl
@@ -238,6 +259,7 @@ receive-waits past (Queued n) result says is = absurd (cc)
 receive-waits past (Handed w) result says is = absurd (cc)
 receive-waits past (Opened d c) result says is = absurd (cc)
 receive-waits past (Collected by) result says is = absurd (cc)
+receive-waits past (Withdrawn by) result says is = absurd (cc)
 receive-waits past (Attrs s) result says is = absurd (cc)
 receive-waits past (Notice v) result says is = absurd (cc)
 receive-waits past Done result says is = absurd (cc)
@@ -250,6 +272,7 @@ receive-answered past (Queued n) result says other = refl
 receive-answered past (Handed w) result says other = refl
 receive-answered past (Opened d c) result says other = refl
 receive-answered past (Collected by) result says other = refl
+receive-answered past (Withdrawn by) result says other = refl
 receive-answered past (Attrs s) result says other = refl
 receive-answered past (Notice v) result says other = refl
 receive-answered past Done result says other = refl

@@ -1,9 +1,9 @@
 -- Which calls need no more than their numbers, and which replies a call is given.
 use Rattle.std.specs.Prelude.{ℕ, Bool, true, false}
 use Rattle.mq_model.specs.declared.entries.Call.{Call}
-use Rattle.mq_model.specs.declared.entries.Call.TheVariants.{MqOpen, MqClose, MqUnlink, MqSend, MqReceive, MqGetattr, MqSetattr, MqNotify, NextNotice, Collect}
+use Rattle.mq_model.specs.declared.entries.Call.TheVariants.{MqOpen, MqClose, MqUnlink, MqSend, MqReceive, MqGetattr, MqSetattr, MqNotify, NextNotice, Collect, MqTimedSend, MqTimedReceive, Withdraw}
 use Rattle.mq_model.specs.declared.entries.Reply.{Reply}
-use Rattle.mq_model.specs.declared.entries.Reply.TheVariants.{Opened, Queued, Handed, Waits, Got, Collected, Attrs, Notice, Done, Refused}
+use Rattle.mq_model.specs.declared.entries.Reply.TheVariants.{Opened, Queued, Handed, Waits, Got, Collected, Attrs, Notice, Done, Refused, Withdrawn}
 
 abbrev pub is_of_name : Call → Bool
 is_of_name (MqOpen flags attr) = true
@@ -55,6 +55,10 @@ abbrev pub is_collected : Reply → Bool
 is_collected (Collected by) = true
 is_collected _ = false
 
+abbrev pub is_withdrawn : Reply → Bool
+is_withdrawn (Withdrawn wait) = true
+is_withdrawn _ = false
+
 -- the replies that a call may be given
 abbrev pub may_reply : Call → Reply → Bool
 may_reply (MqOpen flags attr) reply = is_opened reply
@@ -62,8 +66,11 @@ may_reply (MqClose d) reply = is_done reply
 may_reply MqUnlink reply = is_done reply
 may_reply (MqSend d prio len) reply = is_sent reply
 may_reply (MqReceive d room) reply = is_received reply
+may_reply (MqTimedSend d prio len until now) reply = is_sent reply
+may_reply (MqTimedReceive d room until now) reply = is_received reply
 may_reply (MqGetattr d) reply = is_attributes reply
 may_reply (MqSetattr d nonblock) reply = is_attributes reply
 may_reply (MqNotify d value) reply = is_done reply
 may_reply NextNotice reply = is_notice reply
 may_reply Collect reply = is_collected reply
+may_reply (Withdraw now) reply = is_withdrawn reply

@@ -7,12 +7,13 @@ use Rattle.mq_model.specs.Descriptors.{lowest_held}
 use Rattle.mq_model.specs.Waits.{open_wait, answered_by, is_answered}
 use Rattle.mq_model.specs.Answer.{Legal, payload_of}
 use Rattle.mq_model.specs.declared.entries.Received.{Received}
+use Rattle.mq_model.specs.declared.entries.Deadline.{Deadline}
 use Rattle.mq_model.specs.declared.entries.Call.{Call}
-use Rattle.mq_model.specs.declared.entries.Call.TheVariants.{MqClose, MqSend, MqReceive, Collect}
+use Rattle.mq_model.specs.declared.entries.Call.TheVariants.{MqClose, MqSend, MqReceive, MqTimedSend, MqTimedReceive, Collect, Withdraw}
 use Rattle.mq_model.specs.declared.entries.Reply.{Reply}
-use Rattle.mq_model.specs.declared.entries.Reply.TheVariants.{Opened, Queued, Handed, Waits, Got, Collected, Attrs, Notice, Done, Refused}
+use Rattle.mq_model.specs.declared.entries.Reply.TheVariants.{Opened, Queued, Handed, Waits, Got, Collected, Withdrawn, Attrs, Notice, Done, Refused}
 use Rattle.mq_model.specs.declared.faults.Fault.{Fault}
-use Rattle.mq_model.specs.declared.faults.Fault.TheVariants.{Again, BadDescriptor, Busy, Exists, Invalid, TooManyOpen, MessageSize, NameTooLong, NoEntry, NoSpace, NoMemory}
+use Rattle.mq_model.specs.declared.faults.Fault.TheVariants.{Again, BadDescriptor, Busy, Exists, Invalid, TooManyOpen, MessageSize, NameTooLong, NoEntry, NoSpace, NoMemory, TimedOut}
 use Rattle.mq_state.specs.Buffers.{filled, with_front, message_at, received_at, collected, collected_into, waiting_call, waiting_room, room_of}
 use Rattle.mq_state.specs.Kept.{Kept}
 use Rattle.mq_state.specs.declared.collected.Collected.{Collected as Outcome}
@@ -62,9 +63,9 @@ pub record OneCall {R : Type 0} (says : Reply → Option R) (old new : Ticket Re
   pub says_so : says reply ≡ Some result
 
 -- a receive in one stay: `before` is what the buffer held, `after` what it holds
-pub record ReceiveCall {R : Type 0} (says : Past → Reply → Option R) (old new : Ticket Record) (d : ℕ) (before after : List ℕ) (result : R) : Type 0 where
+pub record ReceiveCall {R : Type 0} (says : Past → Reply → Option R) (old new : Ticket Record) (call : Call) (before after : List ℕ) (result : R) : Type 0 where
   pub reply : Reply
-  pub calls : Calls old new (made old.number (MqReceive d (length before)) [] reply)
+  pub calls : Calls old new (made old.number call [] reply)
   pub says_so : says new.left reply ≡ Some result
   pub buffer : after ≡ filled new.left reply before
 
@@ -98,9 +99,9 @@ pub record WaitedSend (old new : Ticket Record) (call : Call) (given : List ℕ)
   pub is : result ≡ Ok tt
 
 -- a receive that waited, and was then given the message of the send that answered it
-pub record WaitedReceive (old new : Ticket Record) (d : ℕ) (before after : List ℕ) (result : Result Received Fault) : Type 0 where
+pub record WaitedReceive (old new : Ticket Record) (call : Call) (before after : List ℕ) (result : Result Received Fault) : Type 0 where
   pub by : ℕ
-  pub waited : Waited old new (MqReceive d (length before)) [] by
+  pub waited : Waited old new call [] by
   pub is : result ≡ Ok (received_at new.left by)
   pub buffer : after ≡ with_front (message_at new.left by) before
 
@@ -110,7 +111,38 @@ SendCall old new d bytes prio result = OneCall send_says old new (MqSend d prio 
 
 -- a receive, in one stay or after a wait
 abbrev pub WholeReceive : Ticket Record → Ticket Record → ℕ → List ℕ → List ℕ → Result Received Fault → Type 0
-WholeReceive old new d before after result = ReceiveCall receive_says old new d before after result ⊎ WaitedReceive old new d before after result
+WholeReceive old new d before after result = ReceiveCall receive_says old new (MqReceive d (length before)) before after result ⊎ WaitedReceive old new (MqReceive d (length before)) before after result
+
+-- the end of a wait that no entry answered: it left one record, the withdrawal of that wait, at a moment that the clock can give
+pub record Withdraws (gives : Deadline → Type 0) (old new : Ticket Record) : Type 0 where
+  pub now : Deadline
+  pub moment : gives now
+  pub wait : ℕ
+  pub is : open_wait old.left old.number ≡ Some wait
+  pub calls : Calls old new (recorded old.number (Withdraw now) [] (Withdrawn wait) ∷ [])
+
+-- a timed call that waited until its deadline left two records, the wait and then its withdrawal, and its result says so
+pub record Expired {R : Type 0} (gives : Deadline → Type 0) (old new : Ticket Record) (call : Call) (given : List ℕ) (result : Result R Fault) : Type 0 where
+  pub now : Deadline
+  pub moment : gives now
+  pub wait : ℕ
+  pub calls : Calls old new (recorded old.number (Withdraw now) [] (Withdrawn wait) ∷ recorded old.number call given Waits ∷ [])
+  pub is : result ≡ Err TimedOut
+
+-- a send with a deadline, made at a moment that its clock can give: in one stay, after a wait that was answered, or after one that
+-- was withdrawn
+pub record TimedSend (gives : Deadline → Type 0) (old new : Ticket Record) (d : ℕ) (bytes : List ℕ) (prio : ℕ) (until : Deadline) (result : Result (Unit {0}) Fault) : Type 0 where
+  pub now : Deadline
+  pub moment : gives now
+  pub how : OneCall send_says old new (MqTimedSend d prio (length bytes) until now) bytes result ⊎ WaitedSend old new (MqTimedSend d prio (length bytes) until now) bytes result
+      ⊎ Expired gives old new (MqTimedSend d prio (length bytes) until now) bytes result
+
+-- a receive with a deadline, in the same way. One that was withdrawn leaves the buffer as it was
+pub record TimedReceive (gives : Deadline → Type 0) (old new : Ticket Record) (d : ℕ) (before after : List ℕ) (until : Deadline) (result : Result Received Fault) : Type 0 where
+  pub now : Deadline
+  pub moment : gives now
+  pub how : ReceiveCall receive_says old new (MqTimedReceive d (length before) until now) before after result ⊎ WaitedReceive old new (MqTimedReceive d (length before) until now) before after result
+      ⊎ Expired gives old new (MqTimedReceive d (length before) until now) [] result × (after ≡ before)
 
 -- closes of these descriptors by process p, the latest first
 abbrev pub closes : ℕ → List ℕ → Past

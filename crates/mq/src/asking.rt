@@ -1,10 +1,12 @@
 //! Calls on the books by their kind, and what their replies say.
-ghost use Rattle.std.specs.Prelude.{◌≡◌, ◌≤◌, ◌++◌, Bool, true, false, None, Some, []};
+ghost use Rattle.std.specs.Prelude.{◌≡◌, ◌≤◌, ◌++◌, Bool, true, false, None, Some, [], length};
 ghost use Rattle.mq_model.specs.Answer.{answer};
 ghost use Rattle.mq_model.specs.Waits.{open_wait};
 ghost use Rattle.mq_model.specs.declared.entries.Call.{Call};
+ghost use Rattle.mq_model.specs.Messages.{is_send, is_receive};
+ghost use Rattle.mq_state.specs.Buffers.{filled, length_sent, room_of};
 ghost use Rattle.mq.specs.Calls.{made};
-ghost use Rattle.mq.specs.Asked.{is_plain, is_of_name, may_reply};
+ghost use Rattle.mq.specs.Asked.{is_plain, is_of_name, is_sent, is_received, may_reply};
 ghost use Rattle.mq.specs.Says.{done_says, attributes_says};
 
 use mq_model::entries::{Call, Reply, Status};
@@ -51,6 +53,52 @@ pub(crate) fn ask_by_name(books: &mut Books, p: u32, call: Call, name: &Name) ->
     match call {
         Call::MqOpen { flags, attr } => books.open(p, name, flags, attr),
         Call::MqUnlink => books.unlink(p, name),
+        _ => unreachable!(),
+    }
+}
+
+/// Makes a send, with or without a deadline.
+pub(crate) fn ask_send(books: &mut Books, p: u32, call: Call, bytes: &[u8]) -> Reply
+    requires process { (1 ≤ p) × (p ≤ books.old.n) }
+    requires no_wait { open_wait books.old.records p ≡ None }
+    requires sends { is_send call ≡ true }
+    requires length { length_sent call ≡ length bytes.now }
+    ensures records { books.new.records ≡ made p call bytes.now result ++ books.old.records }
+    ensures replies { is_sent result ≡ true }
+    ensures processes { books.new.n ≡ books.old.n }
+{
+    match call {
+        Call::MqSend { d, prio, len: _ } => books.send(p, d, bytes, prio),
+        Call::MqTimedSend {
+            d,
+            prio,
+            len: _,
+            until,
+            now,
+        } => books.timed_send(p, d, bytes, prio, until, now),
+        _ => unreachable!(),
+    }
+}
+
+/// Makes a receive, with or without a deadline.
+pub(crate) fn ask_receive(books: &mut Books, p: u32, call: Call, buf: &mut [u8]) -> Reply
+    requires process { (1 ≤ p) × (p ≤ books.old.n) }
+    requires no_wait { open_wait books.old.records p ≡ None }
+    requires receives { is_receive call ≡ true }
+    requires room { room_of call ≡ length buf.old }
+    ensures records { books.new.records ≡ made p call [] result ++ books.old.records }
+    ensures replies { is_received result ≡ true }
+    ensures buffer { buf.new ≡ filled books.old.records result buf.old }
+    ensures processes { books.new.n ≡ books.old.n }
+{
+    match call {
+        Call::MqReceive { d, room: _ } => books.receive(p, d, buf),
+        Call::MqTimedReceive {
+            d,
+            room: _,
+            until,
+            now,
+        } => books.timed_receive(p, d, buf, until, now),
         _ => unreachable!(),
     }
 }

@@ -5,12 +5,13 @@ ghost use Rattle.mq.specs.Says.{start_send_says, start_receive_says};
 ghost use Rattle.mq.specs.Calls.{wait_begun};
 
 use super::Process;
+use crate::asking::{ask_receive, ask_send};
 use crate::guarded::Guarded;
 use crate::pause::Pause;
 use crate::stays::{come, depart};
 use crate::system::Mq;
 use fast_mutex::Look;
-use mq_model::entries::{Received, Reply};
+use mq_model::entries::{Call, Received, Reply};
 use mq_model::faults::Fault;
 use mq_state::books::Books;
 use mq_state::collected::{Collected, received};
@@ -23,7 +24,58 @@ impl<L: Look<Guarded>> Process<L> {
     ghost use Rattle.mq_model.specs.declared.entries.Call.{Call};
     ghost use Rattle.mq_state.specs.Buffers.{waiting_room};
     ghost use Rattle.mq.specs.Says.{start_send_says, start_receive_says, FitsIn};
+    ghost use Rattle.mq_model.specs.Messages.{is_send, is_receive};
+    ghost use Rattle.mq_state.specs.Buffers.{length_sent, room_of};
     ghost use Rattle.mq.specs.Calls.{IsFree, OneCall, ReceiveCall, SendCall, WholeReceive, WaitsIn, Collects, StillWaits};
+
+    // Sends without waiting, with or without a deadline.
+    pub(super) fn begin_send<R: Wait>(
+        &mut self,
+        rt: &R,
+        mq: &Mq<L>,
+        call: Call,
+        bytes: &[u8],
+    ) -> Result<bool, Fault>
+        requires made { self.old.lock ≡ mq.now }
+        requires free { IsFree self.old }
+        requires sends { is_send call ≡ true }
+        requires length { length_sent call ≡ length bytes.now }
+        ensures call { OneCall start_send_says self.old self.new call bytes.now result }
+        ensures waits { result ≡ Ok false → WaitsIn self.new call }
+        ensures free { result ≢ Ok false → IsFree self.new }
+    {
+        let (process, inside, mut state) = come(rt, mq, &mut self.seat);
+        let reply = ask_send(&mut state.books, process, call, bytes);
+        depart(mq, &mut self.seat, inside, state);
+        self.waits = wait_begun(reply, 0);
+        accepted(reply)
+    }
+
+    // Receives without waiting, with or without a deadline.
+    pub(super) fn begin_receive<R: Wait>(
+        &mut self,
+        rt: &R,
+        mq: &Mq<L>,
+        call: Call,
+        buf: &mut [u8],
+    ) -> Result<Option<Received>, Fault>
+        requires made { self.old.lock ≡ mq.now }
+        requires free { IsFree self.old }
+        requires receives { is_receive call ≡ true }
+        requires room { room_of call ≡ length buf.old }
+        ensures call { ReceiveCall start_receive_says self.old self.new call buf.old buf.new result }
+        ensures fits { IfOk result (λ got. IfSome got (λ received. received.len ≤ length buf.old)) }
+        ensures waits { result ≡ Ok None → WaitsIn self.new call }
+        ensures free { result ≢ Ok None → IsFree self.new }
+    {
+        let room = buf.len();
+        let (process, inside, mut state) = come(rt, mq, &mut self.seat);
+        let reply = ask_receive(&mut state.books, process, call, buf);
+        let got = message_got(&state.books, reply);
+        depart(mq, &mut self.seat, inside, state);
+        self.waits = wait_begun(reply, room);
+        got
+    }
 
     /// Sends a message without waiting for its admission: true where the queue or a waiting receive took it, false where the
     /// process now has an open wait. Refused as [`Process::send`].
@@ -41,11 +93,8 @@ impl<L: Look<Guarded>> Process<L> {
         ensures waits { result ≡ Ok false → WaitsIn self.new (Call.MqSend d prio (length bytes.now)) }
         ensures free { result ≢ Ok false → IsFree self.new }
     {
-        let (process, inside, mut state) = come(rt, mq, &mut self.seat);
-        let reply = state.books.send(process, d, bytes, prio);
-        depart(mq, &mut self.seat, inside, state);
-        self.waits = wait_begun(reply, 0);
-        accepted(reply)
+        let len = bytes.len() as u64;
+        self.begin_send(rt, mq, Call::MqSend { d, prio, len }, bytes)
     }
 
     /// Receives the oldest message of the highest priority into the front of the buffer, or begins to wait for one: `None`, and
@@ -59,18 +108,13 @@ impl<L: Look<Guarded>> Process<L> {
     ) -> Result<Option<Received>, Fault>
         requires made { self.old.lock ≡ mq.now }
         requires free { IsFree self.old }
-        ensures call { ReceiveCall start_receive_says self.old self.new d buf.old buf.new result }
+        ensures call { ReceiveCall start_receive_says self.old self.new (Call.MqReceive d (length buf.old)) buf.old buf.new result }
         ensures fits { IfOk result (λ got. IfSome got (λ received. received.len ≤ length buf.old)) }
         ensures waits { result ≡ Ok None → WaitsIn self.new (Call.MqReceive d (length buf.old)) }
         ensures free { result ≢ Ok None → IsFree self.new }
     {
-        let room = buf.len();
-        let (process, inside, mut state) = come(rt, mq, &mut self.seat);
-        let reply = state.books.receive(process, d, buf);
-        let got = message_got(&state.books, reply);
-        depart(mq, &mut self.seat, inside, state);
-        self.waits = wait_begun(reply, room);
-        got
+        let room = buf.len() as u64;
+        self.begin_receive(rt, mq, Call::MqReceive { d, room }, buf)
     }
 
     /// Ends the open wait, if it is answered, and gives what it came to: a message that was received lies in the front of the
