@@ -1,4 +1,5 @@
 pub mod LegalPlaces
+pub mod EndedWaits
 pub mod GivenOnce
 pub mod HeldLaws
 pub mod SentMessages
