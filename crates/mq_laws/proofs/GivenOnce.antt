@@ -1,10 +1,10 @@
 -- What no two entries of a legal journal share.
-use Rattle.std.proofs.Common.{◌≡◌, ◌≢◌, ℕ, ◌<◌, ◌==◌, Bool, true, false, ◌&&◌, not, List, [], ◌∷◌, length, Option, Some, None, is_some, if◌then◌else◌, refl, sym, ◌∙◌, ap, subst, arith, eqb-true, eq-eqb, ◌⊎◌, inl, inr}
+use Rattle.std.proofs.Common.{◌≡◌, ◌≢◌, ℕ, ◌<◌, ◌==◌, Bool, true, false, ◌&&◌, not, [], ◌∷◌, length, Option, Some, None, is_some, if◌then◌else◌, refl, sym, ◌∙◌, ap, subst, arith, eqb-true, eq-eqb}
 use Rattle.std.specs.Option.{option_map, option_and_then, unwrap_or}
 use Rattle.std.proofs.lemmas.Bool.{eqb-false, not-true}
 use Rattle.mq_model.specs.Record.{Record, Past}
 use Rattle.mq_model.specs.Descriptors.{is_place, is_on}
-use Rattle.mq_model.specs.Messages.{is_in, with_place, taken, taken_by, present, admitted}
+use Rattle.mq_model.specs.Messages.{is_in, taken, taken_by, present, admitted}
 use Rattle.mq_model.specs.Notices.{notified, registered, registered_place, registration_of, only_if, unless, ends}
 use Rattle.mq_model.specs.Waits.{is_wait, open_wait, named_wait, names_wait, answered_by}
 use Rattle.mq_model.specs.Answer.{Legal, IsLegalNext}

@@ -11,4 +11,5 @@ pub mod Refusals
 pub mod Registered
 pub mod WorkedJournals
 pub mod WorkedWaits
+pub mod WorkedDeadlines
 pub mod WorkedRefusals

@@ -17,7 +17,7 @@ use Rattle.mq_model.proofs.LegalReplies.{legal_says}
 use Rattle.mq_model.proofs.NamedWaits.{least-in}
 use Rattle.mq_laws.proofs.Waiting.{waiting-empty}
 use Rattle.mq_model.proofs.Steps.{without, filter-both, not-below, admitted-below, if_in-inside, present-queued_elsewhere}
-use Rattle.mq_model.proofs.Presence.{place-is, blocked-on, waiting-not_admitted, without-absent, present-got_here, present-got_elsewhere, present-handed, GotFacts}
+use Rattle.mq_model.proofs.Presence.{place-is, blocked-on, waiting-not_admitted, without-absent, present-got_here, present-got_elsewhere, present-handed}
 use Rattle.mq_model.proofs.PresentFew.{sent-created, present-few, called-on, called-created}
 use Rattle.mq_model.proofs.Frames.{created-below, attributes-older}
 use Rattle.mq_model.proofs.Waiters.{admits-least}

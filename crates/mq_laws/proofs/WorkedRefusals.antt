@@ -6,8 +6,8 @@ use Rattle.mq_model.specs.Descriptors.{descriptor_numbers}
 use Rattle.mq_model.specs.Answer.{IsLegalNext}
 use Rattle.mq_model.specs.declared.entries.Access.TheVariants.{Read, Write, Both}
 use Rattle.mq_model.specs.declared.faults.Fault.TheVariants.{NoEntry, NoMemory}
-use Rattle.mq_model.specs.declared.entries.Call.TheVariants.{MqClose, MqUnlink, MqSend, MqReceive, MqNotify, Collect, MqTimedSend, MqTimedReceive, Withdraw}
-use Rattle.mq_model.specs.declared.entries.Reply.TheVariants.{Opened, Queued, Handed, Waits, Got, Collected, Done, Refused, Withdrawn}
+use Rattle.mq_model.specs.declared.entries.Call.TheVariants.{MqClose, MqUnlink, MqSend, MqReceive, MqNotify, Collect}
+use Rattle.mq_model.specs.declared.entries.Reply.TheVariants.{Opened, Queued, Handed, Waits, Got, Collected, Done, Refused}
 use Rattle.mq_laws.proofs.WorkedJournals.{made, opening, opening_with}
 
 -- the younger of two messages of one priority

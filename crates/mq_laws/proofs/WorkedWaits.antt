@@ -5,8 +5,8 @@ use Rattle.mq_model.specs.Record.{Past}
 use Rattle.mq_model.specs.Descriptors.{descriptor_numbers}
 use Rattle.mq_model.specs.Answer.{Legal}
 use Rattle.mq_model.specs.declared.entries.Access.TheVariants.{Read, Write, Both}
-use Rattle.mq_model.specs.declared.entries.Call.TheVariants.{MqSend, MqReceive, MqNotify, NextNotice, Collect, MqTimedSend, MqTimedReceive, Withdraw}
-use Rattle.mq_model.specs.declared.entries.Reply.TheVariants.{Opened, Queued, Handed, Waits, Got, Collected, Notice, Done, Withdrawn}
+use Rattle.mq_model.specs.declared.entries.Call.TheVariants.{MqSend, MqReceive, MqNotify, NextNotice, Collect}
+use Rattle.mq_model.specs.declared.entries.Reply.TheVariants.{Opened, Queued, Handed, Waits, Got, Collected, Notice, Done}
 use Rattle.mq_laws.proofs.WorkedJournals.{made, opening, opening_with}
 
 -- the receive that has waited longest is served first, and no notification is sent

@@ -9,9 +9,9 @@ use Rattle.mq_model.specs.Waits.{open_wait, wait_deadline, answered_by}
 use Rattle.mq_model.specs.declared.faults.Fault.{Fault}
 use Rattle.mq_model.specs.declared.entries.Reply.TheVariants.{Refused}
 
--- The same names, descriptors, queues, messages, waits with their deadlines, registrations and notices. Attributes and priorities are read off an
--- entry's own place, so they are said of queues that were created and of messages that are present: the place of the refused
--- entry itself names neither
+-- The same names, descriptors, queues, messages, waits with their deadlines, registrations and notices. Attributes and priorities are
+-- read off an entry's own place, so they are said of queues that were created and of messages that are present: the place of the
+-- refused entry itself names neither
 pub record IsUnchanged (old new : Past) : Type 0 where
   pub names : (name : List ℕ) → bound_queue new name ≡ bound_queue old name
   pub descriptors : (p d : ℕ) → held new p d ≡ held old p d
