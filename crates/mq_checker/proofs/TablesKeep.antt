@@ -14,9 +14,9 @@ use Rattle.mq_checker.specs.TakenTable.{marked, TakenMirror}
 use Rattle.mq_checker.specs.CheckerTables.{TablesMirror}
 use Rattle.mq_checker.specs.declared.tables.Tables.{Tables}
 use Rattle.mq_model.specs.declared.entries.Call.{Call}
-use Rattle.mq_model.specs.declared.entries.Call.TheVariants.{MqOpen, MqClose, MqUnlink, MqSend, MqReceive, MqGetattr, MqSetattr, MqNotify, NextNotice, Collect}
+use Rattle.mq_model.specs.declared.entries.Call.TheVariants.{MqOpen, MqClose, MqUnlink, MqSend, MqReceive, MqGetattr, MqSetattr, MqNotify, NextNotice, Collect, MqTimedSend, MqTimedReceive, Withdraw}
 use Rattle.mq_model.specs.declared.entries.Reply.{Reply}
-use Rattle.mq_model.specs.declared.entries.Reply.TheVariants.{Opened, Queued, Handed, Waits, Got, Collected, Attrs, Notice, Done, Refused}
+use Rattle.mq_model.specs.declared.entries.Reply.TheVariants.{Opened, Queued, Handed, Waits, Got, Collected, Attrs, Notice, Done, Refused, Withdrawn}
 use Rattle.mq_model.specs.declared.owners.Owner.{Owner}
 use Rattle.mq_model.proofs.Cases.{Says}
 use Rattle.mq_model.proofs.OwnerLines.{length-with_slot, length-with_wait, length-with_answer}
@@ -47,6 +47,7 @@ length-noted owners here p call Done q = length-done owners p call
 length-noted owners here p call (Attrs s) q = length-attributes owners p call
 length-noted owners here p call Waits q = length-with_wait owners p _
 length-noted owners here p call (Collected by) q = length-with_wait owners p None
+length-noted owners here p call (Withdrawn w) q = length-with_wait owners p None
 length-noted owners here p call (Handed w) q = length-answer_at owners (waiter_in owners w) here
 length-noted owners here p call (Got m a n) q = length-answer_at owners (option_and_then (waiter_in owners) a) here
 length-noted owners here p call (Queued n) q = refl
@@ -57,6 +58,8 @@ length-noted owners here p call (Refused f) q = refl
 waits-on : (past : Past) (p : ℕ) (call : Call) → Says past p call Waits → (q : ℕ) × (called_queue past p call ≡ Some q)
 waits-on past p (MqSend d prio len) says = (says.0.queue, rw says.1 refl)
 waits-on past p (MqReceive d room) says = (says.0.queue, rw says.1 refl)
+waits-on past p (MqTimedSend d prio len until now) says = (says.0.queue, rw says.1 refl)
+waits-on past p (MqTimedReceive d room until now) says = (says.0.queue, rw says.1 refl)
 waits-on past p (MqOpen flags attr) says = absurd says
 waits-on past p (MqClose d) says = absurd says.0
 waits-on past p MqUnlink says = absurd says
@@ -65,6 +68,7 @@ waits-on past p (MqSetattr d nonblock) says = absurd says
 waits-on past p (MqNotify d value) says = absurd says
 waits-on past p NextNotice says = absurd (cc)
 waits-on past p Collect says = absurd (cc)
+waits-on past p (Withdraw now) says = absurd (cc)
 
 pub queue-of : (past : Past) (p : ℕ) (call : Call) (payload : List ℕ) (reply : Reply) (q : ℕ) → Says past p call reply →
     ((d : ℕ) (created : Bool) → reply ≡ Opened d created → q ≡ opened_queue past payload created) → (reply ≡ Waits → q ≡ unwrap_or (called_queue past p call) 0) → EntryQueue past p call payload reply q
@@ -77,6 +81,7 @@ queue-of past p call payload (Queued n) q says opened waits = tt
 queue-of past p call payload (Handed w) q says opened waits = tt
 queue-of past p call payload (Got m a n) q says opened waits = tt
 queue-of past p call payload (Collected b) q says opened waits = tt
+queue-of past p call payload (Withdrawn w) q says opened waits = tt
 queue-of past p call payload (Attrs s) q says opened waits = tt
 queue-of past p call payload (Notice v) q says opened waits = tt
 queue-of past p call payload Done q says opened waits = tt

@@ -12,7 +12,7 @@ use Rattle.mq_model.specs.OnePass.{best_of}
 use Rattle.mq_checker.specs.TakenTable.{TakenMirror, marked, enters, unless_in, with_best}
 use Rattle.mq_model.specs.declared.entries.Entry.{Entry}
 use Rattle.mq_model.specs.declared.entries.Reply.{Reply}
-use Rattle.mq_model.specs.declared.entries.Reply.TheVariants.{Opened, Queued, Handed, Waits, Got, Collected, Attrs, Notice, Done, Refused}
+use Rattle.mq_model.specs.declared.entries.Reply.TheVariants.{Opened, Queued, Handed, Waits, Got, Collected, Attrs, Notice, Done, Refused, Withdrawn}
 use Rattle.mq_model.proofs.Places.{split}
 use Rattle.mq_model.proofs.Prefixes.{record_at-first}
 use Rattle.mq_model.proofs.Records.{record_at-past}
@@ -86,6 +86,7 @@ entered-some past e q m s = split (queues e.call e.reply)
     queued-admits Waits t = refl
     queued-admits (Got k a n) t = absurd (let bad : false ≡ true = t in cc)
     queued-admits (Collected b) t = refl
+    queued-admits (Withdrawn w) t = refl
     queued-admits (Attrs v) t = refl
     queued-admits (Notice v) t = refl
     queued-admits Done t = refl

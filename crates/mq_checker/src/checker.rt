@@ -13,6 +13,7 @@ use crate::tables;
 use crate::tables::Tables;
 use mq_model::entries::{Call, Reply};
 use mq_model::journals::Journal;
+use mq_model::ladder::is_over;
 use mq_model::limits::PROCESSES;
 use mq_model::names::is_name;
 
@@ -33,6 +34,13 @@ fn is_payload(call: Call, reply: Reply, payload: &[u8]) -> bool
         Call::MqUnlink => is_name(payload),
         Call::MqSend { d: _, prio: _, len } => payload.len() as u64
             == if is_refused(reply) { 0 } else { len },
+        Call::MqTimedSend {
+            d: _,
+            prio: _,
+            len,
+            until: _,
+            now: _,
+        } => payload.len() as u64 == if is_refused(reply) { 0 } else { len },
         _ => payload.is_empty(),
     }
 }
@@ -43,6 +51,10 @@ fn may_call(journal: &Journal, k: u64, tables: &Tables, p: u32, call: Call) -> b
 {
     match call {
         Call::Collect => tables::answer(journal, k, tables, p).is_some(),
+        Call::Withdraw { now } => {
+            tables::answer(journal, k, tables, p).is_none()
+                && is_over(tables::deadline(journal, k, tables, p), now)
+        }
         _ => tables::wait(journal, k, tables, p).is_none(),
     }
 }

@@ -285,6 +285,25 @@ pub(crate) fn answer(
             tables::held(journal, k, tables, p, d),
             room,
         ),
+        Call::MqTimedSend {
+            d,
+            prio,
+            len,
+            until,
+            now,
+        } => {
+            let held = tables::held(journal, k, tables, p, d);
+            ladder::timed(until, now, answer_send(journal, k, tables, held, prio, len))
+        }
+        Call::MqTimedReceive {
+            d,
+            room,
+            until,
+            now,
+        } => {
+            let held = tables::held(journal, k, tables, p, d);
+            ladder::timed(until, now, answer_receive(journal, k, tables, held, room))
+        }
         Call::MqGetattr { d } | Call::MqSetattr { d, .. } => answer_attributes(
             journal,
             k,
@@ -301,6 +320,9 @@ pub(crate) fn answer(
         Call::NextNotice => Reply::Notice(next_notice(journal, k, p)),
         Call::Collect => Reply::Collected {
             by: tables::answer(journal, k, tables, p).unwrap_or(0),
+        },
+        Call::Withdraw { now: _ } => Reply::Withdrawn {
+            wait: tables::wait(journal, k, tables, p).unwrap_or(0),
         },
     }
 }

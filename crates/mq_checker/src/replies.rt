@@ -71,6 +71,10 @@ pub(crate) fn is_same(one: Reply, other: Reply) -> bool
             Reply::Collected { by: b } => by == b,
             _ => false,
         },
+        Reply::Withdrawn { wait } => match other {
+            Reply::Withdrawn { wait: w } => wait == w,
+            _ => false,
+        },
         Reply::Attrs(status) => match other {
             Reply::Attrs(s) => is_same_status(status, s),
             _ => false,

@@ -3,7 +3,7 @@
 
 ghost use Rattle.std.specs.Prelude.{◌≡◌, ◌<◌, ◌≤◌, IsFalse, List, ℕ, length};
 ghost use Rattle.mq_model.specs.Record.{first};
-ghost use Rattle.mq_model.specs.Messages.{is_send, is_in, queues, blocks_send, admits, blocked_sends, entered, taken, present, priority, goes_first, best};
+ghost use Rattle.mq_model.specs.Messages.{is_in, queues, blocks_send, admits, blocked_sends, entered, taken, present, priority, goes_first, best};
 ghost use Rattle.mq_model.specs.OnePass.{better};
 ghost use Rattle.mq_checker.specs.TakenTable.{TakenMirror, enters, unless_in, with_best};
 
@@ -12,20 +12,11 @@ use crate::taken::is_taken;
 use mq_model::entries::{Call, Entry, Reply};
 use mq_model::journals::Journal;
 
-pub(crate) fn is_send(call: Call) -> bool
-    ensures { result ≡ is_send call }
-{
-    match call {
-        Call::MqSend { .. } => true,
-        _ => false,
-    }
-}
-
 pub(crate) fn queues(call: Call, reply: Reply) -> bool
     ensures { result ≡ queues call reply }
 {
     match reply {
-        Reply::Queued { notified: _ } => is_send(call),
+        Reply::Queued { notified: _ } => call.is_send(),
         _ => false,
     }
 }
@@ -34,7 +25,7 @@ pub(crate) fn blocks_send(call: Call, reply: Reply) -> bool
     ensures { result ≡ blocks_send call reply }
 {
     match reply {
-        Reply::Waits => is_send(call),
+        Reply::Waits => call.is_send(),
         _ => false,
     }
 }

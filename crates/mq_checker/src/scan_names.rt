@@ -129,6 +129,19 @@ pub(crate) fn descriptor_of(call: Call) -> Option<u32>
         Call::MqClose { d } => Some(d),
         Call::MqSend { d, prio: _, len: _ } => Some(d),
         Call::MqReceive { d, room: _ } => Some(d),
+        Call::MqTimedSend {
+            d,
+            prio: _,
+            len: _,
+            until: _,
+            now: _,
+        } => Some(d),
+        Call::MqTimedReceive {
+            d,
+            room: _,
+            until: _,
+            now: _,
+        } => Some(d),
         Call::MqGetattr { d } => Some(d),
         Call::MqSetattr { d, nonblock: _ } => Some(d),
         Call::MqNotify { d, value: _ } => Some(d),
@@ -136,6 +149,7 @@ pub(crate) fn descriptor_of(call: Call) -> Option<u32>
         Call::MqUnlink => None,
         Call::NextNotice => None,
         Call::Collect => None,
+        Call::Withdraw { now: _ } => None,
     }
 }
 

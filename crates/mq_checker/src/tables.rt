@@ -6,14 +6,14 @@ ghost use Rattle.mq_model.specs.Limits.{most_processes};
 ghost use Rattle.mq_model.specs.Record.{first};
 ghost use Rattle.mq_model.specs.Descriptors.{held, opened_queue, called_queue, lowest_free, is_held};
 ghost use Rattle.mq_model.specs.Messages.{least};
-ghost use Rattle.mq_model.specs.Waits.{open_wait, answered_by};
+ghost use Rattle.mq_model.specs.Waits.{open_wait, wait_deadline, answered_by};
 ghost use Rattle.mq_model.specs.Owners.{waiting, OwnersMirror};
 ghost use Rattle.mq_model.specs.Answer.{Legal};
 ghost use Rattle.mq_checker.specs.CheckerTables.{TablesMirror};
 
 use crate::scan_names::{descriptor_of, opened_queue};
 use crate::taken;
-use mq_model::entries::{Call, Description, Entry, Reply};
+use mq_model::entries::{Call, Deadline, Description, Entry, Reply};
 use mq_model::journals::Journal;
 use mq_model::limits::PROCESSES;
 use mq_model::owners;
@@ -88,7 +88,18 @@ pub(crate) fn wait(journal: &Journal, k: u64, tables: &Tables, p: u32) -> Option
     }
 }
 
-// The place of the entry that answers it.
+// The moment until which process `p` waits at place `k`.
+pub(crate) fn deadline(journal: &Journal, k: u64, tables: &Tables, p: u32) -> Option<Deadline>
+    requires { TablesMirror (first k journal.now.records) tables.now }
+    ensures { result ≡ wait_deadline (first k journal.now.records) p }
+{
+    match owners::wait(&tables.owners, p) {
+        None => None,
+        Some(wait) => wait.until,
+    }
+}
+
+// The place of the entry that answers the open wait of process `p` at place `k`.
 pub(crate) fn answer(journal: &Journal, k: u64, tables: &Tables, p: u32) -> Option<u64>
     requires { TablesMirror (first k journal.now.records) tables.now }
     ensures { result ≡ answered_by (first k journal.now.records) p }

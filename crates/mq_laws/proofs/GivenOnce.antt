@@ -1,37 +1,29 @@
 -- What no two entries of a legal journal share.
-use Rattle.std.proofs.Common.{◌≡◌, ◌≢◌, ℕ, ◌<◌, ◌==◌, Bool, true, false, ◌&&◌, not, List, [], ◌∷◌, length, Option, Some, None, is_some, if◌then◌else◌, refl, sym, ◌∙◌, ap, subst, arith, eqb-true, eq-eqb, ◌⊎◌, inl, inr}
+use Rattle.std.proofs.Common.{◌≡◌, ◌≢◌, ℕ, ◌<◌, ◌==◌, Bool, true, false, ◌&&◌, not, [], ◌∷◌, length, Option, Some, None, is_some, if◌then◌else◌, refl, sym, ◌∙◌, ap, subst, arith, eqb-true, eq-eqb}
 use Rattle.std.specs.Option.{option_map, option_and_then, unwrap_or}
 use Rattle.std.proofs.lemmas.Bool.{eqb-false, not-true}
 use Rattle.mq_model.specs.Record.{Record, Past}
 use Rattle.mq_model.specs.Descriptors.{is_place, is_on}
-use Rattle.mq_model.specs.Messages.{is_in, with_place, admits, hands, taken, taken_by, present, admitted, admitted_waits, handed_waits, waiting_sends, waiting_receives, blocked_sends}
+use Rattle.mq_model.specs.Messages.{is_in, taken, taken_by, present, admitted}
 use Rattle.mq_model.specs.Notices.{notified, registered, registered_place, registration_of, only_if, unless, ends}
 use Rattle.mq_model.specs.Waits.{is_wait, open_wait, named_wait, names_wait, answered_by}
 use Rattle.mq_model.specs.Answer.{Legal, IsLegalNext}
-use Rattle.mq_model.specs.Owners.{waiting, blocked}
 use Rattle.mq_model.proofs.Prefixes.{record_at-below}
 use Rattle.mq_laws.specs.Laws.{reply_at, message_given, cause, Has, GivesOnce}
 use Rattle.mq_model.proofs.Places.{split, clash, is_in-filter, find-in}
 use Rattle.mq_model.proofs.Cases.{Says}
 use Rattle.mq_model.proofs.LegalReplies.{legal_says, got_says}
 use Rattle.mq_model.proofs.Frames.{record_at-older}
-use Rattle.mq_model.proofs.NamedWaits.{least-in, blocked-below}
-use Rattle.mq_model.proofs.Waiters.{named_waits, waiter, unnamed, admits-least, hands-least, same-waiter, waiting-filter}
+use Rattle.mq_model.proofs.OpenWaits.{same-waiter}
 use Rattle.mq_model.proofs.NoticeSteps.{registered-made, made-of, only-some}
-use Rattle.mq_model.proofs.Presence.{blocked-on, admitted-to, present-admitted, present-below}
+use Rattle.mq_model.proofs.Presence.{with-more, present-admitted, present-below}
+use Rattle.mq_laws.proofs.EndedWaits.{with-first, has-older, has-named, ended-below, ended-once, named-once, withdrawn-unnamed, withdrawn-not_accepted, admitted-not_handed}
 use Rattle.mq_laws.proofs.LegalPlaces.{has-record, has-here, has-cases, once}
 use Rattle.mq_model.specs.declared.entries.Registration.{Registration}
 use Rattle.mq_model.specs.declared.entries.Call.{Call}
-use Rattle.mq_model.specs.declared.entries.Call.TheVariants.{MqOpen, MqClose, MqUnlink, MqSend, MqReceive, MqGetattr, MqSetattr, MqNotify, NextNotice, Collect}
+use Rattle.mq_model.specs.declared.entries.Call.TheVariants.{MqOpen, MqClose, MqUnlink, MqSend, MqReceive, MqGetattr, MqSetattr, MqNotify, NextNotice, Collect, MqTimedSend, MqTimedReceive, Withdraw}
 use Rattle.mq_model.specs.declared.entries.Reply.{Reply}
-use Rattle.mq_model.specs.declared.entries.Reply.TheVariants.{Opened, Queued, Handed, Waits, Got, Collected, Attrs, Notice, Done, Refused}
-
-with-first : (k : ℕ) (xs : List ℕ) → is_in (with_place (Some k) xs) k ≡ true
-with-first k xs = rw (eq-eqb k k refl) refl
-
-with-more : (o : Option ℕ) (xs : List ℕ) (m : ℕ) → is_in xs m ≡ true → is_in (with_place o xs) m ≡ true
-with-more None xs m h = h
-with-more (Some k) xs m h = split (k == m) (λ t. rw t refl) (λ f. rw (f, h) refl)
+use Rattle.mq_model.specs.declared.entries.Reply.TheVariants.{Opened, Queued, Handed, Waits, Got, Collected, Attrs, Notice, Done, Refused, Withdrawn}
 
 -- messages ---------------------------------------------------------------------------------------------------------------
 
@@ -42,6 +34,7 @@ given-reply (Queued n) m e = absurd (cc)
 given-reply (Handed w) m e = absurd (cc)
 given-reply Waits m e = absurd (cc)
 given-reply (Collected by) m e = absurd (cc)
+given-reply (Withdrawn by) m e = absurd (cc)
 given-reply (Attrs s) m e = absurd (cc)
 given-reply (Notice v) m e = absurd (cc)
 given-reply Done m e = absurd (cc)
@@ -73,112 +66,7 @@ given-earlier (r ∷ past) legal k m e = has-cases message_given past r k m e
     (λ here is. let there = given-present past r legal.1 m is in let lt = present-below past there.0 m there.1 in omega (arith, lt, here))
     (λ old lt. given-earlier past legal.0 k m old)
 
--- waits ------------------------------------------------------------------------------------------------------------------
-
--- a wait that a legal record names still waited
-pub record IsStillWaiting (past : Past) (w : ℕ) : Type 0 where
-  pub sends : Bool
-  pub q : ℕ
-  pub waits : is_in (waiting past sends q) w ≡ true
-
-pub named-waiting : (past : Past) (r : Record) → IsLegalNext past r → (w : ℕ) → named_wait r.entry.reply ≡ Some w → IsStillWaiting past w
-named-waiting past r next w e = by r.entry.reply (legal_says past r next) e
-  where
-    by : (reply : Reply) → Says past r.entry.process r.entry.call reply → named_wait reply ≡ Some w → IsStillWaiting past w
-    by (Handed k) says e =
-        let same : k ≡ w = cc in
-        let x = hands-least past r.entry.process r.entry.call k says in
-        record { sends = false; q = x.0; waits = least-in (waiting_receives past x.0) w (x.1 ∙ ap Some same) }
-    by (Got m a n) says e =
-        let x = admits-least past r.entry.process r.entry.call m a n says in
-        record { sends = true; q = x.0; waits = least-in (waiting_sends past x.0) w (sym x.1 ∙ e) }
-    by (Opened d created) says e = absurd (cc)
-    by (Queued n) says e = absurd (cc)
-    by Waits says e = absurd (cc)
-    by (Collected b) says e = absurd (cc)
-    by (Attrs s) says e = absurd (cc)
-    by (Notice v) says e = absurd (cc)
-    by Done says e = absurd (cc)
-    by (Refused f) says e = absurd (cc)
-
-waiting-below : (past : Past) (w : ℕ) → IsStillWaiting past w → w < length past
-waiting-below past w x = blocked-below past x.sends x.q w (is_in-filter (λ v. not (is_in (named_waits past x.sends) v)) (blocked past x.sends x.q) w (rw (← waiting-filter past x.sends x.q) x.waits)).0
-
-pub named-below : (past : Past) → Legal past → (k w : ℕ) → Has named_wait past k w → w < length past
-named-below [] legal k w e = absurd (cc)
-named-below (r ∷ past) legal k w e = has-cases named_wait past r k w e
-    (λ here is. let lt = waiting-below past w (named-waiting past r legal.1 w is) in omega (arith, lt))
-    (λ old lt. let le = named-below past legal.0 k w old in omega (arith, le))
-
--- a named wait is among those that were admitted or handed a message
-named-listed : (past : Past) (k w : ℕ) → Has named_wait past k w → (s : Bool) × (is_in (named_waits past s) w ≡ true)
-named-listed [] k w e = absurd (cc)
-named-listed (r ∷ past) k w e = has-cases named_wait past r k w e
-    (λ here is. by r.entry.reply is)
-    (λ old lt. let x = named-listed past k w old in (x.0, more x.0 x.1))
-  where
-    more : (s : Bool) → is_in (named_waits past s) w ≡ true → is_in (named_waits (r ∷ past) s) w ≡ true
-    more true h = with-more (admits r.entry.reply) (admitted_waits past) w h
-    more false h = with-more (hands r.entry.reply) (handed_waits past) w h
-
-    by : (reply : Reply) → named_wait reply ≡ Some w → (s : Bool) × (is_in (named_waits (record { entry = record { process = r.entry.process; call = r.entry.call; reply = reply }; payload = r.payload } ∷ past) s) w ≡ true)
-    by (Handed v) is = let same : v ≡ w = cc in (false, rw same (with-first w (handed_waits past)))
-    by (Got m a n) is = (true, rw is (with-first w (admitted_waits past)))
-    by (Opened d created) is = absurd (cc)
-    by (Queued n) is = absurd (cc)
-    by Waits is = absurd (cc)
-    by (Collected b) is = absurd (cc)
-    by (Attrs s) is = absurd (cc)
-    by (Notice v) is = absurd (cc)
-    by Done is = absurd (cc)
-    by (Refused f) is = absurd (cc)
-
-named-fresh : (past : Past) (r : Record) → Legal past → IsLegalNext past r → (j w : ℕ) → named_wait r.entry.reply ≡ Some w → Has named_wait past j w → ⊥
-named-fresh past r legal next j w e old =
-    let still = named-waiting past r next w e in
-    let x = waiter past legal still.sends still.q w still.waits in
-    let listed = named-listed past j w old in
-    clash (is_in (named_waits past listed.0) w) listed.1 (unnamed past legal x.0 w x.1 x.2 listed.0)
-
--- what was admitted had blocked
-pub admitted-blocked : (past : Past) → Legal past → (w : ℕ) → is_in (admitted_waits past) w ≡ true → reply_at past w ≡ Some Waits
-admitted-blocked [] legal w h = absurd (cc)
-admitted-blocked (r ∷ past) legal w h = by (λ old. admitted-blocked past legal.0 w old) (admits r.entry.reply) refl h
-  where
-    older : reply_at past w ≡ Some Waits → reply_at (r ∷ past) w ≡ Some Waits
-    older e = let x = has-record (λ x. Some 0) past w 0 (ap (option_and_then (λ (x : Reply). Some 0)) e) in ap (option_map (λ (x : Record). x.entry.reply)) (record_at-older past r w (record_at-below past w x.r x.at)) ∙ e
-
-    here : admits r.entry.reply ≡ Some w → reply_at (r ∷ past) w ≡ Some Waits
-    here e = reply r.entry.reply (legal_says past r legal.1) e
-      where
-        reply : (y : Reply) → Says past r.entry.process r.entry.call y → admits y ≡ Some w → reply_at (r ∷ past) w ≡ Some Waits
-        reply (Got m a n) says e =
-            let x = admits-least past r.entry.process r.entry.call m a n says in
-            let waits = least-in (waiting_sends past x.0) w (sym x.1 ∙ e) in
-            older (blocked-on past x.0 w (is_in-filter (λ w. not (is_in (admitted_waits past) w)) (blocked_sends past x.0) w waits).0).reply
-        reply (Opened d created) says e = absurd (cc)
-        reply (Queued n) says e = absurd (cc)
-        reply (Handed v) says e = absurd (cc)
-        reply Waits says e = absurd (cc)
-        reply (Collected b) says e = absurd (cc)
-        reply (Attrs s) says e = absurd (cc)
-        reply (Notice v) says e = absurd (cc)
-        reply Done says e = absurd (cc)
-        reply (Refused f) says e = absurd (cc)
-
-    by : (is_in (admitted_waits past) w ≡ true → reply_at past w ≡ Some Waits) → (o : Option ℕ) → admits r.entry.reply ≡ o → is_in (with_place o (admitted_waits past)) w ≡ true → reply_at (r ∷ past) w ≡ Some Waits
-    by rest None e h = older (rest h)
-    by rest (Some k) e h = split (k == w)
-        (λ t. let same : k ≡ w = eqb-true _ _ t in here (e ∙ ap Some same))
-        (λ f. let old : is_in (admitted_waits past) w ≡ true = rw f at h in older (rest old))
-
--- what entered a queue was not handed over
-admitted-not_handed : (past : Past) → Legal past → (q m w : ℕ) → is_in (admitted past q) m ≡ true → reply_at past m ≡ Some (Handed w) → ⊥
-admitted-not_handed past legal q m w h e = by (admitted-to past q m h).how
-  where
-    by : ((n : Option ℕ) × (reply_at past m ≡ Some (Queued n))) ⊎ (is_in (admitted_waits past) m ≡ true) → ⊥
-    by (inl x) = let bad : Some (Queued x.0) ≡ Some (Handed w) = sym x.1 ∙ e in cc
-    by (inr x) = let bad : Some Waits ≡ Some (Handed w) = sym (admitted-blocked past legal m x) ∙ e in cc
+-- what was handed over ---------------------------------------------------------------------------------------------------
 
 given-not_handed : (past : Past) → Legal past → (k m w : ℕ) → Has message_given past k m → reply_at past m ≢ Some (Handed w)
 given-not_handed [] legal k m w e h = absurd (cc)
@@ -210,29 +98,36 @@ notified-standing past r next k e = by r.entry.call r.entry.reply (legal_says pa
   where
     by : (call : Call) (reply : Reply) → Says past r.entry.process call reply → notified reply ≡ Some k → IsStanding past k
     by (MqSend d prio len) (Queued n) says e = standing-if past says.0.queue k (length (present past says.0.queue) == 0) n says.3.2 e
+    by (MqTimedSend d prio len until now) (Queued n) says e = standing-if past says.0.queue k (length (present past says.0.queue) == 0) n says.3.2 e
     by (MqOpen flags attr) (Queued n) says e = absurd says
     by (MqClose d) (Queued n) says e = absurd says.0
     by MqUnlink (Queued n) says e = absurd says
     by (MqReceive d room) (Queued n) says e = absurd says.3
+    by (MqTimedReceive d room until now) (Queued n) says e = absurd says.3
     by (MqGetattr d) (Queued n) says e = absurd says
     by (MqSetattr d nonblock) (Queued n) says e = absurd says
     by (MqNotify d value) (Queued n) says e = absurd says
     by NextNotice (Queued n) says e = absurd (cc)
     by Collect (Queued n) says e = absurd (cc)
+    by (Withdraw now) (Queued n) says e = absurd (cc)
     by (MqReceive d room) (Got m a n) says e = standing-if past says.0.queue k (is_some a && length (present past says.0.queue) == 1) n says.3.2 e
+    by (MqTimedReceive d room until now) (Got m a n) says e = standing-if past says.0.queue k (is_some a && length (present past says.0.queue) == 1) n says.3.2 e
     by (MqOpen flags attr) (Got m a n) says e = absurd says
     by (MqClose d) (Got m a n) says e = absurd says.0
     by MqUnlink (Got m a n) says e = absurd says
     by (MqSend d prio len) (Got m a n) says e = absurd says.3
+    by (MqTimedSend d prio len until now) (Got m a n) says e = absurd says.3
     by (MqGetattr d) (Got m a n) says e = absurd says
     by (MqSetattr d nonblock) (Got m a n) says e = absurd says
     by (MqNotify d value) (Got m a n) says e = absurd says
     by NextNotice (Got m a n) says e = absurd (cc)
     by Collect (Got m a n) says e = absurd (cc)
+    by (Withdraw now) (Got m a n) says e = absurd (cc)
     by call (Opened d created) says e = absurd (cc)
     by call (Handed w) says e = absurd (cc)
     by call Waits says e = absurd (cc)
     by call (Collected b) says e = absurd (cc)
+    by call (Withdrawn b) says e = absurd (cc)
     by call (Attrs s) says e = absurd (cc)
     by call (Notice v) says e = absurd (cc)
     by call Done says e = absurd (cc)
@@ -258,6 +153,7 @@ quiet-made p here call (Handed w) n e = absurd (cc)
 quiet-made p here call Waits n e = absurd (cc)
 quiet-made p here call (Got m a k) n e = absurd (cc)
 quiet-made p here call (Collected b) n e = absurd (cc)
+quiet-made p here call (Withdrawn b) n e = absurd (cc)
 quiet-made p here call (Attrs s) n e = absurd (cc)
 quiet-made p here call (Notice v) n e = absurd (cc)
 quiet-made p here call (Refused f) n e = absurd (cc)
@@ -295,11 +191,6 @@ record IsNamedBy (past : Past) (p by : ℕ) : Type 0 where
   w : ℕ
   opened : open_wait past p ≡ Some w
   named : Has named_wait past by w
-
-has-older : (part : Reply → Option ℕ) (past : Past) (r : Record) (k m : ℕ) → Has part past k m → Has part (r ∷ past) k m
-has-older part past r k m e =
-    let x = has-record part past k m e in
-    ap (λ (o : Option Record). option_and_then part (option_map (λ (x : Record). x.entry.reply) o)) (record_at-older past r k (record_at-below past k x.r x.at)) ∙ e
 
 answered-named : (past : Past) (p by : ℕ) → answered_by past p ≡ Some by → IsNamedBy past p by
 answered-named [] p by e = absurd (cc)
@@ -341,11 +232,14 @@ collected past r next by e = cases r.entry.call r.entry.reply refl refl (legal_s
         let turn : is_some (answered_by past r.entry.process) ≡ true = rw c at next.turn in
         let value : b ≡ unwrap_or (answered_by past r.entry.process) 0 = cc in
         record { answered = some-by (answered_by past r.entry.process) turn ∙ ap Some (sym value ∙ same); reply = is ∙ ap Collected same }
+    cases (Withdraw now) (Collected b) c is says e = absurd (cc)
     cases (MqOpen flags attr) (Collected b) c is says e = absurd says
     cases (MqClose d) (Collected b) c is says e = absurd says.0
     cases MqUnlink (Collected b) c is says e = absurd says
     cases (MqSend d prio len) (Collected b) c is says e = absurd says.3
+    cases (MqTimedSend d prio len until now) (Collected b) c is says e = absurd says.3
     cases (MqReceive d room) (Collected b) c is says e = absurd says.3
+    cases (MqTimedReceive d room until now) (Collected b) c is says e = absurd says.3
     cases (MqGetattr d) (Collected b) c is says e = absurd says
     cases (MqSetattr d nonblock) (Collected b) c is says e = absurd says
     cases (MqNotify d value) (Collected b) c is says e = absurd says
@@ -355,6 +249,7 @@ collected past r next by e = cases r.entry.call r.entry.reply refl refl (legal_s
     cases call (Handed w) c is says e = absurd (cc)
     cases call Waits c is says e = absurd (cc)
     cases call (Got m a n) c is says e = absurd (cc)
+    cases call (Withdrawn w) c is says e = absurd (cc)
     cases call (Attrs s) c is says e = absurd (cc)
     cases call (Notice v) c is says e = absurd (cc)
     cases call Done c is says e = absurd (cc)
@@ -396,7 +291,7 @@ closed (r ∷ past) legal j by w p e h o = has-cases cause past r j by e
     older h lt = ap (λ (o : Option Record). option_and_then named_wait (option_map (λ (x : Record). x.entry.reply) o)) (sym (record_at-older past r by lt)) ∙ h
 
     newest : (b : Bool) → (if b then Some (length past) else None) ≡ Some w → Has named_wait past by w → ⊥
-    newest true e h = let same : length past ≡ w = cc in let lt = named-below past legal.0 by w h in omega (arith, lt, same)
+    newest true e h = let same : length past ≡ w = cc in let lt = ended-below past legal.0 by w (has-named past by w h) in omega (arith, lt, same)
     newest false e h = let bad : None ≡ Some w = e in cc
 
 cause-fresh : (past : Past) (r : Record) → Legal past → IsLegalNext past r → (j by : ℕ) → cause r.entry.reply ≡ Some by → Has cause past j by → ⊥
@@ -411,7 +306,10 @@ gives-once past legal = record {
   messages = once message_given given-fresh past legal;
   not_handed = λ k m w e. given-not_handed past legal k m w e;
   earlier = λ k m e. given-earlier past legal k m e;
-  waits = once named_wait named-fresh past legal;
+  ends = ended-once past legal;
+  waits = named-once past legal;
+  withdrawn = λ j k w e f. withdrawn-unnamed past legal j k w e f;
+  not_accepted = λ k q w e. withdrawn-not_accepted past legal k q w e;
   registrations = once notified notified-fresh past legal;
   causes = once cause cause-fresh past legal;
 }

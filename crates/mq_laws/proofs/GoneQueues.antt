@@ -28,7 +28,7 @@ use Rattle.mq_model.specs.declared.entries.Attr.{Attr}
 use Rattle.mq_model.specs.declared.entries.OpenFlags.{OpenFlags}
 use Rattle.mq_model.specs.declared.entries.Call.TheVariants.{MqOpen}
 use Rattle.mq_model.specs.declared.entries.Reply.{Reply}
-use Rattle.mq_model.specs.declared.entries.Reply.TheVariants.{Opened, Queued, Handed, Waits, Got, Collected, Attrs, Notice, Done, Refused}
+use Rattle.mq_model.specs.declared.entries.Reply.TheVariants.{Opened, Queued, Handed, Waits, Got, Collected, Attrs, Notice, Done, Refused, Withdrawn}
 
 -- queues -----------------------------------------------------------------------------------------------------------------
 
@@ -154,6 +154,7 @@ taken-reply k m (Opened d created) e = absurd (cc)
 taken-reply k m (Queued n) e = absurd (cc)
 taken-reply k m Waits e = absurd (cc)
 taken-reply k m (Collected b) e = absurd (cc)
+taken-reply k m (Withdrawn b) e = absurd (cc)
 taken-reply k m (Attrs s) e = absurd (cc)
 taken-reply k m (Notice v) e = absurd (cc)
 taken-reply k m Done e = absurd (cc)

@@ -1,27 +1,30 @@
--- What a legal journal's sends, receives and collects held, what its receives got, and what others leave.
-use Rattle.std.proofs.Common.{◌≡◌, ℕ, ◌==◌, Bool, true, false, not, [], ◌∷◌, length, Option, Some, None, is_some, if◌then◌else◌, refl, sym, ◌∙◌, ap, arith}
+-- What a legal journal's sends, receives, collects and withdrawals held, what its receives got, and what others leave.
+use Rattle.std.proofs.Common.{◌≡◌, ℕ, ◌<◌, ◌==◌, Bool, true, false, not, [], ◌∷◌, length, Option, Some, None, is_some, if◌then◌else◌, refl, sym, ◌∙◌, ap, arith}
+use Rattle.std.specs.Option.{unwrap_or}
 use Rattle.mq_model.specs.Record.{Past, first}
-use Rattle.mq_model.specs.Descriptors.{held, called_queue}
+use Rattle.mq_model.specs.Descriptors.{held, descriptor_of, called_queue}
+use Rattle.mq_model.specs.Messages.{is_send, is_receive}
 use Rattle.mq_model.specs.Waits.{is_wait, open_wait, answered_by}
 use Rattle.mq_model.specs.Ladder.{is_read_only, is_write_only}
-use Rattle.mq_model.specs.Answer.{Legal, is_refused}
+use Rattle.mq_model.specs.Answer.{Legal, is_refused, may_call}
 use Rattle.mq_laws.specs.Laws.{message_given, GivesBest, HoldsDescriptors}
 use Rattle.mq_model.proofs.Places.{split}
-use Rattle.mq_model.proofs.Cases.{Says}
+use Rattle.mq_model.proofs.Cases.{Says, SendSays, ReceiveSays}
 use Rattle.mq_model.proofs.LegalReplies.{legal_says, got_says}
 use Rattle.mq_model.proofs.Prefixes.{record_at-below, length-first, first-all}
 use Rattle.mq_model.proofs.Frames.{answered_by-none}
+use Rattle.mq_model.proofs.OpenWaits.{withdrawn-open}
 use Rattle.mq_model.proofs.OthersLeave.{open_wait-below}
 use Rattle.mq_laws.proofs.LegalPlaces.{legal-at, has-record, first-older, first-first}
 use Rattle.mq_laws.proofs.GivenOnce.{given-reply}
 use Rattle.mq_model.specs.declared.entries.Description.{Description}
 use Rattle.mq_model.specs.declared.entries.Call.{Call}
-use Rattle.mq_model.specs.declared.entries.Call.TheVariants.{MqSend, MqReceive}
+use Rattle.mq_model.specs.declared.entries.Call.TheVariants.{MqSend, MqReceive, MqTimedSend, MqTimedReceive, Withdraw}
 use Rattle.mq_model.specs.declared.entries.Reply.{Reply}
-use Rattle.mq_model.specs.declared.entries.Reply.TheVariants.{Opened, Queued, Handed, Waits, Got, Collected, Attrs, Notice, Done, Refused}
+use Rattle.mq_model.specs.declared.entries.Reply.TheVariants.{Opened, Queued, Handed, Waits, Got, Collected, Attrs, Notice, Done, Refused, Withdrawn}
 
-called-receive : (past : Past) (p d room : ℕ) (call : Call) (h : Description) → call ≡ MqReceive d room → held past p d ≡ Some h → called_queue past p call ≡ Some h.queue
-called-receive past p d room call h c e = rw (c, e) refl
+called-receive : (past : Past) (p d : ℕ) (call : Call) (h : Description) → descriptor_of call ≡ Some d → held past p d ≡ Some h → called_queue past p call ≡ Some h.queue
+called-receive past p d call h c e = rw (c, e) refl
 
 -- what a receive got was the best message of its queue
 pub gives-best : (past : Past) → Legal past → GivesBest past
@@ -31,7 +34,7 @@ gives-best past legal k m e =
     let is = given-reply x.r.entry.reply m x.is in
     let says : Says (first k past) x.r.entry.process x.r.entry.call (Got m is.0 is.1) = rw is.2 at (legal_says (first k past) x.r at.next) in
     let got = got_says (first k past) x.r.entry.process x.r.entry.call m is.0 is.1 says in
-    let on : called_queue (first k past) x.r.entry.process x.r.entry.call ≡ Some got.2.queue = called-receive (first k past) x.r.entry.process got.0 got.1 x.r.entry.call got.2 got.3 got.4 in
+    let on : called_queue (first k past) x.r.entry.process x.r.entry.call ≡ Some got.2.queue = called-receive (first k past) x.r.entry.process got.0 x.r.entry.call got.2 got.3.1 got.4 in
     (got.2.queue, record { r = x.r; at = x.at; on = on; gets = x.is }, got.6)
 
 -- descriptors ------------------------------------------------------------------------------------------------------------
@@ -45,7 +48,18 @@ not-false : (b : Bool) → b ≡ false → not b ≡ true
 not-false true e = absurd (cc)
 not-false false e = refl
 
-send-holds : (past : Past) (p d prio len : ℕ) (reply : Reply) → Says past p (MqSend d prio len) reply → is_refused reply ≡ false → IsHeldWith past p d (λ h. not (is_read_only h.access))
+-- what the reply says to a send, or a receive, on a descriptor
+send-says : (past : Past) (p d : ℕ) (call : Call) (reply : Reply) → is_send call ≡ true → descriptor_of call ≡ Some d → Says past p call reply → (prio : ℕ) × (len : ℕ) × SendSays past (held past p d) prio len reply
+send-says past p d (MqSend x prio len) reply s e says = let same : x ≡ d = cc in (prio, len, rw (← same) says)
+send-says past p d (MqTimedSend x prio len until now) reply s e says = let same : x ≡ d = cc in (prio, len, rw (← same) says)
+send-says past p d call reply s e says = absurd (let bad : false ≡ true = s in cc)
+
+receive-says : (past : Past) (p d : ℕ) (call : Call) (reply : Reply) → is_receive call ≡ true → descriptor_of call ≡ Some d → Says past p call reply → (room : ℕ) × ReceiveSays past (held past p d) room reply
+receive-says past p d (MqReceive x room) reply s e says = let same : x ≡ d = cc in (room, rw (← same) says)
+receive-says past p d (MqTimedReceive x room until now) reply s e says = let same : x ≡ d = cc in (room, rw (← same) says)
+receive-says past p d call reply s e says = absurd (let bad : false ≡ true = s in cc)
+
+send-holds : (past : Past) (p d prio len : ℕ) (reply : Reply) → SendSays past (held past p d) prio len reply → is_refused reply ≡ false → IsHeldWith past p d (λ h. not (is_read_only h.access))
 send-holds past p d prio len (Refused f) says e = absurd (let bad : true ≡ false = e in cc)
 send-holds past p d prio len (Queued n) says e = record { h = says.0; held = says.1; access = not-false (is_read_only says.0.access) says.2.access }
 send-holds past p d prio len (Handed w) says e = record { h = says.0; held = says.1; access = not-false (is_read_only says.0.access) says.2.access }
@@ -53,11 +67,12 @@ send-holds past p d prio len Waits says e = record { h = says.0; held = says.1; 
 send-holds past p d prio len (Opened x created) says e = absurd says.3
 send-holds past p d prio len (Got m a n) says e = absurd says.3
 send-holds past p d prio len (Collected by) says e = absurd says.3
+send-holds past p d prio len (Withdrawn by) says e = absurd says.3
 send-holds past p d prio len (Attrs s) says e = absurd says.3
 send-holds past p d prio len (Notice v) says e = absurd says.3
 send-holds past p d prio len Done says e = absurd says.3
 
-receive-holds : (past : Past) (p d room : ℕ) (reply : Reply) → Says past p (MqReceive d room) reply → is_refused reply ≡ false → IsHeldWith past p d (λ h. not (is_write_only h.access))
+receive-holds : (past : Past) (p d room : ℕ) (reply : Reply) → ReceiveSays past (held past p d) room reply → is_refused reply ≡ false → IsHeldWith past p d (λ h. not (is_write_only h.access))
 receive-holds past p d room (Refused f) says e = absurd (let bad : true ≡ false = e in cc)
 receive-holds past p d room (Got m a n) says e = record { h = says.0; held = says.1; access = not-false (is_write_only says.0.access) says.2.access }
 receive-holds past p d room Waits says e = record { h = says.0; held = says.1; access = not-false (is_write_only says.0.access) says.2.access }
@@ -65,6 +80,7 @@ receive-holds past p d room (Opened x created) says e = absurd says.3
 receive-holds past p d room (Queued n) says e = absurd says.3
 receive-holds past p d room (Handed w) says e = absurd says.3
 receive-holds past p d room (Collected by) says e = absurd says.3
+receive-holds past p d room (Withdrawn by) says e = absurd says.3
 receive-holds past p d room (Attrs s) says e = absurd says.3
 receive-holds past p d room (Notice v) says e = absurd says.3
 receive-holds past p d room Done says e = absurd says.3
@@ -76,6 +92,7 @@ is_wait-Waits (Queued n) e = absurd (cc)
 is_wait-Waits (Handed w) e = absurd (cc)
 is_wait-Waits (Got m a n) e = absurd (cc)
 is_wait-Waits (Collected by) e = absurd (cc)
+is_wait-Waits (Withdrawn by) e = absurd (cc)
 is_wait-Waits (Attrs s) e = absurd (cc)
 is_wait-Waits (Notice v) e = absurd (cc)
 is_wait-Waits Done e = absurd (cc)
@@ -110,24 +127,34 @@ answered-waits past p t = by (open_wait past p) refl
     by None is = absurd (let none = answered_by-none past p is in let bad : false ≡ true = rw none at t in cc)
     by (Some w) is = (w, is)
 
+-- the same of a wait that is open at a place
+wait-held : (past : Past) (k p w : ℕ) → k < length past → open_wait (first k past) p ≡ Some w → (d : ℕ) → held (first k past) p d ≡ held (first w past) p d
+wait-held past k p w below e d =
+    let lt = open_wait-below (first k past) p w e in
+    let same : first w (first k past) ≡ first w past = first-first past w k (let long = length-first k past (omega (arith, below)) in omega (arith, lt, long)) in
+    wait-holds (first k past) p w e d ∙ ap (λ before. held before p d) same
+
 pub holds-descriptors : (past : Past) → Legal past → HoldsDescriptors past
 holds-descriptors past legal = record {
-  sends = λ k d prio len r e c not.
+  sends = λ k d r e c on not.
       let at = legal-at past legal k r e in
-      let says : Says (first k past) r.entry.process (MqSend d prio len) r.entry.reply = rw c at (legal_says (first k past) r at.next) in
-      let x = send-holds (first k past) r.entry.process d prio len r.entry.reply says not in
+      let says = send-says (first k past) r.entry.process d r.entry.call r.entry.reply c on (legal_says (first k past) r at.next) in
+      let x = send-holds (first k past) r.entry.process d says.0 says.1 r.entry.reply says.2 not in
       record { h = x.h; held = x.held; access = x.access };
-  receives = λ k d room r e c not.
+  receives = λ k d r e c on not.
       let at = legal-at past legal k r e in
-      let says : Says (first k past) r.entry.process (MqReceive d room) r.entry.reply = rw c at (legal_says (first k past) r at.next) in
-      let x = receive-holds (first k past) r.entry.process d room r.entry.reply says not in
+      let says = receive-says (first k past) r.entry.process d r.entry.call r.entry.reply c on (legal_says (first k past) r at.next) in
+      let x = receive-holds (first k past) r.entry.process d says.0 r.entry.reply says.1 not in
       record { h = x.h; held = x.held; access = x.access };
   collects = λ k r e c.
       let at = legal-at past legal k r e in
       let turn : is_some (answered_by (first k past) r.entry.process) ≡ true = rw c at at.next.turn in
       let x = answered-waits (first k past) r.entry.process turn in
-      let lt = open_wait-below (first k past) r.entry.process x.0 x.1 in
-      let below = record_at-below past k r e in
-      let same : first x.0 (first k past) ≡ first x.0 past = first-first past x.0 k (let long = length-first k past (omega (arith, below)) in omega (arith, lt, long)) in
-      (x.0, x.1, λ d. wait-holds (first k past) r.entry.process x.0 x.1 d ∙ ap (λ before. held before r.entry.process d) same);
+      (x.0, x.1, wait-held past k r.entry.process x.0 (record_at-below past k r e) x.1);
+  withdrawals = λ k now r e c.
+      let at = legal-at past legal k r e in
+      let turn : may_call (first k past) r.entry.process (Withdraw now) ≡ true = rw c at at.next.turn in
+      let w = unwrap_or (open_wait (first k past) r.entry.process) 0 in
+      let x = withdrawn-open (first k past) r.entry.process (Withdraw now) w refl turn in
+      (w, x.0, wait-held past k r.entry.process w (record_at-below past k r e) x.0);
 }

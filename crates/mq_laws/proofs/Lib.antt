@@ -1,4 +1,5 @@
 pub mod LegalPlaces
+pub mod EndedWaits
 pub mod GivenOnce
 pub mod HeldLaws
 pub mod SentMessages
@@ -10,4 +11,5 @@ pub mod Refusals
 pub mod Registered
 pub mod WorkedJournals
 pub mod WorkedWaits
+pub mod WorkedDeadlines
 pub mod WorkedRefusals

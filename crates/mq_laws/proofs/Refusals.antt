@@ -13,11 +13,12 @@ use Rattle.mq_model.proofs.Alive.{none-of}
 use Rattle.mq_model.proofs.Places.{split}
 use Rattle.mq_model.proofs.Prefixes.{first-more}
 use Rattle.mq_model.proofs.Frames.{KeepsNames, held-same, bound_queue-same, alive-same, created-below, open_wait-same, answered_by-step, keeps-refused, attributes-older}
+use Rattle.mq_model.proofs.OpenWaits.{wait_deadline-same}
 use Rattle.mq_model.proofs.Presence.{priority-older, present-below}
 use Rattle.mq_laws.proofs.LegalPlaces.{legal-at}
 use Rattle.mq_model.specs.declared.entries.Attr.{Attr}
 use Rattle.mq_model.specs.declared.entries.Call.{Call}
-use Rattle.mq_model.specs.declared.entries.Call.TheVariants.{MqOpen, MqClose, MqUnlink, MqSend, MqReceive, MqGetattr, MqSetattr, MqNotify, NextNotice, Collect}
+use Rattle.mq_model.specs.declared.entries.Call.TheVariants.{MqOpen, MqClose, MqUnlink, MqSend, MqReceive, MqGetattr, MqSetattr, MqNotify, NextNotice, Collect, MqTimedSend, MqTimedReceive, Withdraw}
 use Rattle.mq_model.specs.declared.entries.Registration.{Registration}
 use Rattle.mq_model.specs.declared.entries.Reply.{Reply}
 use Rattle.mq_model.specs.declared.entries.Reply.TheVariants.{Refused}
@@ -27,18 +28,21 @@ use Rattle.mq_model.specs.declared.faults.Fault.{Fault}
 abbrev refused : ℕ → Call → Fault → List ℕ → Record
 refused p call f payload = record { entry = record { process = p; call = call; reply = Refused f }; payload = payload }
 
--- a call that is refused is no collect, so its process had no open wait
+-- a call that is refused is no collect and no withdrawal, so its process had no open wait
 idle : (past : Past) (p : ℕ) (call : Call) (f : Fault) (payload : List ℕ) → IsTrue (may_call past p call) → Refused f ≡ answer past p call payload → is_none (open_wait past p) ≡ true
 idle past p (MqOpen flags attr) f payload turn e = grind arith
 idle past p (MqClose d) f payload turn e = grind arith
 idle past p MqUnlink f payload turn e = grind arith
 idle past p (MqSend d prio len) f payload turn e = grind arith
+idle past p (MqTimedSend d prio len until now) f payload turn e = grind arith
 idle past p (MqReceive d room) f payload turn e = grind arith
+idle past p (MqTimedReceive d room until now) f payload turn e = grind arith
 idle past p (MqGetattr d) f payload turn e = grind arith
 idle past p (MqSetattr d nonblock) f payload turn e = grind arith
 idle past p (MqNotify d value) f payload turn e = grind arith
 idle past p NextNotice f payload turn e = grind arith
 idle past p Collect f payload turn e = absurd (cc)
+idle past p (Withdraw now) f payload turn e = absurd (cc)
 
 -- tests that agree on the members of a list
 all-same : (s t : ℕ → Bool) (xs : List ℕ) → ((x : ℕ) → is_in xs x ≡ true → s x ≡ t x) → list_all s xs ≡ list_all t xs
@@ -94,6 +98,7 @@ unchanged past p call f payload idle = record {
   sends = λ q. refl;
   receives = λ q. refl;
   waits = open_wait-same past r idle refl;
+  deadlines = wait_deadline-same past r idle refl;
   answers = λ k. answered_by-step past r idle k ∙ rw (names-none f (open_wait past k)) refl;
   registrations = λ q. registered-kept (is_on past r.entry q) (length past) p call f (registered past q);
   pending = λ k. ap (drop (notices_given past k)) (append-nil (values_notified past k));

@@ -9,9 +9,9 @@ use Rattle.mq_model.specs.Answer.{Legal, IsLegalNext, answer, answer_notify}
 use Rattle.mq_model.specs.declared.entries.Description.{Description}
 use Rattle.mq_model.specs.declared.entries.Registration.{Registration}
 use Rattle.mq_model.specs.declared.entries.Call.{Call}
-use Rattle.mq_model.specs.declared.entries.Call.TheVariants.{MqOpen, MqClose, MqUnlink, MqSend, MqReceive, MqGetattr, MqSetattr, MqNotify, NextNotice, Collect}
+use Rattle.mq_model.specs.declared.entries.Call.TheVariants.{MqOpen, MqClose, MqUnlink, MqSend, MqReceive, MqGetattr, MqSetattr, MqNotify, NextNotice, Collect, MqTimedSend, MqTimedReceive, Withdraw}
 use Rattle.mq_model.specs.declared.entries.Reply.{Reply}
-use Rattle.mq_model.specs.declared.entries.Reply.TheVariants.{Opened, Queued, Handed, Waits, Got, Collected, Attrs, Notice, Done, Refused}
+use Rattle.mq_model.specs.declared.entries.Reply.TheVariants.{Opened, Queued, Handed, Waits, Got, Collected, Attrs, Notice, Done, Refused, Withdrawn}
 use Rattle.mq_model.proofs.Places.{split}
 use Rattle.mq_model.proofs.Prefixes.{record_at-below, first-all}
 use Rattle.mq_model.proofs.Frames.{record_at-older}
@@ -34,23 +34,29 @@ removal-is (MqOpen flags attr) e = absurd (let bad : false ≡ true = e in cc)
 removal-is (MqClose d) e = absurd (let bad : false ≡ true = e in cc)
 removal-is MqUnlink e = absurd (let bad : false ≡ true = e in cc)
 removal-is (MqSend d prio len) e = absurd (let bad : false ≡ true = e in cc)
+removal-is (MqTimedSend d prio len until now) e = absurd (let bad : false ≡ true = e in cc)
 removal-is (MqReceive d room) e = absurd (let bad : false ≡ true = e in cc)
+removal-is (MqTimedReceive d room until now) e = absurd (let bad : false ≡ true = e in cc)
 removal-is (MqGetattr d) e = absurd (let bad : false ≡ true = e in cc)
 removal-is (MqSetattr d nonblock) e = absurd (let bad : false ≡ true = e in cc)
 removal-is NextNotice e = absurd (let bad : false ≡ true = e in cc)
 removal-is Collect e = absurd (let bad : false ≡ true = e in cc)
+removal-is (Withdraw now) e = absurd (let bad : false ≡ true = e in cc)
 
 close-is : (call : Call) (d : ℕ) → is_close_of call d ≡ true → call ≡ MqClose d
 close-is (MqClose x) d e = ap MqClose (eqb-true x d e)
 close-is (MqOpen flags attr) d e = absurd (let bad : false ≡ true = e in cc)
 close-is MqUnlink d e = absurd (let bad : false ≡ true = e in cc)
 close-is (MqSend x prio len) d e = absurd (let bad : false ≡ true = e in cc)
+close-is (MqTimedSend x prio len until now) d e = absurd (let bad : false ≡ true = e in cc)
 close-is (MqReceive x room) d e = absurd (let bad : false ≡ true = e in cc)
+close-is (MqTimedReceive x room until now) d e = absurd (let bad : false ≡ true = e in cc)
 close-is (MqGetattr x) d e = absurd (let bad : false ≡ true = e in cc)
 close-is (MqSetattr x nonblock) d e = absurd (let bad : false ≡ true = e in cc)
 close-is (MqNotify x value) d e = absurd (let bad : false ≡ true = e in cc)
 close-is NextNotice d e = absurd (let bad : false ≡ true = e in cc)
 close-is Collect d e = absurd (let bad : false ≡ true = e in cc)
+close-is (Withdraw now) d e = absurd (let bad : false ≡ true = e in cc)
 
 -- a test that only a call that was done can pass
 abbrev only_done : (Call → Bool) → Call → Reply → Bool
@@ -65,6 +71,7 @@ done-is t call (Handed w) e = absurd (let bad : false ≡ true = e in cc)
 done-is t call Waits e = absurd (let bad : false ≡ true = e in cc)
 done-is t call (Got m a n) e = absurd (let bad : false ≡ true = e in cc)
 done-is t call (Collected b) e = absurd (let bad : false ≡ true = e in cc)
+done-is t call (Withdrawn b) e = absurd (let bad : false ≡ true = e in cc)
 done-is t call (Attrs s) e = absurd (let bad : false ≡ true = e in cc)
 done-is t call (Notice v) e = absurd (let bad : false ≡ true = e in cc)
 done-is t call (Refused f) e = absurd (let bad : false ≡ true = e in cc)
@@ -77,6 +84,7 @@ removes-is call (Handed w) = refl
 removes-is call Waits = refl
 removes-is call (Got m a n) = refl
 removes-is call (Collected b) = refl
+removes-is call (Withdrawn b) = refl
 removes-is call (Attrs s) = refl
 removes-is call (Notice v) = refl
 removes-is call (Refused f) = refl
@@ -89,6 +97,7 @@ closes-is call (Handed w) d = refl
 closes-is call Waits d = refl
 closes-is call (Got m a n) d = refl
 closes-is call (Collected b) d = refl
+closes-is call (Withdrawn b) d = refl
 closes-is call (Attrs s) d = refl
 closes-is call (Notice v) d = refl
 closes-is call (Refused f) d = refl
@@ -142,11 +151,14 @@ made-by here p (MqOpen flags attr) n e = absurd (cc)
 made-by here p (MqClose d) n e = absurd (cc)
 made-by here p MqUnlink n e = absurd (cc)
 made-by here p (MqSend d prio len) n e = absurd (cc)
+made-by here p (MqTimedSend d prio len until now) n e = absurd (cc)
 made-by here p (MqReceive d room) n e = absurd (cc)
+made-by here p (MqTimedReceive d room until now) n e = absurd (cc)
 made-by here p (MqGetattr d) n e = absurd (cc)
 made-by here p (MqSetattr d nonblock) n e = absurd (cc)
 made-by here p NextNotice n e = absurd (cc)
 made-by here p Collect n e = absurd (cc)
+made-by here p (Withdraw now) n e = absurd (cc)
 
 made-of : (here p : ℕ) (call : Call) (reply : Reply) (n : Registration) → registration_of here p call reply ≡ Some n → IsMadeBy here p call reply n
 made-of here p call Done n e = made-by here p call n e
@@ -156,6 +168,7 @@ made-of here p call (Handed w) n e = absurd (cc)
 made-of here p call Waits n e = absurd (cc)
 made-of here p call (Got m a k) n e = absurd (cc)
 made-of here p call (Collected b) n e = absurd (cc)
+made-of here p call (Withdrawn b) n e = absurd (cc)
 made-of here p call (Attrs s) n e = absurd (cc)
 made-of here p call (Notice v) n e = absurd (cc)
 made-of here p call (Refused f) n e = absurd (cc)

@@ -8,9 +8,9 @@ use Rattle.std.proofs.lemmas.Bool.Decides.{nat_tests}
 use Rattle.mq_model.specs.Record.{Record, Past, record_at, first}
 use Rattle.mq_model.specs.Names.{attributes}
 use Rattle.mq_model.specs.Descriptors.{called_queue, created, is_on}
-use Rattle.mq_model.specs.Messages.{is_in, with_place, is_accepted, is_send, queues, blocks_send, admits, blocked_sends, admitted_waits, waiting_sends, waiting_receives, entered, admitted, handed, taken, taken_by, present, is_full, priority, priority_given, goes_first, least}
+use Rattle.mq_model.specs.Messages.{is_in, with_place, is_accepted, is_send, queues, blocks_send, admits, blocked_sends, ended_sends, waiting_sends, waiting_receives, entered, admitted, handed, taken, taken_by, present, is_full, priority, priority_given, goes_first, least}
 use Rattle.mq_model.specs.Answer.{Legal, IsLegalNext}
-use Rattle.mq_laws.specs.Laws.{message_given, IsTakenAt, LeavesInOrder}
+use Rattle.mq_laws.specs.Laws.{message_given, withdrawn_wait, Has, IsTakenAt, LeavesInOrder}
 use Rattle.mq_model.proofs.Places.{split, clash, is_in-filter, find-in}
 use Rattle.mq_model.proofs.Cases.{Says}
 use Rattle.mq_model.proofs.LegalReplies.{legal_says, got_says}
@@ -22,15 +22,16 @@ use Rattle.mq_laws.proofs.Waiting.{waiting-empty}
 use Rattle.mq_model.proofs.Steps.{without, filter-both}
 use Rattle.mq_model.proofs.Presence.{with-more, present-admitted, present-below}
 use Rattle.mq_model.proofs.PresentFew.{attributes-within, within-positive_maxmsg, called-on}
-use Rattle.mq_laws.proofs.WaitCauses.{waiting-full, waiting-created}
-use Rattle.mq_laws.proofs.LegalPlaces.{legal-at, has-record, has-here, first-first}
-use Rattle.mq_laws.proofs.GivenOnce.{given-reply, given-present, admitted-blocked}
+use Rattle.mq_laws.proofs.WaitCauses.{waiting-full, waiting-created, still-waits}
+use Rattle.mq_laws.proofs.LegalPlaces.{legal-at, has-record, has-here, has-cases, first-first}
+use Rattle.mq_laws.proofs.GivenOnce.{given-reply, given-present}
+use Rattle.mq_laws.proofs.EndedWaits.{has-admits, ended-below, send-ended, withdrawn-not_accepted}
 use Rattle.mq_laws.proofs.SentMessages.{IsSentTo, SentStatus, accepted-sent, admitted-sent, sent-status, is_sent}
 use Rattle.mq_laws.proofs.GoneQueues.{same-queue, sent-first}
 use Rattle.mq_model.specs.declared.entries.Call.{Call}
-use Rattle.mq_model.specs.declared.entries.Call.TheVariants.{MqOpen, MqClose, MqUnlink, MqSend, MqReceive, MqGetattr, MqSetattr, MqNotify, NextNotice, Collect}
+use Rattle.mq_model.specs.declared.entries.Call.TheVariants.{MqOpen, MqClose, MqUnlink, MqSend, MqReceive, MqGetattr, MqSetattr, MqNotify, NextNotice, Collect, MqTimedSend, MqTimedReceive, Withdraw}
 use Rattle.mq_model.specs.declared.entries.Reply.{Reply}
-use Rattle.mq_model.specs.declared.entries.Reply.TheVariants.{Opened, Queued, Handed, Waits, Got, Collected, Attrs, Notice, Done, Refused}
+use Rattle.mq_model.specs.declared.entries.Reply.TheVariants.{Opened, Queued, Handed, Waits, Got, Collected, Attrs, Notice, Done, Refused, Withdrawn}
 
 abbrev rec : ℕ → Call → Reply → List ℕ → Record
 rec p call reply payload = record { entry = record { process = p; call = call; reply = reply }; payload = payload }
@@ -58,27 +59,33 @@ least-le (x ∷ xs) m k e h = by (λ j f g. least-le xs j k f g) (least xs) refl
 -- where a send is queued its queue has room, and where one is handed over a receive waits
 queued-room : (past : Past) (p q : ℕ) (call : Call) (n : Option ℕ) → Says past p call (Queued n) → is_on past (record { process = p; call = call; reply = Queued n }) q ≡ true → is_full past q ≡ false
 queued-room past p q (MqSend d prio len) n says on = let same : says.0.queue ≡ q = called-on past p d q says.0 says.1 on in rw same at says.3.1
+queued-room past p q (MqTimedSend d prio len until now) n says on = let same : says.0.queue ≡ q = called-on past p d q says.0 says.1 on in rw same at says.3.1
 queued-room past p q (MqOpen flags attr) n says on = absurd says
 queued-room past p q (MqClose d) n says on = absurd says.0
 queued-room past p q MqUnlink n says on = absurd says
 queued-room past p q (MqReceive d room) n says on = absurd says.3
+queued-room past p q (MqTimedReceive d room until now) n says on = absurd says.3
 queued-room past p q (MqGetattr d) n says on = absurd says
 queued-room past p q (MqSetattr d nonblock) n says on = absurd says
 queued-room past p q (MqNotify d value) n says on = absurd says
 queued-room past p q NextNotice n says on = absurd (cc)
 queued-room past p q Collect n says on = absurd (cc)
+queued-room past p q (Withdraw now) n says on = absurd (cc)
 
 handed-waits : (past : Past) (p q : ℕ) (call : Call) (w : ℕ) → Says past p call (Handed w) → is_on past (record { process = p; call = call; reply = Handed w }) q ≡ true → is_in (waiting_receives past q) w ≡ true
 handed-waits past p q (MqSend d prio len) w says on = let same : says.0.queue ≡ q = called-on past p d q says.0 says.1 on in let P : ℕ → Type 0 = λ k. is_in (waiting_receives past k) w ≡ true in subst P same (least-in (waiting_receives past says.0.queue) w says.3)
+handed-waits past p q (MqTimedSend d prio len until now) w says on = let same : says.0.queue ≡ q = called-on past p d q says.0 says.1 on in let P : ℕ → Type 0 = λ k. is_in (waiting_receives past k) w ≡ true in subst P same (least-in (waiting_receives past says.0.queue) w says.3)
 handed-waits past p q (MqOpen flags attr) w says on = absurd says
 handed-waits past p q (MqClose d) w says on = absurd says.0
 handed-waits past p q MqUnlink w says on = absurd says
 handed-waits past p q (MqReceive d room) w says on = absurd says.3
+handed-waits past p q (MqTimedReceive d room until now) w says on = absurd says.3
 handed-waits past p q (MqGetattr d) w says on = absurd says
 handed-waits past p q (MqSetattr d nonblock) w says on = absurd says
 handed-waits past p q (MqNotify d value) w says on = absurd says
 handed-waits past p q NextNotice w says on = absurd (cc)
 handed-waits past p q Collect w says on = absurd (cc)
+handed-waits past p q (Withdraw now) w says on = absurd (cc)
 
 not-zero : (a : ℤ) → int_le (pos 1) a ≡ true → int_le a (pos 0) ≡ true → ⊥
 not-zero (pos k) h g = let low : 1 ≤ k = grind (arith, nat_tests) in let high : k ≤ 0 = grind (arith, nat_tests) in omega (arith, low, high)
@@ -98,13 +105,13 @@ accepted-below past q n h = let x = accepted-sent past q n h in record_at-below 
 -- what waits behind a send that blocked
 waits-more : (past : Past) (p : ℕ) (call : Call) (payload : List ℕ) (q w : ℕ) → is_in (waiting_sends (rec p call Waits payload ∷ past) q) w ≡ true → (length past ≡ w) ⊎ (is_in (waiting_sends past q) w ≡ true)
 waits-more past p call payload q w h =
-    let parts = is_in-filter (λ v. not (is_in (admitted_waits past) v)) (blocked_sends (rec p call Waits payload ∷ past) q) w h in
+    let parts = is_in-filter (λ v. not (is_in (ended_sends past) v)) (blocked_sends (rec p call Waits payload ∷ past) q) w h in
     split (is_send call && is_on past (record { process = p; call = call; reply = Waits }) q)
     (λ t. let there : (length past == w || is_in (blocked_sends past q) w) ≡ true = rw t at parts.0 in
     split (length past == w)
     (λ e. inl (eqb-true _ _ e))
-    (λ n. let old : is_in (blocked_sends past q) w ≡ true = rw n at there in inr (in-filter (λ v. not (is_in (admitted_waits past) v)) (blocked_sends past q) w old parts.1)))
-    (λ f. let old : is_in (blocked_sends past q) w ≡ true = rw f at parts.0 in inr (in-filter (λ v. not (is_in (admitted_waits past) v)) (blocked_sends past q) w old parts.1))
+    (λ n. let old : is_in (blocked_sends past q) w ≡ true = rw n at there in inr (in-filter (λ v. not (is_in (ended_sends past) v)) (blocked_sends past q) w old parts.1)))
+    (λ f. let old : is_in (blocked_sends past q) w ≡ true = rw f at parts.0 in inr (in-filter (λ v. not (is_in (ended_sends past) v)) (blocked_sends past q) w old parts.1))
 
 -- accepted messages were sent before the sends that wait
 abbrev Older : Past → ℕ → Type 0
@@ -134,7 +141,7 @@ older-waits past p call payload q before n w h g = by (waits-more past p call pa
 older-got : (past : Past) → Legal past → (p : ℕ) (call : Call) (m : ℕ) (a k : Option ℕ) (payload : List ℕ) (q : ℕ) → Says past p call (Got m a k) → Older past q → Older (rec p call (Got m a k) payload ∷ past) q
 older-got past legal p call m None k payload q says before n w h g = before n w h g
 older-got past legal p call m (Some v) k payload q says before n w h g =
-    let still : is_in (without v (waiting_sends past q)) w ≡ true = rw (← filter-both (λ j. v == j) (is_in (admitted_waits past)) (blocked_sends past q)) g in
+    let still : is_in (without v (waiting_sends past q)) w ≡ true = rw (← filter-both (λ j. v == j) (is_in (ended_sends past)) (blocked_sends past q)) g in
     let parts = is_in-filter (λ j. not (v == j)) (waiting_sends past q) w still in
     split (is_in (blocked_sends past q) v)
     (λ t.
@@ -142,7 +149,7 @@ older-got past legal p call m (Some v) k payload q says before n w h g =
     split (v == n)
     (λ e. let first = admits-least past p call m (Some v) k says in
     let waits = least-in (waiting_sends past first.0) v (sym first.1) in
-    let there = (is_in-filter (λ j. not (is_in (admitted_waits past) j)) (blocked_sends past first.0) v waits).0 in
+    let there = (is_in-filter (λ j. not (is_in (ended_sends past) j)) (blocked_sends past first.0) v waits).0 in
     let same : first.0 ≡ q = (blocked-once past true true first.0 q v there t).1 in
     let P : ℕ → Type 0 = λ j. least (waiting_sends past j) ≡ Some v in
     let le = least-le (waiting_sends past q) v w (subst P same (sym first.1)) parts.0 in
@@ -159,6 +166,7 @@ older-next past legal p call Waits payload q says before = older-waits past p ca
 older-next past legal p call (Got m a k) payload q says before = older-got past legal p call m a k payload q says before
 older-next past legal p call (Opened d created) payload q says before = before
 older-next past legal p call (Collected b) payload q says before = before
+older-next past legal p call (Withdrawn v) payload q says before = λ n w h g. before n w h (still-waits past v q w g)
 older-next past legal p call (Attrs s) payload q says before = before
 older-next past legal p call (Notice v) payload q says before = before
 older-next past legal p call Done payload q says before = before
@@ -176,55 +184,52 @@ admits-queues call (Queued n) k e = absurd (cc)
 admits-queues call (Handed w) k e = absurd (cc)
 admits-queues call Waits k e = absurd (cc)
 admits-queues call (Collected b) k e = absurd (cc)
+admits-queues call (Withdrawn b) k e = absurd (cc)
 admits-queues call (Attrs s) k e = absurd (cc)
 admits-queues call (Notice v) k e = absurd (cc)
 admits-queues call Done k e = absurd (cc)
 admits-queues call (Refused f) k e = absurd (cc)
 
-admitted-enters : (past : Past) → Legal past → (q m : ℕ) → is_in (blocked_sends past q) m ≡ true → is_in (admitted_waits past) m ≡ true → is_in (admitted past q) m ≡ true
-admitted-enters [] legal q m h g = absurd (cc)
-admitted-enters (r ∷ past) legal q m h g = by (λ a b. admitted-enters past legal.0 q m a b) (admits r.entry.reply) refl g
+admitted-enters : (past : Past) → Legal past → (q m k : ℕ) → is_in (blocked_sends past q) m ≡ true → Has admits past k m → is_in (admitted past q) m ≡ true
+admitted-enters [] legal q m k h e = absurd (cc)
+admitted-enters (r ∷ past) legal q m k h e = has-cases admits past r k m e
+    (λ here is.
+    let quiet = admits-queues r.entry.call r.entry.reply m is in
+    let blocked : is_in (blocked_sends past q) m ≡ true = rw quiet.1 at h in
+    rw (quiet.0, is, blocked) (rw (eq-eqb m m refl) refl))
+    (λ old lt. with-more (entered past r.entry q) (admitted past q) m (admitted-enters past legal.0 q m k (older (ended-below past legal.0 k m (has-admits past k m old))) old))
   where
-    older : is_in (admitted_waits past) m ≡ true → is_in (blocked_sends past q) m ≡ true
-    older old =
-        let x = has-record (λ x. Some 0) past m 0 (ap (option_and_then (λ (x : Reply). Some 0)) (admitted-blocked past legal.0 m old)) in
-        let lt = record_at-below past m x.r x.at in
-        split (blocks_send r.entry.call r.entry.reply && is_on past r.entry q)
+    older : m < length past → is_in (blocked_sends past q) m ≡ true
+    older lt = split (blocks_send r.entry.call r.entry.reply && is_on past r.entry q)
         (λ t. let new : (length past == m || is_in (blocked_sends past q) m) ≡ true = rw t at h in
         let other : (length past == m) ≡ false = ne_eqb (length past) m (λ e. omega (arith, lt, e)) in rw other at new)
         (λ f. rw f at h)
 
-    enters : (is_in (blocked_sends past q) m ≡ true → is_in (admitted_waits past) m ≡ true → is_in (admitted past q) m ≡ true) → is_in (admitted_waits past) m ≡ true → is_in (admitted (r ∷ past) q) m ≡ true
-    enters rest old = with-more (entered past r.entry q) (admitted past q) m (rest (older old) old)
-
-    here : admits r.entry.reply ≡ Some m → is_in (admitted (r ∷ past) q) m ≡ true
-    here e =
-        let quiet = admits-queues r.entry.call r.entry.reply m e in
-        let blocked : is_in (blocked_sends past q) m ≡ true = rw quiet.1 at h in
-        rw (quiet.0, e, blocked) (rw (eq-eqb m m refl) refl)
-
-    by : (is_in (blocked_sends past q) m ≡ true → is_in (admitted_waits past) m ≡ true → is_in (admitted past q) m ≡ true) → (o : Option ℕ) → admits r.entry.reply ≡ o → is_in (with_place o (admitted_waits past)) m ≡ true → is_in (admitted (r ∷ past) q) m ≡ true
-    by rest None e g = enters rest g
-    by rest (Some k) e g = split (k == m)
-        (λ t. here (e ∙ ap Some (eqb-true _ _ t)))
-        (λ f. let old : is_in (admitted_waits past) m ≡ true = rw f at g in enters rest old)
+-- the send at place m is not withdrawn
+abbrev IsKept : Past → ℕ → Type 0
+IsKept past m = (k : ℕ) → Has withdrawn_wait past k m → ⊥
 
 -- what became of a send to queue q behind which a later one was accepted
 abbrev Entered : Past → ℕ → ℕ → Type 0
 Entered past q m = (is_in (admitted past q) m ≡ true) ⊎ (is_in (taken past) m ≡ true)
 
-entered-unless : (past : Past) → Legal past → (q m : ℕ) → IsSentTo past q m → (is_in (waiting_sends past q) m ≡ true → ⊥) → Entered past q m
-entered-unless past legal q m x waits = by x.r.entry.reply x.reply (sent-status past q m x)
+entered-unless : (past : Past) → Legal past → (q m : ℕ) → IsSentTo past q m → IsKept past m → (is_in (waiting_sends past q) m ≡ true → ⊥) → Entered past q m
+entered-unless past legal q m x kept waits = by x.r.entry.reply x.reply (sent-status past q m x)
   where
+    ended : is_in (blocked_sends past q) m ≡ true → (k : ℕ) × (Has admits past k m ⊎ Has withdrawn_wait past k m) → Entered past q m
+    ended blocked (k, inl e) = inl (admitted-enters past legal q m k blocked e)
+    ended blocked (k, inr e) = absurd (kept k e)
+
     by : (reply : Reply) → is_sent reply ≡ true → SentStatus past q m reply → Entered past q m
     by (Queued n) s z = inl (z.queued n refl)
     by (Handed w) s z = inr (z.handed w refl)
-    by Waits s z = split (is_in (admitted_waits past) m)
-        (λ t. inl (admitted-enters past legal q m (z.waits refl) t))
-        (λ f. absurd (waits (in-filter (λ w. not (is_in (admitted_waits past) w)) (blocked_sends past q) m (z.waits refl) (rw f refl))))
+    by Waits s z = split (is_in (ended_sends past) m)
+        (λ t. ended (z.waits refl) (send-ended past m t))
+        (λ f. absurd (waits (in-filter (λ w. not (is_in (ended_sends past) w)) (blocked_sends past q) m (z.waits refl) (rw f refl))))
     by (Opened d created) s z = absurd (let bad : false ≡ true = s in cc)
     by (Got k a n) s z = absurd (let bad : false ≡ true = s in cc)
     by (Collected b) s z = absurd (let bad : false ≡ true = s in cc)
+    by (Withdrawn b) s z = absurd (let bad : false ≡ true = s in cc)
     by (Attrs v) s z = absurd (let bad : false ≡ true = s in cc)
     by (Notice v) s z = absurd (let bad : false ≡ true = s in cc)
     by Done s z = absurd (let bad : false ≡ true = s in cc)
@@ -276,9 +281,9 @@ or-left : (b : Bool) → (true || b) ≡ true
 or-left b = refl
 
 -- before a message is taken, an earlier one of its queue and priority was taken
-taken-first : (past : Past) → Legal past → (r : Record) → IsLegalNext past r → (q m n : ℕ) → IsSentTo past q m → m < n → (n < length past → priority past m ≡ priority past n) →
+taken-first : (past : Past) → Legal past → (r : Record) → IsLegalNext past r → (q m n : ℕ) → IsSentTo past q m → IsKept past m → m < n → (n < length past → priority past m ≡ priority past n) →
     (message_given r.entry.reply ≡ Some n) × (is_accepted past q n ≡ true) ⊎ (length past ≡ n) × ((v : ℕ) × (is_in (waiting_receives past q) v ≡ true)) → is_in (taken past) m ≡ true
-taken-first past legal r next q m n sent lt prio (inl x) =
+taken-first past legal r next q m n sent kept lt prio (inl x) =
     let is = given-reply r.entry.reply n x.0 in
     let says : Says past r.entry.process r.entry.call (Got n is.0 is.1) = rw is.2 at (legal_says past r next) in
     let got = got_says past r.entry.process r.entry.call n is.0 is.1 says in
@@ -287,7 +292,7 @@ taken-first past legal r next q m n sent lt prio (inl x) =
     let mine : got.2.queue ≡ q = same-queue past got.2.queue q n (admitted-sent past got.2.queue n (present-admitted past got.2.queue n there.0)) (accepted-sent past q n x.1) in
     let P : ℕ → Type 0 = λ k. list_all (goes_first past n) (present past k) ≡ true in
     let all : list_all (goes_first past n) (present past q) ≡ true = subst P mine there.1 in
-    by all below (entered-unless past legal q m sent (λ waits. let bad = accepted-older past legal q n m x.1 waits in omega (arith, lt, bad)))
+    by all below (entered-unless past legal q m sent kept (λ waits. let bad = accepted-older past legal q n m x.1 waits in omega (arith, lt, bad)))
   where
     by : list_all (goes_first past n) (present past q) ≡ true → n < length past → Entered past q m → is_in (taken past) m ≡ true
     by all below (inr t) = t
@@ -295,8 +300,8 @@ taken-first past legal r next q m n sent lt prio (inl x) =
         (λ t. t)
         (λ f. let there = in-filter (λ k. not (is_in (taken past) k)) (admitted past q) m entered (rw f refl) in
         absurd (not-first past m n lt (prio below) (all-in (goes_first past n) (present past q) m all there)))
-taken-first past legal r next q m n sent lt prio (inr x) =
-    by (entered-unless past legal q m sent (λ waits. not-both past legal q x.1.0 m x.1.1 waits))
+taken-first past legal r next q m n sent kept lt prio (inr x) =
+    by (entered-unless past legal q m sent kept (λ waits. not-both past legal q x.1.0 m x.1.1 waits))
   where
     by : Entered past q m → is_in (taken past) m ≡ true
     by (inr t) = t
@@ -314,6 +319,7 @@ taken-by-reply k m (Opened d created) e = absurd (cc)
 taken-by-reply k m (Queued n) e = absurd (cc)
 taken-by-reply k m Waits e = absurd (cc)
 taken-by-reply k m (Collected b) e = absurd (cc)
+taken-by-reply k m (Withdrawn b) e = absurd (cc)
 taken-by-reply k m (Attrs s) e = absurd (cc)
 taken-by-reply k m (Notice v) e = absurd (cc)
 taken-by-reply k m Done e = absurd (cc)
@@ -336,6 +342,15 @@ leaves-in-order past legal q m n k hm hn lt prio e =
         let sooner : x.0 < k = (let lt = x.1 in omega (arith, lt, long)) in
         (x.0, sooner, back-taken past k m x.0 sooner (omega (arith, below)) x.2)
 
+    -- an accepted message is not withdrawn
+    kept : k < length past → IsKept (first k past) m
+    kept below j w =
+        let x = has-record withdrawn_wait (first k past) j m w in
+        let short = record_at-below (first k past) j x.r x.at in
+        let long = length-first k past (omega (arith, below)) in
+        let there : Has withdrawn_wait past j m = ap (λ (o : Option Record). option_and_then withdrawn_wait (option_map (λ (s : Record). s.entry.reply) o)) (sym (record_at-first past k j (omega (arith, short, long)) (omega (arith, below)))) ∙ w in
+        clash (is_accepted past q m) hm (withdrawn-not_accepted past legal j q m there)
+
     same-prio : k < length past → n < k → priority (first k past) m ≡ priority (first k past) n
     same-prio below sooner = priority-first past k m (omega (arith, lt, sooner)) (omega (arith, below)) ∙ prio ∙ sym (priority-first past k n sooner (omega (arith, below)))
 
@@ -350,7 +365,7 @@ leaves-in-order past legal q m n k hm hn lt prio e =
         let P : ℕ → Type 0 = λ i. is_in (admitted (first k past) i) n ≡ true in
         let entered_q : is_in (admitted (first k past) q) n ≡ true = subst P mine entered in
         let accepted : is_accepted (first k past) q n ≡ true = rw entered_q refl in
-        found below (taken-first (first k past) before r next q m n (sent-back past k q m sm (omega (arith, lt, sooner)) (omega (arith, below))) lt (λ _. same-prio below sooner) (inl (got, accepted)))
+        found below (taken-first (first k past) before r next q m n (sent-back past k q m sm (omega (arith, lt, sooner)) (omega (arith, below))) (kept below) lt (λ _. same-prio below sooner) (inl (got, accepted)))
     by {r} before next below at sm sn (inr here) =
         let long = length-first k past (omega (arith, below)) in
         let place = here.0 in
@@ -359,4 +374,4 @@ leaves-in-order past legal q m n k hm hn lt prio e =
         let on : called_queue (first k past) r.entry.process r.entry.call ≡ Some q = ap (λ b. called_queue (first b past) r.entry.process r.entry.call) place ∙ ap (λ (s : Record). called_queue (first n past) s.entry.process s.entry.call) (sym is) ∙ sn.on in
         let says : Says (first k past) r.entry.process r.entry.call (Handed here.1.0) = rw here.1.1 at (legal_says (first k past) r next) in
         let waits = handed-waits (first k past) r.entry.process q r.entry.call here.1.0 says (rw on (eq-eqb q q refl)) in
-        found below (taken-first (first k past) before r next q m n (sent-back past k q m sm (omega (arith, lt, place)) (omega (arith, below))) lt (λ short. absurd (omega (arith, short, long, place))) (inr (omega (arith, long, place), (here.1.0, waits))))
+        found below (taken-first (first k past) before r next q m n (sent-back past k q m sm (omega (arith, lt, place)) (omega (arith, below))) (kept below) lt (λ short. absurd (omega (arith, short, long, place))) (inr (omega (arith, long, place), (here.1.0, waits))))

@@ -12,7 +12,7 @@ use Rattle.mq_model.proofs.Presence.{place-is, with-more}
 use Rattle.mq_laws.proofs.LegalPlaces.{first-older}
 use Rattle.mq_model.specs.declared.entries.Call.{Call}
 use Rattle.mq_model.specs.declared.entries.Reply.{Reply}
-use Rattle.mq_model.specs.declared.entries.Reply.TheVariants.{Opened, Queued, Handed, Waits, Got, Collected, Attrs, Notice, Done, Refused}
+use Rattle.mq_model.specs.declared.entries.Reply.TheVariants.{Opened, Queued, Handed, Waits, Got, Collected, Attrs, Notice, Done, Refused, Withdrawn}
 
 -- replies of a send whose message is accepted at once or later
 abbrev pub is_sent : Reply → Bool
@@ -57,6 +57,7 @@ queues-sent call (Handed w) e = absurd (let bad : false ≡ true = e in cc)
 queues-sent call Waits e = absurd (let bad : false ≡ true = e in cc)
 queues-sent call (Got m a n) e = absurd (let bad : false ≡ true = e in cc)
 queues-sent call (Collected b) e = absurd (let bad : false ≡ true = e in cc)
+queues-sent call (Withdrawn b) e = absurd (let bad : false ≡ true = e in cc)
 queues-sent call (Attrs s) e = absurd (let bad : false ≡ true = e in cc)
 queues-sent call (Notice v) e = absurd (let bad : false ≡ true = e in cc)
 queues-sent call Done e = absurd (let bad : false ≡ true = e in cc)
@@ -69,6 +70,7 @@ blocks-sent call (Queued n) e = absurd (let bad : false ≡ true = e in cc)
 blocks-sent call (Handed w) e = absurd (let bad : false ≡ true = e in cc)
 blocks-sent call (Got m a n) e = absurd (let bad : false ≡ true = e in cc)
 blocks-sent call (Collected b) e = absurd (let bad : false ≡ true = e in cc)
+blocks-sent call (Withdrawn b) e = absurd (let bad : false ≡ true = e in cc)
 blocks-sent call (Attrs s) e = absurd (let bad : false ≡ true = e in cc)
 blocks-sent call (Notice v) e = absurd (let bad : false ≡ true = e in cc)
 blocks-sent call Done e = absurd (let bad : false ≡ true = e in cc)
@@ -81,6 +83,7 @@ hands-sent here call (Queued n) e = absurd (let bad : false ≡ true = e in cc)
 hands-sent here call Waits e = absurd (let bad : false ≡ true = e in cc)
 hands-sent here call (Got m a n) e = absurd (let bad : false ≡ true = e in cc)
 hands-sent here call (Collected b) e = absurd (let bad : false ≡ true = e in cc)
+hands-sent here call (Withdrawn b) e = absurd (let bad : false ≡ true = e in cc)
 hands-sent here call (Attrs s) e = absurd (let bad : false ≡ true = e in cc)
 hands-sent here call (Notice v) e = absurd (let bad : false ≡ true = e in cc)
 hands-sent here call Done e = absurd (let bad : false ≡ true = e in cc)

@@ -2,12 +2,13 @@
 use Rattle.std.proofs.Common.{◌≡◌, ℕ, suc, ◌<◌, ◌==◌, Bool, true, false, ◌&&◌, not, List, [], ◌∷◌, length, Option, Some, None, refl, sym, ◌∙◌, ap, subst, arith, eqb-true, eq-eqb, ne_eqb}
 use Rattle.std.specs.Prelude.{ℤ, int_le, pos, negsuc}
 use Rattle.std.specs.List.{filter}
+use Rattle.std.specs.Option.{option_map}
 use Rattle.std.proofs.lemmas.Bool.{eqb-false, and_parts, false_from_ne_true}
 use Rattle.std.proofs.lemmas.Bool.Decides.{nat_tests}
 use Rattle.mq_model.specs.Record.{Record, Past}
 use Rattle.mq_model.specs.Names.{attributes}
-use Rattle.mq_model.specs.Descriptors.{called_queue, created, is_place, is_on}
-use Rattle.mq_model.specs.Messages.{is_in, with_place, if_in, queues, admits, blocked_sends, admitted_waits, waiting_sends, entered, admitted, taken, present, is_full, least}
+use Rattle.mq_model.specs.Descriptors.{held, called_queue, created, is_place, is_on}
+use Rattle.mq_model.specs.Messages.{is_in, with_place, if_in, queues, admits, is_send, best, blocked_sends, ended_sends, waiting_sends, entered, admitted, taken, present, is_full, least}
 use Rattle.mq_model.specs.Answer.{Legal, IsLegalNext}
 use Rattle.mq_laws.specs.Laws.{WaitsForCause}
 use Rattle.mq_model.proofs.Places.{split, clash, is_in-filter, find-in}
@@ -16,14 +17,15 @@ use Rattle.mq_model.proofs.LegalReplies.{legal_says}
 use Rattle.mq_model.proofs.NamedWaits.{least-in}
 use Rattle.mq_laws.proofs.Waiting.{waiting-empty}
 use Rattle.mq_model.proofs.Steps.{without, filter-both, not-below, admitted-below, if_in-inside, present-queued_elsewhere}
-use Rattle.mq_model.proofs.Presence.{place-is, blocked-on, waiting-not_admitted, without-absent, present-got_here, present-got_elsewhere, present-handed, GotFacts}
+use Rattle.mq_model.proofs.Presence.{place-is, blocked-on, waiting-not_admitted, without-absent, present-got_here, present-got_elsewhere, present-handed}
 use Rattle.mq_model.proofs.PresentFew.{sent-created, present-few, called-on, called-created}
 use Rattle.mq_model.proofs.Frames.{created-below, attributes-older}
 use Rattle.mq_model.proofs.Waiters.{admits-least}
+use Rattle.mq_model.specs.declared.entries.Description.{Description}
 use Rattle.mq_model.specs.declared.entries.Call.{Call}
-use Rattle.mq_model.specs.declared.entries.Call.TheVariants.{MqOpen, MqClose, MqUnlink, MqSend, MqReceive, MqGetattr, MqSetattr, MqNotify, NextNotice, Collect}
+use Rattle.mq_model.specs.declared.entries.Call.TheVariants.{MqOpen, MqClose, MqUnlink, MqSend, MqReceive, MqGetattr, MqSetattr, MqNotify, NextNotice, Collect, MqTimedSend, MqTimedReceive, Withdraw}
 use Rattle.mq_model.specs.declared.entries.Reply.{Reply}
-use Rattle.mq_model.specs.declared.entries.Reply.TheVariants.{Opened, Queued, Handed, Waits, Got, Collected, Attrs, Notice, Done, Refused}
+use Rattle.mq_model.specs.declared.entries.Reply.TheVariants.{Opened, Queued, Handed, Waits, Got, Collected, Attrs, Notice, Done, Refused, Withdrawn}
 
 abbrev rec : ℕ → Call → Reply → List ℕ → Record
 rec p call reply payload = record { entry = record { process = p; call = call; reply = reply }; payload = payload }
@@ -63,6 +65,7 @@ entered-fresh past legal r next q k e =
     by (Handed w) says e = absurd (cc)
     by Waits says e = absurd (cc)
     by (Collected b) says e = absurd (cc)
+    by (Withdrawn b) says e = absurd (cc)
     by (Attrs s) says e = absurd (cc)
     by (Notice v) says e = absurd (cc)
     by Done says e = absurd (cc)
@@ -98,7 +101,7 @@ none-waits past q full room w h = clash (is_full past q) (full w h) room
 -- a waiting send stands in a queue that was created
 pub waiting-created : (past : Past) → Legal past → (q w : ℕ) → is_in (waiting_sends past q) w ≡ true → is_in (created past) q ≡ true
 waiting-created past legal q w h =
-    let blocked = (is_in-filter (λ w. not (is_in (admitted_waits past) w)) (blocked_sends past q) w h).0 in
+    let blocked = (is_in-filter (λ w. not (is_in (ended_sends past) w)) (blocked_sends past q) w h).0 in
     sent-created past legal w q (blocked-on past q w blocked).to
 
 same-full : (past : Past) (r : Record) (q : ℕ) → q < length past → length (present (r ∷ past) q) ≡ length (present past q) → is_full past q ≡ true → is_full (r ∷ past) q ≡ true
@@ -110,15 +113,20 @@ full-same past legal r q before waits same w h =
     let old : is_in (waiting_sends past q) w ≡ true = rw waits at h in
     same-full past r q (created-below past q (waiting-created past legal q w old)) same (before w old)
 
+full-blocked : (past : Past) → Legal past → (p d : ℕ) (call : Call) (h : Description) (payload : List ℕ) (q : ℕ) → is_send call ≡ true → called_queue past p call ≡ option_map (λ h. h.queue) (held past p d) → held past p d ≡ Some h → is_full past h.queue ≡ true → FullWhereWaiting past q → FullWhereWaiting (rec p call Waits payload ∷ past) q
+full-blocked past legal p d call h payload q sends calls is full before w waits =
+    let r : Record = rec p call Waits payload in
+    split (is_place q (called_queue past p call))
+    (λ on. let same : h.queue ≡ q = called-on past p d q h is (rw (← calls) on) in
+    let here : is_full past q ≡ true = rw same at full in
+    same-full past r q (created-below past q (called-created past legal p q call (place-is (called_queue past p call) q on))) refl here)
+    (λ off. full-same past legal r q before (rw (sends, off) refl) refl w waits)
+
 full-waits : (past : Past) → Legal past → (p : ℕ) (call : Call) (payload : List ℕ) (q : ℕ) → Says past p call Waits → FullWhereWaiting past q → FullWhereWaiting (rec p call Waits payload ∷ past) q
-full-waits past legal p (MqSend d prio len) payload q says before w h =
-    let r : Record = rec p (MqSend d prio len) Waits payload in
-    split (is_place q (called_queue past p (MqSend d prio len)))
-    (λ on. let same : says.0.queue ≡ q = called-on past p d q says.0 says.1 on in
-    let full : is_full past q ≡ true = rw same at says.3.1 in
-    same-full past r q (created-below past q (called-created past legal p q (MqSend d prio len) (place-is (called_queue past p (MqSend d prio len)) q on))) refl full)
-    (λ off. full-same past legal r q before (rw off refl) refl w h)
+full-waits past legal p (MqSend d prio len) payload q says before w h = full-blocked past legal p d (MqSend d prio len) says.0 payload q refl refl says.1 says.3.1 before w h
+full-waits past legal p (MqTimedSend d prio len until now) payload q says before w h = full-blocked past legal p d (MqTimedSend d prio len until now) says.0 payload q refl refl says.1 says.3.1 before w h
 full-waits past legal p (MqReceive d room) payload q says before w h = full-same past legal (rec p (MqReceive d room) Waits payload) q before refl refl w h
+full-waits past legal p (MqTimedReceive d room until now) payload q says before w h = full-same past legal (rec p (MqTimedReceive d room until now) Waits payload) q before refl refl w h
 full-waits past legal p (MqOpen flags attr) payload q says before w h = absurd says
 full-waits past legal p (MqClose d) payload q says before w h = absurd says.0
 full-waits past legal p MqUnlink payload q says before w h = absurd says
@@ -127,45 +135,55 @@ full-waits past legal p (MqSetattr d nonblock) payload q says before w h = absur
 full-waits past legal p (MqNotify d value) payload q says before w h = absurd says
 full-waits past legal p NextNotice payload q says before w h = absurd (cc)
 full-waits past legal p Collect payload q says before w h = absurd (cc)
+full-waits past legal p (Withdraw now) payload q says before w h = absurd (cc)
+
+full-sent : (past : Past) → Legal past → (p d : ℕ) (call : Call) (h : Description) (n : Option ℕ) (payload : List ℕ) (q : ℕ) → called_queue past p call ≡ option_map (λ h. h.queue) (held past p d) → held past p d ≡ Some h → is_full past h.queue ≡ false → FullWhereWaiting past q → FullWhereWaiting (rec p call (Queued n) payload ∷ past) q
+full-sent past legal p d call h n payload q calls is free before w waits =
+    split (is_place q (called_queue past p call))
+    (λ on. let same : h.queue ≡ q = called-on past p d q h is (rw (← calls) on) in
+    let room : is_full past q ≡ false = rw same at free in
+    absurd (none-waits past q before room w waits))
+    (λ off. full-same past legal (rec p call (Queued n) payload) q before refl (ap length (present-queued_elsewhere past p call q n payload off)) w waits)
 
 full-queued : (past : Past) → Legal past → (p : ℕ) (call : Call) (n : Option ℕ) (payload : List ℕ) (q : ℕ) → Says past p call (Queued n) → FullWhereWaiting past q → FullWhereWaiting (rec p call (Queued n) payload ∷ past) q
-full-queued past legal p (MqSend d prio len) n payload q says before w h =
-    split (is_place q (called_queue past p (MqSend d prio len)))
-    (λ on. let same : says.0.queue ≡ q = called-on past p d q says.0 says.1 on in
-    let room : is_full past q ≡ false = rw same at says.3.1 in
-    absurd (none-waits past q before room w h))
-    (λ off. full-same past legal (rec p (MqSend d prio len) (Queued n) payload) q before refl (ap length (present-queued_elsewhere past p d prio len q n payload off)) w h)
+full-queued past legal p (MqSend d prio len) n payload q says before w h = full-sent past legal p d (MqSend d prio len) says.0 n payload q refl says.1 says.3.1 before w h
+full-queued past legal p (MqTimedSend d prio len until now) n payload q says before w h = full-sent past legal p d (MqTimedSend d prio len until now) says.0 n payload q refl says.1 says.3.1 before w h
 full-queued past legal p (MqOpen flags attr) n payload q says before w h = absurd says
 full-queued past legal p (MqClose d) n payload q says before w h = absurd says.0
 full-queued past legal p MqUnlink n payload q says before w h = absurd says
 full-queued past legal p (MqReceive d room) n payload q says before w h = absurd says.3
+full-queued past legal p (MqTimedReceive d room until now) n payload q says before w h = absurd says.3
 full-queued past legal p (MqGetattr d) n payload q says before w h = absurd says
 full-queued past legal p (MqSetattr d nonblock) n payload q says before w h = absurd says
 full-queued past legal p (MqNotify d value) n payload q says before w h = absurd says
 full-queued past legal p NextNotice n payload q says before w h = absurd (cc)
 full-queued past legal p Collect n payload q says before w h = absurd (cc)
+full-queued past legal p (Withdraw now) n payload q says before w h = absurd (cc)
 
--- what waits behind a receive waited before it, and was not admitted
-pub waits-got : (past : Past) (p : ℕ) (call : Call) (m : ℕ) (a n : Option ℕ) (payload : List ℕ) (q w : ℕ) → is_in (waiting_sends (rec p call (Got m a n) payload ∷ past) q) w ≡ true → is_in (waiting_sends past q) w ≡ true
-waits-got past p call m None n payload q w h = h
-waits-got past p call m (Some v) n payload q w h =
-    let still : is_in (without v (waiting_sends past q)) w ≡ true = rw (← filter-both (λ k. v == k) (is_in (admitted_waits past)) (blocked_sends past q)) h in
+-- the sends that wait behind a reply that ends one waited before it
+pub still-waits : (past : Past) (v q w : ℕ) → is_in (filter (λ k. not (is_in (v ∷ ended_sends past) k)) (blocked_sends past q)) w ≡ true → is_in (waiting_sends past q) w ≡ true
+still-waits past v q w h =
+    let still : is_in (without v (waiting_sends past q)) w ≡ true = rw (← filter-both (λ k. v == k) (is_in (ended_sends past)) (blocked_sends past q)) h in
     (is_in-filter (λ k. not (v == k)) (waiting_sends past q) w still).0
 
-full-got : (past : Past) → Legal past → (p : ℕ) (call : Call) (m : ℕ) (a n : Option ℕ) (payload : List ℕ) (q : ℕ) → Says past p call (Got m a n) → FullWhereWaiting past q → FullWhereWaiting (rec p call (Got m a n) payload ∷ past) q
-full-got past legal p (MqReceive d room) m a n payload q says before w h =
-    let r : Record = rec p (MqReceive d room) (Got m a n) payload in
-    let old = waits-got past p (MqReceive d room) m a n payload q w h in
+waits-got : (past : Past) (p : ℕ) (call : Call) (m : ℕ) (a n : Option ℕ) (payload : List ℕ) (q w : ℕ) → is_in (waiting_sends (rec p call (Got m a n) payload ∷ past) q) w ≡ true → is_in (waiting_sends past q) w ≡ true
+waits-got past p call m None n payload q w h = h
+waits-got past p call m (Some v) n payload q w h = still-waits past v q w h
+
+full-taken : (past : Past) → Legal past → (p : ℕ) (call : Call) (m : ℕ) (a n : Option ℕ) (payload : List ℕ) (q k : ℕ) → best past k ≡ Some m → a ≡ least (waiting_sends past k) → FullWhereWaiting past q → FullWhereWaiting (rec p call (Got m a n) payload ∷ past) q
+full-taken past legal p call m a n payload q k gives admits before w h =
+    let r : Record = rec p call (Got m a n) payload in
+    let old = waits-got past p call m a n payload q w h in
     let lt = created-below past q (waiting-created past legal q w old) in
-    split (q == says.0.queue)
-    (λ t. let same : q ≡ says.0.queue = eqb-true _ _ t in
-    let P : ℕ → Type 0 = λ k. length (present (r ∷ past) k) ≡ length (present past k) in
-    let first : a ≡ least (waiting_sends past q) = rw same says.3.1 in
-    same-full past r q lt (subst P (sym same) (here a says.3.1 (no-none (least (waiting_sends past q)) a first refl old))) (before w old))
-    (λ f. same-full past r q lt (ap length (present-got_elsewhere past p (MqReceive d room) m a n payload says.0.queue q facts (eqb-false _ _ f))) (before w old))
+    split (q == k)
+    (λ t. let same : q ≡ k = eqb-true _ _ t in
+    let P : ℕ → Type 0 = λ j. length (present (r ∷ past) j) ≡ length (present past j) in
+    let first : a ≡ least (waiting_sends past q) = rw same admits in
+    same-full past r q lt (subst P (sym same) (here a admits (no-none (least (waiting_sends past q)) a first refl old))) (before w old))
+    (λ f. same-full past r q lt (ap length (present-got_elsewhere past p call m a n payload k q (record { inside = inside; admitted = admits }) (eqb-false _ _ f))) (before w old))
   where
-    facts : GotFacts past says.0.queue m a
-    facts = record { inside = (find-in _ (present past says.0.queue) m says.3.0).0; admitted = says.3.1 }
+    inside : is_in (present past k) m ≡ true
+    inside = (find-in _ (present past k) m gives).0
 
     no-none : (o a : Option ℕ) → a ≡ o → least (waiting_sends past q) ≡ o → is_in (waiting_sends past q) w ≡ true → (v : ℕ) × (a ≡ Some v)
     no-none (Some v) a e is there = (v, e)
@@ -175,21 +193,26 @@ full-got past legal p (MqReceive d room) m a n payload q says before w h =
         none [] is there = cc
         none (x ∷ xs) is there = cc
 
-    here : (a : Option ℕ) → a ≡ least (waiting_sends past says.0.queue) → (v : ℕ) × (a ≡ Some v) → length (present (rec p (MqReceive d room) (Got m a n) payload ∷ past) says.0.queue) ≡ length (present past says.0.queue)
+    here : (a : Option ℕ) → a ≡ least (waiting_sends past k) → (v : ℕ) × (a ≡ Some v) → length (present (rec p call (Got m a n) payload ∷ past) k) ≡ length (present past k)
     here (Some v) first some =
-        let inside = (find-in _ (present past says.0.queue) m says.3.0).0 in
-        ap length (present-got_here past legal p (MqReceive d room) m (Some v) n payload says.0.queue (record { inside = inside; admitted = first }))
-        ∙ length-without m (present past says.0.queue) (present-distinct past legal says.0.queue) inside
+        ap length (present-got_here past legal p call m (Some v) n payload k (record { inside = inside; admitted = first }))
+        ∙ length-without m (present past k) (present-distinct past legal k) inside
     here None first some = absurd (let bad : None ≡ Some some.0 = some.1 in cc)
+
+full-got : (past : Past) → Legal past → (p : ℕ) (call : Call) (m : ℕ) (a n : Option ℕ) (payload : List ℕ) (q : ℕ) → Says past p call (Got m a n) → FullWhereWaiting past q → FullWhereWaiting (rec p call (Got m a n) payload ∷ past) q
+full-got past legal p (MqReceive d room) m a n payload q says before w h = full-taken past legal p (MqReceive d room) m a n payload q says.0.queue says.3.0 says.3.1 before w h
+full-got past legal p (MqTimedReceive d room until now) m a n payload q says before w h = full-taken past legal p (MqTimedReceive d room until now) m a n payload q says.0.queue says.3.0 says.3.1 before w h
 full-got past legal p (MqOpen flags attr) m a n payload q says before w h = absurd says
 full-got past legal p (MqClose d) m a n payload q says before w h = absurd says.0
 full-got past legal p MqUnlink m a n payload q says before w h = absurd says
 full-got past legal p (MqSend d prio len) m a n payload q says before w h = absurd says.3
+full-got past legal p (MqTimedSend d prio len until now) m a n payload q says before w h = absurd says.3
 full-got past legal p (MqGetattr d) m a n payload q says before w h = absurd says
 full-got past legal p (MqSetattr d nonblock) m a n payload q says before w h = absurd says
 full-got past legal p (MqNotify d value) m a n payload q says before w h = absurd says
 full-got past legal p NextNotice m a n payload q says before w h = absurd (cc)
 full-got past legal p Collect m a n payload q says before w h = absurd (cc)
+full-got past legal p (Withdraw now) m a n payload q says before w h = absurd (cc)
 
 full-next : (past : Past) → Legal past → (p : ℕ) (call : Call) (reply : Reply) (payload : List ℕ) (q : ℕ) → Says past p call reply → FullWhereWaiting past q → FullWhereWaiting (rec p call reply payload ∷ past) q
 full-next past legal p call (Queued n) payload q says before = full-queued past legal p call n payload q says before
@@ -198,6 +221,8 @@ full-next past legal p call Waits payload q says before = full-waits past legal 
 full-next past legal p call (Handed w) payload q says before = full-same past legal (rec p call (Handed w) payload) q before refl (ap length (present-handed past p call w payload q))
 full-next past legal p call (Opened d created) payload q says before = full-same past legal (rec p call (Opened d created) payload) q before refl refl
 full-next past legal p call (Collected b) payload q says before = full-same past legal (rec p call (Collected b) payload) q before refl refl
+full-next past legal p call (Withdrawn v) payload q says before =
+    λ w h. let old = still-waits past v q w h in same-full past (rec p call (Withdrawn v) payload) q (created-below past q (waiting-created past legal q w old)) refl (before w old)
 full-next past legal p call (Attrs s) payload q says before = full-same past legal (rec p call (Attrs s) payload) q before refl refl
 full-next past legal p call (Notice v) payload q says before = full-same past legal (rec p call (Notice v) payload) q before refl refl
 full-next past legal p call Done payload q says before = full-same past legal (rec p call Done payload) q before refl refl

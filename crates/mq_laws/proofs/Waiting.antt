@@ -1,21 +1,23 @@
 -- Where a receive waits, nothing is in the queue.
 use Rattle.std.proofs.Common.{◌≡◌, ℕ, ◌==◌, true, false, ◌&&◌, ◌||◌, not, List, [], ◌∷◌, length, Option, Some, None, refl, sym, ◌∙◌, ap, subst, min, arith, eq-eqb, eqb-true, ne_eqb}
+use Rattle.std.specs.List.{filter}
 use Rattle.std.specs.Option.{option_map}
 use Rattle.std.proofs.lemmas.Bool.{eqb-false, and_parts}
 use Rattle.mq_model.specs.Record.{Record, Past}
 use Rattle.mq_model.specs.Descriptors.{is_place, is_on, called_queue, held}
-use Rattle.mq_model.specs.Messages.{is_in, if_in, taken, present, admitted, least, blocked_sends, blocked_receives, blocks_send, handed_waits, admitted_waits, waiting_sends, waiting_receives}
+use Rattle.mq_model.specs.Messages.{is_in, if_in, taken, present, admitted, least, blocked_sends, blocked_receives, blocks_send, is_receive, best, ended_receives, ended_sends, waiting_sends, waiting_receives}
 use Rattle.mq_model.specs.Answer.{Legal}
 use Rattle.mq_model.proofs.Places.{split, is_in-filter, find-in}
 use Rattle.mq_model.proofs.Best.{best-none}
 use Rattle.mq_model.proofs.Cases.{Says}
 use Rattle.mq_model.proofs.LegalReplies.{legal_says}
-use Rattle.mq_model.proofs.Steps.{without, filter-both, blocked_sends-below, if_in-inside}
+use Rattle.mq_model.proofs.Steps.{without, filter-both, blocked_sends-below, if_in-inside, present-queued_elsewhere}
+use Rattle.mq_model.proofs.PresentFew.{called-on}
 use Rattle.mq_model.specs.declared.entries.Description.{Description}
 use Rattle.mq_model.specs.declared.entries.Call.{Call}
-use Rattle.mq_model.specs.declared.entries.Call.TheVariants.{MqOpen, MqClose, MqUnlink, MqSend, MqReceive, MqGetattr, MqSetattr, MqNotify, NextNotice, Collect}
+use Rattle.mq_model.specs.declared.entries.Call.TheVariants.{MqOpen, MqClose, MqUnlink, MqSend, MqReceive, MqGetattr, MqSetattr, MqNotify, NextNotice, Collect, MqTimedSend, MqTimedReceive, Withdraw}
 use Rattle.mq_model.specs.declared.entries.Reply.{Reply}
-use Rattle.mq_model.specs.declared.entries.Reply.TheVariants.{Opened, Queued, Handed, Waits, Got, Collected, Attrs, Notice, Done, Refused}
+use Rattle.mq_model.specs.declared.entries.Reply.TheVariants.{Opened, Queued, Handed, Waits, Got, Collected, Attrs, Notice, Done, Refused, Withdrawn}
 
 least-none : (xs : List ℕ) → least xs ≡ None → xs ≡ []
 least-none [] e = refl
@@ -68,42 +70,51 @@ rec p call reply payload = record { entry = record { process = p; call = call; r
 abbrev IsEmptyWhereWaiting : Past → ℕ → ℕ → Type 0
 IsEmptyWhereWaiting past q w = is_in (waiting_receives past q) w ≡ true → present past q ≡ []
 
--- the queue that a held descriptor names
-on_queue : (past : Past) (p d q : ℕ) (h : Description) → held past p d ≡ Some h → is_place q (option_map (λ h. h.queue) (held past p d)) ≡ true → h.queue ≡ q
-on_queue past p d q h e on = let test : (h.queue == q) ≡ true = rw e at on in eqb-true _ _ test
+empty-sent : (past : Past) (p : ℕ) (call : Call) (d : ℕ) (h : Description) (n : Option ℕ) (payload : List ℕ) (q w : ℕ) → called_queue past p call ≡ option_map (λ h. h.queue) (held past p d) → held past p d ≡ Some h → least (waiting_receives past h.queue) ≡ None → IsEmptyWhereWaiting past q w → IsEmptyWhereWaiting (rec p call (Queued n) payload ∷ past) q w
+empty-sent past p call d h n payload q w calls is none before waits =
+    split (is_place q (called_queue past p call))
+    (λ on. let same : h.queue ≡ q = called-on past p d q h is (rw (← calls) on) in
+    let P : ℕ → Type 0 = λ k. waiting_receives past k ≡ [] in
+    absurd (not-in-nil (waiting_receives past q) w (subst P same (least-none _ none)) waits))
+    (λ off. present-queued_elsewhere past p call q n payload off ∙ before waits)
 
 empty-queued : (past : Past) (p : ℕ) (call : Call) (n : Option ℕ) (payload : List ℕ) (q w : ℕ) → Says past p call (Queued n) → IsEmptyWhereWaiting past q w → IsEmptyWhereWaiting (rec p call (Queued n) payload ∷ past) q w
-empty-queued past p (MqSend d prio len) n payload q w says before h =
-    split (is_place q (called_queue past p (MqSend d prio len)))
-    (λ on. let same : says.0.queue ≡ q = on_queue past p d q says.0 says.1 on in
-    let none : waiting_receives past says.0.queue ≡ [] = least-none _ says.3.0 in
-    let P : ℕ → Type 0 = λ k. waiting_receives past k ≡ [] in
-    absurd (not-in-nil (waiting_receives past q) w (subst P same none) h))
-    (λ off. rw off (before h))
+empty-queued past p (MqSend d prio len) n payload q w says before h = empty-sent past p (MqSend d prio len) d says.0 n payload q w refl says.1 says.3.0 before h
+empty-queued past p (MqTimedSend d prio len until now) n payload q w says before h = empty-sent past p (MqTimedSend d prio len until now) d says.0 n payload q w refl says.1 says.3.0 before h
 empty-queued past p (MqOpen flags attr) n payload q w says before h = absurd says
 empty-queued past p (MqClose d) n payload q w says before h = absurd says.0
 empty-queued past p MqUnlink n payload q w says before h = absurd says
 empty-queued past p (MqReceive d room) n payload q w says before h = absurd says.3
+empty-queued past p (MqTimedReceive d room until now) n payload q w says before h = absurd says.3
 empty-queued past p (MqGetattr d) n payload q w says before h = absurd says
 empty-queued past p (MqSetattr d nonblock) n payload q w says before h = absurd says
 empty-queued past p (MqNotify d value) n payload q w says before h = absurd says
 empty-queued past p NextNotice n payload q w says before h = absurd (cc)
 empty-queued past p Collect n payload q w says before h = absurd (cc)
+empty-queued past p (Withdraw now) n payload q w says before h = absurd (cc)
+
+-- the waits that did not end, behind a reply that ends one
+empty-ended : (past : Past) (w0 q w : ℕ) → IsEmptyWhereWaiting past q w → is_in (filter (λ v. not (is_in (w0 ∷ ended_receives past) v)) (blocked_receives past q)) w ≡ true → present past q ≡ []
+empty-ended past w0 q w before h =
+    let still : is_in (without w0 (waiting_receives past q)) w ≡ true = rw (← filter-both (λ k. w0 == k) (is_in (ended_receives past)) (blocked_receives past q)) h in
+    before (is_in-filter (λ k. not (w0 == k)) (waiting_receives past q) w still).0
 
 empty-handed : (past : Past) (p : ℕ) (call : Call) (w0 : ℕ) (payload : List ℕ) (q w : ℕ) → IsEmptyWhereWaiting past q w → IsEmptyWhereWaiting (rec p call (Handed w0) payload ∷ past) q w
-empty-handed past p call w0 payload q w before h =
-    let still : is_in (without w0 (waiting_receives past q)) w ≡ true = rw (← filter-both (λ k. w0 == k) (is_in (handed_waits past)) (blocked_receives past q)) h in
-    let empty = before (is_in-filter (λ k. not (w0 == k)) (waiting_receives past q) w still).0 in
-    filter-both (λ k. length past == k) (is_in (taken past)) (admitted past q) ∙ ap (without (length past)) empty
+empty-handed past p call w0 payload q w before h = filter-both (λ k. length past == k) (is_in (taken past)) (admitted past q) ∙ ap (without (length past)) (empty-ended past w0 q w before h)
+
+empty-received : (past : Past) (p : ℕ) (call : Call) (d : ℕ) (h : Description) (payload : List ℕ) (q w : ℕ) → is_receive call ≡ true → called_queue past p call ≡ option_map (λ h. h.queue) (held past p d) → held past p d ≡ Some h → best past h.queue ≡ None → IsEmptyWhereWaiting past q w → IsEmptyWhereWaiting (rec p call Waits payload ∷ past) q w
+empty-received past p call d h payload q w receives calls is none before waits =
+    split (is_place q (called_queue past p call))
+    (λ on. let same : h.queue ≡ q = called-on past p d q h is (rw (← calls) on) in
+    let P : ℕ → Type 0 = λ k. present past k ≡ [] in
+    subst P same (best-none past h.queue none))
+    (λ off. let old : is_in (waiting_receives past q) w ≡ true = rw (receives, off) at waits in before old)
 
 empty-waits : (past : Past) (p : ℕ) (call : Call) (payload : List ℕ) (q w : ℕ) → Says past p call Waits → IsEmptyWhereWaiting past q w → IsEmptyWhereWaiting (rec p call Waits payload ∷ past) q w
 empty-waits past p (MqSend d prio len) payload q w says before h = before h
-empty-waits past p (MqReceive d room) payload q w says before h =
-    split (is_place q (called_queue past p (MqReceive d room)))
-    (λ on. let same : says.0.queue ≡ q = on_queue past p d q says.0 says.1 on in
-    let P : ℕ → Type 0 = λ k. present past k ≡ [] in
-    subst P same (best-none past says.0.queue says.3.0))
-    (λ off. let old : is_in (waiting_receives past q) w ≡ true = rw off at h in before old)
+empty-waits past p (MqTimedSend d prio len until now) payload q w says before h = before h
+empty-waits past p (MqReceive d room) payload q w says before h = empty-received past p (MqReceive d room) d says.0 payload q w refl refl says.1 says.3.0 before h
+empty-waits past p (MqTimedReceive d room until now) payload q w says before h = empty-received past p (MqTimedReceive d room until now) d says.0 payload q w refl refl says.1 says.3.0 before h
 empty-waits past p (MqOpen flags attr) payload q w says before h = absurd says
 empty-waits past p (MqClose d) payload q w says before h = absurd says.0
 empty-waits past p MqUnlink payload q w says before h = absurd says
@@ -112,35 +123,41 @@ empty-waits past p (MqSetattr d nonblock) payload q w says before h = absurd say
 empty-waits past p (MqNotify d value) payload q w says before h = absurd says
 empty-waits past p NextNotice payload q w says before h = absurd (cc)
 empty-waits past p Collect payload q w says before h = absurd (cc)
+empty-waits past p (Withdraw now) payload q w says before h = absurd (cc)
+
+empty-taken : (past : Past) (p : ℕ) (call : Call) (m : ℕ) (a n : Option ℕ) (payload : List ℕ) (q k : ℕ) → best past k ≡ Some m → a ≡ least (waiting_sends past k) → present past q ≡ [] → present (rec p call (Got m a n) payload ∷ past) q ≡ []
+empty-taken past p call m a n payload q k gives admits empty = by (if_in (blocked_sends past q) a) refl
+  where
+    by : (o : Option ℕ) → if_in (blocked_sends past q) a ≡ o → present (rec p call (Got m a n) payload ∷ past) q ≡ []
+    by None e = rw e (filter-both (λ k. m == k) (is_in (taken past)) (admitted past q) ∙ ap (without m) empty)
+    by (Some w1) e =
+        let inside = if_in-inside (blocked_sends past q) a w1 e in
+        let first : least (waiting_sends past k) ≡ Some w1 = sym admits ∙ inside.1 in
+        let there = (is_in-filter (λ k. not (is_in (ended_sends past) k)) (blocked_sends past k) w1 (least-in _ w1 first)).0 in
+        let same : k ≡ q = blocked-one_queue past k q w1 there inside.0 in
+        let P : ℕ → Type 0 = λ k. is_in (present past k) m ≡ true in
+        let held : is_in (present past q) m ≡ true = subst P same (find-in _ (present past k) m gives).0 in
+        absurd (not-in-nil (present past q) m empty held)
 
 empty-got : (past : Past) (p : ℕ) (call : Call) (m : ℕ) (a n : Option ℕ) (payload : List ℕ) (q w : ℕ) → Says past p call (Got m a n) → IsEmptyWhereWaiting past q w → IsEmptyWhereWaiting (rec p call (Got m a n) payload ∷ past) q w
-empty-got past p (MqReceive d room) m a n payload q w says before h =
-    let empty : present past q ≡ [] = before h in
-    by_admitted (if_in (blocked_sends past q) a) refl empty
-  where
-    by_admitted : (o : Option ℕ) → if_in (blocked_sends past q) a ≡ o → present past q ≡ [] → present (rec p (MqReceive d room) (Got m a n) payload ∷ past) q ≡ []
-    by_admitted None e empty = rw e (filter-both (λ k. m == k) (is_in (taken past)) (admitted past q) ∙ ap (without m) empty)
-    by_admitted (Some w1) e empty =
-        let inside = if_in-inside (blocked_sends past q) a w1 e in
-        let first : least (waiting_sends past says.0.queue) ≡ Some w1 = sym says.3.1 ∙ inside.1 in
-        let there = (is_in-filter (λ k. not (is_in (admitted_waits past) k)) (blocked_sends past says.0.queue) w1 (least-in _ w1 first)).0 in
-        let same : says.0.queue ≡ q = blocked-one_queue past says.0.queue q w1 there inside.0 in
-        let P : ℕ → Type 0 = λ k. is_in (present past k) m ≡ true in
-        let held : is_in (present past q) m ≡ true = subst P same (find-in _ (present past says.0.queue) m says.3.0).0 in
-        absurd (not-in-nil (present past q) m empty held)
+empty-got past p (MqReceive d room) m a n payload q w says before h = empty-taken past p (MqReceive d room) m a n payload q says.0.queue says.3.0 says.3.1 (before h)
+empty-got past p (MqTimedReceive d room until now) m a n payload q w says before h = empty-taken past p (MqTimedReceive d room until now) m a n payload q says.0.queue says.3.0 says.3.1 (before h)
 empty-got past p (MqOpen flags attr) m a n payload q w says before h = absurd says
 empty-got past p (MqClose d) m a n payload q w says before h = absurd says.0
 empty-got past p MqUnlink m a n payload q w says before h = absurd says
 empty-got past p (MqSend d prio len) m a n payload q w says before h = absurd says.3
+empty-got past p (MqTimedSend d prio len until now) m a n payload q w says before h = absurd says.3
 empty-got past p (MqGetattr d) m a n payload q w says before h = absurd says
 empty-got past p (MqSetattr d nonblock) m a n payload q w says before h = absurd says
 empty-got past p (MqNotify d value) m a n payload q w says before h = absurd says
 empty-got past p NextNotice m a n payload q w says before h = absurd (cc)
 empty-got past p Collect m a n payload q w says before h = absurd (cc)
+empty-got past p (Withdraw now) m a n payload q w says before h = absurd (cc)
 
 empty-more : (past : Past) (p : ℕ) (call : Call) (reply : Reply) (payload : List ℕ) (q w : ℕ) → Says past p call reply → IsEmptyWhereWaiting past q w → IsEmptyWhereWaiting (rec p call reply payload ∷ past) q w
 empty-more past p call (Opened d created) payload q w says before h = before h
 empty-more past p call (Collected by) payload q w says before h = before h
+empty-more past p call (Withdrawn w0) payload q w says before h = empty-ended past w0 q w before h
 empty-more past p call (Attrs s) payload q w says before h = before h
 empty-more past p call (Notice v) payload q w says before h = before h
 empty-more past p call Done payload q w says before h = before h

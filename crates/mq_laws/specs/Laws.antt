@@ -3,16 +3,17 @@ use Rattle.std.specs.Prelude.{ℕ, pos, ◌≡◌, ◌≢◌, ◌<◌, ◌≤◌
 use Rattle.std.specs.Option.{option_map, option_and_then}
 use Rattle.mq_model.specs.Record.{Record, Past, record_at, first}
 use Rattle.mq_model.specs.Names.{attributes}
-use Rattle.mq_model.specs.Descriptors.{held, called_queue, created, alive}
-use Rattle.mq_model.specs.Messages.{is_in, is_accepted, taken_by, taken, present, priority, best, waiting_sends, waiting_receives}
+use Rattle.mq_model.specs.Descriptors.{held, descriptor_of, called_queue, created, alive}
+use Rattle.mq_model.specs.Messages.{is_in, is_send, is_receive, is_accepted, taken_by, taken, present, priority, best, waiting_sends, waiting_receives}
 use Rattle.mq_model.specs.Notices.{notified}
-use Rattle.mq_model.specs.Waits.{open_wait, named_wait}
+use Rattle.mq_model.specs.Waits.{open_wait, named_wait, ended_wait}
 use Rattle.mq_model.specs.Ladder.{is_read_only, is_write_only}
 use Rattle.mq_model.specs.Answer.{is_refused}
+use Rattle.mq_model.specs.declared.entries.Deadline.{Deadline}
 use Rattle.mq_model.specs.declared.entries.Description.{Description}
-use Rattle.mq_model.specs.declared.entries.Call.TheVariants.{MqSend, MqReceive, Collect}
+use Rattle.mq_model.specs.declared.entries.Call.TheVariants.{Collect, Withdraw}
 use Rattle.mq_model.specs.declared.entries.Reply.{Reply}
-use Rattle.mq_model.specs.declared.entries.Reply.TheVariants.{Handed, Got, Collected}
+use Rattle.mq_model.specs.declared.entries.Reply.TheVariants.{Handed, Got, Collected, Withdrawn}
 
 abbrev pub reply_at : Past → ℕ → Option Reply
 reply_at past k = option_map (λ r. r.entry.reply) (record_at past k)
@@ -21,6 +22,11 @@ reply_at past k = option_map (λ r. r.entry.reply) (record_at past k)
 abbrev pub message_given : Reply → Option ℕ
 message_given (Got place admitted notified) = Some place
 message_given _ = None
+
+-- the wait that a reply withdraws
+abbrev pub withdrawn_wait : Reply → Option ℕ
+withdrawn_wait (Withdrawn wait) = Some wait
+withdrawn_wait _ = None
 
 -- the place that a collect's reply gives, of the entry that answered the wait
 abbrev pub cause : Reply → Option ℕ
@@ -35,13 +41,17 @@ Has part past k m = option_and_then part (reply_at past k) ≡ Some m
 abbrev pub IsOnce : (Reply → Option ℕ) → Past → Type 0
 IsOnce part past = (j k m : ℕ) → Has part past j m → Has part past k m → j ≡ k
 
--- no message is given twice, none that was handed over is given, and each is given behind its send. No wait is named twice,
--- no registration is notified twice, and no two collects have one cause
+-- no message is given twice, none that was handed over is given, and each is given behind its send. No wait is ended twice, by an
+-- entry that names it or by a withdrawal. So none is named twice, none is both named and withdrawn, no withdrawn send is accepted, and
+-- a withdrawn receive takes nothing. No registration is notified twice, and no two collects have one cause
 pub record GivesOnce (past : Past) : Type 0 where
   pub messages : IsOnce message_given past
   pub not_handed : (k m w : ℕ) → Has message_given past k m → reply_at past m ≢ Some (Handed w)
   pub earlier : (k m : ℕ) → Has message_given past k m → m < k
+  pub ends : IsOnce ended_wait past
   pub waits : IsOnce named_wait past
+  pub withdrawn : (j k w : ℕ) → Has withdrawn_wait past j w → Has named_wait past k w → ⊥
+  pub not_accepted : (k q w : ℕ) → Has withdrawn_wait past k w → is_accepted past q w ≡ false
   pub registrations : IsOnce notified past
   pub causes : IsOnce cause past
 
@@ -71,12 +81,13 @@ pub record IsHeldAt (past : Past) (k p d : ℕ) (passes : Description → Bool) 
   pub held : held (first k past) p d ≡ Some h
   pub access : passes h ≡ true
 
--- each send and receive that was not refused held its descriptor with that access, and a process that waits holds what it
--- held where its wait began
+-- each send and receive that was not refused, with a deadline or without, held its descriptor with that access, and where a wait is
+-- collected or withdrawn its process holds what it held where the wait began
 pub record HoldsDescriptors (past : Past) : Type 0 where
-  pub sends : (k d prio len : ℕ) (r : Record) → record_at past k ≡ Some r → r.entry.call ≡ MqSend d prio len → is_refused r.entry.reply ≡ false → IsHeldAt past k r.entry.process d (λ h. not (is_read_only h.access))
-  pub receives : (k d room : ℕ) (r : Record) → record_at past k ≡ Some r → r.entry.call ≡ MqReceive d room → is_refused r.entry.reply ≡ false → IsHeldAt past k r.entry.process d (λ h. not (is_write_only h.access))
+  pub sends : (k d : ℕ) (r : Record) → record_at past k ≡ Some r → is_send r.entry.call ≡ true → descriptor_of r.entry.call ≡ Some d → is_refused r.entry.reply ≡ false → IsHeldAt past k r.entry.process d (λ h. not (is_read_only h.access))
+  pub receives : (k d : ℕ) (r : Record) → record_at past k ≡ Some r → is_receive r.entry.call ≡ true → descriptor_of r.entry.call ≡ Some d → is_refused r.entry.reply ≡ false → IsHeldAt past k r.entry.process d (λ h. not (is_write_only h.access))
   pub collects : (k : ℕ) (r : Record) → record_at past k ≡ Some r → r.entry.call ≡ Collect → (w : ℕ) × (open_wait (first k past) r.entry.process ≡ Some w) × ((d : ℕ) → held (first k past) r.entry.process d ≡ held (first w past) r.entry.process d)
+  pub withdrawals : (k : ℕ) (now : Deadline) (r : Record) → record_at past k ≡ Some r → r.entry.call ≡ Withdraw now → (w : ℕ) × (open_wait (first k past) r.entry.process ≡ Some w) × ((d : ℕ) → held (first k past) r.entry.process d ≡ held (first w past) r.entry.process d)
 
 -- before place k queue q had been created and no longer existed
 pub record IsGoneAt (past : Past) (k q : ℕ) : Type 0 where

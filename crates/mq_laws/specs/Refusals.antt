@@ -5,13 +5,13 @@ use Rattle.mq_model.specs.Names.{bound_queue, attributes}
 use Rattle.mq_model.specs.Descriptors.{held, created, alive}
 use Rattle.mq_model.specs.Messages.{is_in, is_accepted, taken, present, is_full, best, priority, waiting_sends, waiting_receives}
 use Rattle.mq_model.specs.Notices.{registered, notices}
-use Rattle.mq_model.specs.Waits.{open_wait, answered_by}
+use Rattle.mq_model.specs.Waits.{open_wait, wait_deadline, answered_by}
 use Rattle.mq_model.specs.declared.faults.Fault.{Fault}
 use Rattle.mq_model.specs.declared.entries.Reply.TheVariants.{Refused}
 
--- The same names, descriptors, queues, messages, waits, registrations and notices. Attributes and priorities are read off an
--- entry's own place, so they are said of queues that were created and of messages that are present: the place of the refused
--- entry itself names neither
+-- The same names, descriptors, queues, messages, waits with their deadlines, registrations and notices. Attributes and priorities are
+-- read off an entry's own place, so they are said of queues that were created and of messages that are present: the place of the
+-- refused entry itself names neither
 pub record IsUnchanged (old new : Past) : Type 0 where
   pub names : (name : List ℕ) → bound_queue new name ≡ bound_queue old name
   pub descriptors : (p d : ℕ) → held new p d ≡ held old p d
@@ -27,6 +27,7 @@ pub record IsUnchanged (old new : Past) : Type 0 where
   pub sends : (q : ℕ) → waiting_sends new q ≡ waiting_sends old q
   pub receives : (q : ℕ) → waiting_receives new q ≡ waiting_receives old q
   pub waits : (p : ℕ) → open_wait new p ≡ open_wait old p
+  pub deadlines : (p : ℕ) → wait_deadline new p ≡ wait_deadline old p
   pub answers : (p : ℕ) → answered_by new p ≡ answered_by old p
   pub registrations : (q : ℕ) → registered new q ≡ registered old q
   pub pending : (p : ℕ) → notices new p ≡ notices old p

@@ -1,0 +1,274 @@
+-- No wait ends twice: by an entry that names it, or by a withdrawal.
+use Rattle.std.proofs.Common.{◌≡◌, ℕ, ◌<◌, ◌==◌, Bool, true, false, ◌&&◌, ◌||◌, [], ◌∷◌, length, List, Option, Some, None, if◌then◌else◌, refl, sym, ◌∙◌, ap, arith, eqb-true, eq-eqb, ◌⊎◌, inl, inr}
+use Rattle.std.specs.Option.{option_map, option_and_then}
+use Rattle.std.proofs.lemmas.Bool.{and_parts, false_from_ne_true}
+use Rattle.mq_model.specs.Record.{Record, Past, record_at}
+use Rattle.mq_model.specs.Descriptors.{is_on}
+use Rattle.mq_model.specs.Messages.{is_in, if_in, is_accepted, with_place, queues, hands_over, blocked_sends, admits, ends_send, ends_receive, ended_sends, ended_receives, entered, admitted, handed, waiting_sends, waiting_receives}
+use Rattle.mq_model.specs.Waits.{is_wait, open_wait, named_wait, ended_wait, answered_by}
+use Rattle.mq_model.specs.Answer.{Legal, IsLegalNext}
+use Rattle.mq_laws.specs.Laws.{reply_at, withdrawn_wait, Has, IsOnce}
+use Rattle.mq_model.proofs.Places.{split, clash}
+use Rattle.mq_model.proofs.Prefixes.{record_at-below}
+use Rattle.mq_model.proofs.Cases.{Says}
+use Rattle.mq_model.proofs.LegalReplies.{legal_says}
+use Rattle.mq_model.proofs.Frames.{record_at-older}
+use Rattle.mq_model.proofs.NamedWaits.{least-in}
+use Rattle.mq_model.proofs.OpenWaits.{withdrawn-open}
+use Rattle.mq_model.proofs.OthersLeave.{open_wait-below}
+use Rattle.mq_model.proofs.Presence.{with-more}
+use Rattle.mq_model.proofs.Steps.{if_in-inside}
+use Rattle.mq_model.proofs.Waiters.{ended_waits, waiter, unnamed, admits-least, hands-least}
+use Rattle.mq_laws.proofs.LegalPlaces.{has-record, has-here, has-cases, record-of, once}
+use Rattle.mq_model.specs.declared.entries.Call.{Call}
+use Rattle.mq_model.specs.declared.entries.Reply.{Reply}
+use Rattle.mq_model.specs.declared.entries.Reply.TheVariants.{Opened, Queued, Handed, Waits, Got, Collected, Attrs, Notice, Done, Refused, Withdrawn}
+
+pub with-first : (k : ℕ) (xs : List ℕ) → is_in (with_place (Some k) xs) k ≡ true
+with-first k xs = rw (eq-eqb k k refl) refl
+
+pub has-older : (part : Reply → Option ℕ) (past : Past) (r : Record) (k m : ℕ) → Has part past k m → Has part (r ∷ past) k m
+has-older part past r k m e =
+    let x = has-record part past k m e in
+    ap (λ (o : Option Record). option_and_then part (option_map (λ (x : Record). x.entry.reply) o)) (record_at-older past r k (record_at-below past k x.r x.at)) ∙ e
+
+-- a part that implies another
+pub has-also : (part other : Reply → Option ℕ) → ((reply : Reply) (m : ℕ) → part reply ≡ Some m → other reply ≡ Some m) → (past : Past) (k m : ℕ) → Has part past k m → Has other past k m
+has-also part other implies past k m e =
+    let x = has-record part past k m e in
+    ap (λ (o : Option Record). option_and_then other (option_map (λ (s : Record). s.entry.reply) o)) x.at ∙ implies x.r.entry.reply m x.is
+
+named-ends : (reply : Reply) (w : ℕ) → named_wait reply ≡ Some w → ended_wait reply ≡ Some w
+named-ends (Handed v) w e = e
+named-ends (Got m a n) w e = e
+named-ends reply w e = absurd (cc)
+
+withdrawn-ends : (reply : Reply) (w : ℕ) → withdrawn_wait reply ≡ Some w → ended_wait reply ≡ Some w
+withdrawn-ends (Withdrawn v) w e = e
+withdrawn-ends reply w e = absurd (cc)
+
+admits-names : (reply : Reply) (w : ℕ) → admits reply ≡ Some w → named_wait reply ≡ Some w
+admits-names (Got m a n) w e = e
+admits-names reply w e = absurd (cc)
+
+pub has-named : (past : Past) (k w : ℕ) → Has named_wait past k w → Has ended_wait past k w
+has-named = has-also named_wait ended_wait named-ends
+
+pub has-admits : (past : Past) (k w : ℕ) → Has admits past k w → Has ended_wait past k w
+has-admits past k w e = has-named past k w (has-also admits named_wait admits-names past k w e)
+
+has-withdrawn : (past : Past) (k w : ℕ) → Has withdrawn_wait past k w → Has ended_wait past k w
+has-withdrawn = has-also withdrawn_wait ended_wait withdrawn-ends
+
+-- what a legal record ends is the open wait of a process, which no entry answers
+record IsUnanswered (past : Past) (w : ℕ) : Type 0 where
+  p : ℕ
+  opened : open_wait past p ≡ Some w
+  free : answered_by past p ≡ None
+
+ended-open : (past : Past) (r : Record) → Legal past → IsLegalNext past r → (w : ℕ) → ended_wait r.entry.reply ≡ Some w → IsUnanswered past w
+ended-open past r legal next w e = by r.entry.reply (legal_says past r next) e
+  where
+    by : (reply : Reply) → Says past r.entry.process r.entry.call reply → ended_wait reply ≡ Some w → IsUnanswered past w
+    by (Handed k) says e =
+        let same : k ≡ w = cc in
+        let x = hands-least past r.entry.process r.entry.call k says in
+        let y = waiter past legal false x.0 w (least-in (waiting_receives past x.0) w (x.1 ∙ ap Some same)) in
+        record { p = y.0; opened = y.1; free = y.2 }
+    by (Got m a n) says e =
+        let x = admits-least past r.entry.process r.entry.call m a n says in
+        let y = waiter past legal true x.0 w (least-in (waiting_sends past x.0) w (sym x.1 ∙ e)) in
+        record { p = y.0; opened = y.1; free = y.2 }
+    by (Withdrawn k) says e =
+        let same : k ≡ w = cc in
+        let x = withdrawn-open past r.entry.process r.entry.call k says next.turn in
+        record { p = r.entry.process; opened = x.0 ∙ ap Some same; free = x.1 }
+    by (Opened d created) says e = absurd (cc)
+    by (Queued n) says e = absurd (cc)
+    by Waits says e = absurd (cc)
+    by (Collected b) says e = absurd (cc)
+    by (Attrs s) says e = absurd (cc)
+    by (Notice v) says e = absurd (cc)
+    by Done says e = absurd (cc)
+    by (Refused f) says e = absurd (cc)
+
+pub ended-below : (past : Past) → Legal past → (k w : ℕ) → Has ended_wait past k w → w < length past
+ended-below [] legal k w e = absurd (cc)
+ended-below (r ∷ past) legal k w e = has-cases ended_wait past r k w e
+    (λ here is. let x = ended-open past r legal.0 legal.1 w is in let lt = open_wait-below past x.p w x.opened in omega (arith, lt))
+    (λ old lt. let le = ended-below past legal.0 k w old in omega (arith, le))
+
+-- a wait that ended is listed among the sends or the receives that did
+ended-listed : (past : Past) (k w : ℕ) → Has ended_wait past k w → (s : Bool) × (is_in (ended_waits past s) w ≡ true)
+ended-listed [] k w e = absurd (cc)
+ended-listed (r ∷ past) k w e = has-cases ended_wait past r k w e
+    (λ here is. by r.entry.reply is)
+    (λ old lt. let x = ended-listed past k w old in (x.0, more x.0 x.1))
+  where
+    more : (s : Bool) → is_in (ended_waits past s) w ≡ true → is_in (ended_waits (r ∷ past) s) w ≡ true
+    more true h = with-more (ends_send r.entry.reply) (ended_sends past) w h
+    more false h = with-more (ends_receive r.entry.reply) (ended_receives past) w h
+
+    by : (reply : Reply) → ended_wait reply ≡ Some w → (s : Bool) × (is_in (ended_waits (record { entry = record { process = r.entry.process; call = r.entry.call; reply = reply }; payload = r.payload } ∷ past) s) w ≡ true)
+    by (Handed v) is = let same : v ≡ w = cc in (false, rw same (with-first w (ended_receives past)))
+    by (Got m a n) is = (true, rw is (with-first w (ended_sends past)))
+    by (Withdrawn v) is = let same : v ≡ w = cc in (true, rw same (with-first w (ended_sends past)))
+    by (Opened d created) is = absurd (cc)
+    by (Queued n) is = absurd (cc)
+    by Waits is = absurd (cc)
+    by (Collected b) is = absurd (cc)
+    by (Attrs s) is = absurd (cc)
+    by (Notice v) is = absurd (cc)
+    by Done is = absurd (cc)
+    by (Refused f) is = absurd (cc)
+
+ended-fresh : (past : Past) (r : Record) → Legal past → IsLegalNext past r → (j w : ℕ) → ended_wait r.entry.reply ≡ Some w → Has ended_wait past j w → ⊥
+ended-fresh past r legal next j w e old =
+    let x = ended-open past r legal next w e in
+    let listed = ended-listed past j w old in
+    clash (is_in (ended_waits past listed.0) w) listed.1 (unnamed past legal x.p w x.opened x.free listed.0)
+
+-- no wait ends twice, so no two entries name one wait
+pub ended-once : (past : Past) → Legal past → IsOnce ended_wait past
+ended-once = once ended_wait ended-fresh
+
+pub named-once : (past : Past) → Legal past → IsOnce named_wait past
+named-once past legal j k w hj hk = ended-once past legal j k w (has-named past j w hj) (has-named past k w hk)
+
+-- no wait is both withdrawn and named
+pub withdrawn-unnamed : (past : Past) → Legal past → (j k w : ℕ) → Has withdrawn_wait past j w → Has named_wait past k w → ⊥
+withdrawn-unnamed past legal j k w hj hk =
+    let x = has-record withdrawn_wait past j w hj in
+    let y = has-record named_wait past k w hk in
+    let place : j ≡ k = ended-once past legal j k w (has-withdrawn past j w hj) (has-named past k w hk) in
+    let same : Some x.r ≡ Some y.r = sym x.at ∙ ap (record_at past) place ∙ y.at in
+    let is : x.r ≡ y.r = cc in
+    apart y.r.entry.reply (ap (λ (r : Record). withdrawn_wait r.entry.reply) (sym is) ∙ x.is) y.is
+  where
+    apart : (reply : Reply) → withdrawn_wait reply ≡ Some w → named_wait reply ≡ Some w → ⊥
+    apart (Withdrawn v) e f = cc
+    apart reply e f = cc
+
+-- what ended had blocked -------------------------------------------------------------------------------------------------
+
+waits-reply : (reply : Reply) → is_wait reply ≡ true → reply ≡ Waits
+waits-reply Waits e = refl
+waits-reply reply e = absurd (cc)
+
+opened-blocked : (past : Past) (p w : ℕ) → open_wait past p ≡ Some w → reply_at past w ≡ Some Waits
+opened-blocked [] p w e = absurd (cc)
+opened-blocked (r ∷ past) p w e = split (r.entry.process == p)
+    (λ own. let last : (if is_wait r.entry.reply then Some (length past) else None) ≡ Some w = rw own at e in
+    split (is_wait r.entry.reply)
+    (λ t. let here : Some (length past) ≡ Some w = rw t at last in let place : length past ≡ w = cc in
+    rw (← place, eq-eqb (length past) (length past) refl) (ap Some (waits-reply r.entry.reply t)))
+    (λ f. let none : None ≡ Some w = rw f at last in absurd (cc)))
+    (λ other. let old : open_wait past p ≡ Some w = rw other at e in
+    ap (option_map (λ (x : Record). x.entry.reply)) (record_at-older past r w (open_wait-below past p w old)) ∙ opened-blocked past p w old)
+
+pub ended-blocked : (past : Past) → Legal past → (k w : ℕ) → Has ended_wait past k w → reply_at past w ≡ Some Waits
+ended-blocked [] legal k w e = absurd (cc)
+ended-blocked (r ∷ past) legal k w e = has-cases ended_wait past r k w e
+    (λ here is. let x = ended-open past r legal.0 legal.1 w is in older (open_wait-below past x.p w x.opened) (opened-blocked past x.p w x.opened))
+    (λ old lt. older (ended-below past legal.0 k w old) (ended-blocked past legal.0 k w old))
+  where
+    older : w < length past → reply_at past w ≡ Some Waits → reply_at (r ∷ past) w ≡ Some Waits
+    older lt e = ap (option_map (λ (x : Record). x.entry.reply)) (record_at-older past r w lt) ∙ e
+
+-- an entry admitted each send whose wait ended, or withdrew it
+pub send-ended : (past : Past) (w : ℕ) → is_in (ended_sends past) w ≡ true → (k : ℕ) × (Has admits past k w ⊎ Has withdrawn_wait past k w)
+send-ended [] w h = absurd (cc)
+send-ended (r ∷ past) w h = by (λ old. send-ended past w old) (ends_send r.entry.reply) refl h
+  where
+    older : (k : ℕ) × (Has admits past k w ⊎ Has withdrawn_wait past k w) → (k : ℕ) × (Has admits (r ∷ past) k w ⊎ Has withdrawn_wait (r ∷ past) k w)
+    older (k, inl e) = (k, inl (has-older admits past r k w e))
+    older (k, inr e) = (k, inr (has-older withdrawn_wait past r k w e))
+
+    ways : (reply : Reply) → ends_send reply ≡ Some w → (admits reply ≡ Some w) ⊎ (withdrawn_wait reply ≡ Some w)
+    ways (Got m a n) e = inl e
+    ways (Withdrawn v) e = inr e
+    ways reply e = absurd (cc)
+
+    here : (admits r.entry.reply ≡ Some w) ⊎ (withdrawn_wait r.entry.reply ≡ Some w) → (k : ℕ) × (Has admits (r ∷ past) k w ⊎ Has withdrawn_wait (r ∷ past) k w)
+    here (inl e) = (length past, inl (has-here admits past r w e))
+    here (inr e) = (length past, inr (has-here withdrawn_wait past r w e))
+
+    by : (is_in (ended_sends past) w ≡ true → (k : ℕ) × (Has admits past k w ⊎ Has withdrawn_wait past k w)) → (o : Option ℕ) → ends_send r.entry.reply ≡ o → is_in (with_place o (ended_sends past)) w ≡ true →
+        (k : ℕ) × (Has admits (r ∷ past) k w ⊎ Has withdrawn_wait (r ∷ past) k w)
+    by rest None e h = older (rest h)
+    by rest (Some v) e h = split (v == w)
+        (λ t. here (ways r.entry.reply (e ∙ ap Some (eqb-true _ _ t))))
+        (λ f. let old : is_in (ended_sends past) w ≡ true = rw f at h in older (rest old))
+
+-- what entered a queue was queued at once, or an entry names it
+abbrev IsEntered : Past → ℕ → Type 0
+IsEntered past m = ((n : Option ℕ) × (reply_at past m ≡ Some (Queued n))) ⊎ ((k : ℕ) × Has named_wait past k m)
+
+reply-older : (past : Past) (r : Record) (m : ℕ) (reply : Reply) → reply_at past m ≡ Some reply → reply_at (r ∷ past) m ≡ Some reply
+reply-older past r m reply e =
+    let x = record-of past m reply e in
+    ap (option_map (λ (s : Record). s.entry.reply)) (record_at-older past r m (record_at-below past m x.0 x.1)) ∙ e
+
+queued-reply : (call : Call) (reply : Reply) → queues call reply ≡ true → (n : Option ℕ) × (reply ≡ Queued n)
+queued-reply call (Queued n) e = (n, refl)
+queued-reply call reply e = absurd (cc)
+
+handed-reply : (call : Call) (reply : Reply) → hands_over call reply ≡ true → (w : ℕ) × (reply ≡ Handed w)
+handed-reply call (Handed w) e = (w, refl)
+handed-reply call reply e = absurd (cc)
+
+admitted-entered : (past : Past) (q m : ℕ) → is_in (admitted past q) m ≡ true → IsEntered past m
+admitted-entered [] q m h = absurd (cc)
+admitted-entered (r ∷ past) q m h = by (λ old. admitted-entered past q m old) (entered past r.entry q) refl h
+  where
+    older : IsEntered past m → IsEntered (r ∷ past) m
+    older (inl x) = inl (x.0, reply-older past r m (Queued x.0) x.1)
+    older (inr x) = inr (x.0, has-older named_wait past r x.0 m x.1)
+
+    here : entered past r.entry q ≡ Some m → IsEntered (r ∷ past) m
+    here e = split (queues r.entry.call r.entry.reply && is_on past r.entry q)
+        (λ t. let is : Some (length past) ≡ Some m = rw t at e in let same : length past ≡ m = cc in
+        let reply = queued-reply r.entry.call r.entry.reply (and_parts (queues r.entry.call r.entry.reply) (is_on past r.entry q) t).0 in
+        inl (reply.0, rw (← same, eq-eqb (length past) (length past) refl) (ap Some reply.1)))
+        (λ f. let is : if_in (blocked_sends past q) (admits r.entry.reply) ≡ Some m = rw f at e in
+        inr (length past, has-here named_wait past r m (admits-names r.entry.reply m (if_in-inside (blocked_sends past q) (admits r.entry.reply) m is).1)))
+
+    by : (is_in (admitted past q) m ≡ true → IsEntered past m) → (o : Option ℕ) → entered past r.entry q ≡ o → is_in (with_place o (admitted past q)) m ≡ true → IsEntered (r ∷ past) m
+    by rest None e h = older (rest h)
+    by rest (Some k) e h = split (k == m)
+        (λ t. here (e ∙ ap Some (eqb-true _ _ t)))
+        (λ f. let old : is_in (admitted past q) m ≡ true = rw f at h in older (rest old))
+
+handed-at : (past : Past) (q m : ℕ) → is_in (handed past q) m ≡ true → (w : ℕ) × (reply_at past m ≡ Some (Handed w))
+handed-at [] q m h = absurd (cc)
+handed-at (r ∷ past) q m h = split (hands_over r.entry.call r.entry.reply && is_on past r.entry q)
+    (λ t. let new : (length past == m || is_in (handed past q) m) ≡ true = rw t at h in
+    split (length past == m)
+    (λ e. let same : length past ≡ m = eqb-true _ _ e in
+    let reply = handed-reply r.entry.call r.entry.reply (and_parts (hands_over r.entry.call r.entry.reply) (is_on past r.entry q) t).0 in
+    (reply.0, rw (← same, eq-eqb (length past) (length past) refl) (ap Some reply.1)))
+    (λ n. older (handed-at past q m (rw n at new))))
+    (λ f. older (handed-at past q m (rw f at h)))
+  where
+    older : (w : ℕ) × (reply_at past m ≡ Some (Handed w)) → (w : ℕ) × (reply_at (r ∷ past) m ≡ Some (Handed w))
+    older x = (x.0, reply-older past r m (Handed x.0) x.1)
+
+-- what entered a queue was not handed over
+pub admitted-not_handed : (past : Past) → Legal past → (q m w : ℕ) → is_in (admitted past q) m ≡ true → reply_at past m ≡ Some (Handed w) → ⊥
+admitted-not_handed past legal q m w h e = by (admitted-entered past q m h)
+  where
+    by : IsEntered past m → ⊥
+    by (inl x) = let bad : Some (Queued x.0) ≡ Some (Handed w) = sym x.1 ∙ e in cc
+    by (inr x) = let bad : Some Waits ≡ Some (Handed w) = sym (ended-blocked past legal x.0 m (has-named past x.0 m x.1)) ∙ e in cc
+
+-- a send that is withdrawn is not accepted
+pub withdrawn-not_accepted : (past : Past) → Legal past → (k q w : ℕ) → Has withdrawn_wait past k w → is_accepted past q w ≡ false
+withdrawn-not_accepted past legal k q w e =
+    let waits = ended-blocked past legal k w (has-withdrawn past k w e) in
+    let out : is_in (admitted past q) w ≡ false = false_from_ne_true _ (λ h. unentered waits (admitted-entered past q w h)) in
+    let kept : is_in (handed past q) w ≡ false = false_from_ne_true _ (λ h. let x = handed-at past q w h in let bad : Some (Handed x.0) ≡ Some Waits = sym x.1 ∙ waits in cc) in
+    rw (out, kept) refl
+  where
+    unentered : reply_at past w ≡ Some Waits → IsEntered past w → ⊥
+    unentered waits (inl x) = let bad : Some (Queued x.0) ≡ Some Waits = sym x.1 ∙ waits in cc
+    unentered waits (inr x) = withdrawn-unnamed past legal k x.0 w e x.1

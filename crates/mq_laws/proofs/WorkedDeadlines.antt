@@ -1,0 +1,103 @@
+-- A worked journal with deadlines, latest first: it is legal, by computation. Beside it stand withdrawals that are not.
+use Rattle.std.proofs.Common.{ℕ, [], ◌∷◌, refl, true, false, Some, None}
+use Rattle.std.specs.Prelude.{pos, negsuc, codes}
+use Rattle.mq_model.specs.Record.{Past}
+use Rattle.mq_model.specs.Descriptors.{descriptor_numbers}
+use Rattle.mq_model.specs.Answer.{Legal, IsLegalNext}
+use Rattle.mq_model.specs.declared.entries.Access.TheVariants.{Both}
+use Rattle.mq_model.specs.declared.entries.Deadline.{Deadline}
+use Rattle.mq_model.specs.declared.faults.Fault.TheVariants.{Invalid, TimedOut}
+use Rattle.mq_model.specs.declared.entries.Call.TheVariants.{MqSend, MqReceive, MqTimedSend, MqTimedReceive, MqGetattr, Collect, Withdraw}
+use Rattle.mq_model.specs.declared.entries.Reply.TheVariants.{Opened, Queued, Handed, Waits, Got, Collected, Attrs, Refused, Withdrawn}
+use Rattle.mq_laws.proofs.WorkedJournals.{made, opening, opening_with}
+
+-- a moment of whole seconds
+abbrev second : ℕ → Deadline
+second n = record { sec = pos n; nsec = pos 0 }
+
+-- a send waits until its deadline: two processes, one message at most, which is there
+abbrev send_waits : Past
+send_waits =
+    made 2 (MqTimedSend 0 7 1 (second 10) (second 9)) Waits (codes "b") ∷
+    made 1 (MqTimedSend 0 1 1 (record { sec = negsuc 0; nsec = negsuc 0 }) (second 9)) (Queued None) (codes "a") ∷
+    made 1 (MqTimedReceive 0 8 (record { sec = pos 5; nsec = pos 1000000000 }) (second 0)) (Refused Invalid) [] ∷
+    made 1 (MqTimedReceive 0 8 (second 5) (second 5)) (Refused TimedOut) [] ∷
+    made 2 (opening Both false false false) (Opened 0 false) (codes "/q") ∷
+    made 1 (opening_with Both true false false (pos 1) (pos 8)) (Opened 0 true) (codes "/q") ∷
+    []
+
+-- a withdrawn send is accepted no more, and an answered wait is collected
+abbrev deadlines_pass : Past
+deadlines_pass =
+    made 1 Collect (Collected 10) [] ∷
+    made 2 (MqSend 0 0 1) (Handed 9) (codes "c") ∷
+    made 1 (MqTimedReceive 0 8 (second 20) (second 10)) Waits [] ∷
+    made 2 (MqGetattr 0) (Attrs (record { nonblock = false; maxmsg = pos 1; msgsize = pos 8; curmsgs = pos 0 })) [] ∷
+    made 1 (MqReceive 0 8) (Got 4 None None) [] ∷
+    made 2 (Withdraw (second 10)) (Withdrawn 5) [] ∷
+    send_waits
+
+pub deadlines_pass-legal : Legal deadlines_pass
+unfolding descriptor_numbers
+deadlines_pass-legal = (
+  (
+    (
+      (
+        (
+          (
+            (
+              (
+                (
+                  (
+                    (
+                      (
+                        tt,
+                        record { process = refl; turn = refl; payload = refl; reply = refl },
+                      ),
+                      record { process = refl; turn = refl; payload = refl; reply = refl },
+                    ),
+                    record { process = refl; turn = refl; payload = refl; reply = refl },
+                  ),
+                  record { process = refl; turn = refl; payload = refl; reply = refl },
+                ),
+                record { process = refl; turn = refl; payload = refl; reply = refl },
+              ),
+              record { process = refl; turn = refl; payload = refl; reply = refl },
+            ),
+            record { process = refl; turn = refl; payload = refl; reply = refl },
+          ),
+          record { process = refl; turn = refl; payload = refl; reply = refl },
+        ),
+        record { process = refl; turn = refl; payload = refl; reply = refl },
+      ),
+      record { process = refl; turn = refl; payload = refl; reply = refl },
+    ),
+    record { process = refl; turn = refl; payload = refl; reply = refl },
+  ),
+  record { process = refl; turn = refl; payload = refl; reply = refl },
+)
+
+-- a withdrawal before the deadline
+pub early_withdrawal-refused : IsLegalNext send_waits (made 2 (Withdraw (second 9)) (Withdrawn 5) []) → ⊥
+unfolding descriptor_numbers
+early_withdrawal-refused h = let wrong = h.turn in cc
+
+-- a withdrawal where nothing waits
+pub idle_withdrawal-refused : IsLegalNext send_waits (made 1 (Withdraw (second 10)) (Withdrawn 5) []) → ⊥
+unfolding descriptor_numbers
+idle_withdrawal-refused h = let wrong = h.turn in cc
+
+-- a withdrawal of a wait that an entry names
+abbrev send_admitted : Past
+send_admitted =
+    made 1 (MqReceive 0 8) (Got 4 (Some 5) None) [] ∷
+    send_waits
+
+pub answered_withdrawal-refused : IsLegalNext send_admitted (made 2 (Withdraw (second 10)) (Withdrawn 5) []) → ⊥
+unfolding descriptor_numbers
+answered_withdrawal-refused h = let wrong = h.turn in cc
+
+-- a collect of a wait that no entry names, though its deadline has passed
+pub unanswered_collect-refused : IsLegalNext send_waits (made 2 Collect (Collected 5) []) → ⊥
+unfolding descriptor_numbers
+unanswered_collect-refused h = let wrong = h.turn in cc
