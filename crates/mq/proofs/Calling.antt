@@ -3,7 +3,7 @@ use Rattle.std.proofs.Common.{◌≡◌, ◌≢◌, ℕ, ◌==◌, Bool, true, f
 use Rattle.std.specs.List.{All}
 use Rattle.std.specs.Option.{option_map, option_and_then, unwrap_or}
 use Rattle.mq_model.specs.Record.{Record, Past, record_at}
-use Rattle.mq_model.specs.Waits.{open_wait, is_wait}
+use Rattle.mq_model.specs.Waits.{open_wait, wait_deadline, is_wait}
 use Rattle.mq_model.specs.Answer.{Legal}
 use Rattle.mq_model.proofs.Places.{split}
 use Rattle.mq_model.specs.declared.entries.Call.{Call}
@@ -14,7 +14,7 @@ use Rattle.mq_state.specs.Kept.{Kept}
 use Rattle.mq_state.specs.Buffers.{waiting_call, waiting_room, room_of}
 use Rattle.fast_mutex.specs.Items.{LockId, Ticket, Grows, GrowsBy, items_of}
 use Rattle.mq.specs.Calls.{owner, recorded, made, is_no_memory, Calls, Came, IsFree, WaitsIn, wait_begun}
-use Rattle.mq.proofs.Others.{wait-grown, call-grown, room-grown}
+use Rattle.mq.proofs.Others.{wait-grown, deadline-grown, call-grown, room-grown}
 use Rattle.mq.proofs.Growing.{grows-on, own-made, all-made, own-recorded}
 
 module _ {old stay : Ticket Record} {system : LockId} {books : Kept} {p : ℕ} where
@@ -30,6 +30,9 @@ module _ {old stay : Ticket Record} {system : LockId} {books : Kept} {p : ℕ} w
 
   pub came-call : Came old system stay books p → waiting_call books.records p ≡ waiting_call old.left old.number
   came-call c = rw (c.process) (call-grown c.grows)
+
+  pub came-deadline : Came old system stay books p → wait_deadline books.records p ≡ wait_deadline old.left old.number
+  came-deadline c = rw (c.process) (deadline-grown c.grows)
 
   pub came-free : Came old system stay books p → IsFree old → open_wait books.records p ≡ None
   came-free c free = came-wait c ∙ free
@@ -85,6 +88,7 @@ module _ {old stay : Ticket Record} {system : LockId} {books : Kept} {p : ℕ} w
       record {
         call = rw (is, same-number c) called;
         room = rw (is, same-number c) (ap (λ (k : Call). option_map (λ (w : ℕ). room_of k) (open_wait (recorded p call given Waits ∷ books.records) p)) called ∙ ap (λ (o : Option ℕ). option_map (λ (w : ℕ). room_of call) o) wait);
+        deadline = rw (is, same-number c, eq-eqb p p refl) refl;
       }
 
 is-waits : (reply : Reply) → is_wait reply ≡ true → reply ≡ Waits

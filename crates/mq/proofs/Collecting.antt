@@ -1,5 +1,5 @@
 -- What a collect leaves, and what a call leaves that waited.
-use Rattle.std.proofs.Common.{◌≡◌, ◌≤◌, ◌<◌, ◌↔◌, ℕ, ◌==◌, Bool, true, false, List, [], ◌∷◌, ◌++◌, length, Option, Some, None, is_some, IsSome, IfSome, Ok, inr, refl, ap, sym, ◌∙◌, subst, eq-eqb}
+use Rattle.std.proofs.Common.{◌≡◌, ◌≤◌, ◌<◌, ◌↔◌, ℕ, ◌==◌, Bool, true, false, List, [], ◌∷◌, ◌++◌, length, Option, Some, None, is_some, IsSome, IfSome, IfNone, Ok, inr, refl, ap, sym, ◌∙◌, subst, eq-eqb}
 use Rattle.std.specs.List.{All}
 use Rattle.std.specs.Option.{option_map}
 use Rattle.std.proofs.lemmas.List.Elements.{All-nil, All-cons}
@@ -8,8 +8,9 @@ use Rattle.mq_model.specs.Messages.{is_receive}
 use Rattle.mq_model.specs.Waits.{open_wait, answered_by, is_answered}
 use Rattle.mq_model.specs.Answer.{Legal, Appends}
 use Rattle.mq_model.specs.declared.entries.Received.{Received}
+use Rattle.mq_model.specs.declared.entries.Deadline.{Deadline}
 use Rattle.mq_model.specs.declared.entries.Call.{Call}
-use Rattle.mq_model.specs.declared.entries.Call.TheVariants.{Collect}
+use Rattle.mq_model.specs.declared.entries.Call.TheVariants.{Collect, Withdraw}
 use Rattle.mq_model.specs.declared.entries.Reply.{Reply}
 use Rattle.mq_model.specs.declared.entries.Reply.TheVariants.{Waits, Collected, Withdrawn}
 use Rattle.mq_state.specs.Kept.{Kept}
@@ -18,7 +19,7 @@ use Rattle.mq_state.specs.declared.collected.Collected.{Collected as Outcome}
 use Rattle.fast_mutex.specs.Items.{LockId, Ticket, Grows, GrowsBy}
 use Rattle.mq_state.specs.declared.collected.Collected.TheVariants.{Got as GotMessage, Sent}
 use Rattle.mq.specs.Says.{start_send_says, start_receive_says}
-use Rattle.mq.specs.Calls.{owner, recorded, Calls, Came, Collects, StillWaits, Waited, OneCall, ReceiveCall, WaitedSend, WaitedReceive}
+use Rattle.mq.specs.Calls.{owner, recorded, Calls, Came, Collects, StillWaits, WithdrawsAt, Waited, OneCall, ReceiveCall, WaitedSend, WaitedReceive}
 use Rattle.mq.proofs.Replies.{send-waits, receive-waits}
 use Rattle.mq.proofs.Messages.{message-kept, received-kept}
 use Rattle.mq.proofs.Growing.{own-recorded, calls-on}
@@ -71,6 +72,29 @@ collect-answered found new p result value some entry there = by (answered_by fou
         record { by = b; answered = is; added = appends.records }
     by None is = absurd (let given : IsSome result = rw there refl in let yes = some.0 given in let bad : false ≡ true = rw is at yes in cc)
 
+-- the open wait that a withdrawal ended
+pub withdrawn-wait : (found new : Past) (p : ℕ) (now : Deadline) → IsSome (open_wait found p) → IfSome (open_wait found p) (λ wait. Appends found new p (Withdraw now) [] (Withdrawn wait)) → (w : ℕ) × (open_wait found p ≡ Some w) × (new ≡ recorded p (Withdraw now) [] (Withdrawn w) ∷ found)
+withdrawn-wait found new p now waits entry = by (open_wait found p) refl
+  where
+    by : (o : Option ℕ) → open_wait found p ≡ o → (w : ℕ) × (open_wait found p ≡ Some w) × (new ≡ recorded p (Withdraw now) [] (Withdrawn w) ∷ found)
+    by None is = absurd (let bad : false ≡ true = rw is at waits in cc)
+    by (Some w) is =
+        let appends : Appends found new p (Withdraw now) [] (Withdrawn w) = subst (λ (o : Option ℕ). IfSome o (λ wait. Appends found new p (Withdraw now) [] (Withdrawn wait))) is entry in
+        (w, is, appends.records)
+
+-- the end of a wait on the books adds its collect or its withdrawal
+pub end-adds : (found new : Past) (p : ℕ) (now : Deadline) (result : Option Outcome) → (IsSome result ↔ IsSome (answered_by found p)) → IfSome (answered_by found p) (λ by. Appends found new p Collect [] (Collected by))
+    → (result ≡ None → IfSome (open_wait found p) (λ wait. Appends found new p (Withdraw now) [] (Withdrawn wait))) → IsSome (open_wait found p) → Adds found new p
+end-adds found new p now result some entry none waits = by result refl
+  where
+    by : (r : Option Outcome) → result ≡ r → Adds found new p
+    by None nothing =
+        let x = withdrawn-wait found new p now waits (none nothing) in
+        record { added = recorded p (Withdraw now) [] (Withdrawn x.0) ∷ []; is = x.2; mine = All-cons (λ x. owner x ≡ p) (recorded p (Withdraw now) [] (Withdrawn x.0)) [] refl (All-nil (λ x. owner x ≡ p)) }
+    by (Some value) there =
+        let a = collect-answered found new p result value some entry there in
+        record { added = recorded p Collect [] (Collected a.by) ∷ []; is = a.added; mine = All-cons (λ x. owner x ≡ p) (recorded p Collect [] (Collected a.by)) [] refl (All-nil (λ x. owner x ≡ p)) }
+
 -- where it gives nothing, the wait was not
 pub collect-unanswered : (found : Past) (p : ℕ) (result : Option Outcome) → (IsSome result ↔ IsSome (answered_by found p)) → result ≡ None → is_answered found p ≡ false
 collect-unanswered found p result some none = by (answered_by found p) refl
@@ -94,6 +118,14 @@ module _ {old stay : Ticket Record} {system : LockId} {books : Kept} {p : ℕ} w
     buffer = rw (sym c.process) buffer;
   }
 
+  pub came-withdraws : {records : Past} {now : Deadline} → Came old system stay books p → old.lock ≡ system → (x : (w : ℕ) × (open_wait books.records p ≡ Some w) × (records ≡ recorded p (Withdraw now) [] (Withdrawn w) ∷ books.records)) → Legal records
+      → WithdrawsAt now old (record { lock = system; number = stay.number; left = records; told = false })
+  came-withdraws {records} {now} c lock x legal = record {
+    wait = x.0;
+    is = sym (came-wait c) ∙ x.1;
+    calls = came-calls (λ q. recorded q (Withdraw now) [] (Withdrawn x.0) ∷ []) c lock x.2 (own-recorded p (Withdraw now) [] (Withdrawn x.0)) legal;
+  }
+
   pub came-still : {records : Past} → Came old system stay books p → old.lock ≡ system → records ≡ books.records → is_answered books.records p ≡ false → Legal records
       → StillWaits old (record { lock = system; number = stay.number; left = records; told = false })
   came-still {records} c lock same unanswered legal = record {
@@ -105,6 +137,23 @@ module _ {old stay : Ticket Record} {system : LockId} {books : Kept} {p : ℕ} w
 
 pub collected-free : (found : Past) (p by : ℕ) → open_wait (recorded p Collect [] (Collected by) ∷ found) p ≡ None
 collected-free found p by = rw (eq-eqb p p refl) refl
+
+-- behind the end of a wait its process has none
+pub ended-free : (found new : Past) (p : ℕ) (now : Deadline) (result : Option Outcome) → (IsSome result ↔ IsSome (answered_by found p)) → IfSome (answered_by found p) (λ by. Appends found new p Collect [] (Collected by))
+    → (result ≡ None → IfSome (open_wait found p) (λ wait. Appends found new p (Withdraw now) [] (Withdrawn wait))) → IsSome (open_wait found p) → open_wait new p ≡ None
+ended-free found new p now result some entry none waits = by result refl
+  where
+    by : (r : Option Outcome) → result ≡ r → open_wait new p ≡ None
+    by None nothing = let x = withdrawn-wait found new p now waits (none nothing) in rw (x.2, eq-eqb p p refl) refl
+    by (Some value) there = let a = collect-answered found new p result value some entry there in rw (a.added, eq-eqb p p refl) refl
+
+pub if-some : {X : Type 0} (P : X → Type 0) (o : Option X) → ((x : X) → o ≡ Some x → P x) → IfSome o P
+if-some P None f = tt
+if-some P (Some x) f = f x refl
+
+pub if-none : {X : Type 0} (P : Type 0) (o : Option X) → (o ≡ None → P) → IfNone o P
+if-none P None f = f refl
+if-none P (Some x) f = tt
 
 -- a collect after stays that added nothing
 pub collects-later : {old mid new : Ticket Record} {result : Outcome} {before after : List ℕ} → Calls old mid [] → waiting_call mid.left mid.number ≡ waiting_call old.left old.number → Collects mid new result before after → Collects old new result before after

@@ -2,9 +2,9 @@
 use Rattle.std.proofs.Common.{◌≡◌, ℕ, ◌<◌, ◌+◌, ◌==◌, Bool, true, false, not, ◌&&◌, List, [], ◌∷◌, ◌++◌, length, Option, Some, None, is_some, refl, ap, sym, ◌∙◌, arith, eqb-true, ne_eqb}
 use Rattle.std.specs.List.{filter, list_all}
 use Rattle.std.specs.Option.{option_map, option_and_then, unwrap_or}
-use Rattle.std.proofs.lemmas.Bool.{eqb-false}
+use Rattle.std.proofs.lemmas.Bool.{eqb-false, and_parts, not-true}
 use Rattle.mq_model.specs.Record.{Record, Past, record_at}
-use Rattle.mq_model.specs.Waits.{open_wait, is_answered, are_of_others}
+use Rattle.mq_model.specs.Waits.{open_wait, wait_deadline, is_answered, are_of_others}
 use Rattle.mq_model.proofs.OthersLeave.{others-leave, open_wait-below}
 use Rattle.mq_model.proofs.Places.{split}
 use Rattle.mq_model.proofs.Frames.{record_at-older}
@@ -23,6 +23,13 @@ none-own p (r ∷ more) e = split (r.entry.process == p)
 
 pub wait-grown : {p : ℕ} {before after : Past} → Grows owner p before after [] → open_wait after p ≡ open_wait before p
 wait-grown {p} {before} g = rw g.is ((others-leave before p).wait g.behind (none-own p g.behind g.mine))
+
+deadline-others : (past : Past) (p : ℕ) (more : List Record) → are_of_others p more ≡ true → wait_deadline (more ++ past) p ≡ wait_deadline past p
+deadline-others past p [] e = refl
+deadline-others past p (r ∷ more) e = let parts = and_parts (not (r.entry.process == p)) (are_of_others p more) e in rw (not-true _ parts.0) (deadline-others past p more parts.1)
+
+pub deadline-grown : {p : ℕ} {before after : Past} → Grows owner p before after [] → wait_deadline after p ≡ wait_deadline before p
+deadline-grown {p} {before} g = rw g.is (deadline-others before p g.behind (none-own p g.behind g.mine))
 
 pub answered-grown : {p : ℕ} {before after : Past} → Grows owner p before after [] → is_answered before p ≡ true → is_answered after p ≡ true
 answered-grown {p} {before} g h = rw g.is ((others-leave before p).answered g.behind (none-own p g.behind g.mine) h)

@@ -11,7 +11,7 @@ use Rattle.mq_model.specs.declared.entries.Call.TheVariants.{MqOpen, MqClose, Mq
 use Rattle.mq_model.specs.declared.entries.Reply.{Reply}
 use Rattle.mq_model.specs.declared.entries.Reply.TheVariants.{Opened, Queued, Handed, Waits, Got, Collected, Attrs, Notice, Done, Refused, Withdrawn}
 use Rattle.mq_model.specs.declared.faults.Fault.{Fault}
-use Rattle.mq_model.specs.declared.faults.Fault.TheVariants.{Again, BadDescriptor, Busy, Exists, Invalid, TooManyOpen, MessageSize, NameTooLong, NoEntry, NoSpace, NoMemory}
+use Rattle.mq_model.specs.declared.faults.Fault.TheVariants.{Again, BadDescriptor, Busy, Exists, Invalid, TooManyOpen, MessageSize, NameTooLong, NoEntry, NoSpace, NoMemory, TimedOut}
 use Rattle.mq_model.specs.declared.entries.Received.{Received}
 use Rattle.mq_state.specs.Buffers.{received_at}
 use Rattle.mq.specs.Says.{start_send_says, start_receive_says}
@@ -111,6 +111,7 @@ no-memory (Refused MessageSize) e = absurd (cc)
 no-memory (Refused NameTooLong) e = absurd (cc)
 no-memory (Refused NoEntry) e = absurd (cc)
 no-memory (Refused NoSpace) e = absurd (cc)
+no-memory (Refused TimedOut) e = absurd (cc)
 no-memory (Opened d c) e = absurd (cc)
 no-memory (Queued n) e = absurd (cc)
 no-memory (Handed w) e = absurd (cc)

@@ -4,7 +4,8 @@ use Rattle.fast_mutex.specs.Items.{LockId, Ticket, Grows}
 use Rattle.fast_mutex.specs.Marks.{answer_bits}
 use Rattle.mq_model.specs.Record.{Record, Past}
 use Rattle.mq_model.specs.Descriptors.{lowest_held}
-use Rattle.mq_model.specs.Waits.{open_wait, answered_by, is_answered}
+use Rattle.mq_model.specs.Deadlines.{deadline_of}
+use Rattle.mq_model.specs.Waits.{open_wait, wait_deadline, answered_by, is_answered}
 use Rattle.mq_model.specs.Answer.{Legal, payload_of}
 use Rattle.mq_model.specs.declared.entries.Received.{Received}
 use Rattle.mq_model.specs.declared.entries.Deadline.{Deadline}
@@ -42,6 +43,7 @@ IsFree t = open_wait t.left t.number ≡ None
 pub record WaitsIn (t : Ticket Record) (waited : Call) : Type 0 where
   pub call : waiting_call t.left t.number ≡ waited
   pub room : waiting_room t.left t.number ≡ Some (room_of waited)
+  pub deadline : wait_deadline t.left t.number ≡ deadline_of waited
 
 -- how long a buffer the wait needs that a reply begins
 abbrev pub wait_begun : Reply → ℕ → Option ℕ
@@ -113,13 +115,17 @@ SendCall old new d bytes prio result = OneCall send_says old new (MqSend d prio 
 abbrev pub WholeReceive : Ticket Record → Ticket Record → ℕ → List ℕ → List ℕ → Result Received Fault → Type 0
 WholeReceive old new d before after result = ReceiveCall receive_says old new (MqReceive d (length before)) before after result ⊎ WaitedReceive old new (MqReceive d (length before)) before after result
 
--- the end of a wait that no entry answered: it left one record, the withdrawal of that wait, at a moment that the clock can give
-pub record Withdraws (gives : Deadline → Type 0) (old new : Ticket Record) : Type 0 where
-  pub now : Deadline
-  pub moment : gives now
+-- the end of a wait that no entry answered: it left one record, the withdrawal of that wait at this moment
+pub record WithdrawsAt (now : Deadline) (old new : Ticket Record) : Type 0 where
   pub wait : ℕ
   pub is : open_wait old.left old.number ≡ Some wait
   pub calls : Calls old new (recorded old.number (Withdraw now) [] (Withdrawn wait) ∷ [])
+
+-- the same, at a moment that the clock can give
+pub record Withdraws (gives : Deadline → Type 0) (old new : Ticket Record) : Type 0 where
+  pub now : Deadline
+  pub moment : gives now
+  pub withdraws : WithdrawsAt now old new
 
 -- a timed call that waited until its deadline left two records, the wait and then its withdrawal, and its result says so
 pub record Expired {R : Type 0} (gives : Deadline → Type 0) (old new : Ticket Record) (call : Call) (given : List ℕ) (result : Result R Fault) : Type 0 where

@@ -1,18 +1,20 @@
 //! Calls on the books by their kind, and what their replies say.
-ghost use Rattle.std.specs.Prelude.{◌≡◌, ◌≤◌, ◌++◌, Bool, true, false, None, Some, [], length};
-ghost use Rattle.mq_model.specs.Answer.{answer};
-ghost use Rattle.mq_model.specs.Waits.{open_wait};
+ghost use Rattle.std.specs.Prelude.{◌≡◌, ◌≤◌, ◌++◌, Bool, true, false, None, Some, [], length, IsSome, IfSome, ◌↔◌};
+ghost use Rattle.mq_model.specs.Answer.{answer, Appends};
+ghost use Rattle.mq_model.specs.Deadlines.{is_over};
+ghost use Rattle.mq_model.specs.Waits.{open_wait, wait_deadline, answered_by};
 ghost use Rattle.mq_model.specs.declared.entries.Call.{Call};
 ghost use Rattle.mq_model.specs.Messages.{is_send, is_receive};
-ghost use Rattle.mq_state.specs.Buffers.{filled, length_sent, room_of};
+ghost use Rattle.mq_state.specs.Buffers.{filled, length_sent, room_of, waiting_call, collected, collected_into};
 ghost use Rattle.mq.specs.Calls.{made};
 ghost use Rattle.mq.specs.Asked.{is_plain, is_of_name, is_sent, is_received, may_reply};
 ghost use Rattle.mq.specs.Says.{done_says, attributes_says};
 
-use mq_model::entries::{Call, Reply, Status};
+use mq_model::entries::{Call, Deadline, Reply, Status};
 use mq_model::faults::Fault;
 use mq_model::names::Name;
 use mq_state::books::Books;
+use mq_state::collected::Collected;
 
 /// Makes a call that needs no more than its numbers.
 pub(crate) fn ask(books: &mut Books, p: u32, call: Call) -> Reply
@@ -100,5 +102,33 @@ pub(crate) fn ask_receive(books: &mut Books, p: u32, call: Call, buf: &mut [u8])
             now,
         } => books.timed_receive(p, d, buf, until, now),
         _ => unreachable!(),
+    }
+}
+
+/// Ends the open wait of process p, whose deadline has passed at the moment `now`: collects what it came to, where it is answered, or
+/// else withdraws it.
+pub(crate) fn end_wait(
+    books: &mut Books,
+    p: u32,
+    buf: &mut [u8],
+    now: Deadline,
+) -> Option<Collected>
+    requires process { (1 ≤ p) × (p ≤ books.old.n) }
+    requires wait { IsSome (open_wait books.old.records p) }
+    requires room { room_of (waiting_call books.old.records p) ≤ length buf.old }
+    requires over { is_over (wait_deadline books.old.records p) now ≡ true }
+    ensures some { IsSome result ↔ IsSome (answered_by books.old.records p) }
+    ensures value { result ≡ collected books.old.records p }
+    ensures entry { IfSome (answered_by books.old.records p) (λ by. Appends books.old.records books.new.records p Call.Collect [] (Reply.Collected by)) }
+    ensures withdraws { result ≡ None → IfSome (open_wait books.old.records p) (λ wait. Appends books.old.records books.new.records p (Call.Withdraw now) [] (Reply.Withdrawn wait)) }
+    ensures buffer { buf.new ≡ collected_into books.old.records p buf.old }
+    ensures processes { books.new.n ≡ books.old.n }
+{
+    match books.collect(p, buf) {
+        Some(outcome) => Some(outcome),
+        None => {
+            books.withdraw(p, now);
+            None
+        }
     }
 }

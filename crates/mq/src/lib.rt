@@ -16,7 +16,10 @@ use fast_mutex::FastMutex;
 pub use fast_mutex::Missing;
 pub use guarded::{Guarded, LoggedRecord};
 pub use mq_checker::checker::check_history;
-pub use mq_model::entries::{Access, Attr, Call, Entry, OpenFlags, Received, Reply, Status};
+pub use mq_model::clock::Clock;
+pub use mq_model::entries::{
+    Access, Attr, Call, Deadline, Entry, OpenFlags, Received, Reply, Status,
+};
 pub use mq_model::faults::Fault;
 pub use mq_model::journals::Journal;
 pub use mq_model::names::Name;

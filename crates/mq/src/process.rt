@@ -10,6 +10,7 @@ ghost use Rattle.mq.specs.Says.{done_says, attributes_says};
 
 mod exits;
 mod messages;
+mod timed;
 
 use crate::asking::{ask, ask_by_name};
 use crate::guarded::Guarded;

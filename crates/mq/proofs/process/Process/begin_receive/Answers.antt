@@ -35,18 +35,18 @@ pub returns-clause-waits : goal.returns-clause-waits
 returns-clause-waits g c = λ result.
     let came = rw c.self.view_is at c.come-process.ensures.came in
     let is = c.ask_receive-reply.ensures.records in
-    let waits = receive-waits c.ask_receive-reply.new.self.records c.ask_receive-reply.result c.message_got-got.result c.message_got-got.ensures result in
+    let waits = receive-waits c.ask_receive-reply.new.books.records c.ask_receive-reply.result c.message_got-got.result c.message_got-got.ensures result in
     rw c.depart.ensures.left (now-waits c.args.call [] came (rw waits at is))
 
 pub returns-clause-free : goal.returns-clause-free
 returns-clause-free g c = λ other.
     let came = rw c.self.view_is at c.come-process.ensures.came in
     let is = c.ask_receive-reply.ensures.records in
-    rw c.depart.ensures.left (still-free c.args.call [] c.ask_receive-reply.result came c.requires.free is (receive-answered c.ask_receive-reply.new.self.records c.ask_receive-reply.result c.message_got-got.result c.message_got-got.ensures other))
+    rw c.depart.ensures.left (still-free c.args.call [] c.ask_receive-reply.result came c.requires.free is (receive-answered c.ask_receive-reply.new.books.records c.ask_receive-reply.result c.message_got-got.result c.message_got-got.ensures other))
 
 pub returns-clause-fits : goal.returns-clause-fits
 returns-clause-fits g c =
     let is = c.ask_receive-reply.ensures.records in
     let same : length c.ask_receive-reply.new.buf ≡ length c.args.buf.now = search rules in
-    start-fits c.ask_receive-reply.new.self.records c.ask_receive-reply.result c.message_got-got.result c.args.buf.now c.ask_receive-reply.new.buf c.message_got-got.ensures
+    start-fits c.ask_receive-reply.new.books.records c.ask_receive-reply.result c.message_got-got.result c.args.buf.now c.ask_receive-reply.new.buf c.message_got-got.ensures
     (c.ask_receive-reply.ensures.buffer ∙ sym (ap (λ past. filled past c.ask_receive-reply.result c.args.buf.now) is ∙ filled-kept c.come-process.result.2.books.records c.come-process.result.0 c.args.call c.ask_receive-reply.result c.args.buf.now c.requires.receives)) same

@@ -1,0 +1,11 @@
+use Rattle.std.proofs.Common.{◌≡◌, None}
+use Rattle.mq.proofs.process.Process.look_until.Given as goal
+
+-- the process is as it was, but for what looks told it
+abbrev pub invariant-looks : goal.invariant-looks
+invariant-looks g l = record {
+  can : (goal.iterator-looks g).can_next l.iterator';
+  ends : (goal.iterator-looks g).is_finite l.iterator';
+  same : l.self ≡ record l.initial.self { told = l.self.told };
+  none : l.passed ≡ None;
+}

@@ -1,0 +1,180 @@
+//! Sending and receiving with a deadline.
+ghost use Rattle.std.specs.Prelude.{◌≡◌, true};
+
+use super::Process;
+use crate::asking;
+use crate::guarded::Guarded;
+use crate::pause::Pause;
+use crate::stays::{come, depart};
+use crate::system::Mq;
+use fast_mutex::Look;
+use mq_model::entries::{Call, Deadline, Received};
+use mq_model::faults::Fault;
+use mq_model::{clock, ladder};
+use mq_state::collected::Collected;
+use std::sync::Wait;
+use std::time::Clock;
+
+impl<L: Look<Guarded>> Process<L> {
+    ghost use Rattle.std.specs.Prelude.{◌≡◌, ◌≢◌, ◌≤◌, Bool, true, false, Some, None, IsSome, IfSome, IfNone, IfOk, Ok, length, []};
+    ghost use Rattle.mq_model.specs.Answer.{Legal};
+    ghost use Rattle.mq_model.specs.Deadlines.{is_over};
+    ghost use Rattle.mq_model.specs.Waits.{wait_deadline};
+    ghost use Rattle.mq_model.specs.declared.entries.Call.{Call};
+    ghost use Rattle.mq_state.specs.Buffers.{waiting_room};
+    ghost use Rattle.mq.specs.Says.{FitsIn};
+    ghost use Rattle.mq.specs.Calls.{IsFree, Collects, WithdrawsAt, Withdraws, TimedSend, TimedReceive};
+
+    // Ends the open wait, whose deadline has passed at the moment `now`: collects what it came to, or withdraws it.
+    fn end_wait<R: Wait>(
+        &mut self,
+        rt: &R,
+        mq: &Mq<L>,
+        buf: &mut [u8],
+        now: Deadline,
+    ) -> Option<Collected>
+        requires made { self.old.lock ≡ mq.now }
+        requires wait { IsSome (waiting_room self.old.left self.old.number) }
+        requires room { IfSome (waiting_room self.old.left self.old.number) (λ room. room ≤ length buf.old) }
+        requires over { is_over (wait_deadline self.old.left self.old.number) now ≡ true }
+        ensures some { IfSome result (λ outcome. Collects self.old self.new outcome buf.old buf.new) }
+        ensures none { IfNone result (WithdrawsAt now self.old self.new) }
+        ensures same { IfNone result (buf.new ≡ buf.old) }
+        ensures fits { IfSome result (λ outcome. FitsIn outcome (length buf.old)) }
+        ensures free { IsFree self.new }
+    {
+        let (process, inside, mut state) = come(rt, mq, &mut self.seat);
+        let outcome = asking::end_wait(&mut state.books, process, buf, now);
+        depart(mq, &mut self.seat, inside, state);
+        self.waits = None;
+        outcome
+    }
+
+    // Looks until the wait is answered, or its deadline has passed: then it gives that moment.
+    fn look_until<R: Wait + Clock, C: clock::Clock>(
+        &mut self,
+        rt: &R,
+        mq: &Mq<L>,
+        until: Deadline,
+        clock: &C,
+    ) -> Option<Deadline>
+        requires made { self.old.lock ≡ mq.now }
+        requires wait { IsSome (waiting_room self.old.left self.old.number) }
+        ensures ticket { self.new ≡ record self.old { told = self.new.told } }
+        ensures answered { result ≡ None → self.new.told ≡ true }
+        ensures over { IfSome result (λ now. is_over (Some until) now ≡ true) }
+        ensures moment { IfSome result (λ now. C.gives clock.now now) }
+    {
+        let mut pause = Pause::new();
+        let mut passed = None;
+        'looks: for _ in rt.forever() {
+            if self.answered(mq) {
+                break;
+            }
+            let now = clock.now();
+            if ladder::is_over(Some(until), now) {
+                passed = Some(now);
+                break;
+            }
+            pause.pass(rt);
+        }
+        passed
+    }
+
+    // Waits until the wait is answered, and collects what it came to, or until its deadline has passed, and withdraws it.
+    fn await_until<R: Wait + Clock, C: clock::Clock>(
+        &mut self,
+        rt: &R,
+        mq: &Mq<L>,
+        until: Deadline,
+        clock: &C,
+        buf: &mut [u8],
+    ) -> Option<Collected>
+        requires made { self.old.lock ≡ mq.now }
+        requires wait { IsSome (waiting_room self.old.left self.old.number) }
+        requires room { IfSome (waiting_room self.old.left self.old.number) (λ room. room ≤ length buf.old) }
+        requires deadline { wait_deadline self.old.left self.old.number ≡ Some until }
+        ensures some { IfSome result (λ outcome. Collects self.old self.new outcome buf.old buf.new) }
+        ensures none { IfNone result (Withdraws (C.gives clock.now) self.old self.new) }
+        ensures same { IfNone result (buf.new ≡ buf.old) }
+        ensures fits { IfSome result (λ outcome. FitsIn outcome (length buf.old)) }
+        ensures free { IsFree self.new }
+    {
+        match self.look_until(rt, mq, until, clock) {
+            None => self.collect(rt, mq, buf),
+            Some(now) => self.end_wait(rt, mq, buf, now),
+        }
+    }
+
+    /// Sends a message of that priority (`mq_timedsend`). Where the queue is full it waits until the message is admitted, or until the
+    /// clock gives the moment `until` or a later one: then it is refused with `TimedOut`, and the message is not sent. A message that can
+    /// be sent at once is sent, whatever the deadline. Refused as [`send`](Process::send), and, where it would wait, with `Invalid` if the
+    /// nanoseconds of `until` are not 0 to 999,999,999.
+    pub fn timed_send<R: Wait + Clock, C: clock::Clock>(
+        &mut self,
+        rt: &R,
+        mq: &Mq<L>,
+        d: u32,
+        bytes: &[u8],
+        prio: u32,
+        until: Deadline,
+        clock: &C,
+    ) -> Result<(), Fault>
+        requires made { self.old.lock ≡ mq.now }
+        requires free { IsFree self.old }
+        ensures call { TimedSend (C.gives clock.now) self.old self.new d bytes.now prio until result }
+        ensures free { IsFree self.new }
+    {
+        let call = Call::MqTimedSend {
+            d,
+            prio,
+            len: bytes.len() as u64,
+            until,
+            now: clock.now(),
+        };
+        match self.begin_send(rt, mq, call, bytes) {
+            Ok(true) => Ok(()),
+            Ok(false) => match self.await_until(rt, mq, until, clock, &mut []) {
+                Some(_) => Ok(()),
+                None => Err(Fault::TimedOut),
+            },
+            Err(fault) => Err(fault),
+        }
+    }
+
+    /// Receives the oldest message of the highest priority into the front of the buffer (`mq_timedreceive`). Where there is none it
+    /// waits for one, or until the clock gives the moment `until` or a later one: then it is refused with `TimedOut`, and the buffer is as
+    /// it was. A message that is there is received, whatever the deadline. Refused as [`receive`](Process::receive), and, where it
+    /// would wait, with `Invalid` if the nanoseconds of `until` are not 0 to 999,999,999.
+    pub fn timed_receive<R: Wait + Clock, C: clock::Clock>(
+        &mut self,
+        rt: &R,
+        mq: &Mq<L>,
+        d: u32,
+        buf: &mut [u8],
+        until: Deadline,
+        clock: &C,
+    ) -> Result<Received, Fault>
+        requires made { self.old.lock ≡ mq.now }
+        requires free { IsFree self.old }
+        ensures call { TimedReceive (C.gives clock.now) self.old self.new d buf.old buf.new until result }
+        ensures fits { IfOk result (λ received. received.len ≤ length buf.old) }
+        ensures free { IsFree self.new }
+    {
+        let call = Call::MqTimedReceive {
+            d,
+            room: buf.len() as u64,
+            until,
+            now: clock.now(),
+        };
+        match self.begin_receive(rt, mq, call, buf) {
+            Ok(Some(received)) => Ok(received),
+            Ok(None) => match self.await_until(rt, mq, until, clock, buf) {
+                Some(Collected::Got(received)) => Ok(received),
+                Some(Collected::Sent) => unreachable!(),
+                None => Err(Fault::TimedOut),
+            },
+            Err(fault) => Err(fault),
+        }
+    }
+}
