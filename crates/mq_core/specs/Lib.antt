@@ -5,6 +5,7 @@ pub use Rattle.mq_model.specs.Names
 pub use Rattle.mq_model.specs.Descriptors
 pub use Rattle.mq_model.specs.Messages
 pub use Rattle.mq_model.specs.Notices
+pub use Rattle.mq_model.specs.Deadlines
 pub use Rattle.mq_model.specs.Waits
 pub use Rattle.mq_model.specs.Answer
 pub use Rattle.mq_model.specs.Owners

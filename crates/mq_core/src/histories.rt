@@ -1,6 +1,6 @@
 // Built journals, the checker's verdict on each, and the calls that no clause sees succeed.
 use crate::checker::check_history;
-use crate::entries::{Access, Attr, Call, Entry, OpenFlags, Reply};
+use crate::entries::{Access, Attr, Call, Deadline, Entry, OpenFlags, Reply, Status};
 use crate::faults::Fault;
 use crate::journals::Journal;
 use crate::laws;
@@ -33,18 +33,24 @@ fn by(process: u32, call: Call, reply: Reply) -> Entry {
     }
 }
 
-// An open of a queue for 2 messages of 8 bytes, for reading and writing.
-fn open(process: u32, d: u32, name: &'static [u8]) -> Line {
-    let flags = OpenFlags {
+fn flags(create: bool) -> OpenFlags {
+    OpenFlags {
         access: Access::Both,
-        create: true,
+        create,
         excl: false,
         nonblock: false,
-    };
-    let attr = Some(Attr {
-        maxmsg: 2,
-        msgsize: 8,
-    });
+    }
+}
+
+// An open of a queue for 2 messages of 8 bytes, for reading and writing.
+fn open(process: u32, d: u32, name: &'static [u8]) -> Line {
+    open_for(2, process, d, name)
+}
+
+// An open of a queue for so many messages of 8 bytes.
+fn open_for(maxmsg: i64, process: u32, d: u32, name: &'static [u8]) -> Line {
+    let flags = flags(true);
+    let attr = Some(Attr { maxmsg, msgsize: 8 });
     (
         by(
             process,
@@ -201,26 +207,23 @@ fn unlink_has_a_name(rt: HostRuntime) -> Result<(), Fail> {
     )
 }
 
+// An open of the queue that is there, by a process that holds none.
+fn open_too(process: u32) -> Line {
+    let call = Call::MqOpen {
+        flags: flags(false),
+        attr: None,
+    };
+    let reply = Reply::Opened {
+        d: 0,
+        created: false,
+    };
+    line(by(process, call, reply), b"/q")
+}
+
 #[test]
 fn wait_is_answered_and_collected(rt: HostRuntime) -> Result<(), Fail> {
     let q = open(1, 0, b"/q");
-    let flags = OpenFlags {
-        access: Access::Both,
-        create: false,
-        excl: false,
-        nonblock: false,
-    };
-    let other = line(
-        by(
-            2,
-            Call::MqOpen { flags, attr: None },
-            Reply::Opened {
-                d: 0,
-                created: false,
-            },
-        ),
-        b"/q",
-    );
+    let other = open_too(2);
     let waits = line(by(2, Call::MqReceive { d: 0, room: 8 }, Reply::Waits), b"");
     let handed = send(b"a", Reply::Handed { wait: 2 });
     let collect = line(by(2, Call::Collect, Reply::Collected { by: 3 }), b"");
@@ -244,6 +247,173 @@ fn wait_is_answered_and_collected(rt: HostRuntime) -> Result<(), Fail> {
         &[q, other, waits, collect],
         Err(3),
         "collected before an answer",
+    )
+}
+
+fn moment(sec: i64, nsec: i64) -> Deadline {
+    Deadline { sec, nsec }
+}
+
+fn second(sec: i64) -> Deadline {
+    moment(sec, 0)
+}
+
+fn timed_receive(until: Deadline, now: Deadline, reply: Reply) -> Line {
+    let call = Call::MqTimedReceive {
+        d: 0,
+        room: 8,
+        until,
+        now,
+    };
+    line(by(1, call, reply), b"")
+}
+
+fn timed_send(
+    process: u32,
+    prio: u32,
+    until: Deadline,
+    message: &'static [u8],
+    reply: Reply,
+) -> Line {
+    let call = Call::MqTimedSend {
+        d: 0,
+        prio,
+        len: 1,
+        until,
+        now: second(9),
+    };
+    line(by(process, call, reply), message)
+}
+
+fn withdraw(process: u32, now: Deadline, wait: u64) -> Line {
+    line(
+        by(process, Call::Withdraw { now }, Reply::Withdrawn { wait }),
+        b"",
+    )
+}
+
+// Two processes and a queue for one message, whose send with a deadline waits at place 5.
+fn waiting_send() -> [Line; 6] {
+    [
+        open_for(1, 1, 0, b"/q"),
+        open_too(2),
+        timed_receive(second(5), second(5), Reply::Refused(Fault::TimedOut)),
+        timed_receive(
+            moment(5, 1_000_000_000),
+            second(0),
+            Reply::Refused(Fault::Invalid),
+        ),
+        timed_send(1, 1, moment(-1, -1), b"a", QUEUED),
+        timed_send(2, 7, second(10), b"b", Reply::Waits),
+    ]
+}
+
+#[test]
+fn deadline_ends_a_wait(rt: HostRuntime) -> Result<(), Fail> {
+    let [q, other, late, malformed, a, b] = waiting_send();
+    let empty = Status {
+        nonblock: false,
+        maxmsg: 1,
+        msgsize: 8,
+        curmsgs: 0,
+    };
+    let attributes = line(by(2, Call::MqGetattr { d: 0 }, Reply::Attrs(empty)), b"");
+    let waits = timed_receive(second(20), second(10), Reply::Waits);
+    let send = Call::MqSend {
+        d: 0,
+        prio: 0,
+        len: 1,
+    };
+    let handed = line(by(2, send, Reply::Handed { wait: 9 }), b"c");
+    let collect = line(by(1, Call::Collect, Reply::Collected { by: 10 }), b"");
+    let got = receive(4);
+    let withdrawn = withdraw(2, second(10), 5);
+    let early = withdraw(2, second(9), 5);
+    expect(
+        &rt,
+        rt.alloc(),
+        &[
+            q, other, late, malformed, a, b, withdrawn, got, attributes, waits, handed, collect,
+        ],
+        Ok(()),
+        "a withdrawn send and a collected receive",
+    )?;
+    expect(
+        &rt,
+        rt.alloc(),
+        &[
+            q, other, late, malformed, a, b, early, got, attributes, waits, handed, collect,
+        ],
+        Err(6),
+        "a withdrawal before the deadline",
+    )
+}
+
+#[test]
+fn withdrawal_is_of_an_open_wait_that_is_over(rt: HostRuntime) -> Result<(), Fail> {
+    let [q, other, late, malformed, a, b] = waiting_send();
+    let admits = Reply::Got {
+        place: 4,
+        admitted: Some(5),
+        notified: None,
+    };
+    let admitted = line(by(1, Call::MqReceive { d: 0, room: 8 }, admits), b"");
+    let withdrawn = withdraw(2, second(10), 5);
+    let collect = line(by(2, Call::Collect, Reply::Collected { by: 6 }), b"");
+    expect(
+        &rt,
+        rt.alloc(),
+        &[q, other, late, malformed, a, b, admitted, collect],
+        Ok(()),
+        "admitted before its deadline",
+    )?;
+    expect(
+        &rt,
+        rt.alloc(),
+        &[q, other, late, malformed, a, b, admitted, withdrawn],
+        Err(7),
+        "an answered wait",
+    )?;
+    expect(
+        &rt,
+        rt.alloc(),
+        &[q, other, late, malformed, a, b, withdrawn, withdrawn],
+        Err(7),
+        "withdrawn twice",
+    )?;
+    expect(
+        &rt,
+        rt.alloc(),
+        &[q, other, late, malformed, a, b, withdrawn, admitted],
+        Err(7),
+        "a withdrawn send is admitted",
+    )?;
+    expect(
+        &rt,
+        rt.alloc(),
+        &[q, other, late, malformed, a, b, withdraw(1, second(10), 5)],
+        Err(6),
+        "another process",
+    )?;
+    expect(
+        &rt,
+        rt.alloc(),
+        &[q, other, late, malformed, a, b, withdraw(2, second(10), 4)],
+        Err(6),
+        "another place",
+    )?;
+    let sent = Call::MqSend {
+        d: 0,
+        prio: 7,
+        len: 1,
+    };
+    let waits = line(by(2, sent, Reply::Waits), b"b");
+    expect(
+        &rt,
+        rt.alloc(),
+        &[q, other, late, malformed, a, waits, withdrawn],
+        Err(6),
+        "a wait without a deadline",
     )
 }
 

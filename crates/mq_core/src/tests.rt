@@ -2,7 +2,7 @@
 ghost use Rattle.std.specs.Prelude.{◌<◌};
 ghost use Rattle.mq_model.specs.OwnersNoted.{FitsSlots};
 
-use crate::entries::{Access, Attr, Call, Entry, OpenFlags, Reply};
+use crate::entries::{Access, Attr, Call, Deadline, Entry, OpenFlags, Reply};
 use crate::faults::Fault;
 use crate::journals::Journal;
 use crate::names::Name;
@@ -76,6 +76,7 @@ fn each_fault_prints_as_its_name(rt: HostRuntime) -> Result<(), Fail> {
         (Fault::NoEntry, "ENOENT"),
         (Fault::NoSpace, "ENOSPC"),
         (Fault::NoMemory, "NOMEMORY"),
+        (Fault::TimedOut, "ETIMEDOUT"),
     ];
     let mut number = 1;
     for (fault, name) in faults {
@@ -201,6 +202,41 @@ fn the_longest_wait_comes_first_until_it_is_answered(rt: HostRuntime) -> Result<
     note(&mut table, 7, COLLECT, 0);
     assert_eq!(rt; owners::wait(&table, 3), None);
     assert_eq!(rt; owners::answer(&table, 3), None);
+    assert_eq!(rt; owners::open_waits(&table), 1);
+    Ok(())
+}
+
+const UNTIL: Deadline = Deadline { sec: 10, nsec: 0 };
+
+const TIMED_RECEIVER_WAITS: Entry = Entry {
+    process: 2,
+    call: Call::MqTimedReceive {
+        d: 0,
+        room: 8,
+        until: UNTIL,
+        now: Deadline { sec: 9, nsec: 0 },
+    },
+    reply: Reply::Waits,
+};
+
+const WITHDRAW: Entry = Entry {
+    process: 2,
+    call: Call::Withdraw { now: UNTIL },
+    reply: Reply::Withdrawn { wait: 5 },
+};
+
+#[test]
+fn a_wait_has_its_deadline_until_it_is_withdrawn(rt: HostRuntime) -> Result<(), Fail> {
+    let mut table = [Owner::free(); 4];
+    note(&mut table, 4, SENDER_WAITS, 1);
+    note(&mut table, 5, TIMED_RECEIVER_WAITS, 0);
+    assert_eq!(rt; owners::wait(&table, 3).map(|w| w.until), Some(None));
+    assert_eq!(rt; owners::wait(&table, 2).map(|w| w.until), Some(Some(UNTIL)));
+    assert_eq!(rt; owners::first_wait(&table, 0, false), Some((2, 5)));
+    note(&mut table, 6, WITHDRAW, 0);
+    assert_eq!(rt; owners::wait(&table, 2), None);
+    assert_eq!(rt; owners::answer(&table, 2), None);
+    assert_eq!(rt; owners::first_wait(&table, 0, false), None);
     assert_eq!(rt; owners::open_waits(&table), 1);
     Ok(())
 }

@@ -10,7 +10,9 @@ ghost use Rattle.mq_model.specs.Waits.{OthersLeave};
 use mq_model::journals::Journal;
 
 /// No message is given twice, none that was handed to a waiting receive is given again, and each is given behind its send.
-/// No wait is named by two entries, no registration is notified by two, and no two collects have one cause.
+/// No wait is ended twice, by an entry that names it or by a withdrawal: none is named by two entries, none is both named and withdrawn,
+/// no withdrawn send is accepted, and a withdrawn receive takes nothing. No registration is notified by two entries, and no two collects
+/// have one cause.
 pub fn gives_once(journal: &Journal)
     requires { Legal journal.now.records }
     ensures { GivesOnce journal.now.records }
@@ -29,8 +31,8 @@ pub fn leaves_in_order(journal: &Journal)
     ensures { LeavesInOrder journal.now.records }
 {}
 
-/// Each send and receive that was not refused held its descriptor, with that access, and where a wait is collected its
-/// process still holds what it held where the wait began. So no closed descriptor sends or receives.
+/// Each send and receive that was not refused, with a deadline or without, held its descriptor, with that access, and where a wait is
+/// collected or withdrawn its process still holds what it held where the wait began. So no closed descriptor sends or receives.
 pub fn holds_descriptors(journal: &Journal)
     requires { Legal journal.now.records }
     ensures { HoldsDescriptors journal.now.records }
@@ -54,8 +56,8 @@ pub fn others_leave(journal: &Journal, p: u32)
     ensures { OthersLeave journal.now.records p }
 {}
 
-/// A refused call changes nothing: after its entry each name, descriptor, queue, message, wait, registration and notice is what it was
-/// before it.
+/// A refused call changes nothing: after its entry each name, descriptor, queue, message, wait with its deadline, registration and notice
+/// is what it was before it.
 pub fn refusals_change_nothing(journal: &Journal)
     requires { Legal journal.now.records }
     ensures { RefusalsChangeNothing journal.now.records }
