@@ -16,10 +16,13 @@ contains-cons x xs m there = first-or-later x xs m there.0 there.1 there.2
 pub contains-later : (x : ℕ × ℕ) (xs : List (ℕ × ℕ)) (m : ℕ × ℕ) → Contains xs m → Contains (x ∷ xs) m
 contains-later x xs m (k, within, is) = (suc k, omega arith, is)
 
+pub contains-here : (x : ℕ × ℕ) (xs : List (ℕ × ℕ)) → Contains (x ∷ xs) x
+contains-here x xs = (zero, omega arith, refl)
+
 pub placed-here : (m : ℕ × ℕ) (xs : List (ℕ × ℕ)) → Contains (placed m xs) m
-placed-here m [] = (zero, omega arith, refl)
+placed-here m [] = contains-here m []
 placed-here m (x ∷ xs) = elim (cases_lt x.1 m.1) [
-  | inl h ↦ rw (lt-ltb x.1 m.1 h) (zero, omega arith, refl)
+  | inl h ↦ rw (lt-ltb x.1 m.1 h) (contains-here m (x ∷ xs))
   | inr h ↦ rw (le-ltb x.1 m.1 h) (contains-later x (placed m xs) m (placed-here m xs))
 ]
 
@@ -68,7 +71,7 @@ below-more n k (x ∷ xs) le below = (let lt = below.0 in omega arith, below-mor
 
 pub contains-below : (n : ℕ) (xs : List (ℕ × ℕ)) → ((m : ℕ × ℕ) → Contains xs m → m.1 < n) → Below n xs
 contains-below n [] all = tt
-contains-below n (x ∷ xs) all = (all x (zero, omega arith, refl), contains-below n xs (λ m there. all m (contains-later x xs m there)))
+contains-below n (x ∷ xs) all = (all x (contains-here x xs), contains-below n xs (λ m there. all m (contains-later x xs m there)))
 
 placed-below : (n : ℕ) (m : ℕ × ℕ) (xs : List (ℕ × ℕ)) → m.1 < n → Below n xs → Below n (placed m xs)
 placed-below n m [] lt below = (lt, tt)
@@ -109,7 +112,7 @@ NoneAt place (x ∷ xs) = (x.1 ≢ place) × NoneAt place xs
 
 pub contains-none_at : (place : ℕ) (xs : List (ℕ × ℕ)) → ((m : ℕ × ℕ) → Contains xs m → m.1 ≢ place) → NoneAt place xs
 contains-none_at place [] all = tt
-contains-none_at place (x ∷ xs) all = (all x (zero, omega arith, refl), contains-none_at place xs (λ m there. all m (contains-later x xs m there)))
+contains-none_at place (x ∷ xs) all = (all x (contains-here x xs), contains-none_at place xs (λ m there. all m (contains-later x xs m there)))
 
 pub without-none : (place : ℕ) (xs : List (ℕ × ℕ)) → NoneAt place xs → without place xs ≡ xs
 without-none place [] none = refl
