@@ -8,11 +8,11 @@ use Rattle.std.proofs.lemmas.Bool.{and_parts}
 use Rattle.std.proofs.lemmas.Bool.Decides.{nat_tests}
 use Rattle.mq_model.specs.Record.{Past}
 use Rattle.mq_model.specs.Descriptors.{is_on}
-use Rattle.mq_model.specs.Messages.{is_in, is_accepted, blocks_send, blocked_sends, admitted_waits, waiting_sends, present, best, priority, priority_given}
+use Rattle.mq_model.specs.Messages.{is_in, is_accepted, blocks_send, blocked_sends, ended_sends, waiting_sends, present, best, priority, priority_given}
 use Rattle.mq_model.specs.Answer.{Legal}
 use Rattle.mq_model.specs.declared.entries.Entry.{Entry}
 use Rattle.mq_model.specs.declared.entries.Call.{Call}
-use Rattle.mq_model.specs.declared.entries.Call.TheVariants.{MqSend}
+use Rattle.mq_model.specs.declared.entries.Call.TheVariants.{MqSend, MqTimedSend}
 use Rattle.mq_model.specs.declared.entries.Reply.{Reply}
 use Rattle.mq_model.specs.declared.entries.Reply.TheVariants.{Queued, Waits, Got}
 use Rattle.mq_model.proofs.Places.{split, is_in-filter, find-in}
@@ -38,11 +38,14 @@ low prio e = grind (arith, nat_tests)
 
 low-queued : (past : Past) (p : ℕ) (call : Call) (n : Option ℕ) → Says past p call (Queued n) → priority_given call < 32768
 low-queued past p (MqSend d prio len) n says = low prio says.2.prio_allowed
+low-queued past p (MqTimedSend d prio len until now) n says = low prio says.2.prio_allowed
 low-queued past p call n says = omega arith
 
 low-blocked : (past : Past) (p : ℕ) (call : Call) (reply : Reply) → Says past p call reply → blocks_send call reply ≡ true → priority_given call < 32768
 low-blocked past p (MqSend d prio len) Waits says b = low prio says.2.prio_allowed
 low-blocked past p (MqSend d prio len) reply says b = absurd (cc)
+low-blocked past p (MqTimedSend d prio len until now) Waits says b = low prio says.2.prio_allowed
+low-blocked past p (MqTimedSend d prio len until now) reply says b = absurd (cc)
 low-blocked past p call reply says b = omega arith
 
 -- a send that blocked has a priority
@@ -96,7 +99,7 @@ admitted-newest : (past : Past) → Legal past → (q prio k : ℕ) (a : Option 
 admitted-newest past legal q prio k None y on is = tt
 admitted-newest past legal q prio k (Some w) y on is =
     let waits = least-in (waiting_sends past q) w (sym on.facts.admitted) in
-    let blocked = (is_in-filter (λ v. not (is_in (admitted_waits past) v)) (blocked_sends past q) w waits).0 in
+    let blocked = (is_in-filter (λ v. not (is_in (ended_sends past) v)) (blocked_sends past q) w waits).0 in
     record {
       low = rw (on.prio_is w refl) (blocked-low past legal q w blocked);
       newest = λ m there. waiting-newest past legal q w m.1 waits (slot-in past (present past q) m (subst (λ xs. Contains xs m) is there));
