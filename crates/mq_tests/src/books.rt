@@ -4,7 +4,7 @@
 ghost use Rattle.std.specs.Prelude.{◌≡◌, ◌≤◌, IsTrue, None};
 ghost use Rattle.mq_model.specs.Waits.{open_wait};
 
-use mq_model::entries::{Access, Attr, OpenFlags, Received, Reply, Status};
+use mq_model::entries::{Access, Attr, Deadline, OpenFlags, Received, Reply, Status};
 use mq_model::faults::Fault;
 use mq_model::names::Name;
 use mq_state::books::Books;
@@ -22,6 +22,10 @@ enum Ask<'a> {
     Close(u32),
     Send(u32, &'a [u8], u32),
     Receive(u32),
+    // A send and a receive that wait until a moment, made at another.
+    TimedSend(u32, &'a [u8], u32, Deadline, Deadline),
+    TimedReceive(u32, Deadline, Deadline),
+    Withdraw(Deadline),
     // A receive into an empty buffer.
     ReceiveNothing(u32),
     Notify(u32, Option<u64>),
@@ -56,7 +60,8 @@ enum Outcome {
 
 use Ask::{
     Answered, Close, Collect, Entries, Front, Getattr, LowestOpen, NextNotice, Notify, Open,
-    Receive, ReceiveNothing, ReplyAt, Send, Setattr, Unlink, Waiting,
+    Receive, ReceiveNothing, ReplyAt, Send, Setattr, TimedReceive, TimedSend, Unlink, Waiting,
+    Withdraw,
 };
 use Outcome::{Byte, Came, Count, Is, Lowest, Nothing, Replied, Room};
 
@@ -109,6 +114,8 @@ fn call(trial: &mut Trial, p: u32, ask: Ask, buf: &mut [u8]) -> Option<Reply>
         Send(d, bytes, prio) => books.send(p, d, bytes, prio),
         Receive(d) => books.receive(p, d, buf),
         ReceiveNothing(d) => books.receive(p, d, &mut []),
+        TimedSend(d, bytes, prio, until, now) => books.timed_send(p, d, bytes, prio, until, now),
+        TimedReceive(d, until, now) => books.timed_receive(p, d, buf, until, now),
         Notify(d, value) => books.notify(p, d, value),
         NextNotice => books.next_notice(p),
         Getattr(d) => books.getattr(p, d),
@@ -139,6 +146,7 @@ fn outcome_of(trial: &mut Trial, p: u32, ask: Ask, buf: &mut [u8]) -> Outcome {
         },
         Entries => Count(trial.books.journal().len()),
         Collect if 1 <= p && p <= 5 => collect(trial, p, buf),
+        Withdraw(now) if 1 <= p && p <= 5 => Is(trial.books.withdraw(p, now)),
         _ if may_call(trial, p) => match call(trial, p, ask, buf) {
             Some(reply) => Replied(reply),
             None => Nothing,
@@ -511,5 +519,71 @@ fn the_oldest_notice_comes_first_and_a_queue_with_messages_gives_none(
     rt: HostRuntime,
 ) -> Result<(), Fail> {
     expect(&rt, rt.alloc(), &TWO_NOTICES)?;
+    Ok(())
+}
+
+const fn at(sec: i64, nsec: i64) -> Deadline {
+    Deadline { sec, nsec }
+}
+
+const DEADLINES: [Step; 22] = [
+    (1, Open(b"/q", CREATE, ONE), CREATED),
+    (2, Open(b"/q", OPEN, None), OPENED),
+    (
+        1,
+        TimedReceive(0, at(5, 0), at(5, 0)),
+        Replied(Reply::Refused(Fault::TimedOut)),
+    ),
+    (
+        1,
+        TimedReceive(0, at(5, 1_000_000_000), at(0, 0)),
+        Replied(Reply::Refused(Fault::Invalid)),
+    ),
+    (1, TimedSend(0, b"a", 1, at(-1, -1), at(9, 0)), QUEUED),
+    (2, TimedSend(0, b"b", 7, at(10, 0), at(9, 0)), WAITS),
+    (2, Waiting, Room(Some(0))),
+    (2, Withdraw(at(9, 999_999_999)), Is(false)),
+    (2, Withdraw(at(10, 0)), Is(true)),
+    (2, Withdraw(at(11, 0)), Is(false)),
+    (1, ReplyAt(6), Replied(Reply::Withdrawn { wait: 5 })),
+    (
+        1,
+        Receive(0),
+        Replied(Reply::Got {
+            place: 4,
+            admitted: None,
+            notified: None,
+        }),
+    ),
+    (
+        2,
+        Getattr(0),
+        Replied(Reply::Attrs(Status {
+            nonblock: false,
+            maxmsg: 1,
+            msgsize: 8,
+            curmsgs: 0,
+        })),
+    ),
+    (1, TimedReceive(0, at(20, 0), at(10, 0)), WAITS),
+    (1, Waiting, Room(Some(8))),
+    (2, Send(0, b"c", 0), Replied(Reply::Handed { wait: 9 })),
+    (1, Withdraw(at(30, 0)), Is(false)),
+    (
+        1,
+        Collect,
+        Came(Some(Collected::Got(Received { len: 1, prio: 0 }))),
+    ),
+    (1, Front, Byte(b'c')),
+    (1, ReplyAt(11), Replied(Reply::Collected { by: 10 })),
+    (1, Receive(0), WAITS),
+    (1, Withdraw(at(i64::MAX, 0)), Is(false)),
+];
+
+#[test]
+fn a_wait_is_withdrawn_where_its_deadline_has_passed_and_nothing_answers_it(
+    rt: HostRuntime,
+) -> Result<(), Fail> {
+    expect(&rt, rt.alloc(), &DEADLINES)?;
     Ok(())
 }
