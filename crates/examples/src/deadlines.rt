@@ -32,6 +32,9 @@ pub fn run(rt: &(impl Print + Wait + Clock), alloc: Global) -> anyhow::Result<()
 
     process.timed_send(rt, &mq, alarms, b"smoke", 9, until, &clock)?;
     let received = process.timed_receive(rt, &mq, alarms, &mut buf, until, &clock)?;
-    println!(rt; "what need not wait is done, whatever the deadline: {} bytes", received.len)?;
+    println!(rt;
+        "what need not wait is done, whatever the deadline: {} bytes",
+        received.len
+    )?;
     Ok(())
 }

@@ -522,29 +522,56 @@ fn the_oldest_notice_comes_first_and_a_queue_with_messages_gives_none(
     Ok(())
 }
 
-const fn at(sec: i64, nsec: i64) -> Deadline {
-    Deadline { sec, nsec }
-}
+const AT_5: Deadline = Deadline { sec: 5, nsec: 0 };
+
+const NO_MOMENT: Deadline = Deadline {
+    sec: 5,
+    nsec: 1_000_000_000,
+};
+
+const AT_0: Deadline = Deadline { sec: 0, nsec: 0 };
+
+const NO_MOMENT_BEFORE: Deadline = Deadline { sec: -1, nsec: -1 };
+
+const AT_9: Deadline = Deadline { sec: 9, nsec: 0 };
+
+const AT_10: Deadline = Deadline { sec: 10, nsec: 0 };
+
+const JUST_BEFORE_10: Deadline = Deadline {
+    sec: 9,
+    nsec: 999_999_999,
+};
+
+const AT_11: Deadline = Deadline { sec: 11, nsec: 0 };
+
+const AT_20: Deadline = Deadline { sec: 20, nsec: 0 };
+
+const AT_30: Deadline = Deadline { sec: 30, nsec: 0 };
+
+const LAST: Deadline = Deadline {
+    sec: i64::MAX,
+    nsec: 0,
+};
 
 const DEADLINES: [Step; 22] = [
     (1, Open(b"/q", CREATE, ONE), CREATED),
     (2, Open(b"/q", OPEN, None), OPENED),
     (
         1,
-        TimedReceive(0, at(5, 0), at(5, 0)),
+        TimedReceive(0, AT_5, AT_5),
         Replied(Reply::Refused(Fault::TimedOut)),
     ),
     (
         1,
-        TimedReceive(0, at(5, 1_000_000_000), at(0, 0)),
+        TimedReceive(0, NO_MOMENT, AT_0),
         Replied(Reply::Refused(Fault::Invalid)),
     ),
-    (1, TimedSend(0, b"a", 1, at(-1, -1), at(9, 0)), QUEUED),
-    (2, TimedSend(0, b"b", 7, at(10, 0), at(9, 0)), WAITS),
+    (1, TimedSend(0, b"a", 1, NO_MOMENT_BEFORE, AT_9), QUEUED),
+    (2, TimedSend(0, b"b", 7, AT_10, AT_9), WAITS),
     (2, Waiting, Room(Some(0))),
-    (2, Withdraw(at(9, 999_999_999)), Is(false)),
-    (2, Withdraw(at(10, 0)), Is(true)),
-    (2, Withdraw(at(11, 0)), Is(false)),
+    (2, Withdraw(JUST_BEFORE_10), Is(false)),
+    (2, Withdraw(AT_10), Is(true)),
+    (2, Withdraw(AT_11), Is(false)),
     (1, ReplyAt(6), Replied(Reply::Withdrawn { wait: 5 })),
     (
         1,
@@ -565,10 +592,10 @@ const DEADLINES: [Step; 22] = [
             curmsgs: 0,
         })),
     ),
-    (1, TimedReceive(0, at(20, 0), at(10, 0)), WAITS),
+    (1, TimedReceive(0, AT_20, AT_10), WAITS),
     (1, Waiting, Room(Some(8))),
     (2, Send(0, b"c", 0), Replied(Reply::Handed { wait: 9 })),
-    (1, Withdraw(at(30, 0)), Is(false)),
+    (1, Withdraw(AT_30), Is(false)),
     (
         1,
         Collect,
@@ -577,7 +604,7 @@ const DEADLINES: [Step; 22] = [
     (1, Front, Byte(b'c')),
     (1, ReplyAt(11), Replied(Reply::Collected { by: 10 })),
     (1, Receive(0), WAITS),
-    (1, Withdraw(at(i64::MAX, 0)), Is(false)),
+    (1, Withdraw(LAST), Is(false)),
 ];
 
 #[test]

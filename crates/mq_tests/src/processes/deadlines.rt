@@ -41,7 +41,11 @@ impl clock::Clock for Ticks {
 
 // A receive until the second moment of the clock, and the journal.
 fn expired<L: Look<Guarded>, R: Wait + Clock + Abort>(rt: &R, alloc: Global) -> Option<Journal> {
-    let Pair { mq, mut one, mut two } = make_pair::<L>(alloc)?;
+    let Pair {
+        mq,
+        mut one,
+        mut two,
+    } = make_pair::<L>(alloc)?;
     open_queue(rt, &mq, &mut one, CREATE, 1).ok()?;
     open_queue(rt, &mq, &mut two, OPEN, 1).ok()?;
     let ticks = Ticks {
@@ -67,7 +71,11 @@ fn a_receive_is_withdrawn_at_its_deadline(rt: HostRuntime) {
 
 // A receive that waits for 20 ms of the real clock.
 fn waited<L: Look<Guarded>, R: Wait + Clock + Abort>(rt: &R, alloc: Global) -> Option<()> {
-    let Pair { mq, mut one, two: _ } = make_pair::<L>(alloc)?;
+    let Pair {
+        mq,
+        mut one,
+        two: _,
+    } = make_pair::<L>(alloc)?;
     open_queue(rt, &mq, &mut one, CREATE, 1).ok()?;
     let clock = Monotonic::start(rt).ok()?;
     let until = clock.after(Duration::from_millis(20));
