@@ -14,13 +14,8 @@ pub fn run(rt: &(impl Print + Wait + Clock), alloc: Global) -> anyhow::Result<()
         maxmsg: 10,
         msgsize: 64,
     };
-    let orders = process.open(
-        rt,
-        &mq,
-        &name,
-        OpenFlags::read_write().create(),
-        Some(limits),
-    )?;
+    let flags = OpenFlags::read_write().create();
+    let orders = process.open(rt, &mq, &name, flags, Some(limits))?;
     process.send(rt, &mq, orders, b"sweep the floor", 1)?;
     process.send(rt, &mq, orders, b"put out the fire", 9)?;
 
