@@ -1,13 +1,14 @@
 -- How many processes wait behind an entry, and that the tables keep their sizes.
-use Rattle.std.proofs.Common.{◌≡◌, ℕ, ◌+◌, ◌<◌, ◌≤◌, true, false, List, length, Option, Some, None, refl, sym, ◌∙◌, ap, arith}
+use Rattle.std.proofs.Common.{◌≡◌, ℕ, ◌+◌, ◌<◌, ◌≤◌, Bool, true, false, List, length, Option, Some, None, refl, sym, ◌∙◌, ap, arith}
 use Rattle.std.specs.Prelude.{IsTrue}
 use Rattle.std.specs.Option.{option_map, option_and_then}
+use Rattle.std.proofs.lemmas.List.Sums.{count_by-le-length}
 use Rattle.mq_model.specs.Record.{Past}
 use Rattle.mq_model.specs.Messages.{is_send}
 use Rattle.mq_model.specs.Deadlines.{deadline_of}
 use Rattle.mq_model.specs.Waits.{open_wait, answered_by}
 use Rattle.mq_model.specs.Answer.{may_call}
-use Rattle.mq_model.specs.Owners.{wait_in, with_wait, waiter_in, waits_count, OwnersMirror}
+use Rattle.mq_model.specs.Owners.{wait_in, with_wait, waiter_in, waits_count, pending_in, OwnersMirror}
 use Rattle.mq_model.specs.OwnersNoted.{noted, noted_open, noted_done, noted_attributes, with_answer_at}
 use Rattle.mq_model.specs.declared.owners.OpenWait.{OpenWait}
 use Rattle.mq_model.specs.declared.owners.Owner.{Owner}
@@ -21,6 +22,7 @@ use Rattle.mq_model.proofs.OpenWaits.{withdrawn-open}
 use Rattle.mq_model.proofs.OwnersKeep.{turn-none}
 use Rattle.mq_model.proofs.OwnerLines.{length-with_slot, length-with_wait, length-with_answer, waits_count-with_slot, waits_count-with_wait, waits_count-with_answer, waits_count-no_wait, no-wait}
 use Rattle.mq_state.specs.Kept.{HasEntryRoom}
+use Rattle.mq_state.specs.Tables.{moves_waits}
 
 answer-at-length : (owners : List Owner) (o : Option ℕ) (here : ℕ) → length (with_answer_at owners o here) ≡ length owners
 answer-at-length owners None here = refl
@@ -66,6 +68,35 @@ done-waits owners p call = refl
 attributes-waits : (owners : List Owner) (p : ℕ) (call : Call) → waits_count (noted_attributes owners p call) ≡ waits_count owners
 attributes-waits owners p (MqSetattr d nonblock) = waits_count-with_slot owners p d _
 attributes-waits owners p call = refl
+
+-- a reply by which no wait begins or ends
+pub waits-quiet : (owners : List Owner) (here p : ℕ) (call : Call) (reply : Reply) (q : ℕ) → moves_waits reply ≡ false → waits_count (noted owners here p call reply q) ≡ waits_count owners
+waits-quiet owners here p call (Opened d created) q e = open-waits owners p call d q
+waits-quiet owners here p call Done q e = done-waits owners p call
+waits-quiet owners here p call (Attrs s) q e = attributes-waits owners p call
+waits-quiet owners here p call Waits q e = absurd (cc)
+waits-quiet owners here p call (Collected b) q e = absurd (cc)
+waits-quiet owners here p call (Handed w) q e = answer-at-waits owners (waiter_in owners w) here
+waits-quiet owners here p call (Got m a n) q e = answer-at-waits owners (option_and_then (waiter_in owners) a) here
+waits-quiet owners here p call (Queued n) q e = refl
+waits-quiet owners here p call (Notice v) q e = refl
+waits-quiet owners here p call (Refused f) q e = refl
+
+pub waits-few : (owners : List Owner) → waits_count owners ≤ length owners
+unfolding waits_count
+waits-few owners = count_by-le-length _ owners
+
+not-pending : (owners : List Owner) (k q : ℕ) (sends : Bool) → wait_in owners k ≡ None → pending_in owners k q sends ≡ None
+unfolding pending_in
+not-pending owners k q sends is = rw is refl
+
+-- where nobody waits nobody is found waiting
+pub none-pending : (owners : List Owner) → waits_count owners ≡ 0 → (k q : ℕ) (sends : Bool) → pending_in owners k q sends ≡ None
+none-pending owners none k q sends = by (wait_in owners k) refl
+  where
+    by : (o : Option OpenWait) → wait_in owners k ≡ o → pending_in owners k q sends ≡ None
+    by None is = not-pending owners k q sends is
+    by (Some w) is = absurd (let e = waits_count-no_wait owners k w is in omega (arith, e, none))
 
 -- the open wait of a process that the table has
 waits-here : (past : Past) (owners : List Owner) → OwnersMirror past owners → (p : ℕ) (w : ℕ) → open_wait past p ≡ Some w → (x : OpenWait) × (wait_in owners p ≡ Some x)

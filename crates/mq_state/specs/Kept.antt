@@ -28,6 +28,7 @@ pub record IsKeptBy (j : Shown) (t : Tables) : Type 0 where
   pub few : t.n ≤ 32
   pub processes : AreAtMost t.n j.records
   pub mirror : Mirrors j t
+  pub waits : t.waits ≡ waits_count t.owners.items
   pub room : waits_count t.owners.items ≤ j.entry_room
   pub notice_room : HasNoticeRoom t.queues.items t.inboxes.items
 

@@ -1,5 +1,5 @@
 -- The tables beside the journal say what the definitions say of it.
-use Rattle.std.specs.Prelude.{ℕ, ◌≡◌, ◌+◌, ◌≤◌, ◌<◌, true, false, List, [], ◌∷◌, ◌++◌, ◌&&◌, ◌==◌, if◌then◌else◌, drop, All, length, Option, Some, None, is_some, int_le, pos}
+use Rattle.std.specs.Prelude.{ℕ, Bool, ◌≡◌, ◌+◌, ◌≤◌, ◌<◌, true, false, List, [], ◌∷◌, ◌++◌, ◌&&◌, ◌==◌, if◌then◌else◌, drop, All, length, Option, Some, None, is_some, int_le, pos}
 use Rattle.std.specs.Option.{unwrap_or}
 use Rattle.mq_model.specs.Names.{bound_queue, creates, attributes_given, are_within_limits}
 use Rattle.mq_model.specs.Descriptors.{called_queue}
@@ -8,7 +8,7 @@ use Rattle.mq_model.specs.declared.entries.Registration.{Registration}
 use Rattle.mq_model.specs.declared.entries.Call.{Call}
 use Rattle.mq_model.specs.declared.entries.Call.TheVariants.{MqOpen, MqUnlink, MqNotify}
 use Rattle.mq_model.specs.declared.entries.Reply.{Reply}
-use Rattle.mq_model.specs.declared.entries.Reply.TheVariants.{Got, Done}
+use Rattle.mq_model.specs.declared.entries.Reply.TheVariants.{Got, Done, Waits, Collected}
 use Rattle.mq_model.specs.Record.{Past}
 use Rattle.mq_model.specs.Notices.{notices, notified, gives_notice}
 use Rattle.mq_model.specs.Owners.{OwnersMirror}
@@ -37,6 +37,12 @@ abbrev pub entry_queue : Past → ℕ → Call → List ℕ → ℕ
 entry_queue past p (MqOpen flags attr) name = unwrap_or (bound_queue past name) (length past)
 entry_queue past p MqUnlink name = unwrap_or (bound_queue past name) (length past)
 entry_queue past p call name = unwrap_or (called_queue past p call) (length past)
+
+-- a wait begins or ends
+abbrev pub moves_waits : Reply → Bool
+moves_waits Waits = true
+moves_waits (Collected by) = true
+moves_waits _ = false
 
 -- the priority of the send that a reply admits
 abbrev pub admitted_priority : Past → Reply → ℕ

@@ -173,26 +173,33 @@ pub fn find(queues: &[Queue], q: u64) -> Option<&Queue>
     queues.iter().find(|x| x.place() == q)
 }
 
-/// How many messages are present in queue q.
-#[tactic(auto, unfolding(crate::specs::Queues::slots_in))]
-pub fn message_count(queues: &[Queue], q: u64) -> usize
-    ensures count { result ≡ length (slots_in queues.now q) }
-    ensures bound { result < 2 ^ 63 }
-{
-    match find(queues, q) {
-        None => 0,
-        Some(x) => x.len(),
-    }
+/// What the line of a queue says: how many messages are present, which is received next, and the registration that stands.
+#[derive(Clone, Copy, Debug)]
+pub struct LineFacts {
+    pub count: usize,
+    pub best: Option<(u32, u64)>,
+    pub registration: Option<Registration>,
 }
 
-/// The message of queue q that is received next.
-#[tactic(auto, unfolding(crate::specs::Queues::slots_in))]
-pub fn best(queues: &[Queue], q: u64) -> Option<(u32, u64)>
-    ensures { result ≡ best_slot (slots_in queues.now q) }
+/// The line of queue q, found once.
+#[tactic(auto, unfolding(crate::specs::Queues::slots_in, crate::specs::Queues::registration_in))]
+pub fn line(queues: &[Queue], q: u64) -> LineFacts
+    ensures count { result.count ≡ length (slots_in queues.now q) }
+    ensures bound { result.count < 2 ^ 63 }
+    ensures best { result.best ≡ best_slot (slots_in queues.now q) }
+    ensures registration { result.registration ≡ registration_in queues.now q }
 {
     match find(queues, q) {
-        None => None,
-        Some(x) => x.best(),
+        None => LineFacts {
+            count: 0,
+            best: None,
+            registration: None,
+        },
+        Some(x) => LineFacts {
+            count: x.len(),
+            best: x.best(),
+            registration: x.registration(),
+        },
     }
 }
 

@@ -28,6 +28,8 @@ pub struct Tables {
     alloc: Global,
     n: u32,
     owners: Vec<Owner>,
+    // how many processes have an open wait
+    waits: usize,
     queues: Vec<Queue>,
     inboxes: Vec<Inbox>,
 }
@@ -38,7 +40,7 @@ impl Tables {
     /// The tables of n processes that have nothing, with no queue.
     pub fn new(alloc: Global, n: u32) -> Result<Tables, AllocError>
         requires { n ≤ 32 }
-        ensures { IfOk result (λ t. (t.n ≡ n) × TablesMirror [] t.n t.owners.items t.queues.items t.inboxes.items × (waits_count t.owners.items ≡ 0) × HasNoticeRoom t.queues.items t.inboxes.items) }
+        ensures { IfOk result (λ t. (t.n ≡ n) × TablesMirror [] t.n t.owners.items t.queues.items t.inboxes.items × (waits_count t.owners.items ≡ 0) × (t.waits ≡ 0) × HasNoticeRoom t.queues.items t.inboxes.items) }
     {
         let count = n as usize + 1;
         let owners = free_owners(alloc, count)?;
@@ -47,6 +49,7 @@ impl Tables {
             alloc,
             n,
             owners,
+            waits: 0,
             queues: Vec::new(alloc),
             inboxes,
         })
@@ -114,6 +117,7 @@ impl Tables {
         requires process { entry.process < length self.old.inboxes.items }
         requires room { (n : Registration) → registration_in self.old.queues.items q ≡ Some n → 0 < room_in self.old.inboxes.items n.process }
         ensures owners { self.new.owners.items ≡ self.old.owners.items }
+        ensures waits { self.new.waits ≡ self.old.waits }
         ensures queues { self.new.queues ≡ self.old.queues }
         ensures n { self.new.n ≡ self.old.n }
         ensures count { length self.new.inboxes.items ≡ length self.old.inboxes.items }
@@ -138,6 +142,8 @@ impl Tables {
         requires order { (x : QueueShown) → queue_in (map (reregistered q (length journal.now.records) entry) self.old.queues.items) q ≡ Some x → IsInOrder (length journal.now.records) entry.call entry.reply (admitted_priority journal.now.records entry.reply) x }
         requires notice_room { (n : Registration) → registration_in self.old.queues.items q ≡ Some n → 0 < room_in self.old.inboxes.items n.process }
         requires brings { BringsOrder entry.call entry.reply (vec_len self.old.queues) (vec_capacity self.old.queues) fresh }
+        requires waits { self.old.waits ≡ waits_count self.old.owners.items }
+        ensures waits { self.new.waits ≡ waits_count self.new.owners.items }
         ensures n { self.new.n ≡ self.old.n }
         ensures owners { self.new.owners.items ≡ noted self.old.owners.items (length journal.now.records) entry.process entry.call entry.reply q }
         ensures queues { self.new.queues.items ≡ with_fresh fresh (length journal.now.records) (noted_queues self.new.owners.items (length journal.now.records) entry q (admitted_priority journal.now.records entry.reply) self.old.queues.items) }
@@ -148,7 +154,7 @@ impl Tables {
         let here = journal.len();
         let prio = admitted_priority(journal, entry.reply);
         self.note_notices(entry, q);
-        owners::note(&mut self.owners, here, entry, q);
+        self.waits = note_owners(&mut self.owners, self.waits, here, entry, q);
         queues::note(&mut self.queues, &self.owners, here, entry, q, prio);
         if let Some(slots) = fresh {
             queues::add(&mut self.queues, here, slots);
@@ -162,6 +168,34 @@ fn free_owners(alloc: Global, count: usize) -> Result<Vec<Owner>, AllocError>
 {
     let owners = vec![in alloc; Owner::free(); count]?;
     Ok(owners)
+}
+
+ghost use Rattle.mq_state.specs.Tables.{moves_waits};
+ghost use Rattle.mq_model.specs.OwnersNoted.{noted, FitsSlots};
+
+// Notes in the table of processes an entry made on queue q, and gives how many wait behind it, where so many waited before it.
+fn note_owners(owners: &mut [Owner], waits: usize, here: u64, entry: Entry, q: u64) -> usize
+    requires process { entry.process < length owners.old }
+    requires numbers { FitsSlots entry.call entry.reply }
+    requires waits { waits ≡ waits_count owners.old }
+    ensures owners { owners.new ≡ noted owners.old here entry.process entry.call entry.reply q }
+    ensures waits { result ≡ waits_count owners.new }
+{
+    owners::note(owners, here, entry, q);
+    if !moves_waits(entry.reply) {
+        return waits;
+    }
+    owners::open_waits(owners)
+}
+
+// A wait begins or ends.
+fn moves_waits(reply: Reply) -> bool
+    ensures { result ≡ moves_waits reply }
+{
+    match reply {
+        Reply::Waits | Reply::Collected { .. } => true,
+        _ => false,
+    }
 }
 
 fn gives_notice(reply: Reply) -> bool

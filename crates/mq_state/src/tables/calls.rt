@@ -38,10 +38,11 @@ fn payload_of(call: Call, reply: Reply, given: &[u8]) -> &[u8]
 impl Tables {
     /// How many processes have an open wait.
     pub fn open_waits(&self) -> usize
+        requires { self.now.waits ≡ waits_count self.now.owners.items }
         ensures count { result ≡ waits_count self.now.owners.items }
         ensures bound { result ≤ length self.now.owners.items }
     {
-        owners::open_waits(&self.owners)
+        self.waits
     }
 
     // Appends the entry of a call that gets its answer, with its payload.

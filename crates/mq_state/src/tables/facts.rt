@@ -1,15 +1,17 @@
 //! What the tables say of the journal: the facts that a reply depends on, and the reply that the ladder gives to them.
 ghost use Rattle.std.specs.Prelude.{◌≡◌, ◌<◌, ◌≤◌, ◌^◌, IfSome, IsTrue, [], length};
+ghost use Rattle.std.specs.Option.{option_map};
 ghost use Rattle.mq_model.specs.Names.{attributes, bound_queue};
 ghost use Rattle.mq_model.specs.Descriptors.{held, lowest_free, alive};
 ghost use Rattle.mq_model.specs.Messages.{is_in, present, best, least};
-ghost use Rattle.mq_model.specs.Notices.{registered, registered_place};
+ghost use Rattle.mq_model.specs.Notices.{registered};
 ghost use Rattle.mq_model.specs.Answer.{Legal, answer, answer_attributes, open_facts, send_facts, receive_facts, status_facts};
-ghost use Rattle.mq_model.specs.Owners.{waiting};
+ghost use Rattle.mq_model.specs.Owners.{waiting, waits_count};
 ghost use Rattle.mq_state.specs.Kept.{Mirrors};
 
+use crate::notices;
+use crate::queues::{self, LineFacts};
 use crate::tables::Tables;
-use crate::{notices, queues};
 use mq_model::entries::{Attr, Call, Description, OpenFlags, Registration, Reply};
 use mq_model::journals::Journal;
 use mq_model::ladder::{
@@ -25,6 +27,26 @@ fn attributes(journal: &Journal, q: u64) -> Attr
     match journal.entry(q) {
         Some(entry) => attributes_given(entry.call),
         None => DEFAULT_ATTRIBUTES,
+    }
+}
+
+// The place of a message.
+fn message_place(message: Option<(u32, u64)>) -> Option<u64>
+    ensures { result ≡ option_map (λ m. m.1) message }
+{
+    match message {
+        None => None,
+        Some((_, place)) => Some(place),
+    }
+}
+
+// The place of a registration.
+fn registration_place(registration: Option<Registration>) -> Option<u64>
+    ensures { result ≡ option_map (λ n. n.place) registration }
+{
+    match registration {
+        None => None,
+        Some(n) => Some(n.place),
     }
 }
 
@@ -63,47 +85,16 @@ impl Tables {
         self.queues.len() as u64
     }
 
-    // How many messages are in queue q.
-    fn count(&self, journal: &Journal, q: u64) -> u64
+    // What the table says of queue q: its messages, and the registration that stands.
+    fn line(&self, journal: &Journal, q: u64) -> LineFacts
         requires mirror { Mirrors journal.now self.now }
         requires alive { IsTrue (is_in (alive journal.now.records) q) }
-        ensures count { result ≡ length (present journal.now.records q) }
-        ensures bound { result < 2 ^ 63 }
+        ensures count { result.count ≡ length (present journal.now.records q) }
+        ensures bound { result.count < 2 ^ 63 }
+        ensures best { option_map (λ m. m.1) result.best ≡ best journal.now.records q }
+        ensures registered { result.registration ≡ registered journal.now.records q }
     {
-        queues::message_count(&self.queues, q) as u64
-    }
-
-    // The best message of queue q.
-    fn best(&self, journal: &Journal, q: u64) -> Option<u64>
-        requires mirror { Mirrors journal.now self.now }
-        requires alive { IsTrue (is_in (alive journal.now.records) q) }
-        ensures { result ≡ best journal.now.records q }
-    {
-        match queues::best(&self.queues, q) {
-            None => None,
-            Some(message) => Some(message.1),
-        }
-    }
-
-    // The registration that stands on queue q.
-    fn registered(&self, journal: &Journal, q: u64) -> Option<Registration>
-        requires mirror { Mirrors journal.now self.now }
-        requires alive { IsTrue (is_in (alive journal.now.records) q) }
-        ensures { result ≡ registered journal.now.records q }
-    {
-        queues::registration(&self.queues, q)
-    }
-
-    // The place of the registration that stands on queue q.
-    fn registered_place(&self, journal: &Journal, q: u64) -> Option<u64>
-        requires mirror { Mirrors journal.now self.now }
-        requires alive { IsTrue (is_in (alive journal.now.records) q) }
-        ensures { result ≡ registered_place journal.now.records q }
-    {
-        match self.registered(journal, q) {
-            None => None,
-            Some(n) => Some(n.place),
-        }
+        queues::line(&self.queues, q)
     }
 
     // The place of the send, or receive, that waits the longest on queue q.
@@ -111,8 +102,12 @@ impl Tables {
         requires mirror { Mirrors journal.now self.now }
         requires legal { Legal journal.now.records }
         requires few { self.now.n ≤ 32 }
+        requires waits { self.now.waits ≡ waits_count self.now.owners.items }
         ensures { result ≡ least (waiting journal.now.records sends q) }
     {
+        if self.waits == 0 {
+            return None;
+        }
         match owners::first_wait(&self.owners, q, sends) {
             None => None,
             Some((_, place)) => Some(place),
@@ -173,7 +168,7 @@ impl Tables {
         StatusFacts {
             description: h,
             attributes: attributes(journal, h.queue),
-            count: self.count(journal, h.queue),
+            count: self.line(journal, h.queue).count as u64,
         }
     }
 
@@ -203,7 +198,7 @@ impl Tables {
     {
         match self.held(journal, p, d) {
             Some(h) => {
-                let registered = self.registered(journal, h.queue);
+                let registered = self.line(journal, h.queue).registration;
                 ladder::notify(p, value, Some(NotifyFacts { registered }))
             }
             None => ladder::notify(p, value, None),
@@ -223,14 +218,16 @@ impl Tables {
         requires legal { Legal journal.now.records }
         requires alive { IsTrue (is_in (alive journal.now.records) h.queue) }
         requires few { self.now.n ≤ 32 }
+        requires waits { self.now.waits ≡ waits_count self.now.owners.items }
         ensures { result ≡ send_facts journal.now.records h }
     {
+        let line = self.line(journal, h.queue);
         SendFacts {
             description: h,
             attributes: attributes(journal, h.queue),
-            count: self.count(journal, h.queue),
+            count: line.count as u64,
             waiting: self.first_wait(journal, h.queue, false),
-            registered: self.registered_place(journal, h.queue),
+            registered: registration_place(line.registration),
         }
     }
 
@@ -246,6 +243,7 @@ impl Tables {
         requires mirror { Mirrors journal.now self.now }
         requires legal { Legal journal.now.records }
         requires few { self.now.n ≤ 32 }
+        requires waits { self.now.waits ≡ waits_count self.now.owners.items }
         ensures { result ≡ answer journal.now.records p (Call.MqSend d prio len) [] }
     {
         match self.held(journal, p, d) {
@@ -259,15 +257,17 @@ impl Tables {
         requires legal { Legal journal.now.records }
         requires alive { IsTrue (is_in (alive journal.now.records) h.queue) }
         requires few { self.now.n ≤ 32 }
+        requires waits { self.now.waits ≡ waits_count self.now.owners.items }
         ensures { result ≡ receive_facts journal.now.records h }
     {
+        let line = self.line(journal, h.queue);
         ReceiveFacts {
             description: h,
             attributes: attributes(journal, h.queue),
-            count: self.count(journal, h.queue),
-            best: self.best(journal, h.queue),
+            count: line.count as u64,
+            best: message_place(line.best),
             waiting: self.first_wait(journal, h.queue, true),
-            registered: self.registered_place(journal, h.queue),
+            registered: registration_place(line.registration),
         }
     }
 
@@ -276,6 +276,7 @@ impl Tables {
         requires mirror { Mirrors journal.now self.now }
         requires legal { Legal journal.now.records }
         requires few { self.now.n ≤ 32 }
+        requires waits { self.now.waits ≡ waits_count self.now.owners.items }
         ensures { result ≡ answer journal.now.records p (Call.MqReceive d room) [] }
     {
         match self.held(journal, p, d) {

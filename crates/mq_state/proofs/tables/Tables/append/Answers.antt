@@ -82,6 +82,7 @@ returns-clause-kept c =
       few = subst (λ (n : ℕ). n ≤ 32) (sym c.note.ensures.n) c.requires.kept.few;
       processes = subst (λ (xs : Past). AreAtMost after.n xs) (sym c.push.ensures.records) (subst (λ (n : ℕ). AreAtMost n (r ∷ past)) (sym c.note.ensures.n) (All-cons (λ (x : Record). x.entry.process ≤ before.n) r past c.requires.at_most c.requires.kept.processes));
       mirror = subst (λ (xs : Past). TablesMirror xs after.n after.owners.items after.queues.items after.inboxes.items) (sym c.push.ensures.records) (subst (λ (n : ℕ). TablesMirror (r ∷ past) n after.owners.items after.queues.items after.inboxes.items) (sym c.note.ensures.n) mirror);
+      waits = c.note.ensures.waits;
       room = omega (arith, waits, room, pushed);
       notice_room = subst (λ (xs : List QueueShown). HasNoticeRoom xs after.inboxes.items) (sym queues)
           (notice-room-keeps past c.requires.kept.legal before.queues.items c.requires.kept.mirror.existing e.process e.call e.reply payload c.requires.next before.inboxes.items after.inboxes.items c.requires.kept.notice_room

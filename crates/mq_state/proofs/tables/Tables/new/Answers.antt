@@ -10,4 +10,4 @@ use Rattle.mq_state.proofs.tables.Tables.new.Goals as goal
 pub returns : goal.returns
 returns c =
     let mirror = mirrors-new c.args.n c.in_ok-owners.owners.items c.in_ok-inboxes.inboxes.items c.in_ok-owners.ensures c.in_ok-inboxes.ensures.count c.in_ok-inboxes.ensures.empty in
-    (refl, subst (λ (xs : List QueueShown). TablesMirror _ c.args.n c.in_ok-owners.owners.items xs c.in_ok-inboxes.inboxes.items) (sym c.new.ensures.items) mirror, ap waits_count c.in_ok-owners.ensures ∙ waits_count-new (c.args.n + 1), λ p. let none = ap (λ xs. registrations_in xs p) c.new.ensures.items ∙ registrations-none p in omega (arith, none))
+    (refl, subst (λ (xs : List QueueShown). TablesMirror _ c.args.n c.in_ok-owners.owners.items xs c.in_ok-inboxes.inboxes.items) (sym c.new.ensures.items) mirror, ap waits_count c.in_ok-owners.ensures ∙ waits_count-new (c.args.n + 1), refl, λ p. let none = ap (λ xs. registrations_in xs p) c.new.ensures.items ∙ registrations-none p in omega (arith, none))
