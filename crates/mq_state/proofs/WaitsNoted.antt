@@ -76,6 +76,7 @@ waits-quiet owners here p call Done q e = done-waits owners p call
 waits-quiet owners here p call (Attrs s) q e = attributes-waits owners p call
 waits-quiet owners here p call Waits q e = absurd (cc)
 waits-quiet owners here p call (Collected b) q e = absurd (cc)
+waits-quiet owners here p call (Withdrawn b) q e = absurd (cc)
 waits-quiet owners here p call (Handed w) q e = answer-at-waits owners (waiter_in owners w) here
 waits-quiet owners here p call (Got m a n) q e = answer-at-waits owners (option_and_then (waiter_in owners) a) here
 waits-quiet owners here p call (Queued n) q e = refl

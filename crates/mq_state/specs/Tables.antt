@@ -8,7 +8,7 @@ use Rattle.mq_model.specs.declared.entries.Registration.{Registration}
 use Rattle.mq_model.specs.declared.entries.Call.{Call}
 use Rattle.mq_model.specs.declared.entries.Call.TheVariants.{MqOpen, MqUnlink, MqNotify}
 use Rattle.mq_model.specs.declared.entries.Reply.{Reply}
-use Rattle.mq_model.specs.declared.entries.Reply.TheVariants.{Got, Done, Waits, Collected}
+use Rattle.mq_model.specs.declared.entries.Reply.TheVariants.{Got, Done, Waits, Collected, Withdrawn}
 use Rattle.mq_model.specs.Record.{Past}
 use Rattle.mq_model.specs.Notices.{notices, notified, gives_notice}
 use Rattle.mq_model.specs.Owners.{OwnersMirror}
@@ -42,6 +42,7 @@ entry_queue past p call name = unwrap_or (called_queue past p call) (length past
 abbrev pub moves_waits : Reply → Bool
 moves_waits Waits = true
 moves_waits (Collected by) = true
+moves_waits (Withdrawn wait) = true
 moves_waits _ = false
 
 -- the priority of the send that a reply admits

@@ -193,7 +193,7 @@ fn moves_waits(reply: Reply) -> bool
     ensures { result ≡ moves_waits reply }
 {
     match reply {
-        Reply::Waits | Reply::Collected { .. } => true,
+        Reply::Waits | Reply::Collected { .. } | Reply::Withdrawn { .. } => true,
         _ => false,
     }
 }
