@@ -12,6 +12,7 @@ use std::process::Abort;
 use std::sync::Wait;
 use std::time::Clock;
 
+/// Both accesses, to a queue that the open creates where it is not.
 pub const CREATE: OpenFlags = OpenFlags {
     access: Access::Both,
     create: true,
@@ -19,12 +20,13 @@ pub const CREATE: OpenFlags = OpenFlags {
     nonblock: false,
 };
 
+/// Both accesses, to a queue that is there.
 pub const OPEN: OpenFlags = OpenFlags {
     create: false,
     ..CREATE
 };
 
-// What a process asks. The queue is /q, for so many messages of at most 8 bytes.
+/// What a process asks. The queue is /q, for so many messages of at most 8 bytes.
 #[derive(Clone, Copy)]
 pub enum Ask<'a> {
     Open(OpenFlags, i64),
@@ -43,17 +45,17 @@ pub enum Ask<'a> {
     Number,
     Waiting,
     Answered,
-    // What the buffer has.
+    /// What the buffer has.
     Buffer,
 }
 
-// What it is told.
+/// What it is told.
 #[derive(Clone, Copy, Debug, PartialEq, Eq)]
 pub enum Told {
     Done,
     Opened(u32),
     Got(Received),
-    // The call waits.
+    /// The call waits.
     Waits,
     Notice(Option<u64>),
     Attrs(Status),
@@ -63,11 +65,11 @@ pub enum Told {
     Room(Option<usize>),
     Is(bool),
     Bytes([u8; 8]),
-    // It may not ask that now.
+    /// It may not ask that now.
     Nothing,
 }
 
-// Process 1 or 2 asks, and must be told this.
+/// Process 1 or 2 asks, and must be told this.
 pub type Step = (u32, Ask<'static>, Told);
 
 // The calls of a process that has no open wait.
