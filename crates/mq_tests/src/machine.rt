@@ -1,6 +1,5 @@
 //! Worked schedules, with all that a world shows after them.
-ghost use Rattle.std.specs.Prelude.{◌≡◌, ◌≤◌, IfOk};
-ghost use Rattle.lamport_core.specs.State.{IsProcess};
+ghost use Rattle.std.specs.Prelude.{◌≡◌, ◌≤◌, IfOk, length};
 ghost use Rattle.lamport_core.specs.Machine.{count};
 
 use lamport_core::{At, World};
@@ -19,44 +18,44 @@ fn start(alloc: Global, n: u32) -> Result<World, AllocError>
     }
 }
 
-// Process i stands at this point, with this flag, after so many steps.
-fn expect_process<A: Abort>(rt: &A, world: &World, i: u32, at: At, flag: bool, steps: u64)
-    requires { IsProcess (count world.now) i }
+// The point, the flag and the steps of a process.
+type Seen = (At, bool, u64);
+
+// The n processes stand so, and the words x and y and the process inside are these.
+fn expect_world<A: Abort>(
+    rt: &A,
+    world: &World,
+    n: u32,
+    processes: &[Seen],
+    words: (u32, u32, Option<u32>),
+)
+    requires count { count world.now ≡ n }
+    requires each { length processes.now ≡ n }
 {
-    assert_eq!(rt; world.at(i), at, "the point of process {i}");
-    assert_eq!(rt; world.b(i), flag, "the flag of process {i}");
-    assert_eq!(rt; world.steps(i), steps, "the steps of process {i}");
+    for i in 1..=n {
+        let found = (world.at(i), world.b(i), world.steps(i));
+        assert_eq!(rt; found, processes[(i - 1) as usize], "process {i}");
+    }
+    assert_eq!(rt; (world.x(), world.y(), world.inside()), words);
 }
 
 #[test]
 fn slow_process_goes_in_while_another_awaits(rt: HostRuntime) -> Result<(), Fail> {
     let mut world = start(rt.alloc(), 2)?;
     world.run(&[1, 1, 1, 2, 2, 1, 1, 2, 2, 1, 1, 1, 1]);
-    expect_process(&rt, &world, 1, At::Slow, false, 9);
-    expect_process(&rt, &world, 2, At::AwaitY, false, 4);
-    assert_eq!(rt; world.x(), 2);
-    assert_eq!(rt; world.y(), 1);
-    assert_eq!(rt; world.inside(), Some(1));
+    let processes = [(At::Slow, false, 9), (At::AwaitY, false, 4)];
+    expect_world(&rt, &world, 2, &processes, (2, 1, Some(1)));
     Ok(())
 }
 
 #[test]
 fn one_process_goes_in_by_five_steps_and_out_by_two(rt: HostRuntime) -> Result<(), Fail> {
     let mut world = start(rt.alloc(), 1)?;
-    expect_process(&rt, &world, 1, At::Rest, false, 0);
-    assert_eq!(rt; world.x(), 0);
-    assert_eq!(rt; world.y(), 0);
-    assert_eq!(rt; world.inside(), None);
+    expect_world(&rt, &world, 1, &[(At::Rest, false, 0)], (0, 0, None));
     world.run(&[1, 1, 1, 1, 1]);
-    expect_process(&rt, &world, 1, At::Fast, true, 5);
-    assert_eq!(rt; world.x(), 1);
-    assert_eq!(rt; world.y(), 1);
-    assert_eq!(rt; world.inside(), Some(1));
+    expect_world(&rt, &world, 1, &[(At::Fast, true, 5)], (1, 1, Some(1)));
     world.run(&[1, 1]);
-    expect_process(&rt, &world, 1, At::Rest, false, 7);
-    assert_eq!(rt; world.x(), 1);
-    assert_eq!(rt; world.y(), 0);
-    assert_eq!(rt; world.inside(), None);
+    expect_world(&rt, &world, 1, &[(At::Rest, false, 7)], (1, 0, None));
     Ok(())
 }
 
@@ -64,11 +63,8 @@ fn one_process_goes_in_by_five_steps_and_out_by_two(rt: HostRuntime) -> Result<(
 fn scan_stops_at_the_flag_of_the_process_inside(rt: HostRuntime) -> Result<(), Fail> {
     let mut world = start(rt.alloc(), 2)?;
     world.run(&[1, 1, 1, 2, 2, 2, 1, 1, 2, 2, 1, 1, 1]);
-    expect_process(&rt, &world, 1, At::Scan(2), false, 8);
-    expect_process(&rt, &world, 2, At::Fast, true, 5);
-    assert_eq!(rt; world.x(), 2);
-    assert_eq!(rt; world.y(), 2);
-    assert_eq!(rt; world.inside(), Some(2));
+    let processes = [(At::Scan(2), false, 8), (At::Fast, true, 5)];
+    expect_world(&rt, &world, 2, &processes, (2, 2, Some(2)));
     Ok(())
 }
 
@@ -77,12 +73,12 @@ fn scan_stops_at_the_flag_of_the_process_inside(rt: HostRuntime) -> Result<(), F
 fn third_process_goes_in_while_the_second_leaves(rt: HostRuntime) -> Result<(), Fail> {
     let mut world = start(rt.alloc(), 3)?;
     world.run(&[1, 1, 1, 2, 2, 2, 2, 2, 1, 2, 3, 3, 3, 3, 3, 1, 1, 1, 1]);
-    expect_process(&rt, &world, 1, At::Scan(2), false, 8);
-    expect_process(&rt, &world, 2, At::Leaving, true, 6);
-    expect_process(&rt, &world, 3, At::Fast, true, 5);
-    assert_eq!(rt; world.x(), 3);
-    assert_eq!(rt; world.y(), 3);
-    assert_eq!(rt; world.inside(), Some(3));
+    let processes = [
+        (At::Scan(2), false, 8),
+        (At::Leaving, true, 6),
+        (At::Fast, true, 5),
+    ];
+    expect_world(&rt, &world, 3, &processes, (3, 3, Some(3)));
     Ok(())
 }
 
@@ -90,13 +86,11 @@ fn third_process_goes_in_while_the_second_leaves(rt: HostRuntime) -> Result<(), 
 fn one_step_at_a_time_and_no_step(rt: HostRuntime) -> Result<(), Fail> {
     let mut world = start(rt.alloc(), 2)?;
     world.run(&[]);
-    expect_process(&rt, &world, 2, At::Rest, false, 0);
+    let processes = [(At::Rest, false, 0), (At::Rest, false, 0)];
+    expect_world(&rt, &world, 2, &processes, (0, 0, None));
     world.step(2);
     world.step(2);
-    expect_process(&rt, &world, 1, At::Rest, false, 0);
-    expect_process(&rt, &world, 2, At::TestY, true, 2);
-    assert_eq!(rt; world.x(), 2);
-    assert_eq!(rt; world.y(), 0);
-    assert_eq!(rt; world.inside(), None);
+    let processes = [(At::Rest, false, 0), (At::TestY, true, 2)];
+    expect_world(&rt, &world, 2, &processes, (2, 0, None));
     Ok(())
 }

@@ -1,37 +1,24 @@
-//! Processes over each lock, by functions that are generic over it.
+//! Processes over a lock, by functions that are generic over it. What processes are told in one thread is a table of steps.
 ghost use Rattle.std.specs.Prelude.{◌≡◌, ◌≤◌, None, IfSome, length};
-ghost use Rattle.mq_state.specs.Buffers.{waiting_room};
 ghost use Rattle.mq.specs.Calls.{IsFree};
 
 use fast_mutex::{FastMutex, Look, Missing};
 use mq::{Guarded, Mq, Process};
 use mq_checker::checker::check_history;
-use mq_model::clock;
-use mq_model::entries::{Access, Attr, Deadline, OpenFlags, Received, Reply};
+use mq_model::entries::{Received, Reply};
 use mq_model::faults::Fault;
 use mq_model::journals::Journal;
-use mq_model::names::Name;
 use mq_state::collected::Collected;
 use std::alloc::Global;
 use std::process::Abort;
 use std::sync::Wait;
 use std::time::Clock;
+use steps::{Ask, CREATE, OPEN, Step, Told, expect_steps};
 
 mod calls;
 mod deadlines;
+mod steps;
 mod threads;
-
-const CREATE: OpenFlags = OpenFlags {
-    access: Access::Both,
-    create: true,
-    excl: false,
-    nonblock: false,
-};
-
-const OPEN: OpenFlags = OpenFlags {
-    create: false,
-    ..CREATE
-};
 
 /// Queues for two processes, and those.
 #[derive(Drop)]
@@ -49,132 +36,8 @@ fn make_pair<L: Look<Guarded>>(alloc: Global) -> Option<Pair<L>>
         Ok(made) => made,
         Err(_) => Mq::<L>::new(alloc, 2).ok()?,
     };
-    let two = processes.pop()?;
-    let one = processes.pop()?;
-    Some(Pair { mq, one, two })
-}
-
-fn open_queue<L: Look<Guarded>, R: Wait>(
-    rt: &R,
-    mq: &Mq<L>,
-    p: &mut Process<L>,
-    flags: OpenFlags,
-    maxmsg: i64,
-) -> Result<u32, Fault>
-    requires made { p.old.lock ≡ mq.now }
-    requires free { IsFree p.old }
-    ensures made { p.new.lock ≡ mq.now }
-    ensures free { IsFree p.new }
-{
-    let name = Name::read(b"/q")?;
-    let attr = Some(Attr { maxmsg, msgsize: 8 });
-    match p.open(rt, mq, &name, flags, attr) {
-        Err(Fault::NoMemory) => p.open(rt, mq, &name, flags, attr),
-        opened => opened,
-    }
-}
-
-// A send that is refused a growth is made once more.
-fn send<L: Look<Guarded>, R: Wait + Clock>(
-    rt: &R,
-    mq: &Mq<L>,
-    p: &mut Process<L>,
-    bytes: &[u8],
-    prio: u32,
-) -> Result<(), Fault>
-    requires made { p.old.lock ≡ mq.now }
-    requires free { IsFree p.old }
-    ensures made { p.new.lock ≡ mq.now }
-    ensures free { IsFree p.new }
-{
-    match p.send(rt, mq, 0, bytes, prio) {
-        Err(Fault::NoMemory) => p.send(rt, mq, 0, bytes, prio),
-        sent => sent,
-    }
-}
-
-fn receive<L: Look<Guarded>, R: Wait + Clock>(
-    rt: &R,
-    mq: &Mq<L>,
-    p: &mut Process<L>,
-    buf: &mut [u8],
-) -> Result<Received, Fault>
-    requires made { p.old.lock ≡ mq.now }
-    requires free { IsFree p.old }
-    ensures made { p.new.lock ≡ mq.now }
-    ensures free { IsFree p.new }
-{
-    match p.receive(rt, mq, 0, buf) {
-        Err(Fault::NoMemory) => p.receive(rt, mq, 0, buf),
-        received => received,
-    }
-}
-
-fn timed_receive<L: Look<Guarded>, R: Wait + Clock, C: clock::Clock>(
-    rt: &R,
-    mq: &Mq<L>,
-    p: &mut Process<L>,
-    buf: &mut [u8],
-    until: Deadline,
-    clock: &C,
-) -> Result<Received, Fault>
-    requires made { p.old.lock ≡ mq.now }
-    requires free { IsFree p.old }
-    ensures made { p.new.lock ≡ mq.now }
-    ensures free { IsFree p.new }
-{
-    match p.timed_receive(rt, mq, 0, buf, until, clock) {
-        Err(Fault::NoMemory) => p.timed_receive(rt, mq, 0, buf, until, clock),
-        received => received,
-    }
-}
-
-fn start_send<L: Look<Guarded>, R: Wait>(
-    rt: &R,
-    mq: &Mq<L>,
-    p: &mut Process<L>,
-    bytes: &[u8],
-) -> Result<bool, Fault>
-    requires made { p.old.lock ≡ mq.now }
-    ensures made { p.new.lock ≡ mq.now }
-{
-    if p.waiting().is_some() {
-        return Err(Fault::Busy);
-    }
-    match p.start_send(rt, mq, 0, bytes, 0) {
-        Err(Fault::NoMemory) => p.start_send(rt, mq, 0, bytes, 0),
-        sent => sent,
-    }
-}
-
-fn start_receive<L: Look<Guarded>, R: Wait>(
-    rt: &R,
-    mq: &Mq<L>,
-    p: &mut Process<L>,
-    buf: &mut [u8],
-) -> Result<Option<Received>, Fault>
-    requires made { p.old.lock ≡ mq.now }
-    requires free { IsFree p.old }
-    ensures made { p.new.lock ≡ mq.now }
-{
-    match p.start_receive(rt, mq, 0, buf) {
-        Err(Fault::NoMemory) => p.start_receive(rt, mq, 0, buf),
-        received => received,
-    }
-}
-
-// What the open wait came to, if there is one and it is answered.
-fn collect<L: Look<Guarded>, R: Wait>(
-    rt: &R,
-    mq: &Mq<L>,
-    p: &mut Process<L>,
-    buf: &mut [u8],
-) -> Option<Collected>
-    requires made { p.old.lock ≡ mq.now }
-    ensures made { p.new.lock ≡ mq.now }
-{
-    match p.waiting() {
-        Some(room) if room <= buf.len() => p.collect(rt, mq, buf),
+    match (processes.pop(), processes.pop()) {
+        (Some(two), Some(one)) => Some(Pair { mq, one, two }),
         _ => None,
     }
 }
@@ -230,18 +93,9 @@ fn finish<L: Look<Guarded>>(
 
 /// Sends and receives of one process, and the journal at the end.
 fn in_order<L: Look<Guarded>, R: Wait + Clock + Abort>(rt: &R, alloc: Global) -> Option<Journal> {
-    let Pair { mq, mut one, two } = make_pair::<L>(alloc)?;
-    assert_eq!(rt; one.number(), 1);
-    assert_eq!(rt; two.number(), 2);
-    assert_eq!(rt; open_queue(rt, &mq, &mut one, CREATE, 2), Ok(0));
-    assert_eq!(rt; send(rt, &mq, &mut one, b"a", 1), Ok(()));
-    assert_eq!(rt; send(rt, &mq, &mut one, b"b", 1), Ok(()));
-    let mut buf = [0; 8];
-    let received = Ok(Received { len: 1, prio: 1 });
-    assert_eq!(rt; receive(rt, &mq, &mut one, &mut buf), received);
-    assert_eq!(rt; buf[0], b'a');
-    assert_eq!(rt; receive(rt, &mq, &mut one, &mut buf), received);
-    assert_eq!(rt; buf[0], b'b');
+    let mut pair = make_pair::<L>(alloc)?;
+    expect_steps(rt, &pair.mq, &mut pair.one, &mut pair.two, &IN_ORDER);
+    let Pair { mq, one, two } = pair;
     let mq = finish_empty(alloc, mq)?;
     let (mq, one) = finish_early(alloc, mq, one)?;
     finish(alloc, mq, one, two)
@@ -249,36 +103,53 @@ fn in_order<L: Look<Guarded>, R: Wait + Clock + Abort>(rt: &R, alloc: Global) ->
 
 /// What two processes in one thread are told where both wait in turn.
 fn both_wait<L: Look<Guarded>, R: Wait + Clock + Abort>(rt: &R, alloc: Global) -> Option<Journal> {
-    let Pair {
-        mq,
-        mut one,
-        mut two,
-    } = make_pair::<L>(alloc)?;
-    let mut buf = [0; 8];
-    assert_eq!(rt; open_queue(rt, &mq, &mut one, CREATE, 1), Ok(0));
-    assert_eq!(rt; open_queue(rt, &mq, &mut two, OPEN, 1), Ok(0));
-    assert_eq!(rt; start_receive(rt, &mq, &mut one, &mut buf), Ok(None));
-    assert_eq!(rt; one.waiting(), Some(8));
-    assert!(rt; !one.answered(&mq));
-    assert_eq!(rt; collect(rt, &mq, &mut one, &mut buf), None);
-    assert_eq!(rt; send(rt, &mq, &mut two, b"hi", 4), Ok(()));
-    assert!(rt; one.answered(&mq));
-    assert!(rt; one.answered(&mq));
-    let outcome = Some(Collected::Got(Received { len: 2, prio: 4 }));
-    assert_eq!(rt; collect(rt, &mq, &mut one, &mut buf), outcome);
-    assert!(rt; !one.answered(&mq));
-    assert_eq!(rt; buf, [b'h', b'i', 0, 0, 0, 0, 0, 0]);
-    assert_eq!(rt; start_send(rt, &mq, &mut two, b"a"), Ok(true));
-    assert_eq!(rt; start_send(rt, &mq, &mut two, b"b"), Ok(false));
-    assert_eq!(rt; two.waiting(), Some(0));
-    if one.waiting().is_none() {
-        let received = Ok(Received { len: 1, prio: 0 });
-        assert_eq!(rt; receive(rt, &mq, &mut one, &mut buf), received);
-    }
-    assert_eq!(rt; buf, [b'a', b'i', 0, 0, 0, 0, 0, 0]);
-    assert_eq!(rt; collect(rt, &mq, &mut two, &mut []), Some(Collected::Sent));
+    let mut pair = make_pair::<L>(alloc)?;
+    expect_steps(rt, &pair.mq, &mut pair.one, &mut pair.two, &BOTH_WAIT);
+    let Pair { mq, one, two } = pair;
     finish(alloc, mq, one, two)
 }
+
+const IN_ORDER: [Step; 9] = [
+    (1, Ask::Number, Told::Number(1)),
+    (2, Ask::Number, Told::Number(2)),
+    (1, Ask::Open(CREATE, 2), Told::Opened(0)),
+    (1, Ask::Send(0, b"a", 1), Told::Done),
+    (1, Ask::Send(0, b"b", 1), Told::Done),
+    (1, Ask::Receive(0), RECEIVED),
+    (1, Ask::Buffer, Told::Bytes([b'a', 0, 0, 0, 0, 0, 0, 0])),
+    (1, Ask::Receive(0), RECEIVED),
+    (1, Ask::Buffer, Told::Bytes([b'b', 0, 0, 0, 0, 0, 0, 0])),
+];
+
+const RECEIVED: Told = Told::Got(Received { len: 1, prio: 1 });
+
+const BOTH_WAIT: [Step; 21] = [
+    (1, Ask::Open(CREATE, 1), Told::Opened(0)),
+    (2, Ask::Open(OPEN, 1), Told::Opened(0)),
+    (1, Ask::StartReceive(0), Told::Waits),
+    (1, Ask::Waiting, Told::Room(Some(8))),
+    (1, Ask::Answered, Told::Is(false)),
+    (1, Ask::Collect, Told::Came(None)),
+    (2, Ask::Send(0, b"hi", 4), Told::Done),
+    (1, Ask::Answered, Told::Is(true)),
+    (1, Ask::Answered, Told::Is(true)),
+    (
+        1,
+        Ask::Collect,
+        Told::Came(Some(Collected::Got(Received { len: 2, prio: 4 }))),
+    ),
+    (1, Ask::Answered, Told::Is(false)),
+    (1, Ask::Buffer, Told::Bytes([b'h', b'i', 0, 0, 0, 0, 0, 0])),
+    (2, Ask::StartSend(0, b"a", 0), Told::Done),
+    (2, Ask::StartSend(0, b"b", 0), Told::Waits),
+    (2, Ask::Waiting, Told::Room(Some(0))),
+    (2, Ask::Send(0, b"c", 0), Told::Nothing),
+    (1, Ask::Waiting, Told::Room(None)),
+    (1, Ask::Receive(0), Told::Got(Received { len: 1, prio: 0 })),
+    (1, Ask::Buffer, Told::Bytes([b'a', b'i', 0, 0, 0, 0, 0, 0])),
+    (2, Ask::Collect, Told::Came(Some(Collected::Sent))),
+    (2, Ask::Waiting, Told::Room(None)),
+];
 
 // The replies from the third entry on, of which the first hands a message to a waiting receive, and the last but one admits a
 // waiting send.

@@ -1,9 +1,10 @@
 // Scripts with the replies that they must have.
 use fast_mutex::FastMutex;
 use mq::Guarded;
-use mq_runner::{Plain, RunFault, run_script};
+use mq_runner::{Gate, Plain, RunFault, run_script};
 use scripts::{BLOCKED_RECEIVES, BLOCKED_SEND, RUNS, Run};
 use std::alloc::Global;
+use std::io::{Read, Write};
 use std::process::Abort;
 use std::sync::Wait;
 use std::thread::Threads;
@@ -17,19 +18,58 @@ mod streams;
 // The lock of the program.
 type Lamport = FastMutex<Guarded>;
 
-// How the run of a script ended, and what it wrote.
-fn output_of<R: Threads + Wait + Clock + Sync>(
-    rt: &R,
+// One run over that lock. No test needs what it promises.
+fn run<S, R, W, G>(
+    rt: &S,
+    alloc: Global,
+    input: &mut R,
+    output: &mut W,
+    gate: &G,
+) -> Result<(), RunFault>
+where
+    S: Threads + Wait + Clock + Sync,
+    R: Read,
+    W: Write,
+    G: Gate + Sync,
+{
+    run_script::<Lamport, _, _, _, _>(rt, alloc, input, output, gate)
+}
+
+// How the run of a script with a gate ended, and what it wrote.
+fn output_at<S: Threads + Wait + Clock + Sync, G: Gate + Sync>(
+    rt: &S,
     alloc: Global,
     mut script: &[u8],
+    gate: &G,
 ) -> (Result<(), RunFault>, Vec<u8>) {
     let mut output = Vec::new(alloc);
-    let outcome = run_script::<Lamport, _, _, _, _>(rt, alloc, &mut script, &mut output, &Plain);
+    let outcome = run(rt, alloc, &mut script, &mut output, gate);
     (outcome, output)
 }
 
+fn output_of<S: Threads + Wait + Clock + Sync>(
+    rt: &S,
+    alloc: Global,
+    script: &[u8],
+) -> (Result<(), RunFault>, Vec<u8>) {
+    output_at(rt, alloc, script, &Plain)
+}
+
+// The run of a script must end so, and write this.
+fn expect_output<S: Threads + Wait + Clock + Sync + Abort>(
+    rt: &S,
+    alloc: Global,
+    script: &[u8],
+    wanted: Result<(), RunFault>,
+    text: &[u8],
+) {
+    let (outcome, output) = output_of(rt, alloc, script);
+    assert_eq!(rt; outcome, wanted);
+    assert!(rt; output.as_slice() == text);
+}
+
 // Runs a script, which must have its replies.
-fn expect_replies<R: Threads + Wait + Clock + Sync + Abort>(rt: &R, alloc: Global, run: Run) {
+fn expect_replies<S: Threads + Wait + Clock + Sync + Abort>(rt: &S, alloc: Global, run: Run) {
     let (script, replies) = (run.script, run.replies.as_bytes());
     let (outcome, output) = output_of(rt, alloc, script.as_bytes());
     assert_eq!(rt; outcome, Ok(()), "{script}");

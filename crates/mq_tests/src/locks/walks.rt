@@ -5,6 +5,7 @@ ghost use Rattle.fast_mutex.specs.Fast.{ticket_of, IsSeatOf};
 use super::{Notes, Stay, in_turn, lock_for_two, no_notes};
 use fast_mutex::{FastMutex, FastSeat, Lock, Path, Walk};
 use lamport_core::At;
+use std::alloc::{AllocError, Global};
 use std::process::Abort;
 use std::test::Fail;
 
@@ -57,55 +58,102 @@ fn alone<A: Abort>(rt: &A, lock: &FastMutex<Notes>, walk: Walk<Notes>, steps: u3
     walk
 }
 
-// A stay of an entry that has come in at this point, by this path and so many steps.
+// A stay of an entry that has come in, at the point, by the path and with the steps that are wanted.
 fn stay<A: Abort>(
     rt: &A,
     lock: &FastMutex<Notes>,
     walk: Walk<Notes>,
-    at: At,
-    path: Path,
-    steps: u64,
+    wanted: (At, Path, u64),
 ) -> FastSeat<Notes>
     requires { IsSeatOf (λ s. s.title ∷ []) lock.now.table.shared.table_id lock.now.table.shared.key walk.seat }
     ensures { (ticket_of result.number result.seat).lock ≡ (ticket_of walk.number walk.seat).lock }
 {
-    let found = FastMutex::at(&walk);
-    assert_eq!(rt; found, at);
-    match found {
+    let at = FastMutex::at(&walk);
+    match at {
         At::Fast | At::Slow => {}
         _ => panic!(rt; "the entry is not inside"),
     }
     let (inside, notes) = FastMutex::admitted(walk);
-    assert_eq!(rt; <FastMutex<Notes> as Lock<Notes>>::path(&inside), path);
-    assert_eq!(rt; <FastMutex<Notes> as Lock<Notes>>::steps(&inside), steps);
+    let path = <FastMutex<Notes> as Lock<Notes>>::path(&inside);
+    let steps = <FastMutex<Notes> as Lock<Notes>>::steps(&inside);
+    assert_eq!(rt; (at, path, steps), wanted);
     lock.leave(inside, notes)
+}
+
+// The entries of two processes in a fixed order: steps by a schedule and where they lead, twice; then the stay of the entry that
+// is inside, so many steps of the other, and its stay.
+#[derive(Clone, Copy)]
+struct Plan {
+    before: &'static [u32],
+    between: (At, At),
+    then: &'static [u32],
+    behind: (At, At),
+    first: u32,
+    first_stay: (At, Path, u64),
+    alone: u32,
+    second_stay: (At, Path, u64),
+}
+
+// The rest of a plan, from where one entry is inside: its stay, the steps and the stay of the other, and the end.
+fn expect_stays<A: Abort>(
+    rt: &A,
+    lock: FastMutex<Notes>,
+    mut seats: Vec<FastSeat<Notes>>,
+    inside: Walk<Notes>,
+    other: Walk<Notes>,
+    plan: Plan,
+)
+    requires taken { seats.items ≡ [] }
+    requires inside { IsSeatOf (λ s. s.title ∷ []) lock.table.shared.table_id lock.table.shared.key inside.seat }
+    requires other { IsSeatOf (λ s. s.title ∷ []) lock.table.shared.table_id lock.table.shared.key other.seat }
+{
+    let first = stay(rt, &lock, inside, plan.first_stay);
+    let other = alone(rt, &lock, other, plan.alone);
+    let second = stay(rt, &lock, other, plan.second_stay);
+    let (Ok(()), Ok(())) = (seats.push(first), seats.push(second)) else {
+        panic!(rt; "room for two seats")
+    };
+    let Ok(notes) = lock.finish(seats) else {
+        panic!(rt; "all seats")
+    };
+    assert_eq!(rt; notes.title, 7);
+}
+
+fn expect_plan<A: Abort>(rt: &A, alloc: Global, plan: Plan) -> Result<(), AllocError> {
+    let Some((lock, mut seats)) = lock_for_two::<FastMutex<Notes>>(alloc, no_notes(alloc, 7, 0)?)
+    else {
+        panic!(rt; "no memory")
+    };
+    let (Some(two), Some(one)) = (seats.pop(), seats.pop()) else {
+        panic!(rt; "two seats")
+    };
+    let (one, two) = (lock.begin(one), lock.begin(two));
+    let (one, two) = by_schedule(rt, &lock, one, two, plan.before);
+    assert_eq!(rt; (FastMutex::at(&one), FastMutex::at(&two)), plan.between);
+    let (one, two) = by_schedule(rt, &lock, one, two, plan.then);
+    assert_eq!(rt; (FastMutex::at(&one), FastMutex::at(&two)), plan.behind);
+    if plan.first == 1 {
+        expect_stays(rt, lock, seats, one, two, plan);
+    } else {
+        expect_stays(rt, lock, seats, two, one, plan);
+    }
+    Ok(())
 }
 
 // Process 2 turns back at y and waits while process 1 goes in by the slow path.
 #[test]
 fn slow_entry_goes_first_and_the_other_begins_again(rt: HostRuntime) -> Result<(), Fail> {
-    let notes = no_notes(rt.alloc(), 7, 0)?;
-    let Some((lock, mut seats)) = lock_for_two::<FastMutex<Notes>>(rt.alloc(), notes) else {
-        panic!(&rt; "no memory")
+    let plan = Plan {
+        before: &[],
+        between: (At::Rest, At::Rest),
+        then: &[1, 1, 1, 2, 2, 1, 1, 2, 2, 1, 1, 1, 1],
+        behind: (At::Slow, At::AwaitY),
+        first: 1,
+        first_stay: (At::Slow, Path::Slow, 9),
+        alone: 6,
+        second_stay: (At::Fast, Path::Fast, 5),
     };
-    let (Some(two), Some(one)) = (seats.pop(), seats.pop()) else {
-        panic!(&rt; "two seats")
-    };
-    let (one, two) = (lock.begin(one), lock.begin(two));
-    assert_eq!(rt; FastMutex::at(&one), At::Rest);
-    let schedule = [1, 1, 1, 2, 2, 1, 1, 2, 2, 1, 1, 1, 1];
-    let (one, two) = by_schedule(&rt, &lock, one, two, &schedule);
-    assert_eq!(rt; FastMutex::at(&two), At::AwaitY);
-    let one = stay(&rt, &lock, one, At::Slow, Path::Slow, 9);
-    let two = alone(&rt, &lock, two, 6);
-    let two = stay(&rt, &lock, two, At::Fast, Path::Fast, 5);
-    let (Ok(()), Ok(())) = (seats.push(one), seats.push(two)) else {
-        panic!(&rt; "room for two seats")
-    };
-    let Ok(notes) = lock.finish(seats) else {
-        panic!(&rt; "all seats")
-    };
-    assert_eq!(rt; notes.title, 7);
+    expect_plan(&rt, rt.alloc(), plan)?;
     Ok(())
 }
 
@@ -113,29 +161,17 @@ fn slow_entry_goes_first_and_the_other_begins_again(rt: HostRuntime) -> Result<(
 // turn process 2 back.
 #[test]
 fn both_pass_the_gate_and_the_second_goes_first(rt: HostRuntime) -> Result<(), Fail> {
-    let notes = no_notes(rt.alloc(), 7, 0)?;
-    let Some((lock, mut seats)) = lock_for_two::<FastMutex<Notes>>(rt.alloc(), notes) else {
-        panic!(&rt; "no memory")
+    let plan = Plan {
+        before: &[1, 1, 1, 2, 2, 2],
+        between: (At::SetY, At::SetY),
+        then: &[1, 1, 2, 2, 1, 1, 1],
+        behind: (At::Scan(2), At::Fast),
+        first: 2,
+        first_stay: (At::Fast, Path::Fast, 5),
+        alone: 8,
+        second_stay: (At::Fast, Path::Fast, 5),
     };
-    let (Some(two), Some(one)) = (seats.pop(), seats.pop()) else {
-        panic!(&rt; "two seats")
-    };
-    let (one, two) = (lock.begin(one), lock.begin(two));
-    let (one, two) = by_schedule(&rt, &lock, one, two, &[1, 1, 1, 2, 2, 2]);
-    assert_eq!(rt; FastMutex::at(&one), At::SetY);
-    assert_eq!(rt; FastMutex::at(&two), At::SetY);
-    let (one, two) = by_schedule(&rt, &lock, one, two, &[1, 1, 2, 2, 1, 1, 1]);
-    assert_eq!(rt; FastMutex::at(&one), At::Scan(2));
-    let two = stay(&rt, &lock, two, At::Fast, Path::Fast, 5);
-    let one = alone(&rt, &lock, one, 8);
-    let one = stay(&rt, &lock, one, At::Fast, Path::Fast, 5);
-    let (Ok(()), Ok(())) = (seats.push(one), seats.push(two)) else {
-        panic!(&rt; "room for two seats")
-    };
-    let Ok(notes) = lock.finish(seats) else {
-        panic!(&rt; "all seats")
-    };
-    assert_eq!(rt; notes.title, 7);
+    expect_plan(&rt, rt.alloc(), plan)?;
     Ok(())
 }
 

@@ -1,10 +1,9 @@
 //! Receives whose deadline comes, by a clock of the test and by the real one.
-ghost use Rattle.std.specs.Prelude.{◌≡◌};
-
-use super::{CREATE, OPEN, Pair, finish, make_pair, open_queue, timed_receive};
+use super::steps::{Ask, CREATE, OPEN, Step, Told, expect_steps};
+use super::{Pair, finish, make_pair};
 use fast_mutex::{FastMutex, Look};
 use mq::{Guarded, Monotonic};
-use mq_model::clock;
+use mq_model::clock::Clock as Moments;
 use mq_model::entries::{Deadline, Reply};
 use mq_model::faults::Fault;
 use mq_model::journals::Journal;
@@ -12,19 +11,28 @@ use std::alloc::Global;
 use std::process::Abort;
 use std::sync::Wait;
 use std::sync::atomic::{AtomicBool, Ordering};
-use std::time::{Clock, Duration};
+use std::time::Clock;
 
 const START: Deadline = Deadline { sec: 0, nsec: 0 };
 
-const LATER: Deadline = Deadline { sec: 1, nsec: 0 };
+/// The second moment of the clock of the test.
+pub const LATER: Deadline = Deadline { sec: 1, nsec: 0 };
 
-// A clock that gives the start once, and then the moment one second later.
+/// A clock that gives the start once, and then the moment one second later.
 #[derive(Drop)]
-struct Ticks {
+pub struct Ticks {
     asked: AtomicBool,
 }
 
-impl clock::Clock for Ticks {
+impl Ticks {
+    pub fn new() -> Ticks {
+        Ticks {
+            asked: AtomicBool::new(false),
+        }
+    }
+}
+
+impl Moments for Ticks {
     ghost use Rattle.std.specs.Prelude.{◌≡◌, true};
     ghost use Rattle.mq_model.specs.Deadlines.{is_moment};
 
@@ -39,54 +47,49 @@ impl clock::Clock for Ticks {
     }
 }
 
-// A receive until the second moment of the clock, and the journal.
-fn expired<L: Look<Guarded>, R: Wait + Clock + Abort>(rt: &R, alloc: Global) -> Option<Journal> {
-    let Pair {
-        mq,
-        mut one,
-        mut two,
-    } = make_pair::<L>(alloc)?;
-    open_queue(rt, &mq, &mut one, CREATE, 1).ok()?;
-    open_queue(rt, &mq, &mut two, OPEN, 1).ok()?;
-    let ticks = Ticks {
-        asked: AtomicBool::new(false),
-    };
-    let mut buf = [7; 8];
-    let outcome = timed_receive(rt, &mq, &mut one, &mut buf, LATER, &ticks);
-    assert_eq!(rt; outcome, Err(Fault::TimedOut));
-    assert_eq!(rt; buf, [7; 8]);
-    finish(alloc, mq, one, two)
-}
+const MOST: u64 = 20;
 
-#[test]
-fn a_receive_is_withdrawn_at_its_deadline(rt: HostRuntime) {
-    let Some(journal) = expired::<FastMutex<Guarded>, _>(&rt, rt.alloc()) else {
-        return;
-    };
-    let waits = journal.entry(2).map(|entry| entry.reply);
-    assert_eq!(&rt; waits, Some(Reply::Waits));
-    let ends = journal.entry(3).map(|entry| entry.reply);
-    assert_eq!(&rt; ends, Some(Reply::Withdrawn { wait: 2 }));
-}
+const STEPS: [Step; 7] = [
+    (1, Ask::Open(CREATE, 1), Told::Opened(0)),
+    (2, Ask::Open(OPEN, 1), Told::Opened(0)),
+    (1, Ask::ReceiveUntilTick(0), Told::Refused(Fault::TimedOut)),
+    (1, Ask::Buffer, Told::Bytes([0; 8])),
+    (1, Ask::Send(0, b"a", 0), Told::Done),
+    (
+        2,
+        Ask::TimedSend(0, b"b", 0, MOST),
+        Told::Refused(Fault::TimedOut),
+    ),
+    (1, Ask::Waiting, Told::Room(None)),
+];
 
-// A receive that waits for 20 ms of the real clock.
-fn waited<L: Look<Guarded>, R: Wait + Clock + Abort>(rt: &R, alloc: Global) -> Option<()> {
-    let Pair {
-        mq,
-        mut one,
-        two: _,
-    } = make_pair::<L>(alloc)?;
-    open_queue(rt, &mq, &mut one, CREATE, 1).ok()?;
+// The journal of those steps, and how long they took.
+fn steps_with_deadlines<L: Look<Guarded>, R: Wait + Clock + Abort>(
+    rt: &R,
+    alloc: Global,
+) -> Option<(Journal, Deadline)> {
+    let mut pair = make_pair::<L>(alloc)?;
     let clock = Monotonic::start(rt).ok()?;
-    let until = clock.after(Duration::from_millis(20));
-    let outcome = timed_receive(rt, &mq, &mut one, &mut [0; 8], until, &clock);
-    assert_eq!(rt; outcome, Err(Fault::TimedOut));
-    let now = clock::Clock::now(&clock);
-    assert!(rt; now.sec > until.sec || (now.sec == until.sec && now.nsec >= until.nsec));
-    Some(())
+    expect_steps(rt, &pair.mq, &mut pair.one, &mut pair.two, &STEPS);
+    let took = clock.now();
+    let Pair { mq, one, two } = pair;
+    Some((finish(alloc, mq, one, two)?, took))
 }
 
 #[test]
-fn a_receive_waits_for_its_real_deadline(rt: HostRuntime) {
-    let _ = waited::<FastMutex<Guarded>, _>(&rt, rt.alloc());
+fn a_wait_is_withdrawn_at_its_deadline_and_not_before(rt: HostRuntime) {
+    let (journal, took) = steps_with_deadlines::<FastMutex<Guarded>, _>(&rt, rt.alloc()).expect(
+        &rt, "memory",
+    );
+    assert!(&rt; took.sec > 0 || took.nsec >= 20_000_000);
+    let replies = [
+        (2, Reply::Waits),
+        (3, Reply::Withdrawn { wait: 2 }),
+        (5, Reply::Waits),
+        (6, Reply::Withdrawn { wait: 5 }),
+    ];
+    for (place, wanted) in replies {
+        let found = journal.entry(place).map(|entry| entry.reply);
+        assert_eq!(&rt; found, Some(wanted));
+    }
 }

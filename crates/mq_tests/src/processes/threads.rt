@@ -1,19 +1,27 @@
 //! Processes in threads of their own.
 ghost use Rattle.std.specs.Prelude.{◌≡◌};
-ghost use Rattle.mq.specs.Calls.{IsFree};
 
-use super::{CREATE, OPEN, Pair, finish, make_pair, open_queue, receive, send, timed_receive};
+use super::steps::{Ask, CREATE, OPEN, Step, Told, asked, expect_steps};
+use super::{Pair, finish, make_pair};
 use fast_mutex::{FastMutex, Look};
-use mq::{Guarded, Monotonic, Mq, Process};
+use mq::{Guarded, Mq, Process};
 use mq_checker::checker::check_history;
+use mq_model::entries::Received;
 use mq_model::journals::Journal;
 use std::alloc::Global;
 use std::process::Abort;
 use std::sync::Wait;
 use std::thread::{Threads, join};
-use std::time::{Clock, Duration};
+use std::time::Clock;
 
 const MESSAGES: u8 = 200;
+
+const RECEIVED: Told = Told::Got(Received { len: 1, prio: 0 });
+
+const OPENS: [Step; 2] = [
+    (1, Ask::Open(CREATE, 2), Told::Opened(0)),
+    (2, Ask::Open(OPEN, 2), Told::Opened(0)),
+];
 
 // Sends as many messages, each with its number, through a queue that holds two.
 fn send_all<L: Look<Guarded>, R: Wait + Clock>(
@@ -21,42 +29,37 @@ fn send_all<L: Look<Guarded>, R: Wait + Clock>(
     mq: &Mq<L>,
     mut p: Process<L>,
 ) -> (Process<L>, bool)
-    requires made { p.lock ≡ mq.now }
-    requires free { IsFree p }
-    ensures made { result.0.lock ≡ p.lock }
-    ensures free { IsFree result.0 }
+    requires { p.lock ≡ mq.now }
+    ensures { result.0.lock ≡ p.lock }
 {
     let mut all = true;
+    let mut buf = [0; 8];
     'numbers: for number in 0..MESSAGES {
-        all &= send(rt, mq, &mut p, &[number], 0).is_ok();
+        all &= asked(rt, mq, &mut p, Ask::Send(0, &[number], 0), &mut buf) == Told::Done;
     }
     (p, all)
 }
 
-// Receives as many messages, every second one with a deadline that does not come, and sees that they come in the order of their numbers.
+// Receives as many messages, every second one with a deadline that does not come, and sees that they come in the order of
+// their numbers.
 fn receive_all<L: Look<Guarded>, R: Wait + Clock>(
     rt: &R,
     mq: &Mq<L>,
     mut p: Process<L>,
 ) -> (Process<L>, bool)
-    requires made { p.lock ≡ mq.now }
-    requires free { IsFree p }
-    ensures made { result.0.lock ≡ p.lock }
-    ensures free { IsFree result.0 }
+    requires { p.lock ≡ mq.now }
+    ensures { result.0.lock ≡ p.lock }
 {
-    let Ok(clock) = Monotonic::start(rt) else {
-        return (p, false);
-    };
-    let until = clock.after(Duration::from_secs(3_600));
     let mut all = true;
     let mut buf = [0; 8];
     'numbers: for number in 0..MESSAGES {
-        let received = if number % 2 == 0 {
-            receive(rt, mq, &mut p, &mut buf)
+        let ask = if number % 2 == 0 {
+            Ask::Receive(0)
         } else {
-            timed_receive(rt, mq, &mut p, &mut buf, until, &clock)
+            Ask::TimedReceive(0, 3_600_000)
         };
-        all &= received.is_ok() && buf[0] == number;
+        let told = asked(rt, mq, &mut p, ask, &mut buf);
+        all &= told == RECEIVED && buf[0] == number;
     }
     (p, all)
 }
@@ -75,17 +78,16 @@ where
         mut one,
         mut two,
     } = make_pair::<L>(alloc)?;
-    assert_eq!(rt; open_queue(rt, &mq, &mut one, CREATE, 2), Ok(0));
-    assert_eq!(rt; open_queue(rt, &mq, &mut two, OPEN, 2), Ok(0));
+    expect_steps(rt, &mq, &mut one, &mut two, &OPENS);
     let queues = &mq;
     let (sent, received) = join(
         rt,
         move || -> (Process<L>, bool)
-            requires { (one.lock ≡ queues.now) × IsFree one }
+            requires { one.lock ≡ queues.now }
             ensures { result.0.lock ≡ one.lock }
         { send_all(rt, queues, one) },
         move || -> (Process<L>, bool)
-            requires { (two.lock ≡ queues.now) × IsFree two }
+            requires { two.lock ≡ queues.now }
             ensures { result.0.lock ≡ two.lock }
         { receive_all(rt, queues, two) },
     );

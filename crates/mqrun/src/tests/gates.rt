@@ -1,7 +1,7 @@
 // Gates at which the processes of a phase meet.
-use super::Lamport;
+use super::output_at;
 use crossbeam_utils::Backoff;
-use mq_runner::{Gate, run_script};
+use mq_runner::Gate;
 use std::sync::atomic::{AtomicU64, Ordering};
 use std::test::Fail;
 
@@ -41,14 +41,7 @@ impl Gate for Meeting {
 fn the_processes_of_a_phase_meet(rt: HostRuntime) -> Result<(), Fail> {
     let gate = new_meeting(1_000_000);
     let script = "processes 2\n1 getattr 0\n2 getattr 0\n";
-    let mut output = Vec::new(rt.alloc());
-    let outcome = run_script::<Lamport, _, _, _, _>(
-        &rt,
-        rt.alloc(),
-        &mut script.as_bytes(),
-        &mut output,
-        &gate,
-    );
+    let (outcome, output) = output_at(&rt, rt.alloc(), script.as_bytes(), &gate);
     assert_eq!(rt; outcome, Ok(()));
     assert!(rt; output.as_slice() == b"1 EBADF\n2 EBADF\nhistory ok\n".as_slice());
     assert_eq!(rt; gate.misses.load(Ordering::SeqCst), 0);
@@ -60,14 +53,7 @@ fn the_processes_of_a_phase_meet(rt: HostRuntime) -> Result<(), Fail> {
 fn processes_that_run_one_after_another_miss_each_other(rt: HostRuntime) -> Result<(), Fail> {
     let gate = new_meeting(1000);
     let script = "processes 2\n1 getattr 0\n--\n2 getattr 0\n";
-    let mut output = Vec::new(rt.alloc());
-    let outcome = run_script::<Lamport, _, _, _, _>(
-        &rt,
-        rt.alloc(),
-        &mut script.as_bytes(),
-        &mut output,
-        &gate,
-    );
+    let (outcome, _) = output_at(&rt, rt.alloc(), script.as_bytes(), &gate);
     assert_eq!(rt; outcome, Ok(()));
     assert_eq!(rt; gate.misses.load(Ordering::SeqCst), 1);
     Ok(())
@@ -98,14 +84,7 @@ fn each_call_meets_the_gate_once_with_its_line(rt: HostRuntime) -> Result<(), Fa
         lines: AtomicU64::new(0),
     };
     let script = "# two phases\nprocesses 2\n1 exit\n2 exit\n--\n2 notice\n2 exit\n";
-    let mut output = Vec::new(rt.alloc());
-    let outcome = run_script::<Lamport, _, _, _, _>(
-        &rt,
-        rt.alloc(),
-        &mut script.as_bytes(),
-        &mut output,
-        &gate,
-    );
+    let (outcome, _) = output_at(&rt, rt.alloc(), script.as_bytes(), &gate);
     assert_eq!(rt; outcome, Ok(()));
     assert_eq!(rt; gate.calls.load(Ordering::SeqCst), 3);
     assert_eq!(rt; gate.lines.load(Ordering::SeqCst), 4 + 6 + 7);

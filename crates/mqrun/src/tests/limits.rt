@@ -1,32 +1,54 @@
 // The limits of a script, and the lines that are at fault.
-use super::output_of;
 use super::scripts::{EQUAL_PRIORITIES, NOTICES, Run};
+use super::{expect_output, output_of};
 use mq_runner::RunFault;
-use std::alloc::AllocError;
+use std::alloc::{AllocError, Global};
 use std::test::Fail;
+
+// Each text with so many letters behind it.
+fn with_letters(alloc: Global, parts: &[(&str, usize)]) -> Result<Vec<u8>, AllocError> {
+    let mut script = Vec::new(alloc);
+    for (text, letters) in parts {
+        script.extend_from_slice(text.as_bytes())?;
+        for _ in 0..*letters {
+            script.push(b'a')?;
+        }
+    }
+    Ok(script)
+}
+
+// The text that is written so many times between two others.
+fn repeated(
+    alloc: Global,
+    first: &str,
+    text: &str,
+    times: u32,
+    last: &str,
+) -> Result<Vec<u8>, AllocError> {
+    let mut script = Vec::new(alloc);
+    script.extend_from_slice(first.as_bytes())?;
+    for _ in 0..times {
+        script.extend_from_slice(text.as_bytes())?;
+    }
+    script.extend_from_slice(last.as_bytes())?;
+    Ok(script)
+}
+
+const LONG_NAMES: [(&str, usize); 3] = [
+    (
+        "processes 1\n1 open q bc\n1 open / bc\n1 open /a/b bc\n1 open /",
+        255,
+    ),
+    (" bc\n1 open /", 256),
+    (" bc\n1 unlink /", 256),
+];
 
 #[test]
 fn names_have_at_most_255_bytes_behind_the_slash(rt: HostRuntime) -> Result<(), Fail> {
-    let alloc = rt.alloc();
-    let mut script = Vec::new(alloc);
-    script.extend_from_slice(b"processes 1\n1 open q bc\n1 open / bc\n1 open /a/b bc\n1 open /")?;
-    add_letters(&mut script, 255)?;
-    script.extend_from_slice(b" bc\n1 open /")?;
-    add_letters(&mut script, 256)?;
-    script.extend_from_slice(b" bc\n1 unlink /")?;
-    add_letters(&mut script, 256)?;
-    let (outcome, output) = output_of(&rt, alloc, script.as_slice());
-    assert_eq!(rt; outcome, Ok(()));
+    let script = with_letters(rt.alloc(), &LONG_NAMES)?;
     let replies =
         "1 EINVAL\n1 EINVAL\n1 EINVAL\n1 fd 0\n1 ENAMETOOLONG\n1 ENAMETOOLONG\nhistory ok\n";
-    assert!(rt; output.as_slice() == replies.as_bytes());
-    Ok(())
-}
-
-fn add_letters(script: &mut Vec<u8>, count: usize) -> Result<(), AllocError> {
-    for _ in 0..count {
-        script.push(b'a')?;
-    }
+    expect_output(&rt, rt.alloc(), &script, Ok(()), replies.as_bytes());
     Ok(())
 }
 
@@ -45,44 +67,43 @@ fn a_message_may_hold_any_byte_but_a_space_and_a_feed(rt: HostRuntime) -> Result
     }
     script.extend_from_slice(b"\n1 recv 0 300\n")?;
     replies.extend_from_slice(b"\nhistory ok\n")?;
-    let (outcome, output) = output_of(&rt, alloc, script.as_slice());
-    assert_eq!(rt; outcome, Ok(()));
-    assert!(rt; output.as_slice() == replies.as_slice());
+    expect_output(&rt, alloc, &script, Ok(()), &replies);
     Ok(())
 }
 
+// Scripts, and their first lines at fault.
+const AT_FAULT: [(&str, u64); 22] = [
+    ("", 1),
+    ("processes 33", 1),
+    ("processes 0", 1),
+    ("1 exit", 1),
+    ("#\n", 2),
+    ("# a comment\n\n", 3),
+    ("processes 1\n2 getattr 0", 2),
+    ("processes 1\n1 send 0", 2),
+    ("processes 1\n1 open /q", 2),
+    ("processes 1\n\r\n", 2),
+    ("processes 1\n1 getattr 0\n\n1 wait\n1 wait\n", 4),
+    ("processes 1\n0 getattr 0\n", 2),
+    ("processes 1\n1 getattr -0\n", 2),
+    ("processes 1\n1 recv 0 65537\n", 2),
+    ("processes 1\n1 send 0 4294967296 a\n", 2),
+    ("processes 1\n1 notify 0 18446744073709551616\n", 2),
+    ("processes 1\n1 open /q bcc\n", 2),
+    ("processes 1\n1 open /q cb\n", 2),
+    ("processes 1\n1 open /q bc 1\n", 2),
+    ("processes 1\n1 setattr 0 2\n", 2),
+    ("processes 1\n1 close\n", 2),
+    ("processes 1\n1 exit 0\n", 2),
+];
+
 #[test]
-fn the_first_line_at_fault_is_named(rt: HostRuntime) -> Result<(), Fail> {
-    let scripts = [
-        ("", 1),
-        ("processes 33", 1),
-        ("processes 0", 1),
-        ("1 exit", 1),
-        ("#\n", 2),
-        ("# a comment\n\n", 3),
-        ("processes 1\n2 getattr 0", 2),
-        ("processes 1\n1 send 0", 2),
-        ("processes 1\n1 open /q", 2),
-        ("processes 1\n\r\n", 2),
-        ("processes 1\n1 getattr 0\n\n1 wait\n1 wait\n", 4),
-        ("processes 1\n0 getattr 0\n", 2),
-        ("processes 1\n1 getattr -0\n", 2),
-        ("processes 1\n1 recv 0 65537\n", 2),
-        ("processes 1\n1 send 0 4294967296 a\n", 2),
-        ("processes 1\n1 notify 0 18446744073709551616\n", 2),
-        ("processes 1\n1 open /q bcc\n", 2),
-        ("processes 1\n1 open /q cb\n", 2),
-        ("processes 1\n1 open /q bc 1\n", 2),
-        ("processes 1\n1 setattr 0 2\n", 2),
-        ("processes 1\n1 close\n", 2),
-        ("processes 1\n1 exit 0\n", 2),
-    ];
-    for (script, line) in scripts {
+fn the_first_line_at_fault_is_named(rt: HostRuntime) {
+    for (script, line) in AT_FAULT {
         let (outcome, output) = output_of(&rt, rt.alloc(), script.as_bytes());
         assert_eq!(rt; outcome, Err(RunFault::BadCall(line)), "{script}");
         assert!(rt; output.is_empty(), "{script}");
     }
-    Ok(())
 }
 
 #[test]
@@ -117,37 +138,19 @@ fn last_line(text: &[u8]) -> u64 {
 
 #[test]
 fn a_script_has_at_most_1_048_576_bytes(rt: HostRuntime) -> Result<(), Fail> {
-    let alloc = rt.alloc();
-    let mut script = Vec::with_capacity(alloc, 1_048_577)?;
-    script.extend_from_slice(b"processes 1\n")?;
-    for _ in 0..1_048_564 {
-        script.push(b'#')?;
-    }
-    let (outcome, output) = output_of(&rt, alloc, script.as_slice());
-    assert_eq!(rt; outcome, Ok(()));
-    assert!(rt; output.as_slice() == "history ok\n".as_bytes());
-    script.push(b'\n')?;
-    let (outcome, _) = output_of(&rt, alloc, script.as_slice());
-    assert_eq!(rt; outcome, Err(RunFault::BadCall(2)));
+    let script = repeated(rt.alloc(), "processes 1\n", "#", 1_048_564, "")?;
+    expect_output(&rt, rt.alloc(), &script, Ok(()), b"history ok\n");
+    let script = repeated(rt.alloc(), "processes 1\n", "#", 1_048_564, "\n")?;
+    expect_output(&rt, rt.alloc(), &script, Err(RunFault::BadCall(2)), b"");
     Ok(())
 }
 
 #[test]
 fn a_script_has_at_most_1_000_call_lines(rt: HostRuntime) -> Result<(), Fail> {
-    let alloc = rt.alloc();
-    let mut script = Vec::new(alloc);
-    let mut replies = Vec::new(alloc);
-    script.extend_from_slice(b"processes 1\n")?;
-    for _ in 0..1000 {
-        script.extend_from_slice(b"1 getattr 0\n")?;
-        replies.extend_from_slice(b"1 EBADF\n")?;
-    }
-    replies.extend_from_slice(b"history ok\n")?;
-    let (outcome, output) = output_of(&rt, alloc, script.as_slice());
-    assert_eq!(rt; outcome, Ok(()));
-    assert!(rt; output.as_slice() == replies.as_slice());
-    script.extend_from_slice(b"1 getattr 0\n")?;
-    let (outcome, _) = output_of(&rt, alloc, script.as_slice());
-    assert_eq!(rt; outcome, Err(RunFault::BadCall(1002)));
+    let script = repeated(rt.alloc(), "processes 1\n", "1 getattr 0\n", 1000, "")?;
+    let replies = repeated(rt.alloc(), "", "1 EBADF\n", 1000, "history ok\n")?;
+    expect_output(&rt, rt.alloc(), &script, Ok(()), &replies);
+    let script = repeated(rt.alloc(), "processes 1\n", "1 getattr 0\n", 1001, "")?;
+    expect_output(&rt, rt.alloc(), &script, Err(RunFault::BadCall(1002)), b"");
     Ok(())
 }

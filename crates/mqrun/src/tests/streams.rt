@@ -1,7 +1,7 @@
 // Readers and writers that fail, give one byte at a time, or do not end.
-use super::Lamport;
+use super::run;
 use super::scripts::{EQUAL_PRIORITIES, Run, TWO_PROCESSES};
-use mq_runner::{Plain, RunFault, run_script};
+use mq_runner::{Plain, RunFault};
 use std::io;
 use std::io::{Error, ErrorKind, Read, Write};
 use std::test::Fail;
@@ -41,13 +41,7 @@ fn a_read_that_fails_ends_the_run(rt: HostRuntime) -> Result<(), Fail> {
             reads: 0,
             fails_at,
         };
-        let outcome = run_script::<Lamport, _, _, _, _>(
-            &rt,
-            rt.alloc(),
-            &mut input,
-            &mut output,
-            &Plain,
-        );
+        let outcome = run(&rt, rt.alloc(), &mut input, &mut output, &Plain);
         if fails_at <= bytes.len() + 1 {
             assert_eq!(rt; outcome, Err(RunFault::Input), "at {fails_at}");
             assert!(rt; output.is_empty());
@@ -91,13 +85,7 @@ fn reading_stops_with_the_first_byte_past_the_limit(rt: HostRuntime) -> Result<(
         },
         reads: 0,
     };
-    let outcome = run_script::<Lamport, _, _, _, _>(
-        &rt,
-        rt.alloc(),
-        &mut input,
-        &mut output,
-        &Plain,
-    );
+    let outcome = run(&rt, rt.alloc(), &mut input, &mut output, &Plain);
     assert_eq!(rt; outcome, Err(RunFault::BadCall(2)));
     assert_eq!(rt; input.reads, 1_048_577);
     Ok(())
@@ -139,13 +127,7 @@ fn a_write_that_fails_ends_the_run(rt: HostRuntime) -> Result<(), Fail> {
                     room,
                     fails,
                 };
-                let outcome = run_script::<Lamport, _, _, _, _>(
-                    &rt,
-                    rt.alloc(),
-                    &mut script.as_bytes(),
-                    &mut output,
-                    &Plain,
-                );
+                let outcome = run(&rt, rt.alloc(), &mut script.as_bytes(), &mut output, &Plain);
                 let wanted = if room < replies.len() {
                     Err(RunFault::Output)
                 } else {

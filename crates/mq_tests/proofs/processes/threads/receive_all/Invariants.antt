@@ -1,9 +1,5 @@
 use Rattle.std.proofs.Common.{◌≡◌}
-use Rattle.mq.specs.Calls.{IsFree}
 use Rattle.mq_tests.proofs.processes.threads.receive_all.Given as goal
 
 abbrev pub invariant-numbers : goal.invariant-numbers
-invariant-numbers g l = record {
-  made : l.p.lock ≡ l.initial.p.lock;
-  free : IsFree l.p;
-}
+invariant-numbers g l = l.p.lock ≡ l.initial.p.lock
