@@ -2,6 +2,7 @@
 #![tactic(auto)]
 
 mod by_priority;
+mod deadlines;
 mod journal;
 mod nonblocking;
 mod notice;
@@ -21,6 +22,7 @@ fn run_all(rt: &(impl Print + Wait + Clock + Threads + Sync), alloc: Global) -> 
     nonblocking::run(rt, alloc)?;
     notice::run(rt, alloc)?;
     waiting::run(rt, alloc)?;
+    deadlines::run(rt, alloc)?;
     journal::run(rt, alloc)
 }
 

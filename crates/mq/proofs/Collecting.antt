@@ -1,5 +1,5 @@
 -- What a collect leaves, and what a call leaves that waited.
-use Rattle.std.proofs.Common.{◌≡◌, ◌≤◌, ◌<◌, ◌↔◌, ℕ, ◌==◌, Bool, true, false, List, [], ◌∷◌, ◌++◌, length, Option, Some, None, is_some, IsSome, IfSome, IfNone, Ok, inr, refl, ap, sym, ◌∙◌, subst, eq-eqb}
+use Rattle.std.proofs.Common.{◌≡◌, ◌≤◌, ◌<◌, ◌↔◌, ℕ, ◌==◌, Bool, true, false, List, [], ◌∷◌, ◌++◌, length, Option, Some, None, is_some, IsSome, IfSome, IfNone, Ok, Err, inr, refl, ap, sym, ◌∙◌, subst, eq-eqb}
 use Rattle.std.specs.List.{All}
 use Rattle.std.specs.Option.{option_map}
 use Rattle.std.proofs.lemmas.List.Elements.{All-nil, All-cons}
@@ -9,6 +9,7 @@ use Rattle.mq_model.specs.Waits.{open_wait, answered_by, is_answered}
 use Rattle.mq_model.specs.Answer.{Legal, Appends}
 use Rattle.mq_model.specs.declared.entries.Received.{Received}
 use Rattle.mq_model.specs.declared.entries.Deadline.{Deadline}
+use Rattle.mq_model.specs.declared.faults.Fault.TheVariants.{TimedOut}
 use Rattle.mq_model.specs.declared.entries.Call.{Call}
 use Rattle.mq_model.specs.declared.entries.Call.TheVariants.{Collect, Withdraw}
 use Rattle.mq_model.specs.declared.entries.Reply.{Reply}
@@ -19,7 +20,7 @@ use Rattle.mq_state.specs.declared.collected.Collected.{Collected as Outcome}
 use Rattle.fast_mutex.specs.Items.{LockId, Ticket, Grows, GrowsBy}
 use Rattle.mq_state.specs.declared.collected.Collected.TheVariants.{Got as GotMessage, Sent}
 use Rattle.mq.specs.Says.{start_send_says, start_receive_says}
-use Rattle.mq.specs.Calls.{owner, recorded, Calls, Came, Collects, StillWaits, WithdrawsAt, Waited, OneCall, ReceiveCall, WaitedSend, WaitedReceive}
+use Rattle.mq.specs.Calls.{owner, recorded, Calls, Came, Collects, StillWaits, WithdrawsAt, Withdraws, Expired, Waited, OneCall, ReceiveCall, WaitedSend, WaitedReceive}
 use Rattle.mq.proofs.Replies.{send-waits, receive-waits}
 use Rattle.mq.proofs.Messages.{message-kept, received-kept}
 use Rattle.mq.proofs.Growing.{own-recorded, calls-on}
@@ -204,3 +205,26 @@ pub receive-gets : {mid new : Ticket Record} {before after : List ℕ} {call : C
 receive-gets {mid} {new} {before} {after} {call} receives called c =
     let same_call : waiting_call c.found mid.number ≡ call = c.call ∙ called in
     let value : Some (GotMessage (received_at c.found c.by)) ≡ Some Sent = rw (same_call, c.answered, receives) at c.value in cc
+
+-- a wait and then its withdrawal
+pub expired : {R : Type 0} {gives : Deadline → Type 0} {old mid new : Ticket Record} {call : Call} {given : List ℕ} → Calls old mid (recorded old.number call given Waits ∷ []) → Withdraws gives mid new → Expired {R = R} gives old new call given (Err TimedOut)
+expired {R} {gives} {old} {mid} {new} {call} {given} first w = record {
+  now = w.now;
+  moment = w.moment;
+  wait = w.withdraws.wait;
+  calls = calls-on (λ n. recorded n (Withdraw w.now) [] (Withdrawn w.withdraws.wait) ∷ []) first w.withdraws.calls;
+  is = refl;
+}
+
+pub send-expired : {gives : Deadline → Type 0} {old mid new : Ticket Record} {call : Call} {bytes : List ℕ} → OneCall start_send_says old mid call bytes (Ok false) → Withdraws gives mid new → Expired {R = Unit {0}} gives old new call bytes (Err TimedOut)
+send-expired {gives} {old} {mid} {new} {call} {bytes} start w =
+    let waits : start.reply ≡ Waits = send-waits start.reply (Ok false) start.says_so refl in
+    let first : Calls old mid (recorded old.number call bytes Waits ∷ []) = rw waits at start.calls in
+    expired first w
+
+pub receive-expired : {gives : Deadline → Type 0} {old mid new : Ticket Record} {call : Call} {before between : List ℕ} → ReceiveCall start_receive_says old mid call before between (Ok None) → Withdraws gives mid new → Expired {R = Received} gives old new call [] (Err TimedOut) × (between ≡ before)
+receive-expired {gives} {old} {mid} {new} {call} {before} {between} start w =
+    let waits : start.reply ≡ Waits = receive-waits mid.left start.reply (Ok None) start.says_so refl in
+    let first : Calls old mid (recorded old.number call [] Waits ∷ []) = rw waits at start.calls in
+    let untouched : between ≡ before = rw waits at start.buffer in
+    (expired first w, untouched)

@@ -7,6 +7,7 @@
 
 mod asking;
 mod guarded;
+mod monotonic;
 mod pause;
 mod process;
 mod stays;
@@ -15,6 +16,7 @@ mod system;
 use fast_mutex::FastMutex;
 pub use fast_mutex::Missing;
 pub use guarded::{Guarded, LoggedRecord};
+pub use monotonic::Monotonic;
 pub use mq_checker::checker::check_history;
 pub use mq_model::clock::Clock;
 pub use mq_model::entries::{

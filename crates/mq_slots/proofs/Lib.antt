@@ -4,8 +4,10 @@ pub mod Unlinking
 pub mod Noting
 pub mod Dropping
 pub mod Crowding
+pub mod Placing
 pub mod Present
 pub mod Writing
 pub mod Pushing
 pub mod Popping
+pub mod Latest
 pub mod Making

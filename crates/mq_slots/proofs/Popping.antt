@@ -30,7 +30,7 @@ pop-first cells levels free count room pop =
     let used = some-used cells (omega arith) in
     head-first (length cells) (prio_at cells) (place_at cells) (next_at cells) sound.chained used.0 used.1 used.2
 
-pop-apart : (cells : List Cell) (levels : List Level) (free count room : ℕ) → IsPop cells levels free count room → 0 ≢ next_at cells 0
+pub pop-apart : (cells : List Cell) (levels : List Level) (free count room : ℕ) → IsPop cells levels free count room → 0 ≢ next_at cells 0
 pop-apart cells levels free count room pop e =
     let first = pop-first cells levels free count room pop in
     let used = first.used in

@@ -1,12 +1,13 @@
 -- The messages in a list of slots: which they are, and how many.
-use Rattle.std.proofs.Common.{◌≡◌, ℕ, zero, suc, ◌+◌, ◌<◌, ◌≤◌, inl, inr, List, [], ◌∷◌, length, get_or, refl, sym, ap, subst, arith}
+use Rattle.std.proofs.Common.{◌≡◌, ℕ, zero, suc, ◌+◌, ◌<◌, ◌≤◌, inl, inr, List, [], ◌∷◌, length, refl, sym, ap, subst, arith}
 use Rattle.std.specs.List.{Contains}
 use Rattle.std.specs.Prelude.{nat_lt, slice_set}
 use Rattle.std.proofs.lemmas.Bool.{cases_Bool, cases_lt, ltb-true, lt-ltb, le-ltb}
 use Rattle.mq_slots.specs.declared.cells.Cell.{Cell}
 use Rattle.mq_slots.specs.Cells.{cell_at}
-use Rattle.mq_slots.specs.Messages.{messages}
+use Rattle.mq_slots.specs.Messages.{placed, messages}
 use Rattle.mq_slots.specs.Sound.{prio_at, place_at}
+use Rattle.mq_slots.proofs.Placing.{placed-here, placed-still, placed-cases, length-placed}
 
 -- a slot has the message
 pub record HasMessage (cells : List Cell) (m : ℕ × ℕ) : Type 0 where
@@ -17,30 +18,29 @@ pub record HasMessage (cells : List Cell) (m : ℕ × ℕ) : Type 0 where
 
 -- a message of the rest is one of all
 later : (c : Cell) (cells : List Cell) (m : ℕ × ℕ) → Contains (messages cells) m → Contains (messages (c ∷ cells)) m
-later c cells m (k, within, is) = elim (cases_Bool (nat_lt c.prio 32768)) [
-  | inl e ↦ rw e (suc k, omega arith, is)
-  | inr e ↦ rw e (k, within, is)
+later c cells m there = elim (cases_Bool (nat_lt c.prio 32768)) [
+  | inl e ↦ rw e (placed-still (c.prio, c.place) (messages cells) m there)
+  | inr e ↦ rw e there
 ]
 
 -- what a slot has is a message
 pub cell-present : (cells : List Cell) (i : ℕ) → i < length cells → prio_at cells i < 32768 → Contains (messages cells) (prio_at cells i, place_at cells i)
 cell-present [] i within used = absurd (omega arith)
-cell-present (c ∷ cells) zero within used = rw (lt-ltb c.prio 32768 used) (zero, omega arith, refl)
+cell-present (c ∷ cells) zero within used = rw (lt-ltb c.prio 32768 used) (placed-here (c.prio, c.place) (messages cells))
 cell-present (c ∷ cells) (suc i) within used = later c cells _ (cell-present cells i (omega arith) used)
 
 -- a slot of the rest is one of all
 next_slot : (c : Cell) (cells : List Cell) (m : ℕ × ℕ) → HasMessage cells m → HasMessage (c ∷ cells) m
 next_slot c cells m h = let within = h.within in record { at = suc h.at; within = omega arith; used = h.used; is = h.is }
 
-first_or_next : (c : Cell) (cells : List Cell) (m : ℕ × ℕ) → (Contains (messages cells) m → HasMessage cells m) → c.prio < 32768 → (k : ℕ) → k < length ((c.prio, c.place) ∷ messages cells) → get_or ((c.prio, c.place) ∷ messages cells) k m ≡ m → HasMessage (c ∷ cells) m
-first_or_next c cells m rest used zero within is = record { at = zero; within = omega arith; used = used; is = sym is }
-first_or_next c cells m rest used (suc k) within is = next_slot c cells m (rest (k, omega arith, is))
-
 -- each message is what a slot has
 pub present-cell : (cells : List Cell) (m : ℕ × ℕ) → Contains (messages cells) m → HasMessage cells m
 present-cell [] m (k, within, is) = absurd (omega arith)
 present-cell (c ∷ cells) m there = elim (cases_Bool (nat_lt c.prio 32768)) [
-  | inl e ↦ (let at = rw e at there in first_or_next c cells m (λ h. present-cell cells m h) (ltb-true _ _ e) at.0 at.1 at.2)
+  | inl e ↦ elim (placed-cases (c.prio, c.place) (messages cells) m (rw e at there)) [
+    | inl is ↦ record { at = zero; within = omega arith; used = ltb-true _ _ e; is = is }
+    | inr rest ↦ next_slot c cells m (present-cell cells m rest)
+  ]
   | inr e ↦ next_slot c cells m (present-cell cells m (rw e at there))
 ]
 
@@ -50,17 +50,21 @@ has-present cells m h = subst (λ x. Contains (messages cells) x) (sym h.is) (ce
 -- a message that comes into a slot is one more
 pub length-filled : (cells : List Cell) (i : ℕ) (c : Cell) → i < length cells → 32768 ≤ prio_at cells i → c.prio < 32768 → length (messages (slice_set cells i c)) ≡ length (messages cells) + 1
 length-filled [] i c within spare used = absurd (omega arith)
-length-filled (d ∷ cells) zero c within spare used = rw (lt-ltb c.prio 32768 used, le-ltb d.prio 32768 spare) (omega arith)
+length-filled (d ∷ cells) zero c within spare used = rw (lt-ltb c.prio 32768 used, le-ltb d.prio 32768 spare) (length-placed (c.prio, c.place) (messages cells))
 length-filled (d ∷ cells) (suc i) c within spare used =
     let rest = length-filled cells i c (omega arith) spare used in
+    let new = length-placed (d.prio, d.place) (messages (slice_set cells i c)) in
+    let old = length-placed (d.prio, d.place) (messages cells) in
     elim (cases_Bool (nat_lt d.prio 32768)) [ inl e ↦ rw e (omega arith) | inr e ↦ rw e rest ]
 
 -- a message that leaves its slot is one less
 pub length-emptied : (cells : List Cell) (i : ℕ) (c : Cell) → i < length cells → prio_at cells i < 32768 → 32768 ≤ c.prio → length (messages (slice_set cells i c)) + 1 ≡ length (messages cells)
 length-emptied [] i c within used spare = absurd (omega arith)
-length-emptied (d ∷ cells) zero c within used spare = rw (lt-ltb d.prio 32768 used, le-ltb c.prio 32768 spare) (omega arith)
+length-emptied (d ∷ cells) zero c within used spare = rw (lt-ltb d.prio 32768 used, le-ltb c.prio 32768 spare) (sym (length-placed (d.prio, d.place) (messages cells)))
 length-emptied (d ∷ cells) (suc i) c within used spare =
     let rest = length-emptied cells i c (omega arith) used spare in
+    let new = length-placed (d.prio, d.place) (messages (slice_set cells i c)) in
+    let old = length-placed (d.prio, d.place) (messages cells) in
     elim (cases_Bool (nat_lt d.prio 32768)) [ inl e ↦ rw e (omega arith) | inr e ↦ rw e rest ]
 
 -- a slot that keeps its message leaves the messages as they are
@@ -69,7 +73,7 @@ messages-relinked [] i next = refl
 messages-relinked (d ∷ cells) zero next = refl
 messages-relinked (d ∷ cells) (suc i) next =
     let rest = messages-relinked cells i next in
-    elim (cases_Bool (nat_lt d.prio 32768)) [ inl e ↦ rw e (ap (λ ms. (d.prio, d.place) ∷ ms) rest) | inr e ↦ rw e rest ]
+    elim (cases_Bool (nat_lt d.prio 32768)) [ inl e ↦ rw e (ap (placed (d.prio, d.place)) rest) | inr e ↦ rw e rest ]
 
 -- without a message there is no used slot, and with none used there is no message
 pub none-used : (cells : List Cell) → messages cells ≡ [] → (i : ℕ) → i < length cells → 32768 ≤ prio_at cells i

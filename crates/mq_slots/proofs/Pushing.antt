@@ -44,7 +44,7 @@ pub record IsPush (cells : List Cell) (levels : List Level) (free count room at 
   pub below : (k : ℕ) → k < at → (level_at levels k).prio < prio
   pub rest : (k : ℕ) → at ≤ k → k < length levels → prio ≤ (level_at levels k).prio
 
-push-new : (cells : List Cell) (levels : List Level) (free count room at prio place : ℕ) → IsPush cells levels free count room at prio place → IsNew (length cells) (prio_at cells) (place_at cells) free prio place
+pub push-new : (cells : List Cell) (levels : List Level) (free count room at prio place : ℕ) → IsPush cells levels free count room at prio place → IsNew (length cells) (prio_at cells) (place_at cells) free prio place
 push-new cells levels free count room at prio place push =
     let freed = push.sound.freed in
     record {
@@ -69,7 +69,7 @@ push-before cells levels free count room at prio place push =
     ]
 
 -- the slot before the message is another than the spare one
-push-apart : (cells : List Cell) (levels : List Level) (free count room at prio place : ℕ) → IsPush cells levels free count room at prio place → last_from levels at ≢ free
+pub push-apart : (cells : List Cell) (levels : List Level) (free count room at prio place : ℕ) → IsPush cells levels free count room at prio place → last_from levels at ≢ free
 push-apart cells levels free count room at prio place push e =
     let before = push-before cells levels free count room at prio place push in
     let new = push-new cells levels free count room at prio place push in

@@ -1,12 +1,21 @@
 -- The messages that are present, each as its priority and its place.
-use Rattle.std.specs.Prelude.{◌≡◌, ◌≢◌, ℕ, ◌<◌, ◌⊎◌, nat_lt, if◌then◌else◌, List, [], ◌∷◌}
+use Rattle.std.specs.Prelude.{◌≡◌, ◌≢◌, ℕ, ◌<◌, ◌⊎◌, nat_lt, ◌==◌, not, if◌then◌else◌, List, [], ◌∷◌, filter}
 use Rattle.std.specs.List.{Contains}
 use Rattle.mq_slots.specs.declared.cells.Cell.{Cell}
 
--- the messages in these slots
+-- a message among others, the latest first
+abbrev pub placed : ℕ × ℕ → List (ℕ × ℕ) → List (ℕ × ℕ)
+placed m [] = m ∷ []
+placed m (x ∷ xs) = if nat_lt x.1 m.1 then m ∷ x ∷ xs else x ∷ placed m xs
+
+-- the messages in these slots, the latest first
 abbrev pub messages : List Cell → List (ℕ × ℕ)
 messages [] = []
-messages (c ∷ cells) = if nat_lt c.prio 32768 then (c.prio, c.place) ∷ messages cells else messages cells
+messages (c ∷ cells) = if nat_lt c.prio 32768 then placed (c.prio, c.place) (messages cells) else messages cells
+
+-- the messages at other places
+abbrev pub without : ℕ → List (ℕ × ℕ) → List (ℕ × ℕ)
+without place present = filter (λ m. not (m.1 == place)) present
 
 -- of these two the first is received first: its priority is greater, or it is the same and its place is less
 abbrev pub GoesFirst : ℕ × ℕ → ℕ × ℕ → Type 0

@@ -1,6 +1,6 @@
 //! The messages present in one queue.
-ghost use Rattle.std.specs.Prelude.{◌≡◌, ◌≢◌, ℕ, ◌+◌, ◌-◌, ◌<◌, ◌≤◌, ◌↔◌, ◌⊎◌, [], length, Contains, IfOk, IfSome, IfNone, IsNone, IsTrue};
-ghost use Rattle.mq_slots.specs.Messages.{IsBest};
+ghost use Rattle.std.specs.Prelude.{◌≡◌, ◌≢◌, ℕ, ◌+◌, ◌-◌, ◌<◌, ◌≤◌, ◌↔◌, ◌⊎◌, [], ◌∷◌, length, Contains, IfOk, IfSome, IfNone, IsNone, IsTrue};
+ghost use Rattle.mq_slots.specs.Messages.{IsBest, without};
 
 use crate::cells::{self, Cell};
 use crate::levels::{self, Level};
@@ -65,6 +65,7 @@ impl Slots {
         ensures messages { (m : ℕ × ℕ) → Contains self.new.messages m ↔ ((m ≡ (prio, place)) ⊎ Contains self.old.messages m) }
         ensures newest { (m : ℕ × ℕ) → Contains self.new.messages m → m.1 ≤ place }
         ensures count { length self.new.messages ≡ length self.old.messages + 1 }
+        ensures latest { self.new.messages ≡ (prio, place) ∷ self.old.messages }
         ensures cap { self.new.cap ≡ self.old.cap }
     {
         let new = self.free;
@@ -82,6 +83,7 @@ impl Slots {
         ensures best { IfSome result (λ m. IsBest self.old.messages m) }
         ensures rest { IfSome result (λ m. (other : ℕ × ℕ) → Contains self.new.messages other ↔ (Contains self.old.messages other × (other ≢ m))) }
         ensures kept { (m : ℕ × ℕ) → Contains self.new.messages m → Contains self.old.messages m }
+        ensures others { IfSome result (λ m. self.new.messages ≡ without m.1 self.old.messages) }
         ensures count { length self.new.messages ≡ length self.old.messages - 1 }
         ensures cap { self.new.cap ≡ self.old.cap }
     {
@@ -114,6 +116,7 @@ impl Slots {
     pub fn len(&self) -> usize
         ensures count { result ≡ length self.now.messages }
         ensures within { result ≤ self.now.cap }
+        ensures few { result ≤ 4096 }
     {
         self.cells.len() - 1 - self.spare as usize
     }

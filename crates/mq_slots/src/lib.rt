@@ -7,3 +7,5 @@ pub mod chains;
 mod levels;
 #[cfg(test)]
 mod tests;
+
+pub use chains::Slots;

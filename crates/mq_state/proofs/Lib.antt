@@ -1,8 +1,10 @@
-pub mod Slotted
+pub mod BestSlots
 pub mod QueueLines
 pub mod QueuesKeep
 pub mod QueuesNoted
 pub mod Reading
+pub mod Arriving
+pub mod Creating
 pub mod InboxLines
 pub mod NoticeRoom
 pub mod TablesKeep

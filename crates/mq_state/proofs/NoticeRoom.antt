@@ -17,7 +17,7 @@ use Rattle.mq_model.proofs.Places.{split}
 use Rattle.mq_model.proofs.LegalReplies.{legal_says}
 use Rattle.mq_model.proofs.NoticeSteps.{made-of}
 use Rattle.std.proofs.lemmas.Bool.{eqb-false}
-use Rattle.mq_state.specs.Slots.{Slots}
+use Rattle.mq_slots.specs.Held.{Held}
 use Rattle.mq_state.specs.QueueShown.{QueueShown}
 use Rattle.mq_state.specs.InboxShown.{InboxShown}
 use Rattle.mq_state.specs.Inboxes.{room_in}
@@ -127,13 +127,13 @@ registrations-released owners freed queues q p = split (freed && not (is_named_i
     (λ t. rw t (registrations-without queues q p))
     (λ n. rw n (omega arith))
 
-registrations-fresh : (brought : Option Slots) (here : ℕ) (queues : List QueueShown) (p : ℕ) → registrations_in (with_fresh brought here queues) p ≡ registrations_in queues p
+registrations-fresh : (brought : Option Held) (here : ℕ) (queues : List QueueShown) (p : ℕ) → registrations_in (with_fresh brought here queues) p ≡ registrations_in queues p
 unfolding registrations_in
 registrations-fresh None here queues p = refl
-registrations-fresh (Some o) here queues p = let e = sum_by_push (λ (y : QueueShown). one_if (is_of p y.registration)) queues (fresh here o.room) in omega (arith, e)
+registrations-fresh (Some o) here queues p = let e = sum_by_push (λ (y : QueueShown). one_if (is_of p y.registration)) queues (fresh here o.cap) in omega (arith, e)
 
 -- but for the registrations that the entry makes and ends no process has more
-noted-fewer : (brought : Option Slots) (owners : List Owner) (here : ℕ) (e : Entry) (q prio : ℕ) (queues : List QueueShown) (p : ℕ) → registrations_in (with_fresh brought here (noted_queues owners here e q prio queues)) p ≤ registrations_in (map (reregistered q here e) queues) p
+noted-fewer : (brought : Option Held) (owners : List Owner) (here : ℕ) (e : Entry) (q prio : ℕ) (queues : List QueueShown) (p : ℕ) → registrations_in (with_fresh brought here (noted_queues owners here e q prio queues)) p ≤ registrations_in (map (reregistered q here e) queues) p
 noted-fewer brought owners here e q prio queues p =
     let lines : List QueueShown = map (reregistered q here e) queues in
     let a = registrations-fresh brought here (noted_queues owners here e q prio queues) p in
@@ -247,7 +247,7 @@ lines-room past legal queues m p call reply payload next inboxes after has kept 
 -- the tables behind an entry have room for the notice of each registration, where there was room for the one that it makes
 pub notice-room-keeps : (past : Past) → Legal past → (queues : List QueueShown) → QueuesMirror past queues → (p : ℕ) (call : Call) (reply : Reply) (payload : List ℕ) → IsLegalNext past (rec p call reply payload) → (inboxes after : List InboxShown) →
     HasNoticeRoom queues inboxes → KeepsRoom queues inboxes after (entry_queue past p call payload) reply → HasRoomToRegister queues inboxes p call reply →
-    (brought : Option Slots) (owners : List Owner) (prio : ℕ) →
+    (brought : Option Held) (owners : List Owner) (prio : ℕ) →
     HasNoticeRoom (with_fresh brought (length past) (noted_queues owners (length past) (record { process = p; call = call; reply = reply }) (entry_queue past p call payload) prio queues)) after
 notice-room-keeps past legal queues m p call reply payload next inboxes after has kept room brought owners prio k =
     let lines = lines-room past legal queues m p call reply payload next inboxes after has kept room k in

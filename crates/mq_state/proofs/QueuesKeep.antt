@@ -1,5 +1,5 @@
 -- The table of queues stays that of the journal, where it notes each entry.
-use Rattle.std.proofs.Common.{◌≡◌, ◌≢◌, ℕ, suc, ◌+◌, ◌<◌, ◌≤◌, ◌==◌, Bool, true, false, ◌||◌, not, List, [], ◌∷◌, ◌++◌, length, reverse, Option, Some, None, if◌then◌else◌, refl, sym, ◌∙◌, ap, arith, eqb-true, eq-eqb, ne_eqb}
+use Rattle.std.proofs.Common.{◌≡◌, ◌≢◌, ℕ, suc, ◌<◌, ◌≤◌, ◌==◌, Bool, true, false, ◌||◌, not, List, [], ◌∷◌, ◌++◌, length, reverse, Option, Some, None, if◌then◌else◌, refl, sym, ◌∙◌, ap, arith, eqb-true, eq-eqb, ne_eqb}
 use Rattle.std.specs.Prelude.{ℤ, int_le, pos, negsuc}
 use Rattle.std.proofs.lemmas.Bool.{eqb-false}
 use Rattle.std.proofs.lemmas.Bool.Decides.{nat_tests}
@@ -22,10 +22,9 @@ use Rattle.mq_model.proofs.Frames.{created-below}
 use Rattle.mq_model.proofs.NamedWaits.{least-in}
 use Rattle.mq_model.proofs.Steps.{Below, blocked_sends-below, without, present-queued, present-queued_elsewhere}
 use Rattle.mq_model.proofs.Presence.{GotFacts, present-got_here, present-got_elsewhere, present-handed, priority-older, present-below}
-use Rattle.mq_state.specs.declared.order.Slot.{Slot}
-use Rattle.mq_state.specs.SlotOrder.{without as without_place}
+use Rattle.mq_slots.specs.Messages.{without as without_place}
 use Rattle.mq_state.specs.QueueShown.{QueueShown}
-use Rattle.mq_state.specs.Queues.{queue_in, with_slot, without_slot, renewed, HasRoom, reregistered, slot_of, slots_of, QueuesMirror}
+use Rattle.mq_state.specs.Queues.{queue_in, renewed, HasRoom, reregistered, slot_of, slots_of, QueuesMirror}
 use Rattle.mq_state.proofs.QueueLines.{queue_in-inside, inside-queue_in}
 
 abbrev pub rec : ℕ → Call → Reply → List ℕ → Record
@@ -66,8 +65,7 @@ slots_of-older : (past : Past) (r : Record) (xs : List ℕ) → Below (length pa
 slots_of-older past r [] below = refl
 slots_of-older past r (x ∷ xs) below =
     let lt : x < length past = below x (rw (eq-eqb x x refl) refl) in
-    let s : Slot = record { prio = priority (r ∷ past) x; place = x } in
-    ap (λ p. (let s : Slot = record { prio = p; place = x } in s) ∷ slots_of (r ∷ past) xs) (priority-older past r x lt)
+    ap (λ p. (let s : ℕ × ℕ = (p, x) in s) ∷ slots_of (r ∷ past) xs) (priority-older past r x lt)
     ∙ ap (λ rest. slot_of past x ∷ rest) (slots_of-older past r xs (λ m h. below m (split (x == m) (λ t. rw t refl) (λ n. rw (n, h) refl))))
 
 eqb-swap : (a b : ℕ) → (a == b) ≡ (b == a)
@@ -79,9 +77,9 @@ slots_of-without past m (x ∷ xs) = split (x == m)
     (λ t. let back : (m == x) ≡ true = eqb-swap m x ∙ t in rw (t, back) (slots_of-without past m xs))
     (λ n. let back : (m == x) ≡ false = eqb-swap m x ∙ n in rw (n, back) (ap (λ rest. slot_of past x ∷ rest) (slots_of-without past m xs)))
 
-length-without : (m : ℕ) (xs : List Slot) → length (without_place m xs) ≤ length xs
+length-without : (m : ℕ) (xs : List (ℕ × ℕ)) → length (without_place m xs) ≤ length xs
 length-without m [] = omega arith
-length-without m (s ∷ xs) = let rest = length-without m xs in split (s.place == m) (λ t. rw t (omega (arith, rest))) (λ n. rw n (omega (arith, rest)))
+length-without m (s ∷ xs) = let rest = length-without m xs in split (s.1 == m) (λ t. rw t (omega (arith, rest))) (λ n. rw n (omega (arith, rest)))
 
 pub length-slots_of : (past : Past) (xs : List ℕ) → length (slots_of past xs) ≡ length xs
 length-slots_of past [] = refl
@@ -138,25 +136,20 @@ pub int-room : (a : ℤ) (m n : ℕ) → int_le a (pos m) ≡ true → int_le a 
 int-room (pos k) m n h g = grind (arith, nat_tests)
 int-room (negsuc k) m n h g = absurd (let bad : true ≡ false = g in cc)
 
-unfoldable pub total : QueueShown → ℕ
-total x = x.room + length x.slots
+pub renewed-cap : (here : ℕ) (call : Call) (reply : Reply) (prio : ℕ) (x : QueueShown) → (renewed here call reply prio x).cap ≡ x.cap
+renewed-cap here call (Got m None n) prio x = refl
+renewed-cap here call (Got m (Some w) n) prio x = refl
+renewed-cap here MqUnlink Done prio x = refl
+renewed-cap here call Done prio x = refl
+renewed-cap here call reply prio x = refl
 
-with_slot-total : (s : Slot) (x : QueueShown) → 0 < x.room → total (with_slot s x) ≡ total x
-unfolding total
-with_slot-total s x lt = omega arith
-
-without_slot-total : (m : ℕ) (x : QueueShown) → total (without_slot m x) ≡ total x
-unfolding total
-without_slot-total m x = omega (arith, length-without m x.slots)
-
-pub renewed-total : (here : ℕ) (call : Call) (reply : Reply) (prio : ℕ) (x : QueueShown) → HasRoom reply x → total (renewed here call reply prio x) ≡ total x
-unfolding total
-renewed-total here call (Queued n) prio x room = with_slot-total (record { prio = priority_given call; place = here }) x room
-renewed-total here call (Got m None n) prio x room = without_slot-total m x
-renewed-total here call (Got m (Some w) n) prio x room = with_slot-total (record { prio = prio; place = w }) (without_slot m x) room ∙ without_slot-total m x
-renewed-total here MqUnlink Done prio x room = refl
-renewed-total here call Done prio x room = refl
-renewed-total here call reply prio x room = refl
+pub renewed-few : (here : ℕ) (call : Call) (reply : Reply) (prio : ℕ) (x : QueueShown) → HasRoom reply x → length x.slots ≤ x.cap → length (renewed here call reply prio x).slots ≤ x.cap
+renewed-few here call (Queued n) prio x room few = omega (arith, room)
+renewed-few here call (Got m None n) prio x room few = omega (arith, length-without m x.slots, few)
+renewed-few here call (Got m (Some w) n) prio x room few = omega (arith, room)
+renewed-few here MqUnlink Done prio x room few = few
+renewed-few here call Done prio x room few = few
+renewed-few here call reply prio x room few = few
 
 -- one line ---------------------------------------------------------------------------------------------------------------
 
@@ -183,7 +176,7 @@ presence-sent past legal p call n payload q prio sends on = record {
   here = λ x is lt.
       let r : Record = rec p call (Queued n) payload in
       let now : present (r ∷ past) q ≡ length past ∷ present past q = present-queued past p call q n payload legal sends (rw on (eq-eqb q q refl)) in
-      let s : Slot = record { prio = priority_given call; place = length past } in
+      let s : ℕ × ℕ = (priority_given call, length past) in
       let newest : slot_of (r ∷ past) (length past) ≡ s = rw (eq-eqb (length past) (length past) refl) refl in
       ap (λ xs. s ∷ xs) (is ∙ sym (slots_of-older past r (present past q) (present-below past q)))
       ∙ ap (λ y. y ∷ slots_of (r ∷ past) (present past q)) (sym newest)
@@ -224,11 +217,11 @@ presence-got past legal p call m (Some w) n payload q prio got = record {
       let rest : without_place m x.slots ≡ slots_of (r ∷ past) (without m (present past q)) =
       ap (without_place m) is ∙ slots_of-without past m (present past q)
       ∙ sym (slots_of-older past r (without m (present past q)) (below-without (length past) m (present past q) (present-below past q))) in
-      let s : Slot = record { prio = prio; place = w } in
+      let s : ℕ × ℕ = (prio, w) in
       let waits = waiting-below past q w got.facts.admitted in
       let same : prio ≡ priority (r ∷ past) w = got.prio_is w refl ∙ sym (priority-older past r w waits) in
       ap (λ xs. s ∷ xs) rest
-      ∙ ap (λ pr. (let t : Slot = record { prio = pr; place = w } in t) ∷ slots_of (r ∷ past) (without m (present past q))) same
+      ∙ ap (λ pr. (let t : ℕ × ℕ = (pr, w) in t) ∷ slots_of (r ∷ past) (without m (present past q))) same
       ∙ ap (slots_of (r ∷ past)) (sym (present-got_here past legal p call m (Some w) n payload q got.facts));
 }
   where

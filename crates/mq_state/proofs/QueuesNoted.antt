@@ -1,5 +1,5 @@
 -- The table of queues is that of the journal behind each entry.
-use Rattle.std.proofs.Common.{◌≡◌, ◌≢◌, ℕ, ◌+◌, ◌-◌, ◌<◌, ◌≤◌, ◌==◌, Bool, true, false, ◌&&◌, ◌||◌, not, List, [], ◌∷◌, ◌++◌, length, map, reverse, Option, Some, None, is_some, if◌then◌else◌, refl, sym, ◌∙◌, ap, subst, arith, eqb-true, eq-eqb, ne_eqb, ◌⊎◌, inl, inr}
+use Rattle.std.proofs.Common.{◌≡◌, ◌≢◌, ℕ, ◌<◌, ◌≤◌, ◌==◌, Bool, true, false, ◌&&◌, ◌||◌, not, List, [], ◌∷◌, ◌++◌, length, map, reverse, Option, Some, None, is_some, if◌then◌else◌, refl, sym, ◌∙◌, ap, subst, arith, eqb-true, eq-eqb, ne_eqb, ◌⊎◌, inl, inr}
 use Rattle.std.specs.Prelude.{int_le, pos}
 use Rattle.std.specs.List.{filter}
 use Rattle.std.specs.Option.{option_map}
@@ -32,11 +32,11 @@ use Rattle.mq_model.proofs.Presence.{without-fewer, sent_to, admitted-to, presen
 use Rattle.mq_model.proofs.Alive.{is_needed, is_held-table, named-same, named-created, named-newest, named-unlinked, bound-named, alive-same_queues, alive-opened, alive-new, alive-closed, alive-unlinked}
 use Rattle.mq_model.proofs.Steps.{without}
 use Rattle.mq_model.proofs.Frames.{attributes-older}
-use Rattle.mq_state.specs.SlotOrder.{without as without_place}
+use Rattle.mq_slots.specs.Messages.{without as without_place}
 use Rattle.mq_state.specs.QueueShown.{QueueShown}
 use Rattle.mq_state.specs.Queues.{queue_in, is_named_in, changed, without_queue, renewed, HasRoom, reregistered, may_free, noted_queues, fresh, slots_of, LineMirror, QueuesMirror}
 use Rattle.mq_state.proofs.QueueLines.{queue_in-changed, places-changed, queue_in-map, places-map, queue_in-place, inside-queue_in, queue_in-without, places-without, queue_in-push, places-push}
-use Rattle.mq_state.proofs.QueuesKeep.{rec, alive-below, in-reverse, line-alive, EntryOn, registration-on, renewed-registration, renewed-place, int-room, total, renewed-total, line_after, presence, same-slots, slots_of-without, length-slots_of}
+use Rattle.mq_state.proofs.QueuesKeep.{rec, alive-below, in-reverse, line-alive, EntryOn, registration-on, renewed-registration, renewed-place, int-room, renewed-cap, renewed-few, line_after, presence, same-slots, slots_of-without, length-slots_of}
 
 renewed-named : (here : ℕ) (call : Call) (reply : Reply) (prio : ℕ) (x : QueueShown) → unlinks call reply ≡ false → (renewed here call reply prio x).named ≡ x.named
 renewed-named here MqUnlink Done prio x e = absurd (let bad : true ≡ false = e in cc)
@@ -122,7 +122,6 @@ when-false b x y e = rw e refl
 line-keeps : (past : Past) → Legal past → (p : ℕ) (call : Call) (reply : Reply) (payload : List ℕ) (q prio : ℕ) → IsLegalNext past (rec p call reply payload) → EntryOn past p call payload reply q prio →
     (x : QueueShown) → LineMirror past x → x.place < length past → (q ≡ x.place → HasRoom reply (reregistered q (length past) (record { process = p; call = call; reply = reply }) x)) →
     LineMirror (rec p call reply payload ∷ past) (line_after q (length past) (record { process = p; call = call; reply = reply }) prio x)
-unfolding total
 line-keeps past legal p call reply payload q prio next on x m lt room =
     let e : Entry = record { process = p; call = call; reply = reply } in
     let r : Record = rec p call reply payload in
@@ -140,9 +139,10 @@ line-keeps past legal p call reply payload q prio next on x m lt room =
       named = sym (when-true (q == x.place) z.named y.named t) ∙ named ∙ ap (is_named (r ∷ past)) (sym place);
       registration = renewed-registration (length past) call reply prio y ∙ stands ∙ ap (registered (r ∷ past)) (sym place);
       slots = there.here y (m.slots ∙ ap (λ k. slots_of past (present past k)) (sym here)) (rw here lt) ∙ ap (λ k. slots_of (r ∷ past) (present (r ∷ past) k)) (here ∙ sym place);
-      room = ap (λ k. int_le (attributes (r ∷ past) k).maxmsg (pos (z.room + length z.slots))) place
-          ∙ ap (λ n. int_le (attributes (r ∷ past) x.place).maxmsg (pos n)) (renewed-total (length past) call reply prio y (room here))
-          ∙ ap (λ (a : Attr). int_le a.maxmsg (pos (y.room + length y.slots))) same_attributes ∙ m.room;
+      room = ap (λ k. int_le (attributes (r ∷ past) k).maxmsg (pos z.cap)) place
+          ∙ ap (λ n. int_le (attributes (r ∷ past) x.place).maxmsg (pos n)) (renewed-cap (length past) call reply prio y)
+          ∙ ap (λ (a : Attr). int_le a.maxmsg (pos y.cap)) same_attributes ∙ m.room;
+      few = subst (λ n. length z.slots ≤ n) (sym (renewed-cap (length past) call reply prio y)) (renewed-few (length past) call reply prio y (room here) m.few);
     } in
     subst P (sym (when-true (q == x.place) z y t)) line)
     (λ n. let ne : q ≢ x.place = eqb-false _ _ n in
@@ -151,7 +151,8 @@ line-keeps past legal p call reply payload q prio next on x m lt room =
       named = sym (when-false (q == x.place) z.named y.named n) ∙ named;
       registration = stands;
       slots = same-slots past r x.place x m.slots (there.elsewhere x.place lt (λ e. ne (sym e)));
-      room = ap (λ (a : Attr). int_le a.maxmsg (pos (x.room + length x.slots))) same_attributes ∙ m.room;
+      room = ap (λ (a : Attr). int_le a.maxmsg (pos x.cap)) same_attributes ∙ m.room;
+      few = m.few;
     } in
     subst P (sym (when-false (q == x.place) z y n)) line)
 
@@ -393,40 +394,41 @@ registered-later (r ∷ past) legal q le =
     none-made (Some n) = refl
 
 -- the table of queues with the queue that an open creates
-pub noted-queues-creates : (past : Past) → Legal past → (owners : List Owner) (queues : List QueueShown) → QueuesMirror past queues → (p : ℕ) (flags : OpenFlags) (attr : Option Attr) (d : ℕ) (payload : List ℕ) (q prio room : ℕ) → IsLegalNext past (rec p (MqOpen flags attr) (Opened d true) payload) →
-    q ≡ length past → int_le (attributes_given (MqOpen flags attr)).maxmsg (pos room) ≡ true →
-    QueuesMirror (rec p (MqOpen flags attr) (Opened d true) payload ∷ past) (noted_queues owners (length past) (record { process = p; call = MqOpen flags attr; reply = Opened d true }) q prio queues ++ fresh (length past) room ∷ [])
-noted-queues-creates past legal owners queues m p flags attr d payload q prio room next here roomy =
+pub noted-queues-creates : (past : Past) → Legal past → (owners : List Owner) (queues : List QueueShown) → QueuesMirror past queues → (p : ℕ) (flags : OpenFlags) (attr : Option Attr) (d : ℕ) (payload : List ℕ) (q prio cap : ℕ) → IsLegalNext past (rec p (MqOpen flags attr) (Opened d true) payload) →
+    q ≡ length past → int_le (attributes_given (MqOpen flags attr)).maxmsg (pos cap) ≡ true →
+    QueuesMirror (rec p (MqOpen flags attr) (Opened d true) payload ∷ past) (noted_queues owners (length past) (record { process = p; call = MqOpen flags attr; reply = Opened d true }) q prio queues ++ fresh (length past) cap ∷ [])
+noted-queues-creates past legal owners queues m p flags attr d payload q prio cap next here roomy =
     let r : Record = rec p (MqOpen flags attr) (Opened d true) payload in
     let e : Entry = record { process = p; call = MqOpen flags attr; reply = Opened d true } in
     let lines = lines_after q (length past) e prio queues in
     let facts : OpenedFacts past p payload d true = opened-says past p flags attr payload d true next.reply in
-    let y : QueueShown = fresh (length past) room in
+    let y : QueueShown = fresh (length past) cap in
     record {
       places = places-push lines y ∙ ap (λ xs. xs ++ length past ∷ []) (lines-places q (length past) e prio queues ∙ m.places) ∙ sym (reverse-cons (length past) (alive past)) ∙ ap reverse (sym (alive-new past p flags attr payload d facts));
       lines = λ k z found. by k z (queue_in-push lines y k z found);
     }
   where
-    new-line : LineMirror (rec p (MqOpen flags attr) (Opened d true) payload ∷ past) (fresh (length past) room)
+    new-line : LineMirror (rec p (MqOpen flags attr) (Opened d true) payload ∷ past) (fresh (length past) cap)
     new-line =
         let r : Record = rec p (MqOpen flags attr) (Opened d true) payload in
         record {
           named = sym (named-newest past r refl);
           registration = sym (rw (registered-later past legal (length past) (omega arith)) refl);
           slots = sym (ap (slots_of (r ∷ past)) (present-later past legal (length past) (omega arith)));
-          room = ap (λ (a : Attr). int_le a.maxmsg (pos (room + 0))) (newest r) ∙ ap (λ n. int_le (attributes_given (MqOpen flags attr)).maxmsg (pos n)) (omega arith) ∙ roomy;
+          room = ap (λ (a : Attr). int_le a.maxmsg (pos cap)) (newest r) ∙ roomy;
+          few = omega arith;
         }
       where
         newest : (r : Record) → attributes (r ∷ past) (length past) ≡ attributes_given r.entry.call
         newest r = rw (eq-eqb (length past) (length past) refl) refl
 
-    by : (k : ℕ) (z : QueueShown) → (queue_in (lines_after q (length past) (record { process = p; call = MqOpen flags attr; reply = Opened d true }) prio queues) k ≡ Some z) ⊎ (z ≡ fresh (length past) room) → LineMirror (rec p (MqOpen flags attr) (Opened d true) payload ∷ past) z
+    by : (k : ℕ) (z : QueueShown) → (queue_in (lines_after q (length past) (record { process = p; call = MqOpen flags attr; reply = Opened d true }) prio queues) k ≡ Some z) ⊎ (z ≡ fresh (length past) cap) → LineMirror (rec p (MqOpen flags attr) (Opened d true) payload ∷ past) z
     by k z (inl found) = lines-keep past legal queues m p (MqOpen flags attr) (Opened d true) payload q prio next here (λ x f. tt) k z found
     by k z (inr same) = subst (LineMirror (rec p (MqOpen flags attr) (Opened d true) payload ∷ past)) (sym same) new-line
 
 -- room -------------------------------------------------------------------------------------------------------------------
 
-line-of : (q here : ℕ) (e : Entry) (queues : List QueueShown) (x : QueueShown) → queue_in (map (reregistered q here e) queues) q ≡ Some x → (y : QueueShown) × (queue_in queues q ≡ Some y) × (x ≡ reregistered q here e y)
+pub line-of : (q here : ℕ) (e : Entry) (queues : List QueueShown) (x : QueueShown) → queue_in (map (reregistered q here e) queues) q ≡ Some x → (y : QueueShown) × (queue_in queues q ≡ Some y) × (x ≡ reregistered q here e y)
 line-of q here e queues x found = by (queue_in queues q) refl (sym (queue_in-map (reregistered q here e) queues q (λ y. refl)) ∙ found)
   where
     by : (o : Option QueueShown) → queue_in queues q ≡ o → option_map (reregistered q here e) (queue_in queues q) ≡ Some x → (y : QueueShown) × (queue_in queues q ≡ Some y) × (x ≡ reregistered q here e y)
@@ -440,12 +442,11 @@ line-room past queues m p call (Queued n) payload q prio on free x found =
     let y = line-of q (length past) (record { process = p; call = call; reply = Queued n }) queues x found in
     let mirror : LineMirror past y.0 = m.lines q y.0 y.1 in
     let place : y.0.place ≡ q = queue_in-place queues q y.0 y.1 in
-    let roomy : int_le (attributes past q).maxmsg (pos (y.0.room + length y.0.slots)) ≡ true = ap (λ k. int_le (attributes past k).maxmsg (pos (y.0.room + length y.0.slots))) (sym place) ∙ mirror.room in
+    let roomy : int_le (attributes past q).maxmsg (pos y.0.cap) ≡ true = ap (λ k. int_le (attributes past k).maxmsg (pos y.0.cap)) (sym place) ∙ mirror.room in
     let few : int_le (attributes past q).maxmsg (pos (length y.0.slots)) ≡ false =
     ap (λ n. int_le (attributes past q).maxmsg (pos n)) (ap length mirror.slots ∙ length-slots_of past (present past y.0.place) ∙ ap (λ k. length (present past k)) place) ∙ free n refl in
-    let lt : length y.0.slots < y.0.room + length y.0.slots = int-room (attributes past q).maxmsg (y.0.room + length y.0.slots) (length y.0.slots) roomy few in
-    let has : 0 < y.0.room = omega (arith, lt) in
-    subst (λ (z : QueueShown). 0 < z.room) (sym y.2) has
+    let has : length y.0.slots < y.0.cap = int-room (attributes past q).maxmsg y.0.cap (length y.0.slots) roomy few in
+    subst (λ (z : QueueShown). length z.slots < z.cap) (sym y.2) has
 line-room past queues m p call (Got k None n) payload q prio on free x found = tt
 line-room past queues m p call (Got k (Some w) n) payload q prio on free x found =
     let y = line-of q (length past) (record { process = p; call = call; reply = Got k (Some w) n }) queues x found in
@@ -455,8 +456,8 @@ line-room past queues m p call (Got k (Some w) n) payload q prio on free x found
     let fewer = without-fewer k (present past q) on.facts.inside in
     let kept : length (without_place k y.0.slots) ≡ length (without k (present past q)) = ap (λ xs. length (without_place k xs)) slots ∙ ap length (slots_of-without past k (present past q)) ∙ length-slots_of past (without k (present past q)) in
     let all : length y.0.slots ≡ length (present past q) = ap length slots ∙ length-slots_of past (present past q) in
-    let has : 0 < (y.0.room + length y.0.slots) - length (without_place k y.0.slots) = omega (arith, fewer, kept, all) in
-    subst (λ (z : QueueShown). 0 < (z.room + length z.slots) - length (without_place k z.slots)) (sym y.2) has
+    let has : length (without_place k y.0.slots) < y.0.cap = omega (arith, fewer, kept, all, mirror.few) in
+    subst (λ (z : QueueShown). length (without_place k z.slots) < z.cap) (sym y.2) has
 line-room past queues m p call (Opened d c) payload q prio on free x found = tt
 line-room past queues m p call (Handed w) payload q prio on free x found = tt
 line-room past queues m p call Waits payload q prio on free x found = tt

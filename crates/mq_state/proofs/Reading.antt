@@ -17,8 +17,7 @@ use Rattle.mq_model.proofs.Places.{split, clash, is_in-filter}
 use Rattle.mq_model.proofs.Frames.{created-below}
 use Rattle.mq_model.proofs.Best.{find-test}
 use Rattle.mq_model.proofs.Alive.{bound-name, named-bound, bound-named}
-use Rattle.mq_state.specs.declared.order.Slot.{Slot}
-use Rattle.mq_state.specs.SlotOrder.{best_slot, goes_first as slot_first}
+use Rattle.mq_state.specs.Order.{best_slot, goes_first as slot_first}
 use Rattle.mq_state.specs.QueueShown.{QueueShown}
 use Rattle.mq_state.specs.Queues.{queue_in, slots_in, registration_in, bound_in, slot_of, slots_of, QueuesMirror}
 use Rattle.mq_state.proofs.QueueLines.{queue_in-place}
@@ -61,16 +60,17 @@ all-slots : (past : Past) (m : ℕ) (xs : List ℕ) → list_all (slot_first (sl
 all-slots past m [] = refl
 all-slots past m (x ∷ xs) = ap (λ b. goes_first past m x && b) (all-slots past m xs)
 
-find-slots : (past : Past) (s : Slot → Bool) (t : ℕ → Bool) → ((m : ℕ) → s (slot_of past m) ≡ t m) → (xs : List ℕ) → option_map (λ x. x.place) (find s (slots_of past xs)) ≡ find t xs
+find-slots : (past : Past) (s : ℕ × ℕ → Bool) (t : ℕ → Bool) → ((m : ℕ) → s (slot_of past m) ≡ t m) → (xs : List ℕ) → option_map (λ x. x.1) (find s (slots_of past xs)) ≡ find t xs
 find-slots past s t same [] = refl
 find-slots past s t same (x ∷ xs) = split (t x)
     (λ y. let z : s (slot_of past x) ≡ true = same x ∙ y in rw (z, y) refl)
     (λ n. let z : s (slot_of past x) ≡ false = same x ∙ n in rw (z, n) (find-slots past s t same xs))
 
-pub best-read : (past : Past) (queues : List QueueShown) → QueuesMirror past queues → (q : ℕ) → is_in (alive past) q ≡ true → option_map (λ x. x.place) (best_slot (slots_in queues q)) ≡ best past q
-best-read past queues m q h =
-    ap (λ xs. option_map (λ (x : Slot). x.place) (best_slot xs)) (slots-read past queues m q h)
-    ∙ find-slots past _ _ (λ k. all-slots past k (present past q)) (present past q)
+pub best-slots : (past : Past) (q : ℕ) → option_map (λ x. x.1) (best_slot (slots_of past (present past q))) ≡ best past q
+best-slots past q = find-slots past _ _ (λ k. all-slots past k (present past q)) (present past q)
+
+pub best-read : (past : Past) (queues : List QueueShown) → QueuesMirror past queues → (q : ℕ) → is_in (alive past) q ≡ true → option_map (λ x. x.1) (best_slot (slots_in queues q)) ≡ best past q
+best-read past queues m q h = ap (λ xs. option_map (λ (x : ℕ × ℕ). x.1) (best_slot xs)) (slots-read past queues m q h) ∙ best-slots past q
 
 -- the first line that passes is the line of its place
 find-line : (t : QueueShown → Bool) (queues : List QueueShown) (x : QueueShown) → find t queues ≡ Some x → is_in (map (λ x. x.place) queues) x.place ≡ true

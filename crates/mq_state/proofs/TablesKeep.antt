@@ -26,7 +26,7 @@ use Rattle.mq_model.proofs.OwnersKeep.{noted-keeps}
 use Rattle.mq_model.proofs.Presence.{GotFacts}
 use Rattle.mq_model.proofs.NoticeSteps.{notices-same, notices-notified, notices-given}
 use Rattle.mq_model.proofs.HeldQueues.{called-alive}
-use Rattle.mq_state.specs.Slots.{Slots}
+use Rattle.mq_slots.specs.Held.{Held}
 use Rattle.mq_state.specs.QueueShown.{QueueShown}
 use Rattle.mq_state.specs.InboxShown.{InboxShown}
 use Rattle.mq_state.specs.Inboxes.{notices_in}
@@ -298,15 +298,15 @@ notifies-alive past legal p call (Refused f) payload next e = absurd (cc)
 -- all tables -------------------------------------------------------------------------------------------------------------
 
 -- the tables behind an entry, as the code leaves them
-pub record IsNotedBy (past : Past) (e : Entry) (q : ℕ) (brought : Option Slots) (owners after_owners : List Owner) (queues after_queues : List QueueShown) (inboxes after_inboxes : List InboxShown) : Type 0 where
+pub record IsNotedBy (past : Past) (e : Entry) (q : ℕ) (brought : Option Held) (owners after_owners : List Owner) (queues after_queues : List QueueShown) (inboxes after_inboxes : List InboxShown) : Type 0 where
   pub owners_are : after_owners ≡ noted owners (length past) e.process e.call e.reply q
   pub queues_are : after_queues ≡ with_fresh brought (length past) (noted_queues after_owners (length past) e q (admitted_priority past e.reply) queues)
   pub inbox_count : length after_inboxes ≡ length inboxes
   pub inboxes_are : (k : ℕ) → notices_in after_inboxes k ≡ noted_values e.process (registration_in queues q) e.reply k (notices_in inboxes k)
 
-creates-open : (past : Past) → Legal past → (owners : List Owner) (queues : List QueueShown) → QueuesMirror past queues → (p : ℕ) (call : Call) (reply : Reply) (payload : List ℕ) (q prio : ℕ) (len capacity : ℕ) (o : Slots) → IsLegalNext past (rec p call reply payload) → EntryOn past p call payload reply q prio → creates call reply ≡ true → IsFresh call len capacity o →
-    QueuesMirror (rec p call reply payload ∷ past) (noted_queues owners (length past) (record { process = p; call = call; reply = reply }) q prio queues ++ fresh (length past) o.room ∷ [])
-creates-open past legal owners queues m p (MqOpen flags attr) (Opened d true) payload q prio len capacity o next on c f = noted-queues-creates past legal owners queues m p flags attr d payload q prio o.room next on f.roomy
+creates-open : (past : Past) → Legal past → (owners : List Owner) (queues : List QueueShown) → QueuesMirror past queues → (p : ℕ) (call : Call) (reply : Reply) (payload : List ℕ) (q prio : ℕ) (len capacity : ℕ) (o : Held) → IsLegalNext past (rec p call reply payload) → EntryOn past p call payload reply q prio → creates call reply ≡ true → IsFresh call len capacity o →
+    QueuesMirror (rec p call reply payload ∷ past) (noted_queues owners (length past) (record { process = p; call = call; reply = reply }) q prio queues ++ fresh (length past) o.cap ∷ [])
+creates-open past legal owners queues m p (MqOpen flags attr) (Opened d true) payload q prio len capacity o next on c f = noted-queues-creates past legal owners queues m p flags attr d payload q prio o.cap next on f.roomy
 creates-open past legal owners queues m p (MqOpen flags attr) (Opened d false) payload q prio len capacity o next on c f = absurd (let bad : false ≡ true = c in cc)
 creates-open past legal owners queues m p (MqClose e) (Opened d true) payload q prio len capacity o next on c f = absurd (let bad : false ≡ true = c in cc)
 creates-open past legal owners queues m p (MqClose e) (Opened d false) payload q prio len capacity o next on c f = absurd (let bad : false ≡ true = c in cc)
@@ -345,7 +345,7 @@ creates-open past legal owners queues m p call (Refused x) payload q prio len ca
 
 -- the tables behind an entry are those of the journal with it
 pub tables-keep : (past : Past) → Legal past → (n : ℕ) (owners after_owners : List Owner) (queues after_queues : List QueueShown) (inboxes after_inboxes : List InboxShown) → TablesMirror past n owners queues inboxes →
-    (p : ℕ) (call : Call) (reply : Reply) (payload : List ℕ) (len capacity : ℕ) (brought : Option Slots) → IsLegalNext past (rec p call reply payload) → p ≤ n → BringsOrder call reply len capacity brought →
+    (p : ℕ) (call : Call) (reply : Reply) (payload : List ℕ) (len capacity : ℕ) (brought : Option Held) → IsLegalNext past (rec p call reply payload) → p ≤ n → BringsOrder call reply len capacity brought →
     HasRoomIn queues (entry_queue past p call payload) (length past) (record { process = p; call = call; reply = reply }) →
     IsNotedBy past (record { process = p; call = call; reply = reply }) (entry_queue past p call payload) brought owners after_owners queues after_queues inboxes after_inboxes →
     length after_owners ≡ length owners →
@@ -366,7 +366,7 @@ tables-keep past legal n owners after_owners queues after_queues inboxes after_i
           ∙ notices-keep past legal p call reply payload next (registration_in queues q) (λ some. registration-read past queues m.existing q (notifies-alive past legal p call reply payload next some)) k;
     }
   where
-    queues-by : (brought : Option Slots) → BringsOrder call reply len capacity brought → OwnersMirror (rec p call reply payload ∷ past) after_owners → EntryOn past p call payload reply (entry_queue past p call payload) (admitted_priority past reply) →
+    queues-by : (brought : Option Held) → BringsOrder call reply len capacity brought → OwnersMirror (rec p call reply payload ∷ past) after_owners → EntryOn past p call payload reply (entry_queue past p call payload) (admitted_priority past reply) →
         QueuesMirror (rec p call reply payload ∷ past) (with_fresh brought (length past) (noted_queues after_owners (length past) (record { process = p; call = call; reply = reply }) (entry_queue past p call payload) (admitted_priority past reply) queues))
     queues-by None brings lines on = noted-queues-keeps past legal after_owners queues m.existing p call reply payload (entry_queue past p call payload) (admitted_priority past reply) next on room lines brings
     queues-by (Some o) brings lines on = creates-open past legal after_owners queues m.existing p call reply payload (entry_queue past p call payload) (admitted_priority past reply) len capacity o next on brings.0 brings.1

@@ -1,5 +1,3 @@
-pub mod Slots
-pub mod SlotOrder
 pub mod Order
 pub mod QueueShown
 pub mod Queues

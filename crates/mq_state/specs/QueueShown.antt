@@ -1,12 +1,11 @@
 use Rattle.std.specs.Prelude.{ℕ, Bool, List, Option}
 use Rattle.mq_model.specs.declared.entries.Registration.{Registration}
-use Rattle.mq_state.specs.declared.order.Slot.{Slot}
 
 -- what a queue of the table shows: the place of the open that created it, whether it is still bound to its name, the
--- registration that stands on it, its messages, the last to enter first, and for how many more it has room
+-- registration that stands on it, its messages, the last to enter first, and how many it has room for
 pub record QueueShown : Type 0 where
   pub place : ℕ
   pub named : Bool
   pub registration : Option Registration
-  pub slots : List Slot
-  pub room : ℕ
+  pub slots : List (ℕ × ℕ)
+  pub cap : ℕ

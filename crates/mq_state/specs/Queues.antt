@@ -1,7 +1,7 @@
 -- What the table of queues says of each, and what it becomes behind one more entry. It defines nothing new: where a table
 -- mirrors a journal, each word here is the definition of the same name over the journal.
-use Rattle.std.specs.Prelude.{ℕ, ◌≡◌, ◌<◌, ◌+◌, ◌-◌, Bool, true, false, ◌&&◌, ◌||◌, not, ◌==◌, List, [], ◌∷◌, length, Option, Some, None, if◌then◌else◌, map, int_le, pos, reverse}
-use Rattle.std.specs.List.{find, filter, count_by}
+use Rattle.std.specs.Prelude.{ℕ, ◌≡◌, ◌<◌, ◌≤◌, Bool, true, false, ◌&&◌, ◌||◌, not, ◌==◌, List, [], ◌∷◌, length, Option, Some, None, if◌then◌else◌, map, int_le, pos, reverse}
+use Rattle.std.specs.List.{find, filter, count_by, Contains}
 use Rattle.std.specs.Str.{bytes_eq}
 use Rattle.std.specs.Option.{option_map, option_and_then, unwrap_or}
 use Rattle.mq_model.specs.Record.{Past}
@@ -18,14 +18,14 @@ use Rattle.mq_model.specs.declared.entries.Call.{Call}
 use Rattle.mq_model.specs.declared.entries.Call.TheVariants.{MqClose, MqUnlink}
 use Rattle.mq_model.specs.declared.entries.Reply.{Reply}
 use Rattle.mq_model.specs.declared.entries.Reply.TheVariants.{Queued, Got, Done}
-use Rattle.mq_state.specs.declared.order.Slot.{Slot}
-use Rattle.mq_state.specs.SlotOrder.{without}
+use Rattle.mq_slots.specs.Messages.{without}
+use Rattle.mq_state.specs.Order.{best_slot}
 use Rattle.mq_state.specs.QueueShown.{QueueShown}
 
 unfoldable pub queue_in : List QueueShown → ℕ → Option QueueShown
 queue_in queues q = find (λ x. x.place == q) queues
 
-unfoldable pub slots_in : List QueueShown → ℕ → List Slot
+unfoldable pub slots_in : List QueueShown → ℕ → List (ℕ × ℕ)
 slots_in queues q = unwrap_or (option_map (λ x. x.slots) (queue_in queues q)) []
 
 unfoldable pub registration_in : List QueueShown → ℕ → Option Registration
@@ -52,18 +52,18 @@ without_queue queues q = filter (λ x. not (x.place == q)) queues
 
 -- one line behind an entry -------------------------------------------------------------------------------------------------
 
-abbrev pub with_slot : Slot → QueueShown → QueueShown
-with_slot s x = record { place = x.place; named = x.named; registration = x.registration; slots = s ∷ x.slots; room = x.room - 1 }
+abbrev pub with_slot : ℕ × ℕ → QueueShown → QueueShown
+with_slot s x = record { place = x.place; named = x.named; registration = x.registration; slots = s ∷ x.slots; cap = x.cap }
 
 abbrev pub without_slot : ℕ → QueueShown → QueueShown
-without_slot m x = record { place = x.place; named = x.named; registration = x.registration; slots = without m x.slots; room = (x.room + length x.slots) - length (without m x.slots) }
+without_slot m x = record { place = x.place; named = x.named; registration = x.registration; slots = without m x.slots; cap = x.cap }
 
 abbrev pub unnamed : QueueShown → QueueShown
-unnamed x = record { place = x.place; named = false; registration = x.registration; slots = x.slots; room = x.room }
+unnamed x = record { place = x.place; named = false; registration = x.registration; slots = x.slots; cap = x.cap }
 
 abbrev pub admitting : Option ℕ → ℕ → QueueShown → QueueShown
 admitting None prio x = x
-admitting (Some w) prio x = with_slot (record { prio = prio; place = w }) x
+admitting (Some w) prio x = with_slot (prio, w) x
 
 abbrev pub renewed_done : Call → QueueShown → QueueShown
 renewed_done MqUnlink x = unnamed x
@@ -71,24 +71,43 @@ renewed_done _ x = x
 
 -- the line of the entry's queue: its messages, and whether it is still named. An admitted message has this priority
 abbrev pub renewed : ℕ → Call → Reply → ℕ → QueueShown → QueueShown
-renewed here call (Queued notified) prio x = with_slot (record { prio = priority_given call; place = here }) x
+renewed here call (Queued notified) prio x = with_slot (priority_given call, here) x
 renewed here call (Got place admitted notified) prio x = admitting admitted prio (without_slot place x)
 renewed here call Done prio x = renewed_done call x
 renewed here call _ prio x = x
 
 abbrev pub HasRoomFor : Option ℕ → QueueShown → Type 0
 HasRoomFor None x = Unit {0}
-HasRoomFor (Some w) x = 0 < x.room
+HasRoomFor (Some w) x = length x.slots < x.cap
 
 -- there is room for the message that the entry lets in
 abbrev pub HasRoom : Reply → QueueShown → Type 0
-HasRoom (Queued notified) x = 0 < x.room
+HasRoom (Queued notified) x = length x.slots < x.cap
 HasRoom (Got place admitted notified) x = HasRoomFor admitted (without_slot place x)
 HasRoom _ x = Unit {0}
 
+-- a message may come into the line: it has a priority, and was sent after those that are there
+pub record IsNewest (prio place : ℕ) (x : QueueShown) : Type 0 where
+  pub low : prio < 32768
+  pub newest : (m : ℕ × ℕ) → Contains x.slots m → m.1 < place
+
+abbrev pub IsNewestOf : Option ℕ → ℕ → QueueShown → Type 0
+IsNewestOf None prio x = Unit {0}
+IsNewestOf (Some w) prio x = IsNewest prio w x
+
+-- the message that the line gives next was sent at this place
+abbrev pub IsNextAt : ℕ → QueueShown → Type 0
+IsNextAt place x = option_map (λ m. m.1) (best_slot x.slots) ≡ Some place
+
+-- what the entry at place `here` takes is the message that is received next, and what it lets in is the newest
+abbrev pub IsInOrder : ℕ → Call → Reply → ℕ → QueueShown → Type 0
+IsInOrder here call (Queued notified) prio x = IsNewest (priority_given call) here x
+IsInOrder here call (Got place admitted notified) prio x = IsNextAt place x × IsNewestOf admitted prio x
+IsInOrder here call _ prio x = Unit {0}
+
 -- any line: its registration, where the entry's call is made on queue q
 abbrev pub reregistered : ℕ → ℕ → Entry → QueueShown → QueueShown
-reregistered q here e x = record { place = x.place; named = x.named; registration = registration_after (q == x.place) here e x.registration; slots = x.slots; room = x.room }
+reregistered q here e x = record { place = x.place; named = x.named; registration = registration_after (q == x.place) here e x.registration; slots = x.slots; cap = x.cap }
 
 abbrev pub frees : Call → Bool
 frees (MqClose d) = true
@@ -110,21 +129,22 @@ noted_queues owners here e q prio queues =
 
 -- a queue that was just created
 abbrev pub fresh : ℕ → ℕ → QueueShown
-fresh here room = record { place = here; named = true; registration = None; slots = []; room = room }
+fresh here cap = record { place = here; named = true; registration = None; slots = []; cap = cap }
 
 -- the table says what the definitions say of the journal -----------------------------------------------------------------
 
-abbrev pub slot_of : Past → ℕ → Slot
-slot_of past m = record { prio = priority past m; place = m }
+abbrev pub slot_of : Past → ℕ → ℕ × ℕ
+slot_of past m = (priority past m, m)
 
-abbrev pub slots_of : Past → List ℕ → List Slot
+abbrev pub slots_of : Past → List ℕ → List (ℕ × ℕ)
 slots_of past places = map (slot_of past) places
 
 pub record LineMirror (past : Past) (x : QueueShown) : Type 0 where
   pub named : x.named ≡ is_named past x.place
   pub registration : x.registration ≡ registered past x.place
   pub slots : x.slots ≡ slots_of past (present past x.place)
-  pub room : int_le (attributes past x.place).maxmsg (pos (x.room + length x.slots)) ≡ true
+  pub room : int_le (attributes past x.place).maxmsg (pos x.cap) ≡ true
+  pub few : length x.slots ≤ x.cap
 
 pub record QueuesMirror (past : Past) (queues : List QueueShown) : Type 0 where
   pub places : map (λ x. x.place) queues ≡ reverse (alive past)

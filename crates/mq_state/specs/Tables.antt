@@ -1,7 +1,7 @@
 -- The tables beside the journal say what the definitions say of it.
 use Rattle.std.specs.Prelude.{ℕ, ◌≡◌, ◌+◌, ◌≤◌, ◌<◌, true, false, List, [], ◌∷◌, ◌++◌, ◌&&◌, ◌==◌, if◌then◌else◌, drop, All, length, Option, Some, None, is_some, int_le, pos}
 use Rattle.std.specs.Option.{unwrap_or}
-use Rattle.mq_model.specs.Names.{bound_queue, creates, attributes_given}
+use Rattle.mq_model.specs.Names.{bound_queue, creates, attributes_given, are_within_limits}
 use Rattle.mq_model.specs.Descriptors.{called_queue}
 use Rattle.mq_model.specs.Messages.{priority}
 use Rattle.mq_model.specs.declared.entries.Registration.{Registration}
@@ -16,7 +16,7 @@ use Rattle.mq_model.specs.declared.owners.Owner.{Owner}
 use Rattle.mq_state.specs.QueueShown.{QueueShown}
 use Rattle.mq_state.specs.InboxShown.{InboxShown}
 use Rattle.mq_state.specs.Queues.{QueuesMirror, registrations_in, fresh}
-use Rattle.mq_state.specs.Slots.{Slots}
+use Rattle.mq_slots.specs.Held.{Held}
 use Rattle.mq_state.specs.Inboxes.{notices_in, room_in}
 
 -- the processes of all entries are at most n
@@ -44,13 +44,17 @@ admitted_priority past (Got place (Some w) notified) = priority past w
 admitted_priority past _ = 0
 
 -- a new queue's messages have their room, and the table of queues has room for the queue
-pub record IsFresh (call : Call) (queues : ℕ) (capacity : ℕ) (o : Slots) : Type 0 where
-  pub empty : o.slots ≡ []
-  pub roomy : int_le (attributes_given call).maxmsg (pos o.room) ≡ true
+pub record IsFresh (call : Call) (queues : ℕ) (capacity : ℕ) (o : Held) : Type 0 where
+  pub empty : o.messages ≡ []
+  pub roomy : int_le (attributes_given call).maxmsg (pos o.cap) ≡ true
   pub place : queues < capacity
 
+-- a queue that is created has attributes within the limits
+abbrev pub CreatesWithin : Call → Reply → Type 0
+CreatesWithin call reply = creates call reply ≡ true → are_within_limits (Some (attributes_given call)) ≡ true
+
 -- just an entry that creates its queue brings the queue's order
-abbrev pub BringsOrder : Call → Reply → ℕ → ℕ → Option Slots → Type 0
+abbrev pub BringsOrder : Call → Reply → ℕ → ℕ → Option Held → Type 0
 BringsOrder call reply queues capacity None = creates call reply ≡ false
 BringsOrder call reply queues capacity (Some o) = (creates call reply ≡ true) × IsFresh call queues capacity o
 
@@ -78,6 +82,6 @@ abbrev pub noted_values : ℕ → Option Registration → Reply → ℕ → List
 noted_values process registered reply p values =
     if gives_notice reply && process == p then drop 1 (notified_values registered reply p values) else notified_values registered reply p values
 
-abbrev pub with_fresh : Option Slots → ℕ → List QueueShown → List QueueShown
+abbrev pub with_fresh : Option Held → ℕ → List QueueShown → List QueueShown
 with_fresh None here queues = queues
-with_fresh (Some o) here queues = queues ++ fresh here o.room ∷ []
+with_fresh (Some o) here queues = queues ++ fresh here o.cap ∷ []

@@ -5,6 +5,5 @@ pub mod books;
 mod buffers;
 pub mod collected;
 mod notices;
-mod order;
 mod queues;
 mod tables;

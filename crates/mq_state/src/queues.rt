@@ -1,17 +1,17 @@
 //! The queues that exist: which are still named, who is registered on them, and their messages.
-ghost use Rattle.std.specs.Prelude.{◌≡◌, ◌<◌, ◌^◌, ◌==◌, ◌++◌, ◌∷◌, [], IfOk, position, length, not, Some, None, map, ℕ, vec_len, vec_capacity, ◌≤◌};
+ghost use Rattle.std.specs.Prelude.{◌≡◌, ◌<◌, ◌^◌, ◌==◌, ◌++◌, ◌∷◌, [], IfOk, position, length, not, Some, None, map, ℕ, vec_len, vec_capacity, ◌≤◌, int_le, pos, true};
 ghost use Rattle.std.specs.Option.{option_map};
 ghost use Rattle.std.specs.Str.{bytes_eq};
-ghost use Rattle.mq_model.specs.Names.{name_of};
-ghost use Rattle.mq_state.specs.Queues.{queue_in, slots_in, registration_in, is_named_in, bound_in, changed, renewed, renewed_done, admitting, HasRoom, reregistered, without_queue, fresh, frees, may_free, released, noted_queues};
+ghost use Rattle.mq_model.specs.Names.{name_of, are_within_limits};
+ghost use Rattle.mq_state.specs.Queues.{queue_in, slots_in, registration_in, is_named_in, bound_in, changed, renewed, renewed_done, HasRoom, IsInOrder, reregistered, without_queue, fresh, frees, may_free, released, noted_queues};
 ghost use Rattle.mq_state.specs.QueueShown.{QueueShown};
-ghost use Rattle.mq_state.specs.SlotOrder.{best_slot};
+ghost use Rattle.mq_state.specs.Order.{best_slot, slots_for};
 
-use crate::order::{Order, Slot};
-use mq_model::entries::{Call, Entry, Registration, Reply};
+use mq_model::entries::{Attr, Call, Entry, Registration, Reply};
 use mq_model::journals::Journal;
 use mq_model::owners::Owner;
 use mq_model::{owners, registrations};
+use mq_slots::Slots;
 use std::marker::Model;
 
 /// A queue that exists, named by the place of the open that created it.
@@ -20,7 +20,7 @@ pub struct Queue {
     place: u64,
     named: bool,
     registration: Option<Registration>,
-    order: Order,
+    slots: Slots,
 }
 
 impl Model for Queue {
@@ -34,18 +34,18 @@ impl Model for Queue {
 }
 
 impl Queue {
-    ghost use Rattle.mq_state.specs.Queues.{with_slot, without_slot, unnamed};
+    ghost use Rattle.mq_state.specs.Queues.{with_slot, without_slot, unnamed, IsNewest, IsNextAt, IsInOrder};
 
     /// A queue that was just created at a place.
-    pub fn new(place: u64, order: Order) -> Queue
-        requires { order.slots ≡ [] }
-        ensures { result ≡ fresh place order.room }
+    pub fn new(place: u64, slots: Slots) -> Queue
+        requires { slots.messages ≡ [] }
+        ensures { result ≡ fresh place slots.cap }
     {
         Queue {
             place,
             named: true,
             registration: None,
-            order,
+            slots,
         }
     }
 
@@ -75,27 +75,29 @@ impl Queue {
         ensures count { result ≡ length self.now.slots }
         ensures bound { result < 2 ^ 63 }
     {
-        self.order.len()
+        self.slots.len()
     }
 
-    /// The message that is received next.
-    pub fn best(&self) -> Option<Slot>
+    /// The message that is received next, as its priority and its place.
+    pub fn best(&self) -> Option<(u32, u64)>
         ensures { result ≡ best_slot self.now.slots }
     {
-        self.order.best()
+        self.slots.best()
     }
 
-    fn push(&mut self, slot: Slot)
-        requires { 0 < self.old.room }
-        ensures { self.new ≡ with_slot slot self.old }
+    fn push(&mut self, prio: u32, place: u64)
+        requires room { length self.old.slots < self.old.cap }
+        requires newest { IsNewest prio place self.old }
+        ensures { self.new ≡ with_slot (prio, place) self.old }
     {
-        self.order.push(slot);
+        self.slots.push(prio, place);
     }
 
-    fn remove(&mut self, place: u64)
-        ensures { self.new ≡ without_slot place self.old }
+    // Takes out the message that is received next, if there is one.
+    fn pop(&mut self)
+        ensures { (place : ℕ) → IsNextAt place self.old → self.new ≡ without_slot place self.old }
     {
-        self.order.remove(place);
+        let _ = self.slots.pop();
     }
 
     fn unname(&mut self)
@@ -115,26 +117,21 @@ impl Queue {
     /// Notes the entry at place `here`, which was made on this queue: what it lets in and takes out, and whether the queue is
     /// still named. A message that it admits has priority `prio`.
     pub fn note(&mut self, here: u64, entry: Entry, prio: u32)
-        requires { HasRoom entry.reply self.old }
+        requires room { HasRoom entry.reply self.old }
+        requires order { IsInOrder here entry.call entry.reply prio self.old }
         ensures { self.new ≡ renewed here entry.call entry.reply prio self.old }
     {
         match entry.reply {
-            Reply::Queued { notified: _ } => self.push(Slot {
-                prio: entry.call.priority(),
-                place: here,
-            }),
+            Reply::Queued { notified: _ } => self.push(entry.call.priority(), here),
             Reply::Got {
-                place,
-                admitted: None,
-                notified: _,
-            } => self.remove(place),
-            Reply::Got {
-                place,
-                admitted: Some(wait),
+                place: _,
+                admitted,
                 notified: _,
             } => {
-                self.remove(place);
-                self.push(Slot { prio, place: wait });
+                self.pop();
+                if let Some(wait) = admitted {
+                    self.push(prio, wait);
+                }
             }
             Reply::Done => self.note_done(entry.call),
             _ => {}
@@ -148,6 +145,17 @@ impl Queue {
         let on = queue == self.place;
         self.registration = registrations::registration_after(on, here, entry, self.registration);
     }
+}
+
+/// How many messages a queue with these attributes, which are within the limits, holds at most.
+pub fn slots_for(attributes: Attr) -> u32
+    requires { are_within_limits (Some attributes) ≡ true }
+    ensures value { result ≡ slots_for attributes }
+    ensures some { 1 ≤ result }
+    ensures few { result ≤ 4096 }
+    ensures enough { int_le attributes.maxmsg (pos result) ≡ true }
+{
+    attributes.maxmsg as u32
 }
 
 /// The index of queue q.
@@ -179,7 +187,7 @@ pub fn message_count(queues: &[Queue], q: u64) -> usize
 
 /// The message of queue q that is received next.
 #[tactic(auto, unfolding(crate::specs::Queues::slots_in))]
-pub fn best(queues: &[Queue], q: u64) -> Option<Slot>
+pub fn best(queues: &[Queue], q: u64) -> Option<(u32, u64)>
     ensures { result ≡ best_slot (slots_in queues.now q) }
 {
     match find(queues, q) {
@@ -245,7 +253,8 @@ fn remove(queues: &mut Vec<Queue>, q: u64)
 
 // Notes an entry in the line of its queue.
 fn renew(queues: &mut [Queue], q: u64, here: u64, entry: Entry, prio: u32)
-    requires { (x : QueueShown) → queue_in queues.old q ≡ Some x → HasRoom entry.reply x }
+    requires room { (x : QueueShown) → queue_in queues.old q ≡ Some x → HasRoom entry.reply x }
+    requires order { (x : QueueShown) → queue_in queues.old q ≡ Some x → IsInOrder here entry.call entry.reply prio x }
     ensures { queues.new ≡ changed (renewed here entry.call entry.reply prio) queues.old q }
 {
     if let Some(i) = index_of(queues, q) {
@@ -296,7 +305,8 @@ fn release(owners: &[Owner], freed: bool, queues: &mut Vec<Queue>, q: u64)
 /// Notes the entry at place `here`, made on queue q, where the table of processes has noted it. A message that it admits has
 /// priority `prio`. A queue that it creates is added apart.
 pub fn note(queues: &mut Vec<Queue>, owners: &[Owner], here: u64, entry: Entry, q: u64, prio: u32)
-    requires { (x : QueueShown) → queue_in (map (reregistered q here entry) queues.old.items) q ≡ Some x → HasRoom entry.reply x }
+    requires room { (x : QueueShown) → queue_in (map (reregistered q here entry) queues.old.items) q ≡ Some x → HasRoom entry.reply x }
+    requires order { (x : QueueShown) → queue_in (map (reregistered q here entry) queues.old.items) q ≡ Some x → IsInOrder here entry.call entry.reply prio x }
     ensures items { queues.new.items ≡ noted_queues owners.now here entry q prio queues.old.items }
     ensures room { vec_len queues.old < vec_capacity queues.old → vec_len queues.new < vec_capacity queues.new }
 {
@@ -306,10 +316,10 @@ pub fn note(queues: &mut Vec<Queue>, owners: &[Owner], here: u64, entry: Entry, 
 }
 
 /// Adds the queue that the entry at place `here` creates, in room that is there.
-pub fn add(queues: &mut Vec<Queue>, here: u64, order: Order)
-    requires empty { order.slots ≡ [] }
+pub fn add(queues: &mut Vec<Queue>, here: u64, slots: Slots)
+    requires empty { slots.messages ≡ [] }
     requires room { vec_len queues.old < vec_capacity queues.old }
-    ensures { queues.new.items ≡ queues.old.items ++ fresh here order.room ∷ [] }
+    ensures { queues.new.items ≡ queues.old.items ++ fresh here slots.cap ∷ [] }
 {
-    queues.push_reserved(Queue::new(here, order));
+    queues.push_reserved(Queue::new(here, slots));
 }

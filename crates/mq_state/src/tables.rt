@@ -13,13 +13,13 @@ mod calls;
 mod facts;
 
 use crate::notices::Inbox;
-use crate::order::Order;
 use crate::queues::Queue;
 use crate::{buffers, notices, queues};
 use mq_model::entries::{Call, Entry, Reply};
 use mq_model::journals::Journal;
 use mq_model::owners::Owner;
 use mq_model::{owners, registrations};
+use mq_slots::Slots;
 use std::alloc::{AllocError, Global};
 
 /// What each process has, process p's line and inbox at index p, and the queues that exist.
@@ -104,7 +104,7 @@ impl Tables {
 impl Tables {
     ghost use Rattle.std.specs.Prelude.{vec_len, vec_capacity};
     ghost use Rattle.mq_model.specs.OwnersNoted.{noted, FitsSlots};
-    ghost use Rattle.mq_state.specs.Queues.{queue_in, reregistered, noted_queues, registration_in, HasRoom};
+    ghost use Rattle.mq_state.specs.Queues.{queue_in, reregistered, noted_queues, registration_in, HasRoom, IsInOrder};
     ghost use Rattle.mq_state.specs.Inboxes.{notices_in, room_in};
     ghost use Rattle.mq_state.specs.QueueShown.{QueueShown};
     ghost use Rattle.mq_state.specs.Tables.{BringsOrder, notices_brought, noted_values, notified_values, with_fresh};
@@ -131,10 +131,11 @@ impl Tables {
     }
 
     // Notes an entry made on queue q, which brings the order of a queue that it creates.
-    fn note(&mut self, journal: &Journal, entry: Entry, q: u64, fresh: Option<Order>)
+    fn note(&mut self, journal: &Journal, entry: Entry, q: u64, fresh: Option<Slots>)
         requires process { (entry.process < length self.old.owners.items) × (entry.process < length self.old.inboxes.items) }
         requires numbers { FitsSlots entry.call entry.reply }
         requires room { (x : QueueShown) → queue_in (map (reregistered q (length journal.now.records) entry) self.old.queues.items) q ≡ Some x → HasRoom entry.reply x }
+        requires order { (x : QueueShown) → queue_in (map (reregistered q (length journal.now.records) entry) self.old.queues.items) q ≡ Some x → IsInOrder (length journal.now.records) entry.call entry.reply (admitted_priority journal.now.records entry.reply) x }
         requires notice_room { (n : Registration) → registration_in self.old.queues.items q ≡ Some n → 0 < room_in self.old.inboxes.items n.process }
         requires brings { BringsOrder entry.call entry.reply (vec_len self.old.queues) (vec_capacity self.old.queues) fresh }
         ensures n { self.new.n ≡ self.old.n }
@@ -149,8 +150,8 @@ impl Tables {
         self.note_notices(entry, q);
         owners::note(&mut self.owners, here, entry, q);
         queues::note(&mut self.queues, &self.owners, here, entry, q, prio);
-        if let Some(order) = fresh {
-            queues::add(&mut self.queues, here, order);
+        if let Some(slots) = fresh {
+            queues::add(&mut self.queues, here, slots);
         }
     }
 }

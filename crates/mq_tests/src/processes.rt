@@ -6,7 +6,8 @@ ghost use Rattle.mq.specs.Calls.{IsFree};
 use fast_mutex::{FastMutex, Look, Missing};
 use mq::{Guarded, Mq, Process};
 use mq_checker::checker::check_history;
-use mq_model::entries::{Access, Attr, OpenFlags, Received, Reply};
+use mq_model::clock;
+use mq_model::entries::{Access, Attr, Deadline, OpenFlags, Received, Reply};
 use mq_model::faults::Fault;
 use mq_model::journals::Journal;
 use mq_model::names::Name;
@@ -17,6 +18,7 @@ use std::sync::Wait;
 use std::time::Clock;
 
 mod calls;
+mod deadlines;
 mod threads;
 
 const CREATE: OpenFlags = OpenFlags {
@@ -104,6 +106,25 @@ fn receive<L: Look<Guarded>, R: Wait + Clock>(
 {
     match p.receive(rt, mq, 0, buf) {
         Err(Fault::NoMemory) => p.receive(rt, mq, 0, buf),
+        received => received,
+    }
+}
+
+fn timed_receive<L: Look<Guarded>, R: Wait + Clock, C: clock::Clock>(
+    rt: &R,
+    mq: &Mq<L>,
+    p: &mut Process<L>,
+    buf: &mut [u8],
+    until: Deadline,
+    clock: &C,
+) -> Result<Received, Fault>
+    requires made { p.old.lock ≡ mq.now }
+    requires free { IsFree p.old }
+    ensures made { p.new.lock ≡ mq.now }
+    ensures free { IsFree p.new }
+{
+    match p.timed_receive(rt, mq, 0, buf, until, clock) {
+        Err(Fault::NoMemory) => p.timed_receive(rt, mq, 0, buf, until, clock),
         received => received,
     }
 }

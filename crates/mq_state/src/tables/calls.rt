@@ -8,16 +8,16 @@ ghost use Rattle.std.specs.Option.{option_map};
 ghost use Rattle.mq_model.specs.Owners.{waits_count, answer_in, wait_in, lowest_held_in};
 ghost use Rattle.mq_model.specs.Messages.{is_send, is_receive};
 ghost use Rattle.mq_state.specs.Buffers.{filled, room_of, length_sent};
-ghost use Rattle.mq_state.specs.Tables.{entry_queue, HasRoomToRegister, BringsOrder};
+ghost use Rattle.mq_state.specs.Tables.{entry_queue, HasRoomToRegister, BringsOrder, CreatesWithin};
 ghost use Rattle.mq_state.specs.Kept.{IsKeptBy, HasEntryRoom, MayCall, IsCalled};
 
-use crate::order::{Order, slots_for};
 use crate::tables::Tables;
-use crate::{buffers, notices};
+use crate::{buffers, notices, queues};
 use mq_model::entries::{Attr, Call, Deadline, Entry, OpenFlags, Reply};
 use mq_model::faults::Fault;
 use mq_model::journals::Journal;
 use mq_model::{ladder, owners};
+use mq_slots::Slots;
 use std::alloc::{AllocError, Global};
 
 // The payload of a call that was given these bytes.
@@ -45,7 +45,7 @@ impl Tables {
     }
 
     // Appends the entry of a call that gets its answer, with its payload.
-    fn append(&mut self, journal: &mut Journal, entry: Entry, payload: &[u8], fresh: Option<Order>)
+    fn append(&mut self, journal: &mut Journal, entry: Entry, payload: &[u8], fresh: Option<Slots>)
         requires kept { IsKeptBy journal.old self.old }
         requires next { IsLegalNext journal.old.records (record { entry = entry; payload = payload.now }) }
         requires at_most { entry.process ≤ self.old.n }
@@ -71,7 +71,7 @@ impl Tables {
         call: Call,
         reply: Reply,
         given: &[u8],
-        fresh: Option<Order>,
+        fresh: Option<Slots>,
     )
         requires kept { IsKeptBy journal.old self.old }
         requires process { (1 ≤ p) × (p ≤ self.old.n) }
@@ -129,15 +129,16 @@ impl Tables {
         self.settle(journal, p, Call::MqClose { d }, reply, &[])
     }
 
-    // The order of the queue that an open creates, if it creates one, and a place for the queue.
-    fn fresh_order(
+    // The slots of the queue that an open creates, if it creates one, and a place for the queue.
+    fn fresh_slots(
         &mut self,
         journal: &Journal,
         flags: OpenFlags,
         attr: Option<Attr>,
         reply: Reply,
-    ) -> Result<Option<Order>, AllocError>
+    ) -> Result<Option<Slots>, AllocError>
         requires kept { IsKeptBy journal.now self.old }
+        requires within { CreatesWithin (Call.MqOpen flags attr) reply }
         ensures kept { IsKeptBy journal.now self.new }
         ensures n { self.new.n ≡ self.old.n }
         ensures waits { waits_count self.new.owners.items ≡ waits_count self.old.owners.items }
@@ -148,10 +149,10 @@ impl Tables {
                 d: _,
                 created: true,
             } => {
-                let room = slots_for(ladder::attributes_given(Call::MqOpen { flags, attr }));
+                let cap = queues::slots_for(ladder::attributes_given(Call::MqOpen { flags, attr }));
                 self.queues.reserve(1)?;
-                let order = Order::new(self.alloc, room)?;
-                Ok(Some(order))
+                let slots = Slots::new(self.alloc, cap)?;
+                Ok(Some(slots))
             }
             _ => Ok(None),
         }
@@ -174,7 +175,7 @@ impl Tables {
             return Reply::Refused(Fault::NoMemory);
         }
         let reply = self.answer_open(journal, p, name, flags, attr);
-        let Ok(fresh) = self.fresh_order(journal, flags, attr, reply) else {
+        let Ok(fresh) = self.fresh_slots(journal, flags, attr, reply) else {
             return Reply::Refused(Fault::NoMemory);
         };
         self.record(journal, p, Call::MqOpen { flags, attr }, reply, name, fresh);

@@ -81,7 +81,7 @@ impl Tables {
     {
         match queues::best(&self.queues, q) {
             None => None,
-            Some(slot) => Some(slot.place),
+            Some(message) => Some(message.1),
         }
     }
 

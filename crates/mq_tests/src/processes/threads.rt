@@ -2,16 +2,16 @@
 ghost use Rattle.std.specs.Prelude.{◌≡◌};
 ghost use Rattle.mq.specs.Calls.{IsFree};
 
-use super::{CREATE, OPEN, Pair, finish, make_pair, open_queue, receive, send};
+use super::{CREATE, OPEN, Pair, finish, make_pair, open_queue, receive, send, timed_receive};
 use fast_mutex::{FastMutex, Look};
-use mq::{Guarded, Mq, Process};
+use mq::{Guarded, Monotonic, Mq, Process};
 use mq_checker::checker::check_history;
 use mq_model::journals::Journal;
 use std::alloc::Global;
 use std::process::Abort;
 use std::sync::Wait;
 use std::thread::{Threads, join};
-use std::time::Clock;
+use std::time::{Clock, Duration};
 
 const MESSAGES: u8 = 200;
 
@@ -33,7 +33,7 @@ fn send_all<L: Look<Guarded>, R: Wait + Clock>(
     (p, all)
 }
 
-// Receives as many messages, and sees that they come in the order of their numbers.
+// Receives as many messages, every second one with a deadline that does not come, and sees that they come in the order of their numbers.
 fn receive_all<L: Look<Guarded>, R: Wait + Clock>(
     rt: &R,
     mq: &Mq<L>,
@@ -44,10 +44,19 @@ fn receive_all<L: Look<Guarded>, R: Wait + Clock>(
     ensures made { result.0.lock ≡ p.lock }
     ensures free { IsFree result.0 }
 {
+    let Ok(clock) = Monotonic::start(rt) else {
+        return (p, false);
+    };
+    let until = clock.after(Duration::from_secs(3_600));
     let mut all = true;
     let mut buf = [0; 8];
     'numbers: for number in 0..MESSAGES {
-        all &= receive(rt, mq, &mut p, &mut buf).is_ok() && buf[0] == number;
+        let received = if number % 2 == 0 {
+            receive(rt, mq, &mut p, &mut buf)
+        } else {
+            timed_receive(rt, mq, &mut p, &mut buf, until, &clock)
+        };
+        all &= received.is_ok() && buf[0] == number;
     }
     (p, all)
 }

@@ -3,8 +3,11 @@ use Rattle.mq_state.specs.Queues.{renewed}
 use Rattle.mq_state.proofs.QueueLines.{queue_in-Some, changed-at, changed-None}
 use Rattle.mq_state.proofs.queues.renew.Goals as goal
 
-pub note-requires : goal.note-requires
-note-requires c = c.requires _ (queue_in-Some c.args.queues.now c.args.q c.in-Some.i c.index-queues-i.result (sym c.in-Some.ensures))
+pub note-requires-clause-room : goal.note-requires-clause-room
+note-requires-clause-room c = c.requires.room _ (queue_in-Some c.args.queues.now c.args.q c.in-Some.i c.index-queues-i.result (sym c.in-Some.ensures))
+
+pub note-requires-clause-order : goal.note-requires-clause-order
+note-requires-clause-order c = c.requires.order _ (queue_in-Some c.args.queues.now c.args.q c.in-Some.i c.index-queues-i.result (sym c.in-Some.ensures))
 
 pub returns-in-Some : goal.returns-in-Some
 returns-in-Some c = changed-at _ c.args.queues.now c.args.q c.in-Some.i c.index-queues-i.result c.note.new.self (sym c.in-Some.ensures) c.index-queues-i.is (c.note.ensures ∙ ap (renewed c.args.here c.args.entry.call c.args.entry.reply c.args.prio) (sym c.index-queues-i.is))

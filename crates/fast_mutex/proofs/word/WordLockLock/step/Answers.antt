@@ -1,4 +1,4 @@
-use Rattle.std.proofs.Common.{◌∙◌, arith, ap}
+use Rattle.std.proofs.Common.{arith, ap}
 use Rattle.fast_mutex.specs.Items.{LockId}
 use Rattle.fast_mutex.proofs.WordKeeps.{enters_at, walk_outside}
 use Rattle.fast_mutex.proofs.word.WordLockLock.step.Goals as goal

@@ -2,6 +2,7 @@ use Rattle.std.proofs.Common.{◌≡◌, ap, arith, vec_capacity}
 use Rattle.mq_slots.specs.Held.{Held}
 use Rattle.mq_slots.specs.Messages.{messages}
 use Rattle.mq_slots.proofs.Popping.{IsPop, pop-first, popped-best, popped-sound, popped-count, popped-messages}
+use Rattle.mq_slots.proofs.Latest.{popped-without}
 use Rattle.mq_slots.proofs.chains.Slots.pop.Goals as goal
 
 pub at-best-requires : goal.at-best-requires
@@ -35,6 +36,13 @@ returns-clause-rest c =
     let pop : IsPop s.cells.items s.levels.items s.free s.spare (vec_capacity s.levels) = record { sound = c.self.invariant; some = λ e. c.if-self-len.false (omega (arith, s.cells.ok.0)) } in
     let shows : messages s.cells.items ≡ c.args.self.now.messages = ap (λ (h : Held). h.messages) c.self.view_is in
     rw (c.unlink.ensures, c.at-best.ensures, c.deref-2.ensures.value, c.at-first.ensures, c.deref.ensures.value, ← shows) (popped-messages _ _ _ _ _ pop)
+
+pub returns-clause-others : goal.returns-clause-others
+returns-clause-others c =
+    let s = c.self.inside in
+    let pop : IsPop s.cells.items s.levels.items s.free s.spare (vec_capacity s.levels) = record { sound = c.self.invariant; some = λ e. c.if-self-len.false (omega (arith, s.cells.ok.0)) } in
+    let shows : messages s.cells.items ≡ c.args.self.now.messages = ap (λ (h : Held). h.messages) c.self.view_is in
+    rw (c.unlink.ensures, c.at-best.ensures, c.deref-2.ensures.value, c.at-first.ensures, c.deref.ensures.value, ← shows) (popped-without _ _ _ _ _ pop)
 
 pub returns-clause-count : goal.returns-clause-count
 returns-clause-count c =

@@ -14,6 +14,7 @@ use Rattle.mq_state.proofs.QueuesNoted.{HasRoomIn, line-room}
 use Rattle.mq_state.proofs.TablesKeep.{entry-on, queued-free, tables-keep}
 use Rattle.mq_state.proofs.WaitsNoted.{length-noted, waits-noted}
 use Rattle.mq_state.proofs.NoticeRoom.{notice-room-keeps, room-to-notify}
+use Rattle.mq_state.proofs.Arriving.{IsInOrderIn, line-order}
 use Rattle.mq_state.proofs.tables.Tables.append.Goals as goal
 
 pub note-requires-clause-numbers : goal.note-requires-clause-numbers
@@ -27,6 +28,16 @@ note-requires-clause-room c =
     let room : HasRoomIn c.args.self.now.queues.items q (length past) e =
     line-room past c.args.self.now.queues.items c.requires.kept.mirror.existing e.process e.call e.reply c.args.payload.now q (admitted_priority past e.reply) (entry-on past e.process e.call e.reply c.args.payload.now c.requires.next) (queued-free past e.process e.call e.reply c.args.payload.now c.requires.next) in
     subst (λ k. HasRoomIn c.args.self.now.queues.items k (length past) e) (sym c.entry_queue-q.ensures) room
+
+pub note-requires-clause-order : goal.note-requires-clause-order
+note-requires-clause-order c =
+    let past = c.args.journal.now.records in
+    let e = c.args.entry in
+    let prio = admitted_priority past e.reply in
+    let q = entry_queue past e.process e.call c.args.payload.now in
+    let order : IsInOrderIn c.args.self.now.queues.items q (length past) e prio =
+    line-order past c.requires.kept.legal c.args.self.now.queues.items c.requires.kept.mirror.existing e.process e.call e.reply c.args.payload.now q prio (legal_says past (record { entry = e; payload = c.args.payload.now }) c.requires.next) (entry-on past e.process e.call e.reply c.args.payload.now c.requires.next) in
+    subst (λ k. IsInOrderIn c.args.self.now.queues.items k (length past) e prio) (sym c.entry_queue-q.ensures) order
 
 pub note-requires-clause-notice_room : goal.note-requires-clause-notice_room
 note-requires-clause-notice_room c = λ n is. room-to-notify c.args.self.now.queues.items c.args.self.now.inboxes.items c.requires.kept.notice_room c.entry_queue-q.result n is
