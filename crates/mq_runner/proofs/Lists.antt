@@ -9,7 +9,7 @@ use Rattle.lines.specs.Words.{Word}
 use Rattle.mq_runner.specs.Phase.{calls_in, text_in}
 use Rattle.mq_script.specs.ReplyLines.{reply_lines}
 use Rattle.mq_runner.specs.Runs.{calls_of}
-use Rattle.mq_script.specs.Script.{said_call, said_calls}
+use Rattle.mq_script.specs.Script.{WrittenCall, said_call, said_calls}
 use Rattle.mq_script.specs.declared.line.ScriptCall.{ScriptCall}
 use Rattle.mq_runner.specs.declared.turns.Turn.{Turn}
 use Rattle.mq_runner.specs.declared.turns.Worked.{Worked}
@@ -25,13 +25,13 @@ text_in-push (first ∷ workers) worked =
 pub text_in-more : (workers : List (Worked (Ticket Record))) (i : ℕ) (d : Worked (Ticket Record)) → i < length workers → text_in (take (i + 1) workers) ≡ text_in (take i workers) ++ reply_lines (get_or workers i d).process.number (get_or workers i d).answers.items
 text_in-more workers i d low = ap text_in (take_more workers i d low) ∙ text_in-push (take i workers) (get_or workers i d)
 
-abbrev is_of : ℕ → ScriptCall Word → Bool
+abbrev is_of : ℕ → WrittenCall → Bool
 is_of p call = call.process == p
 
 calls_of-push : (p : ℕ) (calls : List (ScriptCall (Bor Word))) (call : ScriptCall (Bor Word)) → calls_of p (said_calls (calls ++ call ∷ [])) ≡ calls_of p (said_calls calls) ++ calls_of p (said_calls (call ∷ []))
 calls_of-push p calls call = ap (filter (is_of p)) (map-append said_call calls (call ∷ [])) ∙ filter-append (is_of p) (said_calls calls) (said_calls (call ∷ []))
 
-calls_of-more : (p : ℕ) (calls : List (ScriptCall (Bor Word))) (i : ℕ) (d : ScriptCall (Bor Word)) (more : List (ScriptCall Word)) → i < length calls → calls_of p (said_calls (get_or calls i d ∷ [])) ≡ more → calls_of p (said_calls (take (i + 1) calls)) ≡ calls_of p (said_calls (take i calls)) ++ more
+calls_of-more : (p : ℕ) (calls : List (ScriptCall (Bor Word))) (i : ℕ) (d : ScriptCall (Bor Word)) (more : List WrittenCall) → i < length calls → calls_of p (said_calls (get_or calls i d ∷ [])) ≡ more → calls_of p (said_calls (take (i + 1) calls)) ≡ calls_of p (said_calls (take i calls)) ++ more
 calls_of-more p calls i d more low one =
     ap (λ cs. calls_of p (said_calls cs)) (take_more calls i d low) ∙ calls_of-push p (take i calls) (get_or calls i d) ∙ ap (λ cs. calls_of p (said_calls (take i calls)) ++ cs) one
 

@@ -5,7 +5,7 @@ use Rattle.std.proofs.lemmas.List.{take-append-drop, map-append}
 use Rattle.std.specs.Io.KnownBytes.{Appends}
 use Rattle.lines.specs.Output.{AppendsTooLittle}
 use Rattle.lines.specs.Words.{Word}
-use Rattle.mq_script.specs.Script.{said_calls, said_phases}
+use Rattle.mq_script.specs.Script.{WrittenCall, said_calls, said_phases}
 use Rattle.mq_script.specs.declared.line.ScriptCall.{ScriptCall}
 use Rattle.mq_runner.specs.Stops.{AppendsInto}
 use Rattle.mq_runner.proofs.KnownBytes.{Appends-then}
@@ -13,7 +13,7 @@ use Rattle.mq_runner.proofs.KnownBytes.{Appends-then}
 -- the phases before one, that one, and the later ones
 pub phases-split : (phases : List (Vec (ScriptCall (Bor Word)) Global)) (i : ℕ) (d : Vec (ScriptCall (Bor Word)) Global) → i < length phases → said_phases phases ≡ said_phases (take i phases) ++ said_calls (get_or phases i d).items ∷ said_phases (drop (suc i) phases)
 phases-split phases i d low =
-    let said : Vec (ScriptCall (Bor Word)) Global → List (ScriptCall Word) = λ phase. said_calls phase.items in
+    let said : Vec (ScriptCall (Bor Word)) Global → List WrittenCall = λ phase. said_calls phase.items in
     let split : phases ≡ take i phases ++ get_or phases i d ∷ drop (suc i) phases =
     sym (take-append-drop i phases) ∙ ap (λ rest. take i phases ++ rest) (drop-cons phases i d low) in
     ap said_phases split ∙ map-append said (take i phases) (get_or phases i d ∷ drop (suc i) phases)

@@ -11,7 +11,7 @@ use Rattle.mq_runner.specs.Members.{AllHaveShares, AllOff, HasShare}
 use Rattle.mq_runner.specs.Phase.{AllWorkOff, WorksOff, calls_in, text_in}
 use Rattle.mq_runner.specs.Runs.{IsReady, Performs, RunsCalls, RunsPhase, RunsPhases, calls_of}
 use Rattle.mq_script.specs.ReplyLines.{reply_lines}
-use Rattle.mq_script.specs.Script.{said_calls, said_phases}
+use Rattle.mq_script.specs.Script.{WrittenCall, said_calls, said_phases}
 use Rattle.mq_script.specs.declared.line.ScriptCall.{ScriptCall}
 use Rattle.mq_runner.specs.declared.phase.Member.{Member}
 use Rattle.mq_script.specs.declared.reply.Answer.{Answer}
@@ -21,9 +21,9 @@ use Rattle.mq_runner.specs.declared.turns.Worked.{Worked}
 use denote.Ref.{Bor}
 
 -- one more call behind the others
-pub RunsCalls-push : (calls : List (ScriptCall Word)) (call : ScriptCall Word) (answers : List Answer) (answer : Answer) (old mid new : Ticket Record) → RunsCalls calls answers old mid → Performs call.command (buffer_given call.command) answer.buffer.items mid new answer.outcome → RunsCalls (calls ++ call ∷ []) (answers ++ answer ∷ []) old new
+pub RunsCalls-push : (calls : List WrittenCall) (call : WrittenCall) (answers : List Answer) (answer : Answer) (old mid new : Ticket Record) → RunsCalls calls answers old mid → Performs call.moment call.command (buffer_given call.command) answer.buffer.items mid new answer.outcome → RunsCalls (calls ++ call ∷ []) (answers ++ answer ∷ []) old new
 RunsCalls-push [] call [] answer old mid new ran last =
-    let P : Ticket Record → Type 0 = λ m. Performs call.command (buffer_given call.command) answer.buffer.items m new answer.outcome in
+    let P : Ticket Record → Type 0 = λ m. Performs call.moment call.command (buffer_given call.command) answer.buffer.items m new answer.outcome in
     (new, subst P ran last, refl)
 RunsCalls-push [] call (a ∷ answers) answer old mid new ran last = absurd ran
 RunsCalls-push (c ∷ calls) call [] answer old mid new ran last = absurd ran
@@ -78,12 +78,12 @@ same-count (s ∷ shares) [] off = absurd off
 same-count (s ∷ shares) (w ∷ workers) off = ap suc (same-count shares workers off.1)
 
 -- shares of these calls were worked off: the phase was run
-phase-ran : (calls : List (ScriptCall Word)) (shares : List (Share (Ticket Record))) (workers : List (Worked (Ticket Record))) → AllWorkOff shares workers → ByRecursion (λ (share : Share (Ticket Record)). calls_in share.turns.items ≡ calls_of share.process.number calls) shares → RunsPhase calls (map (λ (share : Share (Ticket Record)). share.process) shares) (map (λ (worked : Worked (Ticket Record)). worked.process) workers) (text_in workers)
+phase-ran : (calls : List WrittenCall) (shares : List (Share (Ticket Record))) (workers : List (Worked (Ticket Record))) → AllWorkOff shares workers → ByRecursion (λ (share : Share (Ticket Record)). calls_in share.turns.items ≡ calls_of share.process.number calls) shares → RunsPhase calls (map (λ (share : Share (Ticket Record)). share.process) shares) (map (λ (worked : Worked (Ticket Record)). worked.process) workers) (text_in workers)
 phase-ran calls [] [] off dealt = refl
 phase-ran calls [] (w ∷ workers) off dealt = absurd off
 phase-ran calls (s ∷ shares) [] off dealt = absurd off
 phase-ran calls (s ∷ shares) (w ∷ workers) off dealt =
-    let P : List (ScriptCall Word) → Type 0 = λ cs. RunsCalls cs w.answers.items s.process w.process in (
+    let P : List WrittenCall → Type 0 = λ cs. RunsCalls cs w.answers.items s.process w.process in (
       w.answers.items,
       text_in workers,
       subst P dealt.0 off.0.calls,
@@ -92,13 +92,13 @@ phase-ran calls (s ∷ shares) (w ∷ workers) off dealt =
       ap (λ n. reply_lines n w.answers.items ++ text_in workers) off.0.same.number,
     )
 
-pub phase-done : (calls : List (ScriptCall Word)) (shares : List (Share (Ticket Record))) (workers : List (Worked (Ticket Record))) (before after : List (Ticket Record)) (text : List ℕ) → AllWorkOff shares workers → All (λ share. calls_in share.turns.items ≡ calls_of share.process.number calls) shares → map (λ share. share.process) shares ≡ before → after ≡ map (λ worked. worked.process) workers → text ≡ text_in workers → RunsPhase calls before after text
+pub phase-done : (calls : List WrittenCall) (shares : List (Share (Ticket Record))) (workers : List (Worked (Ticket Record))) (before after : List (Ticket Record)) (text : List ℕ) → AllWorkOff shares workers → All (λ share. calls_in share.turns.items ≡ calls_of share.process.number calls) shares → map (λ share. share.process) shares ≡ before → after ≡ map (λ worked. worked.process) workers → text ≡ text_in workers → RunsPhase calls before after text
 phase-done calls shares workers before after text off dealt processes back is =
     rw (sym processes, back, is)
     (phase-ran calls shares workers off (recursion_from_All (λ (share : Share (Ticket Record)). calls_in share.turns.items ≡ calls_of share.process.number calls) shares dealt))
 
 -- one more phase behind the others
-RunsPhases-push : (phases : List (List (ScriptCall Word))) (calls : List (ScriptCall Word)) (before mid after : List (Ticket Record)) (text more : List ℕ) → RunsPhases phases before mid text → RunsPhase calls mid after more → RunsPhases (phases ++ calls ∷ []) before after (text ++ more)
+RunsPhases-push : (phases : List (List WrittenCall)) (calls : List WrittenCall) (before mid after : List (Ticket Record)) (text more : List ℕ) → RunsPhases phases before mid text → RunsPhase calls mid after more → RunsPhases (phases ++ calls ∷ []) before after (text ++ more)
 RunsPhases-push [] calls before mid after text more ran last =
     let P : List (Ticket Record) → Type 0 = λ m. RunsPhase calls m after more in
     (after, more, [], subst P ran.0 last, (refl, refl), ap (λ t. t ++ more) ran.1 ∙ sym (append-nil more))
@@ -107,8 +107,8 @@ RunsPhases-push (c ∷ phases) calls before mid after text more ran last =
 
 pub phases-more : (phases : List (Vec (ScriptCall (Bor Word)) Global)) (i : ℕ) (d : Vec (ScriptCall (Bor Word)) Global) (before mid after : List (Ticket Record)) (text more : List ℕ) → i < length phases → RunsPhases (said_phases (take i phases)) before mid text → RunsPhase (said_calls (get_or phases i d).items) mid after more → RunsPhases (said_phases (take (i + 1) phases)) before after (text ++ more)
 phases-more phases i d before mid after text more low ran last =
-    let said : Vec (ScriptCall (Bor Word)) Global → List (ScriptCall Word) = λ phase. said_calls phase.items in
-    let P : List (List (ScriptCall Word)) → Type 0 = λ ps. RunsPhases ps before after (text ++ more) in
+    let said : Vec (ScriptCall (Bor Word)) Global → List WrittenCall = λ phase. said_calls phase.items in
+    let P : List (List WrittenCall) → Type 0 = λ ps. RunsPhases ps before after (text ++ more) in
     let same : said_phases (take i phases) ++ said_calls (get_or phases i d).items ∷ [] ≡ said_phases (take (i + 1) phases) =
     sym (ap said_phases (take_more phases i d low) ∙ map-append said (take i phases) (get_or phases i d ∷ [])) in
     subst P same (RunsPhases-push (said_phases (take i phases)) (said_calls (get_or phases i d).items) before mid after text more ran last)

@@ -7,4 +7,5 @@ use Rattle.mq_script.specs.declared.command.Command.TheVariants as command
 -- the buffer that a call is given: that of a receive, and else none
 abbrev pub buffer_given : Command Word → List ℕ
 buffer_given (command.Receive d room) = replicate room 0
+buffer_given (command.TimedReceive d room until) = replicate room 0
 buffer_given other = []

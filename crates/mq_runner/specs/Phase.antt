@@ -4,17 +4,15 @@ use Rattle.std.specs.List.{All, AllZip}
 use Rattle.fast_mutex.specs.Items.{LockId, Ticket}
 use Rattle.mq.specs.Calls.{IsFree}
 use Rattle.mq_model.specs.Record.{Record}
-use Rattle.lines.specs.Words.{Word}
 use Rattle.mq_runner.specs.Runs.{IsReady, IsSameProcess, RunsCalls}
 use Rattle.mq_script.specs.ReplyLines.{reply_lines}
-use Rattle.mq_script.specs.Script.{said_call}
-use Rattle.mq_script.specs.declared.line.ScriptCall.{ScriptCall}
+use Rattle.mq_script.specs.Script.{WrittenCall, said_call}
 use Rattle.mq_runner.specs.declared.turns.Share.{Share}
 use Rattle.mq_runner.specs.declared.turns.Turn.{Turn}
 use Rattle.mq_runner.specs.declared.turns.Worked.{Worked}
 
 -- the calls of turns
-abbrev pub calls_in : List Turn → List (ScriptCall Word)
+abbrev pub calls_in : List Turn → List WrittenCall
 calls_in turns = map (λ turn. said_call turn.call) turns
 
 -- the lines of all replies, in the order of the processes

@@ -3,23 +3,23 @@ use Rattle.std.specs.Prelude.{◌≡◌, ◌≤◌, ◌==◌, ◌++◌, ℕ, Lis
 use Rattle.std.specs.List.{All}
 use Rattle.std.specs.Io.KnownBytes as known
 use Rattle.fast_mutex.specs.Items.{LockId, Ticket, Grows, tickets_from}
-use Rattle.mq.specs.Calls.{IsFree, Exits, OneCall, SendCall, WholeReceive, owner}
+use Rattle.mq.specs.Calls.{IsFree, Exits, OneCall, SendCall, TimedReceive, TimedSend, WholeReceive, owner}
 use Rattle.mq.specs.Says.{attributes_says, done_says, notice_says, open_says}
 use Rattle.mq_model.specs.Answer.{Legal}
 use Rattle.mq_model.specs.Name.{has_name_form, is_name, is_short}
 use Rattle.mq_model.specs.Record.{Past, Record}
 use Rattle.mq_model.specs.declared.entries.Call.{Call}
 use Rattle.mq_model.specs.declared.entries.Call.TheVariants.{MqOpen, MqClose, MqUnlink, MqGetattr, MqSetattr, MqNotify, NextNotice}
+use Rattle.mq_model.specs.declared.entries.Deadline.{Deadline}
 use Rattle.mq_model.specs.declared.entries.Reply.{Reply}
 use Rattle.mq_model.specs.declared.faults.Fault.{Fault}
 use Rattle.mq_model.specs.declared.faults.Fault.TheVariants.{Invalid, NameTooLong}
 use Rattle.mq_runner.specs.Buffer.{buffer_given}
 use Rattle.lines.specs.Words.{Word}
 use Rattle.mq_script.specs.ReplyLines.{reply_lines}
-use Rattle.mq_script.specs.Script.{Whole}
+use Rattle.mq_script.specs.Script.{WrittenCall, Whole}
 use Rattle.mq_script.specs.declared.command.Command.{Command}
 use Rattle.mq_script.specs.declared.command.Command.TheVariants as command
-use Rattle.mq_script.specs.declared.line.ScriptCall.{ScriptCall}
 use Rattle.mq_script.specs.declared.reply.Outcome.{Outcome}
 use Rattle.mq_script.specs.declared.reply.Outcome.TheVariants as outcomes
 use Rattle.mq_script.specs.declared.reply.Answer.{Answer}
@@ -51,36 +51,38 @@ pub record MakesNamed {A : Type 0} (says : Reply → Option (Result A Fault)) (s
   pub too_long : IsTrue (has_name_form name) → IsFalse (is_short name) → (new ≡ old) × (came ≡ outcomes.Refused NameTooLong)
   pub invalid : IsFalse (has_name_form name) → (new ≡ old) × (came ≡ outcomes.Refused Invalid)
 
--- the process carried out the command, and this is printed of it. `before` is what the buffer held, `behind` what it holds
-abbrev pub Performs : Command Word → List ℕ → List ℕ → Ticket Record → Ticket Record → Outcome → Type 0
-Performs (command.Open name flags attr) before behind old new came = MakesNamed open_says outcomes.Opened (MqOpen flags attr) name old new came
-Performs (command.Close d) before behind old new came = Shows (λ _. outcomes.Done) (OneCall done_says old new (MqClose d) []) came
-Performs (command.Unlink name) before behind old new came = MakesNamed done_says (λ _. outcomes.Done) MqUnlink name old new came
-Performs (command.Send d prio message) before behind old new came = Shows (λ _. outcomes.Done) (SendCall old new d message prio) came
-Performs (command.Receive d room) before behind old new came = Shows outcomes.Got (WholeReceive old new d before behind) came
-Performs (command.Getattr d) before behind old new came = Shows outcomes.Attrs (OneCall attributes_says old new (MqGetattr d) []) came
-Performs (command.Setattr d nonblock) before behind old new came = Shows outcomes.Attrs (OneCall attributes_says old new (MqSetattr d nonblock) []) came
-Performs (command.Notify d value) before behind old new came = Shows (λ _. outcomes.Done) (OneCall done_says old new (MqNotify d value) []) came
-Performs command.Notice before behind old new came = Shows outcomes.Notice (OneCall notice_says old new NextNotice []) came
-Performs command.Exit before behind old new came = Shows (λ _. outcomes.Done) (Exits old new) came
+-- the process carried out the command in a phase of that moment, and this is printed of it. `before` is what the buffer held, `behind` what it holds
+abbrev pub Performs : Deadline → Command Word → List ℕ → List ℕ → Ticket Record → Ticket Record → Outcome → Type 0
+Performs moment (command.Open name flags attr) before behind old new came = MakesNamed open_says outcomes.Opened (MqOpen flags attr) name old new came
+Performs moment (command.Close d) before behind old new came = Shows (λ _. outcomes.Done) (OneCall done_says old new (MqClose d) []) came
+Performs moment (command.Unlink name) before behind old new came = MakesNamed done_says (λ _. outcomes.Done) MqUnlink name old new came
+Performs moment (command.Send d prio message) before behind old new came = Shows (λ _. outcomes.Done) (SendCall old new d message prio) came
+Performs moment (command.Receive d room) before behind old new came = Shows outcomes.Got (WholeReceive old new d before behind) came
+Performs moment (command.TimedSend d prio until message) before behind old new came = Shows (λ _. outcomes.Done) (TimedSend (λ now. now ≡ moment) old new d message prio until) came
+Performs moment (command.TimedReceive d room until) before behind old new came = Shows outcomes.Got (TimedReceive (λ now. now ≡ moment) old new d before behind until) came
+Performs moment (command.Getattr d) before behind old new came = Shows outcomes.Attrs (OneCall attributes_says old new (MqGetattr d) []) came
+Performs moment (command.Setattr d nonblock) before behind old new came = Shows outcomes.Attrs (OneCall attributes_says old new (MqSetattr d nonblock) []) came
+Performs moment (command.Notify d value) before behind old new came = Shows (λ _. outcomes.Done) (OneCall done_says old new (MqNotify d value) []) came
+Performs moment command.Notice before behind old new came = Shows outcomes.Notice (OneCall notice_says old new NextNotice []) came
+Performs moment command.Exit before behind old new came = Shows (λ _. outcomes.Done) (Exits old new) came
 
 -- a process made these calls one behind the other, and this is what they came to
-abbrev pub RunsCalls : List (ScriptCall Word) → List Answer → Ticket Record → Ticket Record → Type 0
+abbrev pub RunsCalls : List WrittenCall → List Answer → Ticket Record → Ticket Record → Type 0
 RunsCalls [] [] old new = new ≡ old
 RunsCalls [] (answer ∷ answers) old new = ⊥
 RunsCalls (call ∷ calls) [] old new = ⊥
 RunsCalls (call ∷ calls) (answer ∷ answers) old new =
     (mid : Ticket Record)
-    × Performs call.command (buffer_given call.command) answer.buffer.items old mid answer.outcome
+    × Performs call.moment call.command (buffer_given call.command) answer.buffer.items old mid answer.outcome
     × RunsCalls calls answers mid new
 
 -- the calls of process p
-abbrev pub calls_of : ℕ → List (ScriptCall Word) → List (ScriptCall Word)
+abbrev pub calls_of : ℕ → List WrittenCall → List WrittenCall
 calls_of p calls = filter (λ call. call.process == p) calls
 
 -- a phase was run: each process made its calls in their order. The text has the replies of the first process, then of the next,
 -- and so on. In which order calls of different processes came is not said
-abbrev pub RunsPhase : List (ScriptCall Word) → List (Ticket Record) → List (Ticket Record) → List ℕ → Type 0
+abbrev pub RunsPhase : List WrittenCall → List (Ticket Record) → List (Ticket Record) → List ℕ → Type 0
 RunsPhase calls [] [] text = text ≡ []
 RunsPhase calls [] (new ∷ after) text = ⊥
 RunsPhase calls (old ∷ before) [] text = ⊥
@@ -92,7 +94,7 @@ RunsPhase calls (old ∷ before) (new ∷ after) text =
     × (text ≡ reply_lines old.number answers ++ rest)
 
 -- phases were run one behind the other
-abbrev pub RunsPhases : List (List (ScriptCall Word)) → List (Ticket Record) → List (Ticket Record) → List ℕ → Type 0
+abbrev pub RunsPhases : List (List WrittenCall) → List (Ticket Record) → List (Ticket Record) → List ℕ → Type 0
 RunsPhases [] before after text = (after ≡ before) × (text ≡ [])
 RunsPhases (calls ∷ phases) before after text =
     (between : List (Ticket Record)) × (first : List ℕ) × (rest : List ℕ)

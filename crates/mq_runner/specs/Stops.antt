@@ -2,14 +2,12 @@
 use Rattle.std.specs.Prelude.{◌≡◌, ◌<◌, ◌++◌, ◌∷◌, ◌⊎◌, ℕ, List, Option, length, take}
 use Rattle.std.specs.Io.KnownBytes as known
 use Rattle.fast_mutex.specs.Items.{LockId, Ticket, tickets_from}
-use Rattle.lines.specs.Words.{Word}
 use Rattle.mq_model.specs.Record.{Record}
-use Rattle.mq_script.specs.Script.{Whole}
-use Rattle.mq_script.specs.declared.line.ScriptCall.{ScriptCall}
+use Rattle.mq_script.specs.Script.{WrittenCall, Whole}
 use Rattle.mq_runner.specs.Runs.{RunsPhase, RunsPhases, last_line}
 
 -- some phases were run from the first on, and known bytes have grown by just their replies
-pub record RunsFront (phases : List (List (ScriptCall Word))) (before : List (Ticket Record)) (old new : Option (List ℕ)) : Type 0 where
+pub record RunsFront (phases : List (List WrittenCall)) (before : List (Ticket Record)) (old new : Option (List ℕ)) : Type 0 where
   pub count : ℕ
   pub after : List (Ticket Record)
   pub replies : List ℕ
@@ -25,10 +23,10 @@ abbrev pub AppendsInto : Option (List ℕ) → Option (List ℕ) → List ℕ �
 AppendsInto old new text next = (n : ℕ) × (n < length next) × known.Appends old new (text ++ take n next)
 
 -- phases were run from the first on. The replies of all but the last of these are written, and of its own replies a front part
-pub record StopsInPhase (phases : List (List (ScriptCall Word))) (before : List (Ticket Record)) (old new : Option (List ℕ)) : Type 0 where
-  pub first : List (List (ScriptCall Word))
-  pub last : List (ScriptCall Word)
-  pub later : List (List (ScriptCall Word))
+pub record StopsInPhase (phases : List (List WrittenCall)) (before : List (Ticket Record)) (old new : Option (List ℕ)) : Type 0 where
+  pub first : List (List WrittenCall)
+  pub last : List WrittenCall
+  pub later : List (List WrittenCall)
   pub are : phases ≡ first ++ last ∷ later
   pub between : List (Ticket Record)
   pub replies : List ℕ
@@ -39,7 +37,7 @@ pub record StopsInPhase (phases : List (List (ScriptCall Word))) (before : List 
   pub written : AppendsInto old new replies text
 
 -- all phases were run, and their replies are written, and of the last line a front part
-pub record StopsInLastLine (phases : List (List (ScriptCall Word))) (before : List (Ticket Record)) (old new : Option (List ℕ)) : Type 0 where
+pub record StopsInLastLine (phases : List (List WrittenCall)) (before : List (Ticket Record)) (old new : Option (List ℕ)) : Type 0 where
   pub after : List (Ticket Record)
   pub replies : List ℕ
   pub ran : RunsPhases phases before after replies

@@ -1,6 +1,6 @@
 //! The calls of commands, made by a process.
 ghost use Rattle.std.specs.Prelude.{◌≡◌, ℕ, [], length};
-ghost use Rattle.mq.specs.Calls.{IsFree, Exits, SendCall, WholeReceive};
+ghost use Rattle.mq.specs.Calls.{IsFree, Exits, SendCall, TimedReceive, WholeReceive};
 ghost use Rattle.mq.specs.Says.{attributes_says, done_says, notice_says, open_says};
 ghost use Rattle.mq_model.specs.declared.entries.Call.{Call};
 ghost use Rattle.mq_script.specs.Grammar.{said};
@@ -10,19 +10,21 @@ ghost use Rattle.mq_script.specs.declared.reply.Outcome.TheVariants as outcomes;
 
 use fast_mutex::Look;
 use mq::{Guarded, Mq, Process};
-use mq_model::entries::{Attr, OpenFlags, Status};
+use mq_model::entries::{Attr, Deadline, OpenFlags, Status};
 use mq_model::faults::Fault;
 use mq_model::names::Name;
+use mq_script::clock::FixedClock;
 use mq_script::command::Command;
 use mq_script::reply::Outcome;
 use std::sync::Wait;
 use std::time::Clock;
 
-/// Makes the call of a command, which may block. A message that is received is put into the front of the buffer.
+/// Makes the call of a command, which may block. A call with a deadline is lent the clock. A message that is received is put into the front of the buffer.
 pub fn perform<L: Look<Guarded>, R: Wait + Clock>(
     rt: &R,
     mq: &Mq<L>,
     process: &mut Process<L>,
+    clock: &FixedClock,
     command: &Command<&[u8]>,
     buffer: &mut [u8],
 ) -> Outcome
@@ -31,7 +33,7 @@ pub fn perform<L: Look<Guarded>, R: Wait + Clock>(
     ensures free { IsFree process.new }
     ensures same { IsSameProcess process.old process.new }
     ensures message { HasMessage result (length buffer.old) }
-    ensures performed { Performs (said command.now) buffer.old buffer.new process.old process.new result }
+    ensures performed { Performs clock.now.moment (said command.now) buffer.old buffer.new process.old process.new result }
 {
     match *command {
         Command::Open { name, flags, attr } => open(rt, mq, process, name, flags, attr),
@@ -39,6 +41,15 @@ pub fn perform<L: Look<Guarded>, R: Wait + Clock>(
         Command::Unlink { name } => unlink(rt, mq, process, name),
         Command::Send { d, prio, message } => done(process.send(rt, mq, d, message, prio)),
         Command::Receive { d, room: _ } => receive(rt, mq, process, d, buffer),
+        Command::TimedSend {
+            d,
+            prio,
+            until,
+            message,
+        } => done(process.timed_send(rt, mq, d, message, prio, until, clock)),
+        Command::TimedReceive { d, room: _, until } => {
+            timed_receive(rt, mq, process, d, buffer, until, clock)
+        }
         Command::Getattr { d } => attributes(process.getattr(rt, mq, d)),
         Command::Setattr { d, nonblock } => attributes(process.setattr(rt, mq, d, flag(nonblock))),
         Command::Notify { d, value } => done(process.notify(rt, mq, d, value)),
@@ -102,6 +113,28 @@ fn receive<L: Look<Guarded>, R: Wait + Clock>(
     ensures made { Shows outcomes.Got (WholeReceive process.old process.new d buffer.old buffer.new) result }
 {
     match process.receive(rt, mq, d, buffer) {
+        Ok(received) => Outcome::Got(received),
+        Err(fault) => Outcome::Refused(fault),
+    }
+}
+
+fn timed_receive<L: Look<Guarded>, R: Wait + Clock>(
+    rt: &R,
+    mq: &Mq<L>,
+    process: &mut Process<L>,
+    d: u32,
+    buffer: &mut [u8],
+    until: Deadline,
+    clock: &FixedClock,
+) -> Outcome
+    requires made { process.old.lock ≡ mq.now }
+    requires free { IsFree process.old }
+    ensures free { IsFree process.new }
+    ensures same { IsSameProcess process.old process.new }
+    ensures message { HasMessage result (length buffer.old) }
+    ensures made { Shows outcomes.Got (TimedReceive (λ now. now ≡ clock.now.moment) process.old process.new d buffer.old buffer.new until) result }
+{
+    match process.timed_receive(rt, mq, d, buffer, until, clock) {
         Ok(received) => Outcome::Got(received),
         Err(fault) => Outcome::Refused(fault),
     }

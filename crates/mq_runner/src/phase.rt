@@ -123,9 +123,16 @@ fn answer<L: Look<Guarded>, R: Wait + Clock>(
     requires { IsReady mq.now process.old }
     ensures free { IsFree process.new }
     ensures same { IsSameProcess process.old process.new }
-    ensures performed { Performs (said turn.entry.call.command) (buffer_given (said turn.entry.call.command)) result.buffer.items process.old process.new result.outcome }
+    ensures performed { Performs turn.entry.call.clock.moment (said turn.entry.call.command) (buffer_given (said turn.entry.call.command)) result.buffer.items process.old process.new result.outcome }
 {
     let Turn { call, mut buffer } = turn;
-    let outcome = perform(rt, mq, process, &call.command, buffer.as_mut_slice());
+    let outcome = perform(
+        rt,
+        mq,
+        process,
+        &call.clock,
+        &call.command,
+        buffer.as_mut_slice(),
+    );
     Answer { outcome, buffer }
 }

@@ -39,6 +39,11 @@ pub fn turn_of<'s>(alloc: Global, call: ScriptCall<&'s [u8]>) -> Result<Turn<'s>
 {
     let room = match call.command {
         Command::Receive { d: _, room } => room,
+        Command::TimedReceive {
+            d: _,
+            room,
+            until: _,
+        } => room,
         _ => 0,
     };
     let buffer = vec![in alloc; 0; room]?;

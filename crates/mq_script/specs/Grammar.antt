@@ -8,6 +8,7 @@ use Rattle.mq_model.specs.declared.entries.Access.{Access}
 use Rattle.mq_model.specs.declared.entries.Access.TheVariants.{Read, Write, Both}
 use Rattle.mq_model.specs.declared.entries.OpenFlags.{OpenFlags}
 use Rattle.mq_model.specs.declared.entries.Attr.{Attr}
+use Rattle.mq_model.specs.declared.entries.Deadline.{Deadline}
 use Rattle.mq_script.specs.declared.command.Command.{Command}
 use Rattle.mq_script.specs.declared.command.Command.TheVariants as command
 use Rattle.mq_script.specs.declared.command.Verb.{Verb}
@@ -107,6 +108,40 @@ receive_written (d ∷ room ∷ []) = do
   Some (command.Receive d room)
 receive_written words = None
 
+-- the seconds and nanoseconds of a deadline, any integers of 64 bits
+abbrev pub deadline_written : Word → Word → Option Deadline
+deadline_written sec nsec = do
+  sec ← integer_written sec
+  nsec ← integer_written nsec
+  Some (record { sec = sec; nsec = nsec })
+
+-- the message of a send, which may be left out: then it has 0 bytes
+abbrev pub text_written : List Word → Option Word
+text_written [] = Some []
+text_written (text ∷ []) = Some text
+text_written words = None
+
+abbrev pub timed_send_written : List Word → Option (Command Word)
+timed_send_written (d ∷ prio ∷ sec ∷ nsec ∷ text) = do
+  d ← number_written 32 d
+  prio ← number_written 32 prio
+  until ← deadline_written sec nsec
+  text ← text_written text
+  Some (command.TimedSend d prio until text)
+timed_send_written words = None
+
+abbrev pub until_written : List Word → Option Deadline
+until_written (sec ∷ nsec ∷ []) = deadline_written sec nsec
+until_written words = None
+
+abbrev pub timed_receive_written : List Word → Option (Command Word)
+timed_receive_written (d ∷ room ∷ until) = do
+  d ← number_written 32 d
+  room ← room_written room
+  until ← until_written until
+  Some (command.TimedReceive d room until)
+timed_receive_written words = None
+
 abbrev pub getattr_written : List Word → Option (Command Word)
 getattr_written (d ∷ []) = do
   d ← number_written 32 d
@@ -142,6 +177,8 @@ verb_text verb.Close = codes "close"
 verb_text verb.Unlink = codes "unlink"
 verb_text verb.Send = codes "send"
 verb_text verb.Receive = codes "recv"
+verb_text verb.TimedSend = codes "tsend"
+verb_text verb.TimedReceive = codes "trecv"
 verb_text verb.Getattr = codes "getattr"
 verb_text verb.Setattr = codes "setattr"
 verb_text verb.Notify = codes "notify"
@@ -149,7 +186,7 @@ verb_text verb.Notice = codes "notice"
 verb_text verb.Exit = codes "exit"
 
 abbrev pub verbs : List Verb
-verbs = verb.Open ∷ verb.Close ∷ verb.Unlink ∷ verb.Send ∷ verb.Receive ∷ verb.Getattr ∷ verb.Setattr ∷ verb.Notify ∷ verb.Notice ∷ verb.Exit ∷ []
+verbs = verb.Open ∷ verb.Close ∷ verb.Unlink ∷ verb.Send ∷ verb.Receive ∷ verb.TimedSend ∷ verb.TimedReceive ∷ verb.Getattr ∷ verb.Setattr ∷ verb.Notify ∷ verb.Notice ∷ verb.Exit ∷ []
 
 -- the verb that a word is
 abbrev pub verb_written : Word → Option Verb
@@ -162,6 +199,8 @@ call_written verb.Close = close_written
 call_written verb.Unlink = unlink_written
 call_written verb.Send = send_written
 call_written verb.Receive = receive_written
+call_written verb.TimedSend = timed_send_written
+call_written verb.TimedReceive = timed_receive_written
 call_written verb.Getattr = getattr_written
 call_written verb.Setattr = setattr_written
 call_written verb.Notify = notify_written
@@ -182,6 +221,8 @@ said (command.Close d) = command.Close d
 said (command.Unlink name) = command.Unlink name.now
 said (command.Send d prio message) = command.Send d prio message.now
 said (command.Receive d room) = command.Receive d room
+said (command.TimedSend d prio until message) = command.TimedSend d prio until message.now
+said (command.TimedReceive d room until) = command.TimedReceive d room until
 said (command.Getattr d) = command.Getattr d
 said (command.Setattr d nonblock) = command.Setattr d nonblock
 said (command.Notify d value) = command.Notify d value

@@ -2,10 +2,10 @@
 ghost use Rattle.std.specs.Prelude.{◌≡◌, map};
 ghost use Rattle.std.specs.List.{list_all};
 ghost use Rattle.std.specs.Option.{option_map};
-ghost use Rattle.mq_script.specs.Grammar.{said, command_written, open_written, attr_written, close_written, unlink_written, send_written, receive_written, getattr_written, setattr_written, notify_written, notice_written, exit_written, value_written, verb_written, access_written, are_options, flags_written, flag_written, is_at_most_once, is_option_letter, option_letters, room_written};
+ghost use Rattle.mq_script.specs.Grammar.{said, command_written, open_written, attr_written, close_written, unlink_written, send_written, receive_written, deadline_written, text_written, timed_send_written, until_written, timed_receive_written, getattr_written, setattr_written, notify_written, notice_written, exit_written, value_written, verb_written, access_written, are_options, flags_written, flag_written, is_at_most_once, is_option_letter, option_letters, room_written};
 
 use lines::words::{integer, number, small_number};
-use mq_model::entries::{Access, Attr, OpenFlags};
+use mq_model::entries::{Access, Attr, Deadline, OpenFlags};
 
 /// A call of a script. `T` holds the bytes of names and messages: in a program, a slice of the script.
 #[derive(Clone, Copy, Debug, PartialEq, Eq)]
@@ -30,6 +30,17 @@ pub enum Command<T> {
         d: u32,
         room: usize,
     },
+    TimedSend {
+        d: u32,
+        prio: u32,
+        until: Deadline,
+        message: T,
+    },
+    TimedReceive {
+        d: u32,
+        room: usize,
+        until: Deadline,
+    },
     Getattr {
         d: u32,
     },
@@ -53,6 +64,8 @@ pub enum Verb {
     Unlink,
     Send,
     Receive,
+    TimedSend,
+    TimedReceive,
     Getattr,
     Setattr,
     Notify,
@@ -60,12 +73,14 @@ pub enum Verb {
     Exit,
 }
 
-const VERBS: [Verb; 10] = [
+const VERBS: [Verb; 12] = [
     Verb::Open,
     Verb::Close,
     Verb::Unlink,
     Verb::Send,
     Verb::Receive,
+    Verb::TimedSend,
+    Verb::TimedReceive,
     Verb::Getattr,
     Verb::Setattr,
     Verb::Notify,
@@ -86,6 +101,8 @@ impl Verb {
             Verb::Unlink => b"unlink",
             Verb::Send => b"send",
             Verb::Receive => b"recv",
+            Verb::TimedSend => b"tsend",
+            Verb::TimedReceive => b"trecv",
             Verb::Getattr => b"getattr",
             Verb::Setattr => b"setattr",
             Verb::Notify => b"notify",
@@ -178,10 +195,10 @@ fn flag_of(word: &[u8]) -> Option<bool>
     }
 }
 
-/// The longest buffer of a `recv`.
+/// The longest buffer of a `recv` or `trecv`.
 const MOST_ROOM: u32 = 65_536;
 
-/// The length of the buffer of a `recv`.
+/// The length of the buffer of a `recv` or `trecv`.
 fn room_of(word: &[u8]) -> Option<usize>
     ensures { result ≡ room_written word.now }
 {
@@ -203,6 +220,8 @@ pub fn command_of<'s>(words: &[&'s [u8]]) -> Option<Command<&'s [u8]>>
             Verb::Unlink => unlink_of(arguments),
             Verb::Send => send_of(arguments),
             Verb::Receive => receive_of(arguments),
+            Verb::TimedSend => timed_send_of(arguments),
+            Verb::TimedReceive => timed_receive_of(arguments),
             Verb::Getattr => getattr_of(arguments),
             Verb::Setattr => setattr_of(arguments),
             Verb::Notify => notify_of(arguments),
@@ -293,6 +312,66 @@ fn receive_of<'s>(words: &[&'s [u8]]) -> Option<Command<&'s [u8]>>
         }),
         _ => None,
     }
+}
+
+// The words behind `tsend`.
+fn timed_send_of<'s>(words: &[&'s [u8]]) -> Option<Command<&'s [u8]>>
+    ensures { option_map said result ≡ timed_send_written (map (λ word. word.now) words.now) }
+{
+    match words {
+        [d, prio, sec, nsec, text @ ..] => Some(Command::TimedSend {
+            d: small_number(d)?,
+            prio: small_number(prio)?,
+            until: deadline_of(sec, nsec)?,
+            message: text_of(text)?,
+        }),
+        _ => None,
+    }
+}
+
+/// The text of a send, which may be left out.
+fn text_of<'s>(words: &[&'s [u8]]) -> Option<&'s [u8]>
+    ensures { option_map (λ text. text.now) result ≡ text_written (map (λ word. word.now) words.now) }
+{
+    match words {
+        [] => Some(&[]),
+        [text] => Some(text),
+        _ => None,
+    }
+}
+
+// The words behind `trecv`.
+fn timed_receive_of<'s>(words: &[&'s [u8]]) -> Option<Command<&'s [u8]>>
+    ensures { option_map said result ≡ timed_receive_written (map (λ word. word.now) words.now) }
+{
+    match words {
+        [d, room, until @ ..] => Some(Command::TimedReceive {
+            d: small_number(d)?,
+            room: room_of(room)?,
+            until: until_of(until)?,
+        }),
+        _ => None,
+    }
+}
+
+// A deadline, in two words.
+fn until_of(words: &[&[u8]]) -> Option<Deadline>
+    ensures { result ≡ until_written (map (λ word. word.now) words.now) }
+{
+    match words {
+        [sec, nsec] => deadline_of(sec, nsec),
+        _ => None,
+    }
+}
+
+/// The seconds and nanoseconds of a deadline, which may be any.
+pub fn deadline_of(sec: &[u8], nsec: &[u8]) -> Option<Deadline>
+    ensures { result ≡ deadline_written sec.now nsec.now }
+{
+    Some(Deadline {
+        sec: integer(sec)?,
+        nsec: integer(nsec)?,
+    })
 }
 
 // The words behind `getattr`.

@@ -1,6 +1,7 @@
 //! Scripts of message queue calls: their grammar, and the text of their replies.
 #![tactic(auto)]
 
+pub mod clock;
 pub mod command;
 pub mod fault;
 pub mod line;

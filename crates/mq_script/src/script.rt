@@ -1,12 +1,14 @@
 //! A script, from its bytes to its calls.
-ghost use Rattle.std.specs.Prelude.{◌≡◌, ◌≤◌, ◌<◌, ◌+◌, ◌^◌, ◌∷◌, ◌++◌, [], IfOk, IfSome, OnOk, if◌then◌else◌, length, Some, None};
+ghost use Rattle.std.specs.Prelude.{◌≡◌, ◌≤◌, ◌<◌, ◌+◌, ◌^◌, ◌∷◌, ◌++◌, [], IfOk, IfSome, OnOk, if◌then◌else◌, length, true, Some, None};
 ghost use Rattle.mq_script.specs.Phases.{whole_behind};
 ghost use Rattle.mq_script.specs.ScriptFault.{Gives};
-ghost use Rattle.mq_script.specs.Script.{Written, is_within_limits, line_read, or_fault, place_behind, processes_behind, said_line, said_script, script_written, with_line};
+ghost use Rattle.mq_script.specs.Script.{Written, is_within_limits, line_read, or_fault, place_behind, processes_behind, said_line, said_script, script_written, time_behind, with_line};
+ghost use Rattle.mq_model.specs.Deadlines.{is_moment};
 
 use crate::fault::ScriptFault;
-use crate::line::{Line, ScriptCall, first_line, line_of};
+use crate::line::{Line, PhaseTime, ScriptCall, first_line, line_of};
 use lines::words::words;
+use mq_model::entries::Deadline;
 use std::alloc::{AllocError, Global};
 use std::mem;
 
@@ -35,6 +37,10 @@ pub fn read_script<'s>(alloc: Global, text: &'s [u8]) -> Result<Script<'s>, Scri
         lines: 0,
         bytes: 0,
         calls: 0,
+        time: PhaseTime {
+            moment: Deadline { sec: 0, nsec: 0 },
+            begun: false,
+        },
     };
     let mut rest = text;
     while !rest.is_empty() {
@@ -51,19 +57,21 @@ pub fn read_script<'s>(alloc: Global, text: &'s [u8]) -> Result<Script<'s>, Scri
     Ok(phases.finish(processes)?)
 }
 
-/// How much of a script was read.
+/// How much of a script was read, and the time of the phase.
 #[derive(Clone, Copy, Debug, PartialEq, Eq)]
 pub struct Place {
     pub lines: u64,
     pub bytes: u64,
     pub calls: u64,
+    pub time: PhaseTime,
 }
 
 impl Place {
     // The place behind a line, if it is within the limits of a script.
-    fn behind(self, bytes: &[u8], line: &Line<&[u8]>) -> Option<Place>
+    fn behind(self, bytes: &[u8], line: &Line<ScriptCall<&[u8]>>) -> Option<Place>
         requires { self.lines + 1 < 2 ^ 64 }
         ensures next { result ≡ (let next = place_behind self bytes.now (said_line line.now) in if is_within_limits next then Some next else None) }
+        ensures time { IfSome result (λ next. next.time ≡ time_behind (said_line line.now) self.time) }
         ensures lines { IfSome result (λ next. next.lines ≡ self.lines + 1) }
         ensures bytes { IfSome result (λ next. (next.bytes ≡ self.bytes + length bytes.now) × (next.bytes ≤ 1048576)) }
     {
@@ -79,6 +87,7 @@ impl Place {
             lines: self.lines + 1,
             bytes,
             calls,
+            time: self.time.behind(line),
         })
     }
 }
@@ -89,23 +98,27 @@ fn next_line<'s>(
     processes: Option<u32>,
     at: Place,
     bytes: &'s [u8],
-) -> Result<(Line<&'s [u8]>, Place), ScriptFault>
+) -> Result<(Line<ScriptCall<&'s [u8]>>, Place), ScriptFault>
     requires lines { at.lines + 1 < 2 ^ 64 }
     requires count { IfSome processes (λ n. (1 ≤ n) × (n ≤ 32)) }
+    requires moment { is_moment at.time.moment ≡ true }
     ensures read { Gives (λ read. (said_line read.0, read.1)) result (or_fault (line_read processes at bytes.now) (at.lines + 1) (λ read. Ok read)) }
     ensures count { IfOk result (λ read. IfSome (processes_behind (said_line read.0) processes) (λ n. (1 ≤ n) × (n ≤ 32))) }
+    ensures moment { IfOk result (λ read. is_moment read.1.time.moment ≡ true) }
     ensures lines { IfOk result (λ read. read.1.lines ≡ at.lines + 1) }
     ensures bytes { IfOk result (λ read. (read.1.bytes ≡ at.bytes + length bytes.now) × (read.1.bytes ≤ 1048576)) }
 {
     let number = at.lines + 1;
     let words = words(alloc, bytes)?;
-    let line = line_of(processes, number, words.as_slice()).ok_or(ScriptFault::BadCall(number))?;
+    let line = line_of(processes, number, at.time, words.as_slice()).ok_or(ScriptFault::BadCall(
+        number,
+    ))?;
     let place = at.behind(bytes, &line).ok_or(ScriptFault::BadCall(number))?;
     Ok((line, place))
 }
 
 // The number of processes, as far as it is known behind a line.
-fn processes_behind(line: &Line<&[u8]>, before: Option<u32>) -> Option<u32>
+fn processes_behind(line: &Line<ScriptCall<&[u8]>>, before: Option<u32>) -> Option<u32>
     ensures { result ≡ processes_behind (said_line line.now) before }
 {
     match line {
@@ -135,11 +148,11 @@ impl<'s> Phases<'s> {
     }
 
     // Takes what the next line writes.
-    fn add(&mut self, line: Line<&'s [u8]>) -> Result<(), AllocError>
+    fn add(&mut self, line: Line<ScriptCall<&'s [u8]>>) -> Result<(), AllocError>
         ensures { OnOk result ((rest : Written) → whole_behind self.new rest ≡ whole_behind self.old (with_line (said_line line.entry) rest)) }
     {
         match line {
-            Line::Skipped | Line::Processes(_) => {}
+            Line::Skipped | Line::Processes(_) | Line::Clock(_) => {}
             Line::PhaseEnd => self.end()?,
             Line::Call(call) => self.current.push(call)?,
         }

@@ -1,4 +1,5 @@
-use Rattle.std.proofs.Common.{◌≡◌, ◌≤◌, length, IfSome}
+use Rattle.std.proofs.Common.{◌≡◌, ◌≤◌, length, true, IfSome}
+use Rattle.mq_model.specs.Deadlines.{is_moment}
 use Rattle.mq_script.specs.Phases.{whole_behind}
 use Rattle.mq_script.specs.Script.{lines_of, result_map, script_read, script_written}
 use Rattle.mq_script.proofs.script.read_script.Given as goal
@@ -9,6 +10,7 @@ invariant-loop-rest l = record {
   whole : result_map (whole_behind l.phases) (script_read l.processes l.at (lines_of l.rest)) ≡ script_written l.text;
   lines : l.at.lines ≤ l.at.bytes;
   bytes : l.at.bytes ≤ 1048576;
+  moment : is_moment l.at.time.moment ≡ true;
   count : IfSome l.processes (λ n. (1 ≤ n) × (n ≤ 32));
 }
 
