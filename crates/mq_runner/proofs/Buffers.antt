@@ -6,7 +6,7 @@ use Rattle.mq.specs.Says.{receive_says}
 use Rattle.mq_model.specs.Record.{Past, Record}
 use Rattle.mq_model.specs.declared.entries.Received.{Received}
 use Rattle.mq_model.specs.declared.entries.Reply.{Reply}
-use Rattle.mq_model.specs.declared.entries.Reply.TheVariants.{Opened, Queued, Handed, Waits, Got, Collected, Attrs, Notice, Done, Refused}
+use Rattle.mq_model.specs.declared.entries.Reply.TheVariants.{Opened, Queued, Handed, Waits, Got, Collected, Withdrawn, Attrs, Notice, Done, Refused}
 use Rattle.mq_model.specs.declared.faults.Fault.{Fault}
 use Rattle.mq_state.specs.Buffers.{filled, message_at, received_at, with_front}
 
@@ -33,6 +33,7 @@ reply-fits past (Queued notified) received before behind says fill same = cc
 reply-fits past (Handed wait) received before behind says fill same = cc
 reply-fits past Waits received before behind says fill same = cc
 reply-fits past (Collected by) received before behind says fill same = cc
+reply-fits past (Withdrawn wait) received before behind says fill same = cc
 reply-fits past (Attrs status) received before behind says fill same = cc
 reply-fits past (Notice value) received before behind says fill same = cc
 reply-fits past Done received before behind says fill same = cc

@@ -9,6 +9,7 @@ use std::sync::Wait;
 use std::thread::Threads;
 use std::time::Clock;
 
+mod deadlines;
 mod gates;
 mod limits;
 mod scripts;
