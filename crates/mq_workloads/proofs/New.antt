@@ -1,8 +1,8 @@
 -- Processes of a new system, and what holds of all of them.
-use Rattle.std.proofs.Common.{◌≡◌, ◌++◌, ℕ, List, [], ◌∷◌, refl, All, zero, suc}
+use Rattle.std.proofs.Common.{◌≡◌, ◌<◌, ◌++◌, ◌∙◌, ℕ, List, [], ◌∷◌, refl, sym, subst, length, get_or, arith, All, zero, suc}
 use Rattle.std.proofs.lemmas.List.Elements.{All-nil, All-cons, All-head, All-tail, All-from_recursion, All-same}
 use Rattle.std.specs.List.{AllByRecursion as ByRecursion}
-use Rattle.fast_mutex.specs.Items.{LockId, Ticket, tickets_from}
+use Rattle.fast_mutex.specs.Items.{LockId, Ticket, new_ticket, tickets_from}
 use Rattle.mq_model.specs.Record.{Record}
 use Rattle.mq_workloads.specs.Ready.{IsReady}
 
@@ -15,6 +15,13 @@ pub new-ready : (lock : LockId) (n : ℕ) (processes : List (Ticket Record)) →
 new-ready lock n processes new =
     All-same (IsReady lock) processes (tickets_from lock 1 n) new
     (All-from_recursion (IsReady lock) (tickets_from lock 1 n) (each-new-ready lock 1 n))
+
+-- each process of a new system is ready for a call
+pub each-ready : (lock : LockId) (processes : List (Ticket Record)) (k n : ℕ) → processes ≡ tickets_from lock k n → (i : ℕ) (x : Ticket Record) → i < length processes → x ≡ get_or processes i x → IsReady lock x
+each-ready lock [] k n e i x h is = absurd (omega arith)
+each-ready lock (y ∷ ys) k zero e i x h is = absurd (cc)
+each-ready lock (y ∷ ys) k (suc n) e zero x h is = let first : y ≡ new_ticket lock k = cc in subst (IsReady lock) (sym (is ∙ first)) record { made = refl; free = refl }
+each-ready lock (y ∷ ys) k (suc n) e (suc i) x h is = let rest : ys ≡ tickets_from lock (suc k) n = cc in each-ready lock ys (suc k) n rest i x (omega arith) is
 
 last-of : {X : Type 0} (P : X → Type 0) (xs : List X) (x : X) → All P (xs ++ x ∷ []) → P x
 last-of P [] x all = All-head P x [] all

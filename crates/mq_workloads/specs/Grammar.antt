@@ -63,6 +63,14 @@ idle_written (processes ∷ milliseconds ∷ []) = do
   if nat_le 2 processes then Some (workload.Idle processes milliseconds) else None
 idle_written words = None
 
+-- a seed and a number of calls
+abbrev pub storm_written : List Word → Option Workload
+storm_written (seed ∷ calls ∷ []) = do
+  seed ← rounds_written seed
+  calls ← rounds_written calls
+  Some (workload.Storm seed calls)
+storm_written words = None
+
 -- the word of each workload
 abbrev pub name_text : Name → List ℕ
 name_text name.Pair = codes "pair"
@@ -72,9 +80,10 @@ name_text name.Stream = codes "stream"
 name_text name.Check = codes "check"
 name_text name.Crowd = codes "crowd"
 name_text name.Idle = codes "idle"
+name_text name.Storm = codes "storm"
 
 abbrev pub names : List Name
-names = name.Pair ∷ name.Deep ∷ name.PingPong ∷ name.Stream ∷ name.Check ∷ name.Crowd ∷ name.Idle ∷ []
+names = name.Pair ∷ name.Deep ∷ name.PingPong ∷ name.Stream ∷ name.Check ∷ name.Crowd ∷ name.Idle ∷ name.Storm ∷ []
 
 -- the workload that a word names
 abbrev pub name_written : Word → Option Name
@@ -89,6 +98,7 @@ workload_written name.Stream = stream_written
 workload_written name.Check = check_written
 workload_written name.Crowd = crowd_written
 workload_written name.Idle = idle_written
+workload_written name.Storm = storm_written
 
 -- what the words of a line ask for
 abbrev pub request_written : List Word → Option Request

@@ -4,12 +4,16 @@
 mod alone;
 mod calls;
 mod crowd;
+mod dice;
 mod fault;
 mod gate;
+mod gusts;
 mod idle;
 mod members;
 mod report;
 mod run;
+mod storm;
+mod tally;
 mod together;
 mod workload;
 

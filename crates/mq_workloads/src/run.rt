@@ -12,7 +12,8 @@ use crate::alone::{Task, alone};
 use crate::crowd::crowd;
 use crate::fault::{BenchFault, WorkFault};
 use crate::idle::idle;
-use crate::report::{Besides, Measured, line_of, result_of, title_of};
+use crate::report::{Besides, Measured, line_of, result_of, stormed, title_of};
+use crate::storm::storm;
 use crate::together::{Role, together};
 use crate::workload::{Request, Workload, request_of};
 use fast_mutex::FastMutex;
@@ -43,7 +44,8 @@ usage: one line on the standard input, of a workload and its sizes
   check K     checks a journal of K entries
   crowd P N   P processes in P threads on one queue: half of them send N messages each, half receive N each
   idle P T    P processes in P threads: one works alone for T milliseconds, on a queue of its own, while the others are blocked in a receive
-N and K from 1 to 10000000, D from 1 to 4096, D times N at most 10000000
+  storm S N   32 processes in 32 threads: N calls of every kind at random from the seed S, and a journal that is checked up to 8000 entries
+N, K and S from 1 to 10000000, D from 1 to 4096, D times N at most 10000000
 P from 2 to 32, even for a crowd, P times N at most 10000000 there, T from 1 to 60000
 ";
 
@@ -153,6 +155,10 @@ fn measure<S: Wait + Threads + Clock + CpuClock + Sync>(
                 nanoseconds: time.as_nanos(),
                 besides: Besides::Nothing,
             })
+        }
+        Workload::Storm { seed, calls } => {
+            let (time, journal) = storm::<Lamport, S>(rt, alloc, seed, calls)?;
+            Ok(stormed(seed, time, &journal))
         }
         Workload::Idle {
             processes,

@@ -1,7 +1,7 @@
 //! What a run is asked for, and the words that write it.
 ghost use Rattle.std.specs.Prelude.{◌≡◌, ◌≤◌, ◌*◌, map, IfSome};
 ghost use Rattle.lines.specs.Words.{count_written};
-ghost use Rattle.mq_workloads.specs.Grammar.{request_written, workload_written, pair_written, deep_written, ping_pong_written, stream_written, check_written, crowd_written, idle_written, name_written};
+ghost use Rattle.mq_workloads.specs.Grammar.{request_written, workload_written, pair_written, deep_written, ping_pong_written, stream_written, check_written, crowd_written, idle_written, storm_written, name_written};
 
 use lines::words::count_of;
 
@@ -22,6 +22,8 @@ pub enum Workload {
     Crowd { processes: u32, rounds: u32 },
     /// One process works alone for so many milliseconds, while the others are blocked.
     Idle { processes: u32, milliseconds: u32 },
+    /// 32 processes, each in a thread of its own, make about so many calls of every kind, at random from a seed.
+    Storm { seed: u32, calls: u32 },
 }
 
 /// What a line asks for.
@@ -41,6 +43,7 @@ pub enum Name {
     Check,
     Crowd,
     Idle,
+    Storm,
 }
 
 /// The most rounds of a workload, and the most messages of all rounds.
@@ -53,7 +56,7 @@ const MOST_PROCESSES: u32 = 32;
 /// The longest time of a workload, in milliseconds.
 const MOST_MILLISECONDS: u32 = 60_000;
 
-const NAMES: [Name; 7] = [
+const NAMES: [Name; 8] = [
     Name::Pair,
     Name::Deep,
     Name::PingPong,
@@ -61,6 +64,7 @@ const NAMES: [Name; 7] = [
     Name::Check,
     Name::Crowd,
     Name::Idle,
+    Name::Storm,
 ];
 
 impl Name {
@@ -78,6 +82,7 @@ impl Name {
             Name::Check => b"check",
             Name::Crowd => b"crowd",
             Name::Idle => b"idle",
+            Name::Storm => b"storm",
         }
     }
 }
@@ -111,6 +116,7 @@ fn workload_of(name: Name, arguments: &[&[u8]]) -> Option<Workload>
         Name::Check => check_of(arguments),
         Name::Crowd => crowd_of(arguments),
         Name::Idle => idle_of(arguments),
+        Name::Storm => storm_of(arguments),
     }
 }
 
@@ -208,6 +214,18 @@ fn idle_of(arguments: &[&[u8]]) -> Option<Workload>
                 milliseconds,
             })
         }
+        _ => None,
+    }
+}
+
+fn storm_of(arguments: &[&[u8]]) -> Option<Workload>
+    ensures { result ≡ storm_written (map (λ word. word.now) arguments.now) }
+{
+    match arguments {
+        [seed, calls] => Some(Workload::Storm {
+            seed: count_of(MOST_ROUNDS, seed)?,
+            calls: count_of(MOST_ROUNDS, calls)?,
+        }),
         _ => None,
     }
 }

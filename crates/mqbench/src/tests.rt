@@ -47,7 +47,24 @@ fn an_idle_run_prints_its_processor_time(rt: HostRuntime) {
     }
 }
 
-const REFUSED: [&str; 29] = [
+#[test]
+fn a_storm_prints_its_seed_its_counts_and_a_checked_history(rt: HostRuntime) {
+    let output = output_of(&rt, rt.alloc(), "storm 7 640\n").expect(&rt, "a result");
+    let text = output.as_slice();
+    assert!(rt; text.starts_with(b"storm: "));
+    for part in [
+        "; seed 7; open ",
+        "; timed receive ",
+        "; EAGAIN ",
+        "; ETIMEDOUT ",
+    ] {
+        let part = part.as_bytes();
+        assert!(rt; text.windows(part.len()).any(|found| found == part));
+    }
+    assert!(rt; text.ends_with(b"; history ok\n"));
+}
+
+const REFUSED: [&str; 33] = [
     "word\n",
     "Pair 1\n",
     "pair\n",
@@ -73,6 +90,10 @@ const REFUSED: [&str; 29] = [
     "idle 2 0\n",
     "idle 2 60001\n",
     "idle 2 1 1\n",
+    "storm 1\n",
+    "storm 0 1\n",
+    "storm 1 10000001\n",
+    "storm 1 1 1\n",
     "pair 1\npair 1\n",
     "pair 1\n\n",
     "pair\n1\n",
