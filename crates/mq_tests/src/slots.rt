@@ -1,10 +1,31 @@
-//! Messages in and out, in the order of priority and place.
-use crate::chains::Slots;
+//! The messages of one queue in and out, in the order of priority and place. Their making alone takes memory.
+ghost use Rattle.std.specs.Prelude.{◌≡◌, ◌≤◌, IfOk, []};
+
+use crate::refusals::{refuse_all, say_refused};
+use mq_slots::Slots;
+use std::alloc::{AllocError, Global};
+use std::io::Print;
 use std::test::Fail;
+
+// No message, and room for so many. One growth may be refused from outside, and behind the making every one.
+fn make<R: Print>(rt: &R, alloc: Global, cap: u32) -> Result<Slots, AllocError>
+    requires cap { (1 ≤ cap) × (cap ≤ 4096) }
+    ensures { IfOk result (λ slots. (slots.messages ≡ []) × (slots.cap ≡ cap)) }
+{
+    let slots = match Slots::new(alloc, cap) {
+        Ok(slots) => slots,
+        Err(_) => {
+            say_refused(rt, "the making");
+            Slots::new(alloc, cap)?
+        }
+    };
+    refuse_all(rt, alloc);
+    Ok(slots)
+}
 
 #[test]
 fn messages_leave_by_priority_and_then_by_place(rt: HostRuntime) -> Result<(), Fail> {
-    let mut slots = Slots::new(rt.alloc(), 3)?;
+    let mut slots = make(&rt, rt.alloc(), 3)?;
     assert!(rt; slots.is_empty());
     slots.push(5, 1);
     slots.push(9, 2);
@@ -21,7 +42,7 @@ fn messages_leave_by_priority_and_then_by_place(rt: HostRuntime) -> Result<(), F
 
 #[test]
 fn a_slot_is_used_again(rt: HostRuntime) -> Result<(), Fail> {
-    let mut slots = Slots::new(rt.alloc(), 2)?;
+    let mut slots = make(&rt, rt.alloc(), 2)?;
     slots.push(0, 0);
     slots.push(32_767, 1);
     assert_eq!(rt; slots.pop(), Some((32_767, 1)));
