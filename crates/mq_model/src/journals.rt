@@ -48,9 +48,9 @@ fn add_bytes(bytes: &mut Vec<u8>, more: &[u8])
 }
 
 impl Journal {
-    ghost use Rattle.std.specs.Prelude.{Some};
+    ghost use Rattle.std.specs.Prelude.{Some, ◌^◌};
     ghost use Rattle.std.specs.Option.{option_map};
-    ghost use Rattle.mq_model.specs.Record.{Record, record_at, first};
+    ghost use Rattle.mq_model.specs.Record.{Record, record_at, first, payload_bytes};
 
     /// The empty journal, which takes no memory.
     pub fn new(alloc: Global) -> Journal
@@ -96,9 +96,18 @@ impl Journal {
 
     /// How many entries there are.
     pub fn len(&self) -> u64
-        ensures { result ≡ length self.now.records }
+        ensures count { result ≡ length self.now.records }
+        ensures bound { result < 2 ^ 63 }
     {
         self.stored.len() as u64
+    }
+
+    /// How many payload bytes there are, of all entries.
+    pub fn payload_bytes(&self) -> u64
+        ensures count { result ≡ payload_bytes self.now.records }
+        ensures bound { result < 2 ^ 63 }
+    {
+        self.bytes.len() as u64
     }
 
     /// The entry at a place, or `None` at the length and beyond.
