@@ -1,5 +1,5 @@
 -- Whether a call finds the journal full, of a system that was made with bounds.
-use Rattle.std.specs.Prelude.{ℕ, ◌+◌, Bool, true, false, ◌||◌, nat_lt, List, length, Option, Some, None, is_some, if◌then◌else◌}
+use Rattle.std.specs.Prelude.{ℕ, ◌≡◌, ◌≢◌, ◌↔◌, ◌+◌, Bool, true, false, ◌||◌, nat_lt, List, length, Option, Some, None, is_some, if◌then◌else◌}
 use Rattle.std.specs.List.{count_by}
 use Rattle.mq_model.specs.Limits.{most_processes}
 use Rattle.mq_model.specs.Record.{Past, payload_bytes}
@@ -8,7 +8,7 @@ use Rattle.mq_model.specs.Waits.{open_wait}
 use Rattle.mq_model.specs.Answer.{answer_send, is_refused}
 use Rattle.mq_model.specs.declared.bounds.Bounds.{Bounds}
 use Rattle.mq_model.specs.declared.entries.Call.{Call}
-use Rattle.mq_model.specs.declared.entries.Call.TheVariants.{MqOpen, MqClose, MqUnlink, MqSend, MqReceive, MqTimedSend, MqTimedReceive, MqGetattr, MqSetattr, MqNotify, NextNotice, Collect, Withdraw}
+use Rattle.mq_model.specs.declared.entries.Call.TheVariants.{MqOpen, MqUnlink, MqSend, MqReceive, MqTimedSend, MqTimedReceive, Collect, Withdraw}
 use Rattle.mq_model.specs.declared.entries.Reply.{Reply}
 use Rattle.mq_model.specs.declared.entries.Reply.TheVariants.{Refused}
 use Rattle.mq_model.specs.declared.faults.Fault.TheVariants.{NoMemory, JournalFull}
@@ -52,3 +52,8 @@ abbrev pub has_entry : Reply → Bool
 has_entry (Refused NoMemory) = false
 has_entry (Refused JournalFull) = false
 has_entry _ = true
+
+-- the reply to a call: it is that the journal is full exactly where the call finds it so, and with bounds memory is never wanting
+pub record HeedsBounds (bounds : Option Bounds) (past : Past) (p : ℕ) (call : Call) (given : List ℕ) (reply : Reply) : Type 0 where
+  pub full : (reply ≡ Refused JournalFull) ↔ (finds_full bounds past p call given ≡ true)
+  pub memory : is_some bounds ≡ true → reply ≢ Refused NoMemory

@@ -48,7 +48,7 @@ fn add_bytes(bytes: &mut Vec<u8>, more: &[u8])
 }
 
 impl Journal {
-    ghost use Rattle.std.specs.Prelude.{Some, ◌^◌};
+    ghost use Rattle.std.specs.Prelude.{Some, ◌^◌, IfOk};
     ghost use Rattle.std.specs.Option.{option_map};
     ghost use Rattle.mq_model.specs.Record.{Record, record_at, first, payload_bytes};
 
@@ -60,6 +60,17 @@ impl Journal {
             stored: Vec::new(alloc),
             bytes: Vec::new(alloc),
         }
+    }
+
+    /// The empty journal with room for just that many entries and payload bytes. The error is that the memory was refused.
+    pub fn with_room(alloc: Global, entries: usize, bytes: usize) -> Result<Journal, AllocError>
+        ensures records { IfOk result (λ j. j.records ≡ []) }
+        ensures room { IfOk result (λ j. (j.entry_room ≡ entries) × (j.byte_room ≡ bytes)) }
+    {
+        Ok(Journal {
+            stored: Vec::with_capacity(alloc, entries)?,
+            bytes: Vec::with_capacity(alloc, bytes)?,
+        })
     }
 
     /// Makes room for that many more entries and payload bytes. It fails only where a growth was refused, and then loses no
