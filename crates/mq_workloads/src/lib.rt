@@ -10,7 +10,6 @@ mod idle;
 mod members;
 mod report;
 mod run;
-mod together;
 mod workload;
 
 pub use fault::{BenchFault, WorkFault};
