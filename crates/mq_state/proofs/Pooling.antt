@@ -134,15 +134,21 @@ pool-taken queues spares rest o pool is =
     let all : All IsSpare (rest ++ o ∷ []) = subst (All IsSpare) is pool.spare in
     let last = all-last rest all in
     let count = pool.count in
-    let long : length spares ≡ length rest + 1 = ap length is ∙ length-append rest (o ∷ []) in
-    ((record {
-      spare = all-front rest all;
-      wide = pool.wide;
-      count = omega (arith, count, long);
-      most = omega arith;
-      queues_fit = pool.queues_fit;
-      spares_fit = pool.spares_fit;
-    }, last.1), last.0, last.1)
+    let long : length spares ≡ length rest + 1 = ap length is ∙ length-append rest (o ∷ []) in (
+      (
+        record {
+          spare = all-front rest all;
+          wide = pool.wide;
+          count = omega (arith, count, long);
+          most = omega arith;
+          queues_fit = pool.queues_fit;
+          spares_fit = pool.spares_fit;
+        },
+        last.1,
+      ),
+      last.0,
+      last.1,
+    )
   where
     all-last : (xs : List Held) → All IsSpare (xs ++ o ∷ []) → IsSpare o
     all-last [] all = All-head IsSpare o [] all

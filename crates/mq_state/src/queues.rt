@@ -324,13 +324,7 @@ fn may_free(entry: Entry) -> bool
 }
 
 // Gives back the place of queue q, where an entry may have freed it and nobody needs it.
-fn release(
-    owners: &[Owner],
-    freed: bool,
-    queues: &mut Vec<Queue>,
-    spares: &mut Vec<Slots>,
-    q: u64,
-)
+fn release(owners: &[Owner], freed: bool, queues: &mut Vec<Queue>, spares: &mut Vec<Slots>, q: u64)
     ensures items { queues.new.items ≡ released owners.now freed queues.old.items q }
     ensures room { (vec_len queues.new ≤ vec_len queues.old) × (vec_capacity queues.new ≡ vec_capacity queues.old) }
     ensures pool { (m : ℕ) → Pool m queues.old.items spares.old.items (vec_capacity queues.old) (vec_capacity spares.old) → Pool m queues.new.items spares.new.items (vec_capacity queues.new) (vec_capacity spares.new) }

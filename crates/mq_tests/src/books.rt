@@ -4,6 +4,8 @@
 ghost use Rattle.std.specs.Prelude.{◌≡◌, ◌≤◌, IsTrue, None};
 ghost use Rattle.mq_model.specs.Waits.{open_wait};
 
+mod bounded;
+
 use mq_model::entries::{Access, Attr, Deadline, OpenFlags, Received, Reply, Status};
 use mq_model::faults::Fault;
 use mq_model::names::Name;

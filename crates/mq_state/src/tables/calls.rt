@@ -392,7 +392,14 @@ impl Tables {
         let len = bytes.len() as u64;
         let reply = self.answer_send(journal, p, d, prio, len);
         let most = bytes_kept(reply, bytes);
-        self.settle_send(journal, p, Call::MqSend { d, prio, len }, reply, bytes, most)
+        self.settle_send(
+            journal,
+            p,
+            Call::MqSend { d, prio, len },
+            reply,
+            bytes,
+            most,
+        )
     }
 
     /// A send with a deadline (`mq_timedsend`).

@@ -13,10 +13,11 @@ loop-preserved c =
     let pushed = c.in_ok-push.ensures.items in
     let added = c.in_ok-new.field-0 in
     let before = c.loop.inboxes.items in
-    let count = c.loop.invariant.0 in
-    (ap length pushed ∙ length-append before (added ∷ []) ∙ omega (arith, count),
-    λ k. ap (λ xs. notices_in xs k) pushed ∙ none-push before added c.loop.invariant.1 c.in_ok-new.ensures.values k,
-    λ k lt.
-        let is = ap (λ xs. room_in xs k) pushed in
-        let room = room-push before added c.args.room (λ j at. c.loop.invariant.2 j (omega (arith, at, count))) c.in_ok-new.ensures.room k (omega (arith, lt, count)) in
-        omega (arith, is, room))
+    let count = c.loop.invariant.0 in (
+      ap length pushed ∙ length-append before (added ∷ []) ∙ omega (arith, count),
+      λ k. ap (λ xs. notices_in xs k) pushed ∙ none-push before added c.loop.invariant.1 c.in_ok-new.ensures.values k,
+      λ k lt.
+          let is = ap (λ xs. room_in xs k) pushed in
+          let room = room-push before added c.args.room (λ j at. c.loop.invariant.2 j (omega (arith, at, count))) c.in_ok-new.ensures.room k (omega (arith, lt, count)) in
+          omega (arith, is, room),
+    )

@@ -16,15 +16,16 @@ loop-i-preserved c =
     let here = position-here queues c.args.q i d at in
     let cap = c.into_slots.ensures ∙ ap (λ (x : QueueShown). x.cap) c.remove-queue.ensures.value in
     let shorter = c.remove-queue.ensures.len in
-    let few = c.loop-i.invariant.1 in
-    (ap (λ xs. without_queue xs c.args.q) c.remove-queue.ensures.items ∙ without-removed queues c.args.q i d at ∙ c.loop-i.invariant.0,
-    omega (arith, shorter, few),
-    c.remove-queue.ensures.capacity ∙ c.loop-i.invariant.2,
-    λ m pool.
-        let now = c.loop-i.invariant.3 m pool in
-        let long = c.loop-i.spares.ok.0 in
-        rw (c.remove-queue.ensures.items, c.remove-queue.ensures.capacity, c.keep.ensures.capacity)
-        (pool-removed queues i d c.loop-i.spares.items c.keep.new.spares.items c.into_slots.result here.0 cap now (λ lt. c.keep.ensures.kept (omega (arith, long, lt)))))
+    let few = c.loop-i.invariant.1 in (
+      ap (λ xs. without_queue xs c.args.q) c.remove-queue.ensures.items ∙ without-removed queues c.args.q i d at ∙ c.loop-i.invariant.0,
+      omega (arith, shorter, few),
+      c.remove-queue.ensures.capacity ∙ c.loop-i.invariant.2,
+      λ m pool.
+          let now = c.loop-i.invariant.3 m pool in
+          let long = c.loop-i.spares.ok.0 in
+          rw (c.remove-queue.ensures.items, c.remove-queue.ensures.capacity, c.keep.ensures.capacity)
+          (pool-removed queues i d c.loop-i.spares.items c.keep.new.spares.items c.into_slots.result here.0 cap now (λ lt. c.keep.ensures.kept (omega (arith, long, lt)))),
+    )
 
 pub returns-clause-items : goal.returns-clause-items
 returns-clause-items c =

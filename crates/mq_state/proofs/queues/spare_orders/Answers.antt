@@ -10,7 +10,8 @@ loop-preserved c =
     let wide = c.in_ok-new.ensures.cap in
     let many = c.loop.invariant.1 in
     let room = c.loop.invariant.2 in
-    let grows = c.in_ok-push.ensures.capacity in
-    (subst (All IsSpare) (sym pushed) (All-push IsSpare c.loop.spares.items c.in_ok-new.field-0 c.loop.invariant.0 (c.in_ok-new.ensures.empty, omega (arith, wide))),
-    ap length pushed ∙ length-append c.loop.spares.items (c.in_ok-new.field-0 ∷ []) ∙ omega (arith, many),
-    omega (arith, room, grows))
+    let grows = c.in_ok-push.ensures.capacity in (
+      subst (All IsSpare) (sym pushed) (All-push IsSpare c.loop.spares.items c.in_ok-new.field-0 c.loop.invariant.0 (c.in_ok-new.ensures.empty, omega (arith, wide))),
+      ap length pushed ∙ length-append c.loop.spares.items (c.in_ok-new.field-0 ∷ []) ∙ omega (arith, many),
+      omega (arith, room, grows),
+    )

@@ -11,6 +11,9 @@ returns-then-is_err-clause-full c =
     let waits = waits-open c.args.journal.now c.args.self.now c.requires.kept in
     record {
       full = λ t. absurd (let bad : true ≡ false = sym t ∙ within in cc);
-      room = λ _. inr (refl, unbounded c.args.self.now.bounds c.args.journal.now (open_waits past) c.args.entries c.args.most c.requires.kept.bounded within
-      (λ entries bytes. not-both c.reserve.result (c.reserve.ensures.succeeds (omega (arith, entries, waits, c.open_waits.ensures.count)) (omega (arith, bytes, c.requires.within))) (sym c.is_err.ensures.value ∙ c.if-is_err.true)));
+      room = λ _. inr (
+        refl,
+        unbounded c.args.self.now.bounds c.args.journal.now (open_waits past) c.args.entries c.args.most c.requires.kept.bounded within
+            (λ entries bytes. not-both c.reserve.result (c.reserve.ensures.succeeds (omega (arith, entries, waits, c.open_waits.ensures.count)) (omega (arith, bytes, c.requires.within))) (sym c.is_err.ensures.value ∙ c.if-is_err.true)),
+      );
     }
