@@ -77,6 +77,7 @@ fn each_fault_prints_as_its_name(rt: HostRuntime) -> Result<(), Fail> {
         (Fault::NoSpace, "ENOSPC"),
         (Fault::NoMemory, "NOMEMORY"),
         (Fault::TimedOut, "ETIMEDOUT"),
+        (Fault::JournalFull, "JOURNALFULL"),
     ];
     let mut number = 1;
     for (fault, name) in faults {
