@@ -116,11 +116,12 @@ const DEADLINE: Stuck = Stuck {
              --\n\
              clock 5 0\n\
              1 trecv 0 8 5 0\n\
+             --\n\
              1 trecv 0 8 5 1\n\
              2 trecv 0 8 4 0\n",
-    replies: "1 fd 0\n2 fd 0\n",
-    lines: &[8],
-    text: "line 8: waits for ever",
+    replies: "1 fd 0\n2 fd 0\n1 ETIMEDOUT\n",
+    lines: &[9],
+    text: "line 9: waits for ever",
 };
 
 const DEADLINE_ENDS: Run = Run {
@@ -131,14 +132,15 @@ const DEADLINE_ENDS: Run = Run {
              --\n\
              clock 5 0\n\
              1 trecv 0 8 5 0\n\
+             --\n\
              1 trecv 0 8 5 1\n\
-             2 trecv 0 8 4 0\n\
+             2 getattr 7\n\
              2 tsend 0 0 4 0 a\n",
     replies: "1 fd 0\n\
              2 fd 0\n\
              1 ETIMEDOUT\n\
              1 got 0 1 a\n\
-             2 ETIMEDOUT\n\
+             2 EBADF\n\
              2 ok\n\
              history ok\n",
 };
@@ -188,12 +190,14 @@ fn a_script_that_cannot_go_on_ends_and_one_call_more_mends_it(rt: HostRuntime) {
 fn a_deadlock_has_a_line_for_each_process_and_status_5(rt: HostRuntime) -> Result<(), Fail> {
     for stuck in [CROSSED, FULL, THREE] {
         let (outcome, _) = output_of(&rt, rt.alloc(), stuck.script.as_bytes());
-        let Err(fault) = outcome else {
-            return Err(Fail);
-        };
-        assert_eq!(rt; fault.status(), 5);
-        let text = format!(in rt.alloc(); "{fault}")?;
-        assert!(rt; text.as_bytes() == stuck.text.as_bytes());
+        match outcome {
+            Err(fault) => {
+                assert_eq!(rt; fault.status(), 5);
+                let text = format!(in rt.alloc(); "{fault}")?;
+                assert!(rt; text.as_bytes() == stuck.text.as_bytes());
+            }
+            Ok(()) => assert!(rt; false),
+        }
     }
     Ok(())
 }
