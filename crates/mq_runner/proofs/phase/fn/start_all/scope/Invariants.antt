@@ -2,7 +2,7 @@ use Rattle.std.proofs.Common.{◌≡◌, ◌++◌, length}
 use Rattle.std.specs.Vec.Iter.{into_iter_items, into_iter_len}
 use Rattle.mq_runner.specs.Members.{AllHaveShares}
 use Rattle.mq_runner.specs.Phase.{AreReady}
-use Rattle.mq_runner.proofs.phase.fn.run_phase.scope.Given as goal
+use Rattle.mq_runner.proofs.phase.fn.start_all.scope.Given as goal
 
 abbrev pub invariant-loop-share : goal.invariant-loop-share
 invariant-loop-share g l = record {
