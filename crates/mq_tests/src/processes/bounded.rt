@@ -8,6 +8,7 @@ use mq_model::entries::{Received, Status};
 use mq_model::faults::Fault;
 use mq_model::journals::Journal;
 use std::alloc::Global;
+use std::io::Print;
 use std::process::Abort;
 use std::sync::Wait;
 use std::time::Clock;
@@ -40,7 +41,7 @@ fn finish_alone<L: Look<Guarded>>(alloc: Global, mq: Mq<L>, process: Process<L>)
 }
 
 // The one process takes the steps, and the journal has so many entries at the end.
-fn expect_alone<L: Look<Guarded>, R: Wait + Clock + Abort>(
+fn expect_alone<L: Look<Guarded>, R: Wait + Clock + Abort + Print>(
     rt: &R,
     alloc: Global,
     entries: u64,
