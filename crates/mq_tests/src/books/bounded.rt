@@ -13,6 +13,7 @@ use mq_model::entries::{Attr, Deadline, Received, Reply, Status};
 use mq_model::faults::Fault;
 use mq_state::books::Books;
 use mq_state::collected::Collected;
+use mq_state::memory::memory_of;
 use std::alloc::{AllocError, Global};
 use std::process::Abort;
 use std::test::Fail;
@@ -179,4 +180,11 @@ fn orders_of_queues_that_are_gone_serve_queues_to_come(rt: HostRuntime) -> Resul
         &[(1, NextNotice, FULL), (1, Entries, Count(700))],
     );
     Ok(())
+}
+
+#[test]
+fn memory_is_told_before_it_is_taken(rt: HostRuntime) {
+    assert_eq!(rt; memory_of(1, 0, 0), Some(8_402_584));
+    assert_eq!(rt; memory_of(4, 1_000_000, 1_000_000), Some(177_405_608));
+    assert_eq!(rt; memory_of(1, u64::MAX, 0), None);
 }
