@@ -8,6 +8,7 @@ ghost use Rattle.mq.specs.Calls.{ticket_of};
 ghost use Rattle.mq.specs.Asked.{is_done, is_attributes};
 ghost use Rattle.mq.specs.Says.{done_says, attributes_says};
 
+mod blocked;
 mod exits;
 mod messages;
 mod timed;

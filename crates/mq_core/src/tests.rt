@@ -242,6 +242,18 @@ fn a_wait_has_its_deadline_until_it_is_withdrawn(rt: HostRuntime) -> Result<(), 
     Ok(())
 }
 
+#[test]
+fn moments_are_ordered_by_seconds_and_then_by_nanoseconds(rt: HostRuntime) {
+    let before = Deadline {
+        sec: -1,
+        nsec: 999_999_999,
+    };
+    let zero = Deadline { sec: 0, nsec: 0 };
+    let after = Deadline { sec: 0, nsec: 1 };
+    assert!(rt; before < zero && zero < after && after < UNTIL);
+    assert!(rt; !(zero < zero) && zero <= zero && after > before);
+}
+
 const REGISTER: Entry = Entry {
     process: 1,
     call: Call::MqNotify {

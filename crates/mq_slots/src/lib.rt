@@ -5,7 +5,5 @@
 mod cells;
 pub mod chains;
 mod levels;
-#[cfg(test)]
-mod tests;
 
 pub use chains::Slots;

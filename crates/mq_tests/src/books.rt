@@ -1,20 +1,24 @@
 //! Calls that wait and what they come to, notices, the most queues and descriptors, and calls with numbers out of all bounds.
-//! Each test is a table of steps. It passes, too, where any one growth is refused: a refused call changes no journal, and is made
-//! once more.
+//! Each test is a table of steps. It passes, too, where any one growth is refused from outside: a refused call changes neither the
+//! journal nor the buffer, and is made once more.
 ghost use Rattle.std.specs.Prelude.{◌≡◌, ◌≤◌, IsTrue, None};
 ghost use Rattle.mq_model.specs.Waits.{open_wait};
 
-mod bounded;
-
+use crate::refusals::{fingerprint, say_refused};
 use mq_model::entries::{Access, Attr, Deadline, OpenFlags, Received, Reply, Status};
 use mq_model::faults::Fault;
 use mq_model::names::Name;
 use mq_state::books::Books;
 use mq_state::collected::Collected;
 use std::alloc::{AllocError, Global};
+use std::io::Print;
 use std::marker::Model;
 use std::process::Abort;
 use std::test::Fail;
+
+mod bounded;
+mod deadlines;
+mod memory;
 
 // What a process asks of the queues.
 #[derive(Clone, Copy)]
@@ -87,10 +91,13 @@ impl Model for Trial {
     ghost invariant = { λ t. t.books.n ≡ 5 };
 }
 
-fn make_trial(alloc: Global) -> Result<Trial, AllocError> {
+fn make_trial<P: Print>(rt: &P, alloc: Global) -> Result<Trial, AllocError> {
     let books = match Books::new(alloc, 5) {
         Ok(books) => books,
-        Err(_) => Books::new(alloc, 5)?,
+        Err(_) => {
+            say_refused(rt, "the making");
+            Books::new(alloc, 5)?
+        }
     };
     Ok(Trial { books })
 }
@@ -157,27 +164,35 @@ fn outcome_of(trial: &mut Trial, p: u32, ask: Ask, buf: &mut [u8]) -> Outcome {
     }
 }
 
-// What came of it, once more where a growth was refused and no entry came of that.
-fn asked(trial: &mut Trial, p: u32, ask: Ask, buf: &mut [u8]) -> Outcome {
-    let before = trial.books.journal().len();
+// What came of it. Where a growth was refused, the journal and the buffer are as before, and the same is asked once more.
+fn asked<A: Abort + Print>(
+    rt: &A,
+    trial: &mut Trial,
+    p: u32,
+    ask: Ask,
+    buf: &mut [u8; 8],
+) -> Outcome {
+    let before = (fingerprint(trial.books.journal()), *buf);
     let outcome = outcome_of(trial, p, ask, buf);
-    if outcome == REFUSED_MEMORY && trial.books.journal().len() == before {
-        return outcome_of(trial, p, ask, buf);
+    if outcome != REFUSED_MEMORY {
+        return outcome;
     }
-    outcome
+    assert_eq!(rt; (fingerprint(trial.books.journal()), *buf), before);
+    say_refused(rt, "a call");
+    outcome_of(trial, p, ask, buf)
 }
 
 // Takes the steps in turn, with one buffer.
-fn expect_steps<A: Abort>(rt: &A, trial: &mut Trial, steps: &[Step]) {
+fn expect_steps<A: Abort + Print>(rt: &A, trial: &mut Trial, steps: &[Step]) {
     let mut buf = [0; 8];
     for (number, step) in steps.iter().enumerate() {
         let (p, ask, wanted) = *step;
-        assert_eq!(rt; asked(trial, p, ask, &mut buf), wanted, "step {number}");
+        assert_eq!(rt; asked(rt, trial, p, ask, &mut buf), wanted, "step {number}");
     }
 }
 
-fn expect<A: Abort>(rt: &A, alloc: Global, steps: &[Step]) -> Result<(), AllocError> {
-    expect_steps(rt, &mut make_trial(alloc)?, steps);
+fn expect<A: Abort + Print>(rt: &A, alloc: Global, steps: &[Step]) -> Result<(), AllocError> {
+    expect_steps(rt, &mut make_trial(rt, alloc)?, steps);
     Ok(())
 }
 
@@ -406,11 +421,12 @@ const FULL: [Step; 10] = [
 fn at_most_64_queues_exist_and_an_open_one_exists_without_its_name(
     rt: HostRuntime,
 ) -> Result<(), Fail> {
-    let mut trial = make_trial(rt.alloc())?;
+    let mut trial = make_trial(&rt, rt.alloc())?;
     for p in 1..=4u32 {
         for d in 0..16u32 {
             let name = [b'/', b'0' + p as u8, b'a' + d as u8];
-            let outcome = asked(&mut trial, p, Open(&name, CREATE, ONE), &mut []);
+            let ask = Open(&name, CREATE, ONE);
+            let outcome = asked(&rt, &mut trial, p, ask, &mut [0; 8]);
             assert_eq!(rt; outcome, Replied(Reply::Opened { d, created: true }));
         }
     }
@@ -521,98 +537,5 @@ fn the_oldest_notice_comes_first_and_a_queue_with_messages_gives_none(
     rt: HostRuntime,
 ) -> Result<(), Fail> {
     expect(&rt, rt.alloc(), &TWO_NOTICES)?;
-    Ok(())
-}
-
-const AT_5: Deadline = Deadline { sec: 5, nsec: 0 };
-
-const NO_MOMENT: Deadline = Deadline {
-    sec: 5,
-    nsec: 1_000_000_000,
-};
-
-const AT_0: Deadline = Deadline { sec: 0, nsec: 0 };
-
-const NO_MOMENT_BEFORE: Deadline = Deadline { sec: -1, nsec: -1 };
-
-const AT_9: Deadline = Deadline { sec: 9, nsec: 0 };
-
-const AT_10: Deadline = Deadline { sec: 10, nsec: 0 };
-
-const JUST_BEFORE_10: Deadline = Deadline {
-    sec: 9,
-    nsec: 999_999_999,
-};
-
-const AT_11: Deadline = Deadline { sec: 11, nsec: 0 };
-
-const AT_20: Deadline = Deadline { sec: 20, nsec: 0 };
-
-const AT_30: Deadline = Deadline { sec: 30, nsec: 0 };
-
-const LAST: Deadline = Deadline {
-    sec: i64::MAX,
-    nsec: 0,
-};
-
-const DEADLINES: [Step; 22] = [
-    (1, Open(b"/q", CREATE, ONE), CREATED),
-    (2, Open(b"/q", OPEN, None), OPENED),
-    (
-        1,
-        TimedReceive(0, AT_5, AT_5),
-        Replied(Reply::Refused(Fault::TimedOut)),
-    ),
-    (
-        1,
-        TimedReceive(0, NO_MOMENT, AT_0),
-        Replied(Reply::Refused(Fault::Invalid)),
-    ),
-    (1, TimedSend(0, b"a", 1, NO_MOMENT_BEFORE, AT_9), QUEUED),
-    (2, TimedSend(0, b"b", 7, AT_10, AT_9), WAITS),
-    (2, Waiting, Room(Some(0))),
-    (2, Withdraw(JUST_BEFORE_10), Is(false)),
-    (2, Withdraw(AT_10), Is(true)),
-    (2, Withdraw(AT_11), Is(false)),
-    (1, ReplyAt(6), Replied(Reply::Withdrawn { wait: 5 })),
-    (
-        1,
-        Receive(0),
-        Replied(Reply::Got {
-            place: 4,
-            admitted: None,
-            notified: None,
-        }),
-    ),
-    (
-        2,
-        Getattr(0),
-        Replied(Reply::Attrs(Status {
-            nonblock: false,
-            maxmsg: 1,
-            msgsize: 8,
-            curmsgs: 0,
-        })),
-    ),
-    (1, TimedReceive(0, AT_20, AT_10), WAITS),
-    (1, Waiting, Room(Some(8))),
-    (2, Send(0, b"c", 0), Replied(Reply::Handed { wait: 9 })),
-    (1, Withdraw(AT_30), Is(false)),
-    (
-        1,
-        Collect,
-        Came(Some(Collected::Got(Received { len: 1, prio: 0 }))),
-    ),
-    (1, Front, Byte(b'c')),
-    (1, ReplyAt(11), Replied(Reply::Collected { by: 10 })),
-    (1, Receive(0), WAITS),
-    (1, Withdraw(LAST), Is(false)),
-];
-
-#[test]
-fn a_wait_is_withdrawn_where_its_deadline_has_passed_and_nothing_answers_it(
-    rt: HostRuntime,
-) -> Result<(), Fail> {
-    expect(&rt, rt.alloc(), &DEADLINES)?;
     Ok(())
 }

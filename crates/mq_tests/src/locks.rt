@@ -1,10 +1,13 @@
 //! Each lock over a state of its own list, by functions that are generic over the lock.
-ghost use Rattle.std.specs.Prelude.{◌≡◌, ℕ, List, [], ◌∷◌, false, refl, map, IfOk, IfSome, MatchResult};
+ghost use Rattle.std.specs.Prelude.{◌≡◌, ◌≤◌, ℕ, List, [], ◌∷◌, false, refl, map, IfOk, IfSome, MatchResult};
 ghost use Rattle.fast_mutex.specs.Items.{Grows, tickets_from};
 ghost use Rattle.fast_mutex.specs.Word.{ticket_of, lock_id, made_with};
 
-use fast_mutex::{Enter, Lock, Logged, Missing, Path, WordLock, WordSeat};
+use crate::refusals::{refuse_all, say_refused};
+use fast_mutex::{Enter, FastMutex, Lock, Logged, Missing, Path, WordLock, WordSeat};
 use std::alloc::{AllocError, Global};
+use std::io::Print;
+use std::process::Abort;
 use std::sync::Wait;
 use std::thread::{Threads, join};
 
@@ -46,10 +49,17 @@ impl Logged for Notes {
     ghost stays = { λ p more before others h. h };
 }
 
-fn no_notes(alloc: Global, title: u32, room: usize) -> Result<Notes, AllocError>
+// One growth may be refused from outside.
+fn no_notes<R: Print>(rt: &R, alloc: Global, title: u32, room: usize) -> Result<Notes, AllocError>
     ensures { IfOk result (λ s. s.items.items ≡ []) }
 {
-    let items = Vec::with_capacity(alloc, room)?;
+    let items = match Vec::with_capacity(alloc, room) {
+        Ok(items) => items,
+        Err(_) => {
+            say_refused(rt, "room for notes");
+            Vec::with_capacity(alloc, room)?
+        }
+    };
     Ok(Notes { title, items })
 }
 
@@ -96,14 +106,27 @@ fn look<L: Lock<Notes>, R: Wait>(rt: &R, lock: &L, seat: L::Seat) -> (L::Seat, O
     (lock.leave(inside, notes), latest)
 }
 
-/// A lock for two processes. Where a growth is refused, the state that comes back is tried once more.
-fn lock_for_two<L: Lock<Notes>>(alloc: Global, notes: Notes) -> Option<(L, Vec<L::Seat>)>
-    requires { notes.items.items ≡ [] }
-    ensures { IfSome result (λ r. map L.ticket r.1.items ≡ tickets_from (L.id r.0) 1 2) }
+/// A lock for so many processes. One growth may be refused from outside: then the state that comes back is as it was, and is
+/// tried once more.
+fn lock_for<L: Lock<Notes>, R: Print>(
+    rt: &R,
+    alloc: Global,
+    n: u32,
+    notes: Notes,
+) -> Option<(L, Vec<L::Seat>)>
+    requires count { (1 ≤ n) × (n ≤ 32) }
+    requires empty { notes.items.items ≡ [] }
+    ensures { IfSome result (λ r. map L.ticket r.1.items ≡ tickets_from (L.id r.0) 1 n) }
 {
-    match L::new(alloc, 2, notes) {
+    let (title, room) = (notes.title, notes.items.capacity());
+    match L::new(alloc, n, notes) {
         Ok(made) => Some(made),
-        Err((notes, _)) => L::new(alloc, 2, notes).ok(),
+        Err((notes, _)) => {
+            if (notes.title, notes.items.capacity()) == (title, room) {
+                say_refused(rt, "the making");
+            }
+            L::new(alloc, n, notes).ok()
+        }
     }
 }
 
@@ -117,9 +140,10 @@ struct Turns {
 }
 
 /// Process 1 adds 10, process 2 adds 20, `finish` lacks a seat, process 1 looks once more, and `finish` has both seats.
-fn in_turn<L: Lock<Notes>, R: Wait>(rt: &R, alloc: Global) -> Option<Turns> {
-    let notes = no_notes(alloc, 7, 2).ok()?;
-    let (lock, mut seats) = lock_for_two::<L>(alloc, notes)?;
+fn in_turn<L: Lock<Notes>, R: Wait + Print>(rt: &R, alloc: Global) -> Option<Turns> {
+    let notes = no_notes(rt, alloc, 7, 2).ok()?;
+    let (lock, mut seats) = lock_for::<L, R>(rt, alloc, 2, notes)?;
+    refuse_all(rt, alloc);
     let (two, one) = (seats.pop()?, seats.pop()?);
     let (one, first) = add(rt, &lock, one, 10);
     let (two, second) = add(rt, &lock, two, 20);
@@ -142,11 +166,7 @@ fn in_turn<L: Lock<Notes>, R: Wait>(rt: &R, alloc: Global) -> Option<Turns> {
 
 #[test]
 fn a_word_lock_hands_its_state_over_in_turn(rt: HostRuntime) {
-    // one growth may be refused from outside
-    let turns = match in_turn::<WordLock<Notes>, _>(&rt, rt.alloc()) {
-        Some(turns) => turns,
-        None => in_turn::<WordLock<Notes>, _>(&rt, rt.alloc()).expect(&rt, "memory"),
-    };
+    let turns = in_turn::<WordLock<Notes>, _>(&rt, rt.alloc()).expect(&rt, "memory");
     let (path, steps) = (Path::Fast, 1);
     assert_eq!(rt;
         turns.first,
@@ -183,9 +203,13 @@ fn add_many<L: Lock<Notes>, R: Wait>(rt: &R, lock: &L, seat: L::Seat, stays: u32
 }
 
 /// The notes of two threads, each with as many stays of a process.
-fn in_two_threads<R: Wait + Threads + Sync>(rt: &R, alloc: Global, stays: u32) -> Option<Notes> {
-    let notes = no_notes(alloc, 7, 2 * stays as usize).ok()?;
-    let (lock, mut seats) = lock_for_two::<WordLock<Notes>>(alloc, notes)?;
+fn in_two_threads<R: Wait + Threads + Print + Sync>(
+    rt: &R,
+    alloc: Global,
+    stays: u32,
+) -> Option<Notes> {
+    let notes = no_notes(rt, alloc, 7, 2 * stays as usize).ok()?;
+    let (lock, mut seats) = lock_for::<WordLock<Notes>, R>(rt, alloc, 2, notes)?;
     let (two, one) = (seats.pop()?, seats.pop()?);
     let (one, two) = join(
         rt,
@@ -205,11 +229,7 @@ fn in_two_threads<R: Wait + Threads + Sync>(rt: &R, alloc: Global, stays: u32) -
 
 #[test]
 fn two_threads_lose_no_note_of_a_word_lock(rt: HostRuntime) {
-    // one growth may be refused from outside
-    let notes = match in_two_threads(&rt, rt.alloc(), 1000) {
-        Some(notes) => notes,
-        None => in_two_threads(&rt, rt.alloc(), 1000).expect(&rt, "memory"),
-    };
+    let notes = in_two_threads(&rt, rt.alloc(), 1000).expect(&rt, "memory");
     assert_eq!(rt; notes.items.len(), 2000);
     for process in 1..=2 {
         let values = notes
@@ -219,4 +239,19 @@ fn two_threads_lose_no_note_of_a_word_lock(rt: HostRuntime) {
             .map(|note| note.1);
         assert!(rt; values.eq(0..1000), "of process {process}");
     }
+}
+
+// A lock for each number of processes, which has as many seats.
+fn expect_made<L: Lock<Notes>, R: Print + Abort>(rt: &R, alloc: Global) {
+    for n in 1..=32 {
+        let notes = no_notes(rt, alloc, 7, 0).expect(rt, "memory");
+        let (_lock, seats) = lock_for::<L, R>(rt, alloc, n, notes).expect(rt, "memory");
+        assert_eq!(rt; seats.len(), n as usize);
+    }
+}
+
+#[test]
+fn locks_are_made_for_1_to_32_processes(rt: HostRuntime) {
+    expect_made::<WordLock<Notes>, _>(&rt, rt.alloc());
+    expect_made::<FastMutex<Notes>, _>(&rt, rt.alloc());
 }

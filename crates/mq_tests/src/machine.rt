@@ -2,20 +2,27 @@
 ghost use Rattle.std.specs.Prelude.{◌≡◌, ◌≤◌, IfOk, length};
 ghost use Rattle.lamport_core.specs.Machine.{count};
 
+use crate::refusals::{refuse_all, say_refused};
 use lamport_core::{At, World};
 use std::alloc::{AllocError, Global};
+use std::io::Print;
 use std::process::Abort;
 use std::test::Fail;
 
-// The start. One growth may be refused from outside.
-fn start(alloc: Global, n: u32) -> Result<World, AllocError>
+// The start. One growth may be refused from outside, and behind the start every one.
+fn start<R: Print>(rt: &R, alloc: Global, n: u32) -> Result<World, AllocError>
     requires { 1 ≤ n }
     ensures { IfOk result (λ world. count world ≡ n) }
 {
-    match World::new(alloc, n) {
-        Ok(world) => Ok(world),
-        Err(_) => World::new(alloc, n),
-    }
+    let world = match World::new(alloc, n) {
+        Ok(world) => world,
+        Err(_) => {
+            say_refused(rt, "the making");
+            World::new(alloc, n)?
+        }
+    };
+    refuse_all(rt, alloc);
+    Ok(world)
 }
 
 // The point, the flag and the steps of a process.
@@ -41,7 +48,7 @@ fn expect_world<A: Abort>(
 
 #[test]
 fn slow_process_goes_in_while_another_awaits(rt: HostRuntime) -> Result<(), Fail> {
-    let mut world = start(rt.alloc(), 2)?;
+    let mut world = start(&rt, rt.alloc(), 2)?;
     world.run(&[1, 1, 1, 2, 2, 1, 1, 2, 2, 1, 1, 1, 1]);
     let processes = [(At::Slow, false, 9), (At::AwaitY, false, 4)];
     expect_world(&rt, &world, 2, &processes, (2, 1, Some(1)));
@@ -50,7 +57,7 @@ fn slow_process_goes_in_while_another_awaits(rt: HostRuntime) -> Result<(), Fail
 
 #[test]
 fn one_process_goes_in_by_five_steps_and_out_by_two(rt: HostRuntime) -> Result<(), Fail> {
-    let mut world = start(rt.alloc(), 1)?;
+    let mut world = start(&rt, rt.alloc(), 1)?;
     expect_world(&rt, &world, 1, &[(At::Rest, false, 0)], (0, 0, None));
     world.run(&[1, 1, 1, 1, 1]);
     expect_world(&rt, &world, 1, &[(At::Fast, true, 5)], (1, 1, Some(1)));
@@ -61,7 +68,7 @@ fn one_process_goes_in_by_five_steps_and_out_by_two(rt: HostRuntime) -> Result<(
 
 #[test]
 fn scan_stops_at_the_flag_of_the_process_inside(rt: HostRuntime) -> Result<(), Fail> {
-    let mut world = start(rt.alloc(), 2)?;
+    let mut world = start(&rt, rt.alloc(), 2)?;
     world.run(&[1, 1, 1, 2, 2, 2, 1, 1, 2, 2, 1, 1, 1]);
     let processes = [(At::Scan(2), false, 8), (At::Fast, true, 5)];
     expect_world(&rt, &world, 2, &processes, (2, 2, Some(2)));
@@ -71,7 +78,7 @@ fn scan_stops_at_the_flag_of_the_process_inside(rt: HostRuntime) -> Result<(), F
 // Process 2 sets y to 0 while process 1 stands at its test of x.
 #[test]
 fn third_process_goes_in_while_the_second_leaves(rt: HostRuntime) -> Result<(), Fail> {
-    let mut world = start(rt.alloc(), 3)?;
+    let mut world = start(&rt, rt.alloc(), 3)?;
     world.run(&[1, 1, 1, 2, 2, 2, 2, 2, 1, 2, 3, 3, 3, 3, 3, 1, 1, 1, 1]);
     let processes = [
         (At::Scan(2), false, 8),
@@ -84,7 +91,7 @@ fn third_process_goes_in_while_the_second_leaves(rt: HostRuntime) -> Result<(), 
 
 #[test]
 fn one_step_at_a_time_and_no_step(rt: HostRuntime) -> Result<(), Fail> {
-    let mut world = start(rt.alloc(), 2)?;
+    let mut world = start(&rt, rt.alloc(), 2)?;
     world.run(&[]);
     let processes = [(At::Rest, false, 0), (At::Rest, false, 0)];
     expect_world(&rt, &world, 2, &processes, (0, 0, None));

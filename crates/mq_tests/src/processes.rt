@@ -1,8 +1,9 @@
 //! Processes over a lock, by functions that are generic over it. What processes are told in one thread is a table of steps.
-ghost use Rattle.std.specs.Prelude.{◌≡◌, ◌≤◌, None, IfSome, length};
+ghost use Rattle.std.specs.Prelude.{◌≡◌, None, IfSome, length, []};
 ghost use Rattle.mq.specs.Calls.{IsFree};
 
-use fast_mutex::{FastMutex, Look, Missing};
+use crate::refusals::say_refused;
+use fast_mutex::{FastMutex, Look};
 use mq::{Guarded, Mq, Process};
 use mq_checker::checker::check_history;
 use mq_model::entries::{Received, Reply};
@@ -10,6 +11,7 @@ use mq_model::faults::Fault;
 use mq_model::journals::Journal;
 use mq_state::collected::Collected;
 use std::alloc::Global;
+use std::io::Print;
 use std::process::Abort;
 use std::sync::Wait;
 use std::time::Clock;
@@ -18,6 +20,9 @@ use steps::{Ask, CREATE, OPEN, Step, Told, expect_steps};
 mod bounded;
 mod calls;
 mod deadlines;
+mod ends;
+mod exits;
+mod memory;
 mod steps;
 mod threads;
 
@@ -30,12 +35,15 @@ struct Pair<L: Look<Guarded>> {
 }
 
 // One growth may be refused from outside.
-fn make_pair<L: Look<Guarded>>(alloc: Global) -> Option<Pair<L>>
+fn make_pair<L: Look<Guarded>, R: Print>(rt: &R, alloc: Global) -> Option<Pair<L>>
     ensures { IfSome result (λ p. (p.one.lock ≡ p.mq) × IsFree p.one × (p.two.lock ≡ p.mq) × IsFree p.two) }
 {
     let (mq, mut processes) = match Mq::<L>::new(alloc, 2) {
         Ok(made) => made,
-        Err(_) => Mq::<L>::new(alloc, 2).ok()?,
+        Err(_) => {
+            say_refused(rt, "the making");
+            Mq::<L>::new(alloc, 2).ok()?
+        }
     };
     match (processes.pop(), processes.pop()) {
         (Some(two), Some(one)) => Some(Pair { mq, one, two }),
@@ -43,71 +51,55 @@ fn make_pair<L: Look<Guarded>>(alloc: Global) -> Option<Pair<L>>
     }
 }
 
-// The end without a process: the queues come back.
-fn finish_empty<L: Look<Guarded>>(alloc: Global, mq: Mq<L>) -> Option<Mq<L>>
-    ensures { IfSome result (λ m. m ≡ mq) }
+// Room for two processes. One growth may be refused from outside.
+fn room<L: Look<Guarded>, R: Print>(rt: &R, alloc: Global) -> Option<Vec<Process<L>>>
+    ensures { IfSome result (λ room. room.items ≡ []) }
 {
-    match mq.finish(Vec::new(alloc)) {
-        Err(Missing { whole, parts: _ }) => Some(whole),
-        Ok(_) => None,
+    match Vec::with_capacity(alloc, 2) {
+        Ok(processes) => Some(processes),
+        Err(_) => {
+            say_refused(rt, "room for two processes");
+            Vec::with_capacity(alloc, 2).ok()
+        }
     }
 }
 
-// The end with process 1 alone: the queues and the process come back.
-fn finish_early<L: Look<Guarded>>(
-    alloc: Global,
-    mq: Mq<L>,
-    one: Process<L>,
-) -> Option<(Mq<L>, Process<L>)>
-    requires { one.lock ≡ mq }
-    ensures { IfSome result (λ r. (r.0 ≡ mq) × (r.1.lock ≡ mq)) }
-{
-    let mut processes = match Vec::with_capacity(alloc, 1) {
-        Ok(processes) => processes,
-        Err(_) => Vec::with_capacity(alloc, 1).ok()?,
-    };
-    processes.push(one).ok()?;
-    match mq.finish(processes) {
-        Err(Missing { whole, mut parts }) => Some((whole, parts.pop()?)),
-        Ok(_) => None,
-    }
-}
-
-// The journal at the end.
+// The end with both processes: the journal.
 fn finish<L: Look<Guarded>>(
-    alloc: Global,
+    mut processes: Vec<Process<L>>,
     mq: Mq<L>,
     one: Process<L>,
     two: Process<L>,
 ) -> Option<Journal>
+    requires room { processes.items ≡ [] }
     requires one { one.lock ≡ mq }
     requires two { two.lock ≡ mq }
 {
-    let mut processes = match Vec::with_capacity(alloc, 2) {
-        Ok(processes) => processes,
-        Err(_) => Vec::with_capacity(alloc, 2).ok()?,
-    };
     processes.push(one).ok()?;
     processes.push(two).ok()?;
     mq.finish(processes).ok()
 }
 
-/// Sends and receives of one process, and the journal at the end.
-fn in_order<L: Look<Guarded>, R: Wait + Clock + Abort>(rt: &R, alloc: Global) -> Option<Journal> {
-    let mut pair = make_pair::<L>(alloc)?;
-    expect_steps(rt, &pair.mq, &mut pair.one, &mut pair.two, &IN_ORDER);
+/// The journal after the steps of two processes in one thread.
+fn after<L: Look<Guarded>, R: Wait + Clock + Abort + Print>(
+    rt: &R,
+    alloc: Global,
+    steps: &[Step],
+) -> Option<Journal> {
+    let mut pair = make_pair::<L, R>(rt, alloc)?;
+    expect_steps(rt, &pair.mq, &mut pair.one, &mut pair.two, steps);
     let Pair { mq, one, two } = pair;
-    let mq = finish_empty(alloc, mq)?;
-    let (mq, one) = finish_early(alloc, mq, one)?;
-    finish(alloc, mq, one, two)
+    finish(room(rt, alloc)?, mq, one, two)
 }
 
-/// What two processes in one thread are told where both wait in turn.
-fn both_wait<L: Look<Guarded>, R: Wait + Clock + Abort>(rt: &R, alloc: Global) -> Option<Journal> {
-    let mut pair = make_pair::<L>(alloc)?;
-    expect_steps(rt, &pair.mq, &mut pair.one, &mut pair.two, &BOTH_WAIT);
-    let Pair { mq, one, two } = pair;
-    finish(alloc, mq, one, two)
+/// The journal is legal, and has just these processes and replies.
+fn expect_journal<R: Abort>(rt: &R, journal: &Journal, wanted: &[(u32, Reply)]) {
+    assert_eq!(rt; journal.len(), wanted.len() as u64);
+    for (place, wanted) in (0..).zip(wanted) {
+        let entry = journal.entry(place).expect(rt, "an entry");
+        assert_eq!(rt; (entry.process, entry.reply), *wanted, "at {place}");
+    }
+    assert_eq!(rt; check_history(journal), Ok(()));
 }
 
 const IN_ORDER: [Step; 9] = [
@@ -152,46 +144,75 @@ const BOTH_WAIT: [Step; 21] = [
     (2, Ask::Waiting, Told::Room(None)),
 ];
 
-// The replies from the third entry on, of which the first hands a message to a waiting receive, and the last but one admits a
-// waiting send.
-const REPLIES: [Reply; 7] = [
-    Reply::Waits,
-    Reply::Handed { wait: 2 },
-    Reply::Collected { by: 3 },
-    Reply::Queued { notified: None },
-    Reply::Waits,
-    Reply::Got {
-        place: 5,
-        admitted: Some(6),
-        notified: None,
-    },
-    Reply::Collected { by: 7 },
-];
+const CREATED: Reply = Reply::Opened {
+    d: 0,
+    created: true,
+};
 
-fn expect_replies<R: Abort>(rt: &R, journal: &Journal) {
-    assert_eq!(rt; journal.len(), 9);
-    for (place, reply) in (2..).zip(REPLIES) {
-        let entry = journal.entry(place).expect(rt, "an entry");
-        assert_eq!(rt; entry.reply, reply, "at {place}");
-    }
-    assert_eq!(rt; check_history(journal), Ok(()));
-}
+const OPENED: Reply = Reply::Opened {
+    d: 0,
+    created: false,
+};
+
+const QUEUED: Reply = Reply::Queued { notified: None };
+
+// The fourth entry hands a message to a waiting receive, and the last but one admits a waiting send.
+const REPLIES: [(u32, Reply); 9] = [
+    (1, CREATED),
+    (2, OPENED),
+    (1, Reply::Waits),
+    (2, Reply::Handed { wait: 2 }),
+    (1, Reply::Collected { by: 3 }),
+    (2, QUEUED),
+    (2, Reply::Waits),
+    (
+        1,
+        Reply::Got {
+            place: 5,
+            admitted: Some(6),
+            notified: None,
+        },
+    ),
+    (2, Reply::Collected { by: 7 }),
+];
 
 #[test]
 fn two_processes_in_one_thread_wait_for_each_other(rt: HostRuntime) {
-    let alloc = rt.alloc();
-    let journal = both_wait::<FastMutex<Guarded>, _>(&rt, alloc).expect(&rt, "memory");
-    expect_replies(&rt, &journal);
+    let journal = after::<FastMutex<Guarded>, _>(&rt, rt.alloc(), &BOTH_WAIT);
+    expect_journal(&rt, &journal.expect(&rt, "memory"), &REPLIES);
 }
 
+const REPLIES_IN_ORDER: [(u32, Reply); 5] = [
+    (1, CREATED),
+    (1, QUEUED),
+    (1, QUEUED),
+    (
+        1,
+        Reply::Got {
+            place: 1,
+            admitted: None,
+            notified: None,
+        },
+    ),
+    (
+        1,
+        Reply::Got {
+            place: 2,
+            admitted: None,
+            notified: None,
+        },
+    ),
+];
+
 // The journal with two entries exchanged.
-fn exchanged(alloc: Global, journal: &Journal) -> Option<Journal>
+fn exchanged<R: Print>(rt: &R, alloc: Global, journal: &Journal) -> Option<Journal>
     requires { length journal.now.records ≡ 5 }
 {
     let mut other = Journal::new(alloc);
     for place in [0, 1, 2, 4, 3] {
         let (entry, payload) = journal.record(place);
         if other.reserve(1, payload.len()).is_err() {
+            say_refused(rt, "room in a journal");
             other.reserve(1, payload.len()).ok()?;
         }
         other.push(entry, payload);
@@ -200,17 +221,17 @@ fn exchanged(alloc: Global, journal: &Journal) -> Option<Journal>
 }
 
 // Two receives exchanged are no history.
-fn expect_order<R: Abort>(rt: &R, alloc: Global, journal: &Journal) {
+fn expect_order<R: Abort + Print>(rt: &R, alloc: Global, journal: &Journal) {
+    expect_journal(rt, journal, &REPLIES_IN_ORDER);
     assert_eq!(rt; journal.len(), 5);
-    assert_eq!(rt; check_history(journal), Ok(()));
-    let other = exchanged(alloc, journal).expect(rt, "memory");
+    let other = exchanged(rt, alloc, journal).expect(rt, "memory");
     assert_eq!(rt; check_history(&other), Err(3));
 }
 
 #[test]
 fn messages_of_one_priority_leave_in_sending_order(rt: HostRuntime) {
     let alloc = rt.alloc();
-    let journal = in_order::<FastMutex<Guarded>, _>(&rt, alloc).expect(&rt, "memory");
+    let journal = after::<FastMutex<Guarded>, _>(&rt, alloc, &IN_ORDER).expect(&rt, "memory");
     expect_order(&rt, alloc, &journal);
 }
 

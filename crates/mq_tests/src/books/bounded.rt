@@ -15,6 +15,7 @@ use mq_state::books::Books;
 use mq_state::collected::Collected;
 use mq_state::memory::memory_of;
 use std::alloc::{AllocError, Global};
+use std::io::Print;
 use std::process::Abort;
 use std::test::Fail;
 
@@ -27,7 +28,7 @@ fn make_bounded(alloc: Global, entries: u64, bytes: u64) -> Result<Trial, AllocE
     Ok(Trial { books })
 }
 
-fn expect<A: Abort>(
+fn expect<A: Abort + Print>(
     rt: &A,
     alloc: Global,
     entries: u64,

@@ -2,8 +2,10 @@
 ghost use Rattle.std.specs.Prelude.{◌≡◌, [], refl, map, IfSome};
 ghost use Rattle.fast_mutex.specs.Items.{tickets_from};
 
+use crate::refusals::{refuse_all, say_refused};
 use fast_mutex::{Enter, FastMutex, Logged, Look};
 use std::alloc::Global;
+use std::io::Print;
 use std::process::Abort;
 use std::sync::Wait;
 
@@ -75,8 +77,8 @@ fn visit<L: Look<Bell>, R: Wait>(rt: &R, lock: &L, seat: L::Seat) -> L::Seat
     lock.leave(inside, bell)
 }
 
-// Where one growth is refused from outside, the state that comes back is tried once more.
-fn lock_for_two<L: Look<Bell>>(alloc: Global) -> Option<(L, Vec<L::Seat>)>
+// One growth may be refused from outside: then the state that comes back is as it was, and is tried once more.
+fn lock_for_two<L: Look<Bell>, R: Print>(rt: &R, alloc: Global) -> Option<(L, Vec<L::Seat>)>
     ensures { IfSome result (λ r. map L.ticket r.1.items ≡ tickets_from (L.id r.0) 1 2) }
 {
     let still = Bell {
@@ -85,13 +87,19 @@ fn lock_for_two<L: Look<Bell>>(alloc: Global) -> Option<(L, Vec<L::Seat>)>
     };
     match L::new(alloc, 2, still) {
         Ok(made) => Some(made),
-        Err((still, _)) => L::new(alloc, 2, still).ok(),
+        Err((still, _)) => {
+            if !still.rung && !still.heard {
+                say_refused(rt, "the making");
+            }
+            L::new(alloc, 2, still).ok()
+        }
     }
 }
 
 /// Process 1 looks before the ring, twice after it, and once it has heard it.
-fn looks<L: Look<Bell>, R: Wait + Abort>(rt: &R, alloc: Global) -> Option<[bool; 5]> {
-    let (lock, mut seats) = lock_for_two::<L>(alloc)?;
+fn looks<L: Look<Bell>, R: Wait + Abort + Print>(rt: &R, alloc: Global) -> Option<[bool; 5]> {
+    let (lock, mut seats) = lock_for_two::<L, R>(rt, alloc)?;
+    refuse_all(rt, alloc);
     let (mut two, mut one) = (seats.pop()?, seats.pop()?);
     let before = lock.answered(&mut one);
     two = visit(rt, &lock, two);

@@ -6,6 +6,7 @@ ghost use Rattle.fast_mutex.specs.Fast.{IsSeatOf};
 use super::{Notes, add_many, no_notes};
 use fast_mutex::{FastMutex, FastSeat, Lock, WordLock, WordSeat};
 use std::alloc::Global;
+use std::io::Print;
 use std::process::Abort;
 use std::sync::Wait;
 use std::thread::{Threads, map_vec};
@@ -13,10 +14,14 @@ use std::thread::{Threads, map_vec};
 const STAYS: u32 = 1000;
 
 /// The notes of so many threads over the lock of one word.
-fn over_word_lock<R: Wait + Threads + Sync>(rt: &R, alloc: Global, threads: u32) -> Option<Notes>
+fn over_word_lock<R: Wait + Threads + Print + Sync>(
+    rt: &R,
+    alloc: Global,
+    threads: u32,
+) -> Option<Notes>
     requires { (1 ≤ threads) × (threads ≤ 32) }
 {
-    let notes = no_notes(alloc, 7, threads as usize * STAYS as usize).ok()?;
+    let notes = no_notes(rt, alloc, 7, threads as usize * STAYS as usize).ok()?;
     let Ok((lock, seats)) = WordLock::new(alloc, threads, notes) else {
         return None;
     };
@@ -33,10 +38,14 @@ fn over_word_lock<R: Wait + Threads + Sync>(rt: &R, alloc: Global, threads: u32)
 }
 
 /// The notes of so many threads over Lamport's lock.
-fn over_fast_mutex<R: Wait + Threads + Sync>(rt: &R, alloc: Global, threads: u32) -> Option<Notes>
+fn over_fast_mutex<R: Wait + Threads + Print + Sync>(
+    rt: &R,
+    alloc: Global,
+    threads: u32,
+) -> Option<Notes>
     requires { (1 ≤ threads) × (threads ≤ 32) }
 {
-    let notes = no_notes(alloc, 7, threads as usize * STAYS as usize).ok()?;
+    let notes = no_notes(rt, alloc, 7, threads as usize * STAYS as usize).ok()?;
     let Ok((lock, seats)) = FastMutex::new(alloc, threads, notes) else {
         return None;
     };
@@ -69,30 +78,18 @@ fn expect_all<A: Abort>(rt: &A, notes: &Notes, threads: u32)
 
 #[test]
 fn eight_threads_lose_no_note_of_a_word_lock(rt: HostRuntime) {
-    // one growth may be refused from outside
-    let notes = match over_word_lock(&rt, rt.alloc(), 8) {
-        Some(notes) => notes,
-        None => over_word_lock(&rt, rt.alloc(), 8).expect(&rt, "memory"),
-    };
+    let notes = over_word_lock(&rt, rt.alloc(), 8).expect(&rt, "memory");
     expect_all(&rt, &notes, 8);
 }
 
 #[test]
 fn two_threads_lose_no_note_of_lamports_lock(rt: HostRuntime) {
-    // one growth may be refused from outside
-    let notes = match over_fast_mutex(&rt, rt.alloc(), 2) {
-        Some(notes) => notes,
-        None => over_fast_mutex(&rt, rt.alloc(), 2).expect(&rt, "memory"),
-    };
+    let notes = over_fast_mutex(&rt, rt.alloc(), 2).expect(&rt, "memory");
     expect_all(&rt, &notes, 2);
 }
 
 #[test]
 fn eight_threads_lose_no_note_of_lamports_lock(rt: HostRuntime) {
-    // one growth may be refused from outside
-    let notes = match over_fast_mutex(&rt, rt.alloc(), 8) {
-        Some(notes) => notes,
-        None => over_fast_mutex(&rt, rt.alloc(), 8).expect(&rt, "memory"),
-    };
+    let notes = over_fast_mutex(&rt, rt.alloc(), 8).expect(&rt, "memory");
     expect_all(&rt, &notes, 8);
 }

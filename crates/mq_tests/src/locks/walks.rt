@@ -2,10 +2,12 @@
 ghost use Rattle.std.specs.Prelude.{◌≡◌, ◌∷◌, []};
 ghost use Rattle.fast_mutex.specs.Fast.{ticket_of, IsSeatOf};
 
-use super::{Notes, Stay, in_turn, lock_for_two, no_notes};
+use super::{Notes, Stay, in_turn, lock_for, no_notes};
+use crate::refusals::refuse_all;
 use fast_mutex::{FastMutex, FastSeat, Lock, Path, Walk};
 use lamport_core::At;
 use std::alloc::{AllocError, Global};
+use std::io::Print;
 use std::process::Abort;
 use std::test::Fail;
 
@@ -119,11 +121,12 @@ fn expect_stays<A: Abort>(
     assert_eq!(rt; notes.title, 7);
 }
 
-fn expect_plan<A: Abort>(rt: &A, alloc: Global, plan: Plan) -> Result<(), AllocError> {
-    let Some((lock, mut seats)) = lock_for_two::<FastMutex<Notes>>(alloc, no_notes(alloc, 7, 0)?)
-    else {
+fn expect_plan<A: Abort + Print>(rt: &A, alloc: Global, plan: Plan) -> Result<(), AllocError> {
+    let notes = no_notes(rt, alloc, 7, 0)?;
+    let Some((lock, mut seats)) = lock_for::<FastMutex<Notes>, A>(rt, alloc, 2, notes) else {
         panic!(rt; "no memory")
     };
+    refuse_all(rt, alloc);
     let (Some(two), Some(one)) = (seats.pop(), seats.pop()) else {
         panic!(rt; "two seats")
     };
@@ -177,11 +180,7 @@ fn both_pass_the_gate_and_the_second_goes_first(rt: HostRuntime) -> Result<(), F
 
 #[test]
 fn lamports_lock_hands_its_state_over_in_turn(rt: HostRuntime) {
-    // one growth may be refused from outside
-    let turns = match in_turn::<FastMutex<Notes>, _>(&rt, rt.alloc()) {
-        Some(turns) => turns,
-        None => in_turn::<FastMutex<Notes>, _>(&rt, rt.alloc()).expect(&rt, "memory"),
-    };
+    let turns = in_turn::<FastMutex<Notes>, _>(&rt, rt.alloc()).expect(&rt, "memory");
     let (path, steps) = (Path::Fast, 5);
     assert_eq!(rt;
         turns.first,

@@ -1,14 +1,10 @@
 //! The calls of a process that never wait.
-use super::steps::{Ask, CREATE, OPEN, Step, Told, expect_steps};
-use super::{Pair, make_pair};
-use fast_mutex::{FastMutex, Look};
+use super::steps::{Ask, CREATE, OPEN, Step, Told};
+use super::{after, expect_journal};
+use fast_mutex::FastMutex;
 use mq::Guarded;
-use mq_model::entries::{Received, Status};
+use mq_model::entries::{Received, Reply, Status};
 use mq_model::faults::Fault;
-use std::alloc::Global;
-use std::process::Abort;
-use std::sync::Wait;
-use std::time::Clock;
 
 const EMPTY: Status = Status {
     nonblock: false,
@@ -44,13 +40,47 @@ const EACH_CALL: [Step; 17] = [
     (1, Ask::Open(OPEN, 2), Told::Refused(Fault::NoEntry)),
 ];
 
-fn expect_each<L: Look<Guarded>, R: Wait + Clock + Abort>(rt: &R, alloc: Global) -> Option<()> {
-    let mut pair: Pair<L> = make_pair(alloc)?;
-    expect_steps(rt, &pair.mq, &mut pair.one, &mut pair.two, &EACH_CALL);
-    Some(())
-}
+const REPLIES: [(u32, Reply); 17] = [
+    (
+        1,
+        Reply::Opened {
+            d: 0,
+            created: true,
+        },
+    ),
+    (1, Reply::Done),
+    (1, Reply::Notice(None)),
+    (1, Reply::Queued { notified: Some(1) }),
+    (1, Reply::Notice(Some(7))),
+    (1, Reply::Notice(None)),
+    (
+        1,
+        Reply::Got {
+            place: 3,
+            admitted: None,
+            notified: None,
+        },
+    ),
+    (1, Reply::Attrs(EMPTY)),
+    (1, Reply::Attrs(NONBLOCK)),
+    (1, Reply::Refused(Fault::Again)),
+    (1, Reply::Done),
+    (1, Reply::Refused(Fault::BadDescriptor)),
+    (
+        1,
+        Reply::Opened {
+            d: 0,
+            created: false,
+        },
+    ),
+    (1, Reply::Done),
+    (1, Reply::Refused(Fault::BadDescriptor)),
+    (1, Reply::Done),
+    (1, Reply::Refused(Fault::NoEntry)),
+];
 
 #[test]
 fn each_call_that_never_waits_answers(rt: HostRuntime) {
-    expect_each::<FastMutex<Guarded>, _>(&rt, rt.alloc()).expect(&rt, "memory");
+    let journal = after::<FastMutex<Guarded>, _>(&rt, rt.alloc(), &EACH_CALL);
+    expect_journal(&rt, &journal.expect(&rt, "memory"), &REPLIES);
 }

@@ -1,6 +1,6 @@
 //! Receives whose deadline comes, by a clock of the test and by the real one.
 use super::steps::{Ask, CREATE, OPEN, Step, Told, expect_steps};
-use super::{Pair, finish, make_pair};
+use super::{Pair, finish, make_pair, room};
 use fast_mutex::{FastMutex, Look};
 use mq::{Guarded, Monotonic};
 use mq_model::clock::Clock as Moments;
@@ -8,6 +8,7 @@ use mq_model::entries::{Deadline, Reply};
 use mq_model::faults::Fault;
 use mq_model::journals::Journal;
 use std::alloc::Global;
+use std::io::Print;
 use std::process::Abort;
 use std::sync::Wait;
 use std::sync::atomic::{AtomicBool, Ordering};
@@ -64,16 +65,16 @@ const STEPS: [Step; 7] = [
 ];
 
 // The journal of those steps, and how long they took.
-fn steps_with_deadlines<L: Look<Guarded>, R: Wait + Clock + Abort>(
+fn steps_with_deadlines<L: Look<Guarded>, R: Wait + Clock + Abort + Print>(
     rt: &R,
     alloc: Global,
 ) -> Option<(Journal, Deadline)> {
-    let mut pair = make_pair::<L>(alloc)?;
+    let mut pair = make_pair::<L, R>(rt, alloc)?;
     let clock = Monotonic::start(rt).ok()?;
     expect_steps(rt, &pair.mq, &mut pair.one, &mut pair.two, &STEPS);
     let took = clock.now();
     let Pair { mq, one, two } = pair;
-    Some((finish(alloc, mq, one, two)?, took))
+    Some((finish(room(rt, alloc)?, mq, one, two)?, took))
 }
 
 #[test]

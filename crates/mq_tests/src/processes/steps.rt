@@ -3,12 +3,14 @@ ghost use Rattle.std.specs.Prelude.{◌≡◌, None};
 ghost use Rattle.mq.specs.Calls.{IsFree};
 
 use super::deadlines::{LATER, Ticks};
+use crate::refusals::say_refused;
 use fast_mutex::Look;
 use mq::{Guarded, Monotonic, Mq, Process};
 use mq_model::entries::{Access, Attr, OpenFlags, Received, Status};
 use mq_model::faults::Fault;
 use mq_model::names::Name;
 use mq_state::collected::Collected;
+use std::io::Print;
 use std::process::Abort;
 use std::sync::Wait;
 use std::time::{Clock, Duration};
@@ -154,7 +156,8 @@ fn collect<L: Look<Guarded>, R: Wait>(
     }
 }
 
-fn outcome_of<L: Look<Guarded>, R: Wait + Clock>(
+/// What a process is told.
+pub fn asked_once<L: Look<Guarded>, R: Wait + Clock>(
     rt: &R,
     mq: &Mq<L>,
     p: &mut Process<L>,
@@ -178,8 +181,8 @@ fn outcome_of<L: Look<Guarded>, R: Wait + Clock>(
     }
 }
 
-/// What a process is told, which asks once more where a growth was refused.
-pub fn asked<L: Look<Guarded>, R: Wait + Clock>(
+/// What a process is told. Where a growth was refused the buffer is as before, and it asks once more.
+pub fn asked<L: Look<Guarded>, R: Wait + Clock + Print>(
     rt: &R,
     mq: &Mq<L>,
     p: &mut Process<L>,
@@ -189,14 +192,18 @@ pub fn asked<L: Look<Guarded>, R: Wait + Clock>(
     requires { p.old.lock ≡ mq.now }
     ensures { p.new.lock ≡ mq.now }
 {
-    match outcome_of(rt, mq, p, ask, buf) {
-        Told::Refused(Fault::NoMemory) => outcome_of(rt, mq, p, ask, buf),
+    let lent = *buf;
+    match asked_once(rt, mq, p, ask, buf) {
+        Told::Refused(Fault::NoMemory) if *buf == lent => {
+            say_refused(rt, "a call");
+            asked_once(rt, mq, p, ask, buf)
+        }
         told => told,
     }
 }
 
 /// Two processes take the steps in turn, with one buffer.
-pub fn expect_steps<L: Look<Guarded>, R: Wait + Clock + Abort>(
+pub fn expect_steps<L: Look<Guarded>, R: Wait + Clock + Abort + Print>(
     rt: &R,
     mq: &Mq<L>,
     one: &mut Process<L>,

@@ -2,13 +2,14 @@
 ghost use Rattle.std.specs.Prelude.{◌≡◌};
 
 use super::steps::{Ask, CREATE, OPEN, Step, Told, asked, expect_steps};
-use super::{Pair, finish, make_pair};
+use super::{Pair, finish, make_pair, room};
 use fast_mutex::{FastMutex, Look};
 use mq::{Guarded, Mq, Process};
 use mq_checker::checker::check_history;
 use mq_model::entries::Received;
 use mq_model::journals::Journal;
 use std::alloc::Global;
+use std::io::Print;
 use std::process::Abort;
 use std::sync::Wait;
 use std::thread::{Threads, join};
@@ -24,7 +25,7 @@ const OPENS: [Step; 2] = [
 ];
 
 // Sends as many messages, each with its number, through a queue that holds two.
-fn send_all<L: Look<Guarded>, R: Wait + Clock>(
+fn send_all<L: Look<Guarded>, R: Wait + Clock + Print>(
     rt: &R,
     mq: &Mq<L>,
     mut p: Process<L>,
@@ -42,7 +43,7 @@ fn send_all<L: Look<Guarded>, R: Wait + Clock>(
 
 // Receives as many messages, every second one with a deadline that does not come, and sees that they come in the order of
 // their numbers.
-fn receive_all<L: Look<Guarded>, R: Wait + Clock>(
+fn receive_all<L: Look<Guarded>, R: Wait + Clock + Print>(
     rt: &R,
     mq: &Mq<L>,
     mut p: Process<L>,
@@ -65,7 +66,7 @@ fn receive_all<L: Look<Guarded>, R: Wait + Clock>(
 }
 
 /// One process sends and the other receives, each in a thread of its own, and the journal at the end.
-fn side_by_side<L: Look<Guarded> + Sync, R: Wait + Clock + Threads + Abort + Sync>(
+fn side_by_side<L: Look<Guarded> + Sync, R: Wait + Clock + Threads + Abort + Print + Sync>(
     rt: &R,
     alloc: Global,
 ) -> Option<Journal>
@@ -77,7 +78,7 @@ where
         mq,
         mut one,
         mut two,
-    } = make_pair::<L>(alloc)?;
+    } = make_pair::<L, R>(rt, alloc)?;
     expect_steps(rt, &mq, &mut one, &mut two, &OPENS);
     let queues = &mq;
     let (sent, received) = join(
@@ -93,7 +94,7 @@ where
     );
     assert!(rt; sent.1);
     assert!(rt; received.1);
-    finish(alloc, mq, sent.0, received.0)
+    finish(room(rt, alloc)?, mq, sent.0, received.0)
 }
 
 // An open for each, and 400 calls at least, since a call that waited has two entries.

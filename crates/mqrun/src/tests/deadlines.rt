@@ -67,6 +67,40 @@ const NO_CLOCK: Run = Run {
              history ok\n",
 };
 
+// Deadlines and moments at the ends of their range.
+const ENDS: Run = Run {
+    script: "processes 1\n\
+             1 open /q bc 1 8\n\
+             --\n\
+             clock -9223372036854775808 0\n\
+             1 trecv 0 8 -9223372036854775808 0\n\
+             1 trecv 0 8 -9223372036854775808 -1\n\
+             1 trecv 0 8 9223372036854775807 1000000000\n\
+             1 trecv 0 8 9223372036854775807 -9223372036854775808\n\
+             --\n\
+             clock 9223372036854775807 999999999\n\
+             1 trecv 0 8 9223372036854775807 999999999\n\
+             1 trecv 0 8 -9223372036854775808 0\n\
+             1 trecv 0 8 9223372036854775807 9223372036854775807\n\
+             1 tsend 0 3 -9223372036854775808 -9223372036854775808 a\n\
+             1 tsend 0 3 9223372036854775807 999999999 b\n\
+             1 tsend 0 3 9223372036854775807 1000000000 b\n\
+             1 trecv 0 8 0 -1\n",
+    replies: "1 fd 0\n\
+             1 ETIMEDOUT\n\
+             1 EINVAL\n\
+             1 EINVAL\n\
+             1 EINVAL\n\
+             1 ETIMEDOUT\n\
+             1 ETIMEDOUT\n\
+             1 EINVAL\n\
+             1 ok\n\
+             1 ETIMEDOUT\n\
+             1 EINVAL\n\
+             1 got 3 1 a\n\
+             history ok\n",
+};
+
 // A receive whose deadline lies in the future waits for the other process's send.
 const BLOCKED_UNTIL_SENT: Run = Run {
     script: "processes 2\n\
@@ -86,7 +120,7 @@ const BLOCKED_UNTIL_SENT: Run = Run {
 
 #[test]
 fn scripts_with_deadlines_have_their_replies(rt: HostRuntime) {
-    for run in [DEADLINES, CLOCKS, NO_CLOCK] {
+    for run in [DEADLINES, CLOCKS, NO_CLOCK, ENDS] {
         expect_replies(&rt, rt.alloc(), run);
     }
     for _ in 0..20 {

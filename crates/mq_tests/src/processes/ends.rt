@@ -1,0 +1,98 @@
+//! The end of the queues: with nobody, with one process of two, and while one waits.
+ghost use Rattle.std.specs.Prelude.{◌≡◌, [], IfSome};
+
+use super::steps::{Ask, CREATE, Step, Told, expect_steps};
+use super::{CREATED, Pair, QUEUED, RECEIVED, after, expect_journal, finish, make_pair, room};
+use fast_mutex::{FastMutex, Look, Missing};
+use mq::{Guarded, Mq, Process};
+use mq_model::entries::Reply;
+use mq_model::journals::Journal;
+use std::alloc::Global;
+use std::io::Print;
+use std::process::Abort;
+use std::sync::Wait;
+use std::time::Clock;
+
+// The end without a process: the queues come back.
+fn finish_empty<L: Look<Guarded>>(alloc: Global, mq: Mq<L>) -> Option<Mq<L>>
+    ensures { IfSome result (λ m. m ≡ mq) }
+{
+    let Err(Missing { whole, parts }) = mq.finish(Vec::new(alloc)) else {
+        return None;
+    };
+    if parts.is_empty() { Some(whole) } else { None }
+}
+
+// The end with process 1 alone: the queues and the process come back, with the room for both.
+fn finish_early<L: Look<Guarded>>(
+    mut processes: Vec<Process<L>>,
+    mq: Mq<L>,
+    one: Process<L>,
+) -> Option<(Mq<L>, Process<L>, Vec<Process<L>>)>
+    requires room { processes.items ≡ [] }
+    requires made { one.lock ≡ mq }
+    ensures { IfSome result (λ r. (r.0 ≡ mq) × (r.1.lock ≡ mq) × (r.2.items ≡ [])) }
+{
+    processes.push(one).ok()?;
+    let Err(Missing { whole, mut parts }) = mq.finish(processes) else {
+        return None;
+    };
+    let one = parts.pop()?;
+    Some((whole, one, parts))
+}
+
+const FIRST: [Step; 1] = [(1, Ask::Open(CREATE, 2), Told::Opened(0))];
+
+const SECOND: [Step; 1] = [(1, Ask::Send(0, b"a", 1), Told::Done)];
+
+const THIRD: [Step; 1] = [(1, Ask::Receive(0), RECEIVED)];
+
+const THREE_CALLS: [(u32, Reply); 3] = [
+    (1, CREATED),
+    (1, QUEUED),
+    (
+        1,
+        Reply::Got {
+            place: 1,
+            admitted: None,
+            notified: None,
+        },
+    ),
+];
+
+// A call, an end without a process, a call, an end without process 2, a call, and the end.
+fn with_early_ends<L: Look<Guarded>, R: Wait + Clock + Abort + Print>(
+    rt: &R,
+    alloc: Global,
+) -> Option<Journal> {
+    let processes = room(rt, alloc)?;
+    let Pair {
+        mq,
+        mut one,
+        mut two,
+    } = make_pair::<L, R>(rt, alloc)?;
+    expect_steps(rt, &mq, &mut one, &mut two, &FIRST);
+    let mq = finish_empty(alloc, mq)?;
+    expect_steps(rt, &mq, &mut one, &mut two, &SECOND);
+    let (mq, mut one, processes) = finish_early(processes, mq, one)?;
+    expect_steps(rt, &mq, &mut one, &mut two, &THIRD);
+    finish(processes, mq, one, two)
+}
+
+#[test]
+fn what_an_early_end_hands_back_is_used_again(rt: HostRuntime) {
+    let journal = with_early_ends::<FastMutex<Guarded>, _>(&rt, rt.alloc());
+    expect_journal(&rt, &journal.expect(&rt, "all handed back"), &THREE_CALLS);
+}
+
+const STILL_WAITS: [Step; 2] = [
+    (1, Ask::Open(CREATE, 1), Told::Opened(0)),
+    (1, Ask::StartReceive(0), Told::Waits),
+];
+
+#[test]
+fn queues_may_end_while_a_process_waits(rt: HostRuntime) {
+    let journal = after::<FastMutex<Guarded>, _>(&rt, rt.alloc(), &STILL_WAITS);
+    let replies = [(1, CREATED), (1, Reply::Waits)];
+    expect_journal(&rt, &journal.expect(&rt, "memory"), &replies);
+}

@@ -1,0 +1,67 @@
+/* Preloaded in front of a program's allocator: refuses growths, and says of each that it did.
+ *
+ * GROWTH=N      refuses the Nth growth, from 1
+ * GROWTH=marked refuses every growth behind the first mark
+ * GROWTH_FD=F   writes a byte to file descriptor F for each growth that it refuses
+ *
+ * A growth is a call of malloc, calloc, realloc or of a function for aligned memory. One of 16,777,213 bytes is a mark, which is not
+ * counted. No header is needed and nothing is linked, so any C compiler for the C library of the programs builds it. */
+
+typedef unsigned long size;
+
+extern void *__libc_malloc(size bytes);
+extern void *__libc_calloc(size count, size bytes);
+extern void *__libc_realloc(void *old, size bytes);
+extern void *__libc_memalign(size align, size bytes);
+extern char *getenv(const char *name);
+extern long write(int file, const void *bytes, size count);
+extern int *__errno_location(void);
+
+enum { OUT_OF_MEMORY = 12, MARK = 16777213 };
+
+static unsigned long seen;
+static int is_marked;
+
+static unsigned long number(const char *text) {
+  unsigned long value = 0;
+  while (text && *text >= '0' && *text <= '9')
+    value = 10 * value + (unsigned long)(*text++ - '0');
+  return value;
+}
+
+/* Whether this growth is to be refused. */
+static int is_refused(size bytes) {
+  const char *wanted = getenv("GROWTH");
+  if (!wanted)
+    return 0;
+  if (*wanted == 'm') {
+    int refused = __atomic_load_n(&is_marked, __ATOMIC_SEQ_CST);
+    if (bytes == MARK)
+      __atomic_store_n(&is_marked, 1, __ATOMIC_SEQ_CST);
+    if (!refused)
+      return 0;
+  } else if (bytes == MARK || __atomic_add_fetch(&seen, 1, __ATOMIC_SEQ_CST) != number(wanted)) {
+    return 0;
+  }
+  write((int)number(getenv("GROWTH_FD")), "x", 1);
+  *__errno_location() = OUT_OF_MEMORY;
+  return 1;
+}
+
+void *malloc(size bytes) { return is_refused(bytes) ? 0 : __libc_malloc(bytes); }
+
+void *calloc(size count, size bytes) { return is_refused(count * bytes) ? 0 : __libc_calloc(count, bytes); }
+
+void *realloc(void *old, size bytes) { return is_refused(bytes) ? 0 : __libc_realloc(old, bytes); }
+
+void *memalign(size align, size bytes) { return is_refused(bytes) ? 0 : __libc_memalign(align, bytes); }
+
+void *aligned_alloc(size align, size bytes) { return memalign(align, bytes); }
+
+int posix_memalign(void **made, size align, size bytes) {
+  void *found = memalign(align, bytes);
+  if (!found)
+    return OUT_OF_MEMORY;
+  *made = found;
+  return 0;
+}
