@@ -9,6 +9,7 @@ use super::{
     CREATE, CREATED, DONE, ONE, OPEN, OPENED, Outcome, QUEUED, Step, TWO, Trial, WAITS,
     expect_steps,
 };
+use crate::refusals::{refuse_all, say_refused};
 use mq_model::entries::{Attr, Deadline, Received, Reply, Status};
 use mq_model::faults::Fault;
 use mq_state::books::Books;
@@ -19,12 +20,21 @@ use std::io::Print;
 use std::process::Abort;
 use std::test::Fail;
 
-// The queues of five processes with these bounds. One growth may be refused from outside.
-fn make_bounded(alloc: Global, entries: u64, bytes: u64) -> Result<Trial, AllocError> {
+// The queues of five processes with these bounds. One growth may be refused from outside, and behind the making every one.
+fn make_bounded<P: Print>(
+    rt: &P,
+    alloc: Global,
+    entries: u64,
+    bytes: u64,
+) -> Result<Trial, AllocError> {
     let books = match Books::bounded(alloc, 5, entries, bytes) {
         Ok(books) => books,
-        Err(_) => Books::bounded(alloc, 5, entries, bytes)?,
+        Err(_) => {
+            say_refused(rt, "the making");
+            Books::bounded(alloc, 5, entries, bytes)?
+        }
     };
+    refuse_all(rt, alloc);
     Ok(Trial { books })
 }
 
@@ -35,7 +45,7 @@ fn expect<A: Abort + Print>(
     bytes: u64,
     steps: &[Step],
 ) -> Result<(), AllocError> {
-    expect_steps(rt, &mut make_bounded(alloc, entries, bytes)?, steps);
+    expect_steps(rt, &mut make_bounded(rt, alloc, entries, bytes)?, steps);
     Ok(())
 }
 
@@ -170,7 +180,7 @@ const COMES_AND_GOES: [Step; 6] = [
 
 #[test]
 fn orders_of_queues_that_are_gone_serve_queues_to_come(rt: HostRuntime) -> Result<(), Fail> {
-    let mut trial = make_bounded(rt.alloc(), 700, 1_000)?;
+    let mut trial = make_bounded(&rt, rt.alloc(), 700, 1_000)?;
     for _ in 0..100 {
         expect_steps(&rt, &mut trial, &COMES_AND_GOES);
         expect_steps(&rt, &mut trial, &[(1, Close(0), DONE)]);
