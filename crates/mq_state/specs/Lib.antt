@@ -10,3 +10,4 @@ pub mod Pool
 pub mod Kept
 pub mod Buffers
 pub mod BooksModel
+pub mod Memory

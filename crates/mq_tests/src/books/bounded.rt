@@ -9,21 +9,32 @@ use super::{
     CREATE, CREATED, DONE, ONE, OPEN, OPENED, Outcome, QUEUED, Step, TWO, Trial, WAITS,
     expect_steps,
 };
+use crate::refusals::{refuse_all, say_refused};
 use mq_model::entries::{Attr, Deadline, Received, Reply, Status};
 use mq_model::faults::Fault;
 use mq_state::books::Books;
 use mq_state::collected::Collected;
+use mq_state::memory::memory_of;
 use std::alloc::{AllocError, Global};
 use std::io::Print;
 use std::process::Abort;
 use std::test::Fail;
 
-// The queues of five processes with these bounds. One growth may be refused from outside.
-fn make_bounded(alloc: Global, entries: u64, bytes: u64) -> Result<Trial, AllocError> {
+// The queues of five processes with these bounds. One growth may be refused from outside, and behind the making every one.
+fn make_bounded<P: Print>(
+    rt: &P,
+    alloc: Global,
+    entries: u64,
+    bytes: u64,
+) -> Result<Trial, AllocError> {
     let books = match Books::bounded(alloc, 5, entries, bytes) {
         Ok(books) => books,
-        Err(_) => Books::bounded(alloc, 5, entries, bytes)?,
+        Err(_) => {
+            say_refused(rt, "the making");
+            Books::bounded(alloc, 5, entries, bytes)?
+        }
     };
+    refuse_all(rt, alloc);
     Ok(Trial { books })
 }
 
@@ -34,7 +45,7 @@ fn expect<A: Abort + Print>(
     bytes: u64,
     steps: &[Step],
 ) -> Result<(), AllocError> {
-    expect_steps(rt, &mut make_bounded(alloc, entries, bytes)?, steps);
+    expect_steps(rt, &mut make_bounded(rt, alloc, entries, bytes)?, steps);
     Ok(())
 }
 
@@ -169,7 +180,7 @@ const COMES_AND_GOES: [Step; 6] = [
 
 #[test]
 fn orders_of_queues_that_are_gone_serve_queues_to_come(rt: HostRuntime) -> Result<(), Fail> {
-    let mut trial = make_bounded(rt.alloc(), 700, 1_000)?;
+    let mut trial = make_bounded(&rt, rt.alloc(), 700, 1_000)?;
     for _ in 0..100 {
         expect_steps(&rt, &mut trial, &COMES_AND_GOES);
         expect_steps(&rt, &mut trial, &[(1, Close(0), DONE)]);
@@ -180,4 +191,11 @@ fn orders_of_queues_that_are_gone_serve_queues_to_come(rt: HostRuntime) -> Resul
         &[(1, NextNotice, FULL), (1, Entries, Count(700))],
     );
     Ok(())
+}
+
+#[test]
+fn memory_is_told_before_it_is_taken(rt: HostRuntime) {
+    assert_eq!(rt; memory_of(1, 0, 0), Some(8_402_584));
+    assert_eq!(rt; memory_of(4, 1_000_000, 1_000_000), Some(177_405_608));
+    assert_eq!(rt; memory_of(1, u64::MAX, 0), None);
 }

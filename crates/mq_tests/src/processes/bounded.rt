@@ -1,7 +1,8 @@
 //! Processes of a system whose journal has bounds.
-ghost use Rattle.std.specs.Prelude.{◌≡◌, IfSome};
+ghost use Rattle.std.specs.Prelude.{◌≡◌, [], IfSome};
 
-use super::steps::{Ask, CREATE, Step, Told, asked};
+use super::steps::{Ask, CREATE, Step, Told, asked_once};
+use crate::refusals::{refuse_all, say_refused};
 use fast_mutex::{FastMutex, Look};
 use mq::{Guarded, Mq, Process};
 use mq_model::entries::{Received, Status};
@@ -13,52 +14,66 @@ use std::process::Abort;
 use std::sync::Wait;
 use std::time::Clock;
 
-// A system of one process with these bounds. One growth may be refused from outside.
-fn make_alone<L: Look<Guarded>>(
+// A system of one process with these bounds, and a vector with room for that process. One growth may be refused from outside.
+fn make_alone<L: Look<Guarded>, R: Print>(
+    rt: &R,
     alloc: Global,
     entries: u64,
     bytes: u64,
-) -> Option<(Mq<L>, Process<L>)>
-    ensures { IfSome result (λ r. r.1.lock ≡ r.0) }
+) -> Option<(Mq<L>, Process<L>, Vec<Process<L>>)>
+    ensures { IfSome result (λ r. (r.1.lock ≡ r.0) × (r.2.items ≡ [])) }
 {
     let (mq, mut processes) = match Mq::<L>::bounded(alloc, 1, entries, bytes) {
         Ok(made) => made,
-        Err(_) => Mq::<L>::bounded(alloc, 1, entries, bytes).ok()?,
+        Err(_) => {
+            say_refused(rt, "the making");
+            Mq::<L>::bounded(alloc, 1, entries, bytes).ok()?
+        }
+    };
+    let room = match Vec::with_capacity(alloc, 1) {
+        Ok(room) => room,
+        Err(_) => {
+            say_refused(rt, "the room");
+            Vec::with_capacity(alloc, 1).ok()?
+        }
     };
     let process = processes.pop()?;
-    Some((mq, process))
+    Some((mq, process, room))
 }
 
-fn finish_alone<L: Look<Guarded>>(alloc: Global, mq: Mq<L>, process: Process<L>) -> Option<Journal>
-    requires { process.lock ≡ mq }
+fn finish_alone<L: Look<Guarded>>(
+    mq: Mq<L>,
+    process: Process<L>,
+    mut room: Vec<Process<L>>,
+) -> Option<Journal>
+    requires made { process.lock ≡ mq }
+    requires empty { room.items ≡ [] }
 {
-    let mut processes = match Vec::with_capacity(alloc, 1) {
-        Ok(processes) => processes,
-        Err(_) => Vec::with_capacity(alloc, 1).ok()?,
-    };
-    processes.push(process).ok()?;
-    mq.finish(processes).ok()
+    room.push(process).ok()?;
+    mq.finish(room).ok()
 }
 
-// The one process takes the steps, and the journal has so many entries at the end.
+// The one process takes the steps, while every growth may be refused from outside. Gives how many entries the journal has at the end.
 fn expect_alone<L: Look<Guarded>, R: Wait + Clock + Abort + Print>(
     rt: &R,
     alloc: Global,
     entries: u64,
     bytes: u64,
     steps: &[Step],
-) -> Option<Journal> {
-    let (mq, mut process) = make_alone::<L>(alloc, entries, bytes)?;
+) -> Option<u64> {
+    let (mq, mut process, room) = make_alone::<L, R>(rt, alloc, entries, bytes)?;
+    refuse_all(rt, alloc);
     let mut buf = [0; 8];
     'steps: for (number, step) in steps.iter().enumerate() {
         let (_, ask, wanted) = *step;
         assert_eq!(rt;
-            asked(rt, &mq, &mut process, ask, &mut buf),
+            asked_once(rt, &mq, &mut process, ask, &mut buf),
             wanted,
             "step {number}"
         );
     }
-    finish_alone(alloc, mq, process)
+    let journal = finish_alone(mq, process, room)?;
+    Some(journal.len())
 }
 
 const FULL: Told = Told::Refused(Fault::JournalFull);
@@ -88,8 +103,8 @@ const FOUR_OF_EACH: [Step; 12] = [
 
 #[test]
 fn calls_find_the_journal_full_where_the_bounds_say(rt: HostRuntime) {
-    let journal = expect_alone::<FastMutex<Guarded>, _>(&rt, rt.alloc(), 4, 4, &FOUR_OF_EACH);
-    assert_eq!(rt; journal.map(|journal| journal.len()), Some(4));
+    let entries = expect_alone::<FastMutex<Guarded>, _>(&rt, rt.alloc(), 4, 4, &FOUR_OF_EACH);
+    assert_eq!(rt; entries, Some(4));
 }
 
 const NOTHING_FITS: [Step; 14] = [
@@ -111,8 +126,8 @@ const NOTHING_FITS: [Step; 14] = [
 
 #[test]
 fn without_an_entry_each_call_that_has_one_is_refused(rt: HostRuntime) {
-    let journal = expect_alone::<FastMutex<Guarded>, _>(&rt, rt.alloc(), 0, 100, &NOTHING_FITS);
-    assert_eq!(rt; journal.map(|journal| journal.len()), Some(0));
+    let entries = expect_alone::<FastMutex<Guarded>, _>(&rt, rt.alloc(), 0, 100, &NOTHING_FITS);
+    assert_eq!(rt; entries, Some(0));
 }
 
 #[test]
