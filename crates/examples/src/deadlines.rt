@@ -1,5 +1,8 @@
 // Deadlines: a receive waits until a moment, and a message that comes before it is received.
-use mq::{Attr, FastMq, Fault, Monotonic, Name, OpenFlags};
+ghost use Rattle.std.specs.Prelude.{◌≡◌};
+ghost use Rattle.mq.specs.Calls.{IsFree};
+
+use mq::{Attr, FastMq, FastProcess, Fault, Monotonic, Name, OpenFlags};
 use std::alloc::Global;
 use std::io::Print;
 use std::sync::Wait;
@@ -15,17 +18,45 @@ pub fn run(rt: &(impl Print + Wait + Clock), alloc: Global) -> anyhow::Result<()
     let name = Name::read(b"/alarms")?;
     let flags = OpenFlags::read_write().create();
     let alarms = process.open(rt, &mq, &name, flags, Some(limits))?;
+    await_alarm(rt, &mq, &mut process, alarms)?;
+    alarm_at_once(rt, &mq, &mut process, alarms)
+}
 
+// Waits for an alarm that does not come.
+fn await_alarm(
+    rt: &(impl Print + Wait + Clock),
+    mq: &FastMq,
+    process: &mut FastProcess,
+    alarms: u32,
+) -> anyhow::Result<()>
+    requires { (process.old.lock ≡ mq.now) × IsFree process.old }
+    ensures { (process.new.lock ≡ mq.now) × IsFree process.new }
+{
     let clock = Monotonic::start(rt)?;
-    let mut buf = [0; 8];
     let until = clock.after(Duration::from_millis(20));
-    match process.timed_receive(rt, &mq, alarms, &mut buf, until, &clock) {
+    let mut buf = [0; 8];
+    match process.timed_receive(rt, mq, alarms, &mut buf, until, &clock) {
         Err(Fault::TimedOut) => println!(rt; "nothing came in 20 ms")?,
         Err(fault) => println!(rt; "{fault}")?,
         Ok(received) => println!(rt; "{} bytes", received.len)?,
     }
-    process.timed_send(rt, &mq, alarms, b"smoke", 9, until, &clock)?;
-    let received = process.timed_receive(rt, &mq, alarms, &mut buf, until, &clock)?;
+    Ok(())
+}
+
+// Sends an alarm and receives it, with a deadline that has passed.
+fn alarm_at_once(
+    rt: &(impl Print + Wait + Clock),
+    mq: &FastMq,
+    process: &mut FastProcess,
+    alarms: u32,
+) -> anyhow::Result<()>
+    requires { (process.old.lock ≡ mq.now) × IsFree process.old }
+{
+    let clock = Monotonic::start(rt)?;
+    let past = clock.after(Duration::ZERO);
+    process.timed_send(rt, mq, alarms, b"smoke", 9, past, &clock)?;
+    let mut buf = [0; 8];
+    let received = process.timed_receive(rt, mq, alarms, &mut buf, past, &clock)?;
     println!(rt;
         "what need not wait is done, whatever the deadline: {} bytes",
         received.len

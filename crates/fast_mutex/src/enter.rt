@@ -20,10 +20,10 @@ pub trait Enter<S: Logged>: Lock<S> {
 }
 
 impl<S: Logged, L: Lock<S>> Enter<S> for L {
-    /// Step by step. It backs off after a step that left the walk where it was, longer each time, and begins anew with
-    /// the back-off once the walk has moved.
+    /// Step by step, the first five in straight line. It backs off after a step that left the walk where it was, longer each time,
+    /// and begins anew with the back-off once the walk has moved.
     fn enter<R: Wait>(&self, rt: &R, seat: L::Seat) -> (L::Inside, S) {
-        let mut walk = self.begin(seat);
+        let mut walk = hasten(self, self.begin(seat));
         let backoff = Backoff::new();
         for _ in rt.forever() {
             if L::is_admitted(&walk) {
@@ -39,4 +39,29 @@ impl<S: Logged, L: Lock<S>> Enter<S> for L {
         }
         unreachable!()
     }
+}
+
+// Five steps, as many as an entry takes that meets nobody. In straight line the compiler knows where the walk stands at each.
+#[inline(always)]
+fn hasten<S: Logged, L: Lock<S>>(lock: &L, walk: L::Walk) -> L::Walk
+    requires { (L.walking walk).lock ≡ L.id lock.now }
+    ensures { L.walking result ≡ L.walking walk }
+{
+    let walk = next(lock, walk);
+    let walk = next(lock, walk);
+    let walk = next(lock, walk);
+    let walk = next(lock, walk);
+    next(lock, walk)
+}
+
+// The next step, where the walk has not come in.
+#[inline(always)]
+fn next<S: Logged, L: Lock<S>>(lock: &L, walk: L::Walk) -> L::Walk
+    requires { (L.walking walk).lock ≡ L.id lock.now }
+    ensures { L.walking result ≡ L.walking walk }
+{
+    if !L::is_admitted(&walk) {
+        return lock.step(walk).0;
+    }
+    walk
 }

@@ -123,6 +123,7 @@ impl<S: Logged> FastMutex<S> {
 // The lines of an entry, a function for each. Each touches one word once.
 impl<S: Logged> FastMutex<S> {
     // b[i] := true, the first step of a pass
+    #[inline(always)]
     fn raise_b(&self, mut walk: Walk<S>) -> Walk<S>
         requires lock { IsSeatOf S.fixed self.now.table.shared.table_id self.now.table.shared.key walk.seat }
         requires at { (walk.at ≡ Rest) ⊎ (walk.at ≡ Start) }
@@ -138,6 +139,7 @@ impl<S: Logged> FastMutex<S> {
     }
 
     // x := i
+    #[inline(always)]
     fn set_x(&self, mut walk: Walk<S>) -> Walk<S>
         requires lock { IsSeatOf S.fixed self.now.table.shared.table_id self.now.table.shared.key walk.seat }
         requires at { walk.at ≡ SetX }
@@ -153,6 +155,7 @@ impl<S: Logged> FastMutex<S> {
     }
 
     // load y: on where it is 0, else back
+    #[inline(always)]
     fn test_y(&self, mut walk: Walk<S>) -> Walk<S>
         requires lock { IsSeatOf S.fixed self.now.table.shared.table_id self.now.table.shared.key walk.seat }
         requires at { walk.at ≡ TestY }
@@ -196,6 +199,7 @@ impl<S: Logged> FastMutex<S> {
     }
 
     // y := i
+    #[inline(always)]
     fn set_y(&self, mut walk: Walk<S>) -> Walk<S>
         requires lock { IsSeatOf S.fixed self.now.table.shared.table_id self.now.table.shared.key walk.seat }
         requires at { walk.at ≡ SetY }
@@ -211,6 +215,7 @@ impl<S: Logged> FastMutex<S> {
     }
 
     // load x: inside where it is i, else the slow path
+    #[inline(always)]
     fn test_x(&self, mut walk: Walk<S>) -> Walk<S>
         requires lock { IsSeatOf S.fixed self.now.table.shared.table_id self.now.table.shared.key walk.seat }
         requires at { walk.at ≡ TestX }
@@ -308,6 +313,7 @@ impl<S: Logged> FastMutex<S> {
 // An entry step by step.
 impl<S: Logged> FastMutex<S> {
     /// An entry that has not begun: at `At::Rest`, with no word touched.
+    #[inline(always)]
     pub fn begin(&self, seat: FastSeat<S>) -> Walk<S>
         requires { IsSeatOf S.fixed self.now.table.shared.table_id self.now.table.shared.key seat.seat }
         ensures at { result.at ≡ Rest }
@@ -325,6 +331,7 @@ impl<S: Logged> FastMutex<S> {
     }
 
     /// The point of the walk, which says what its next step does.
+    #[inline(always)]
     pub fn at(walk: &Walk<S>) -> At
         ensures { result ≡ walk.now.at }
     {
@@ -333,6 +340,7 @@ impl<S: Logged> FastMutex<S> {
     }
 
     /// The next atomic step: one line of the algorithm, one load or store of one word.
+    #[inline(always)]
     pub fn step(&self, walk: Walk<S>) -> Walk<S>
         requires lock { IsSeatOf S.fixed self.now.table.shared.table_id self.now.table.shared.key walk.seat }
         requires outside { is_inside walk.at ≡ false }

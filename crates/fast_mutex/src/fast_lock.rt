@@ -42,11 +42,13 @@ impl<S: Logged + Drop> Lock<S> for FastMutex<S> {
         FastMutex::number_of(seat)
     }
 
+    #[inline(always)]
     fn begin(&self, seat: FastSeat<S>) -> Walk<S> {
         FastMutex::begin(self, seat)
     }
 
     /// One line. It does not move at `At::AwaitY`, `At::Scan` and `At::SlowAwait`, while the algorithm waits there.
+    #[inline(always)]
     fn step(&self, walk: Walk<S>) -> (Walk<S>, bool) {
         let before = FastMutex::at(&walk);
         let walk = FastMutex::step(self, walk);
@@ -57,6 +59,7 @@ impl<S: Logged + Drop> Lock<S> for FastMutex<S> {
         (walk, has_moved)
     }
 
+    #[inline(always)]
     fn is_admitted(walk: &Walk<S>) -> bool {
         match FastMutex::at(walk) {
             At::Fast | At::Slow => true,

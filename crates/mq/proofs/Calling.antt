@@ -1,19 +1,22 @@
 -- What a call in one stay leaves.
-use Rattle.std.proofs.Common.{◌≡◌, ◌≢◌, ℕ, ◌==◌, Bool, true, false, List, [], ◌∷◌, ◌++◌, length, Option, Some, None, is_some, IsSome, refl, ap, sym, ◌∙◌, eq-eqb}
+use Rattle.std.proofs.Common.{◌≡◌, ◌≢◌, ℕ, ◌==◌, Bool, true, false, List, [], ◌∷◌, ◌++◌, length, Option, Some, None, Result, IfErr, is_some, IsSome, refl, ap, sym, subst, ◌∙◌, eq-eqb}
 use Rattle.std.specs.List.{All}
 use Rattle.std.specs.Option.{option_map, option_and_then, unwrap_or}
 use Rattle.mq_model.specs.Record.{Record, Past, record_at}
 use Rattle.mq_model.specs.Waits.{open_wait, wait_deadline, is_wait}
 use Rattle.mq_model.specs.Answer.{Legal}
+use Rattle.mq_model.specs.Bounds.{has_entry, HeedsBounds}
 use Rattle.mq_model.proofs.Places.{split}
 use Rattle.mq_model.specs.declared.entries.Call.{Call}
 use Rattle.mq_model.specs.declared.entries.Call.TheVariants.{Collect, Withdraw}
 use Rattle.mq_model.specs.declared.entries.Reply.{Reply}
 use Rattle.mq_model.specs.declared.entries.Reply.TheVariants.{Opened, Queued, Handed, Waits, Got, Collected, Attrs, Notice, Done, Refused, Withdrawn}
+use Rattle.mq_model.specs.declared.bounds.Bounds.{Bounds}
+use Rattle.mq_model.specs.declared.faults.Fault.{Fault}
 use Rattle.mq_state.specs.Kept.{Kept}
 use Rattle.mq_state.specs.Buffers.{waiting_call, waiting_room, room_of}
 use Rattle.fast_mutex.specs.Items.{LockId, Ticket, Grows, GrowsBy, items_of}
-use Rattle.mq.specs.Calls.{owner, recorded, made, is_no_memory, Calls, Came, IsFree, WaitsIn, wait_begun}
+use Rattle.mq.specs.Calls.{owner, recorded, made, Calls, Found, Stops, fixed_of, bounds_of, bounds_in, Came, IsFree, WaitsIn, wait_begun}
 use Rattle.mq.proofs.Others.{wait-grown, deadline-grown, call-grown, room-grown}
 use Rattle.mq.proofs.Growing.{grows-on, own-made, all-made, own-recorded}
 
@@ -71,13 +74,30 @@ module _ {old stay : Ticket Record} {system : LockId} {books : Kept} {p : ℕ} w
       → Calls old (record { lock = system; number = stay.number; left = records; told = false }) (made old.number call given reply)
   came-made call given reply c lock is legal = came-calls (λ q. made q call given reply) c lock is (own-made p call given reply) legal
 
+  -- the journal that it found, and that the bounds heeded there are those of its system
+  pub came-found : {records : Past} (call : Call) (given : List ℕ) (reply : Reply) → Came old system stay books p → old.lock ≡ system → records ≡ made p call given reply ++ books.records → HeedsBounds books.bounds books.records p call given reply
+      → Found old (record { lock = system; number = stay.number; left = records; told = false }) call given reply
+  came-found call given reply c lock is heeds = record {
+    journal = books.records;
+    added = rw (sym c.process) is;
+    heeds =
+        let same : books.bounds ≡ bounds_of old = c.bounds ∙ ap (λ (l : LockId). bounds_in l.fixed) (sym lock) in
+        subst (λ (o : Option Bounds). HeedsBounds o books.records old.number call given reply) same (subst (λ (n : ℕ). HeedsBounds books.bounds books.records n call given reply) c.process heeds);
+  }
+
+  -- where an exit stops, by the bounds of its system
+  pub came-stops : (records : Past) (result : Result (Unit {0}) Fault) → Came old system stay books p → old.lock ≡ system → IfErr result (Stops books.bounds records p) → IfErr result (Stops (bounds_of old) records old.number)
+  came-stops records result c lock stops =
+      let same : books.bounds ≡ bounds_of old = c.bounds ∙ ap (λ (l : LockId). bounds_in l.fixed) (sym lock) in
+      subst (λ (n : ℕ). IfErr result (Stops (bounds_of old) records n)) c.process (subst (λ (o : Option Bounds). IfErr result (Stops o records p)) same stops)
+
   -- a call that adds nothing of its process leaves the wait as it was
   pub still-free : {records : Past} (call : Call) (given : List ℕ) (reply : Reply) → Came old system stay books p → IsFree old → records ≡ made p call given reply ++ books.records → is_wait reply ≡ false → open_wait records stay.number ≡ None
-  still-free call given reply c free is answered = rw (is, same-number c) (by (is_no_memory reply) refl)
+  still-free call given reply c free is answered = rw (is, same-number c) (by (has_entry reply) refl)
     where
-      by : (b : Bool) → is_no_memory reply ≡ b → open_wait (made p call given reply ++ books.records) p ≡ None
-      by true e = rw e (came-free c free)
-      by false e = rw (e, eq-eqb p p refl, answered) refl
+      by : (b : Bool) → has_entry reply ≡ b → open_wait (made p call given reply ++ books.records) p ≡ None
+      by false e = rw e (came-free c free)
+      by true e = rw (e, eq-eqb p p refl, answered) refl
 
   -- where it waits, it waits in this call
   pub now-waits : {records : Past} (call : Call) (given : List ℕ) → Came old system stay books p → records ≡ made p call given Waits ++ books.records
@@ -134,3 +154,10 @@ module _ {old stay : Ticket Record} {system : LockId} {books : Kept} {p : ℕ} w
   pub room-kept : {records : Past} {waits : Option ℕ} (call : Call) (given : List ℕ) (reply : Reply) → Came old system stay books p → IsFree old → records ≡ made p call given reply ++ books.records → is_wait reply ≡ false
       → waits ≡ waiting_room old.left old.number → waits ≡ waiting_room records stay.number
   room-kept {records} call given reply c free is answered kept = kept ∙ free-room old.left old.number free ∙ sym (free-room records stay.number (still-free call given reply c free is answered))
+
+-- the fixed part has the number of processes
+pub fixed-n : (n m : ℕ) (a b : Option Bounds) → fixed_of n a ≡ fixed_of m b → n ≡ m
+fixed-n n m None None e = cc
+fixed-n n m None (Some b) e = absurd (cc)
+fixed-n n m (Some a) None e = absurd (cc)
+fixed-n n m (Some a) (Some b) e = cc

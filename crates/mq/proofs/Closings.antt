@@ -1,5 +1,5 @@
 -- Closing the lowest descriptor again and again.
-use Rattle.std.proofs.Common.{◌≡◌, ◌≢◌, ℕ, zero, suc, ◌+◌, ◌<◌, ◌≤◌, ◌==◌, Bool, true, false, List, [], ◌∷◌, ◌++◌, map, Option, Some, None, is_some, refl, ap, sym, ◌∙◌, arith, eqb, eqb-true, eq-eqb}
+use Rattle.std.proofs.Common.{◌≡◌, ◌≢◌, ℕ, zero, suc, ◌+◌, ◌<◌, ◌≤◌, ◌==◌, Bool, true, false, List, [], ◌∷◌, ◌++◌, map, Option, Some, None, is_some, refl, ap, sym, subst, ◌∙◌, arith, eqb, eqb-true, eq-eqb}
 use Rattle.std.specs.List.{find, All}
 use Rattle.std.proofs.lemmas.List.Elements.{All-nil, All-cons}
 use Rattle.std.specs.Option.{option_eq}
@@ -13,10 +13,10 @@ use Rattle.mq_model.specs.declared.entries.Call.TheVariants.{MqClose}
 use Rattle.mq_model.specs.declared.entries.Reply.{Reply}
 use Rattle.mq_model.specs.declared.entries.Reply.TheVariants.{Done, Refused}
 use Rattle.mq_model.specs.declared.faults.Fault.{Fault}
-use Rattle.mq_model.specs.declared.faults.Fault.TheVariants.{NoMemory, BadDescriptor}
+use Rattle.mq_model.specs.declared.bounds.Bounds.{Bounds}
+use Rattle.mq_model.specs.Bounds.{has_entry, HeedsBounds}
 use Rattle.fast_mutex.specs.Items.{items_of}
-use Rattle.mq.specs.Calls.{owner, recorded, closes, is_no_memory, AreLowest, Closing}
-use Rattle.mq.proofs.Replies.{no-memory, some-memory}
+use Rattle.mq.specs.Calls.{owner, recorded, closes, AreLowest, Closing, Stops}
 
 -- a process holds no descriptor below d
 abbrev pub IsFrom : Past → ℕ → ℕ → Type 0
@@ -97,12 +97,12 @@ pub all-closes : (p : ℕ) (ds : List ℕ) → All (λ x. owner x ≡ p) (closes
 all-closes p [] = All-nil (λ x. owner x ≡ p)
 all-closes p (d ∷ ds) = All-cons (λ x. owner x ≡ p) (recorded p (MqClose d) [] Done) (closes p ds) refl (all-closes p ds)
 
--- the close of a held descriptor is refused for want of memory alone
-pub close-refused : (past new : Past) (p d : ℕ) (reply : Reply) (fault : Fault) → lowest_held past p ≡ Some d → reply ≡ Refused fault
-    → (reply ≢ Refused NoMemory → Appends past new p (MqClose d) [] reply) → (reply ≡ Refused NoMemory → new ≡ past) → (fault ≡ NoMemory) × (new ≡ past)
-close-refused past new p d reply fault lowest is entry none = split (is_no_memory reply)
-    (λ want. let same = no-memory reply want in let fault_is : Refused fault ≡ Refused NoMemory = sym is ∙ same in let f : fault ≡ NoMemory = cc in (f, none same))
-    (λ room. absurd (let done = close-done past new p d reply lowest (entry (some-memory reply room)) in let bad : Refused fault ≡ Done = sym is ∙ done in cc))
+-- the close of a held descriptor is refused for want of memory, or because the journal is full
+pub close-refused : (bounds : Option Bounds) (past new : Past) (p d : ℕ) (reply : Reply) (fault : Fault) → lowest_held past p ≡ Some d → reply ≡ Refused fault
+    → (has_entry reply ≡ true → Appends past new p (MqClose d) [] reply) → (has_entry reply ≡ false → new ≡ past) → HeedsBounds bounds past p (MqClose d) [] reply → Stops bounds past p fault × (new ≡ past)
+close-refused bounds past new p d reply fault lowest is entry none heeds = split (has_entry reply)
+    (λ room. absurd (let done = close-done past new p d reply lowest (entry room) in let bad : Refused fault ≡ Done = sym is ∙ done in cc))
+    (λ want. (record { d = d; lowest = lowest; unentered = sym (ap has_entry is) ∙ want; heeds = subst (HeedsBounds bounds past p (MqClose d) []) is heeds }, none want))
 
 pub lowest-is : (past : Past) (p d : ℕ) (o : Option ℕ) → o ≡ lowest_held past p → true ≡ option_eq eqb o (Some d) → lowest_held past p ≡ Some d
 lowest-is past p d None is same = absurd (cc)

@@ -20,7 +20,7 @@ use Rattle.mq_state.specs.declared.collected.Collected.{Collected as Outcome}
 use Rattle.fast_mutex.specs.Items.{LockId, Ticket, Grows, GrowsBy}
 use Rattle.mq_state.specs.declared.collected.Collected.TheVariants.{Got as GotMessage, Sent}
 use Rattle.mq.specs.Says.{start_send_says, start_receive_says}
-use Rattle.mq.specs.Calls.{owner, recorded, Calls, Came, Collects, StillWaits, WithdrawsAt, Withdraws, Expired, Waited, OneCall, ReceiveCall, WaitedSend, WaitedReceive}
+use Rattle.mq.specs.Calls.{owner, recorded, Calls, Came, Collects, StillWaits, WithdrawsAt, Withdraws, Expired, Begins, Waited, OneCall, ReceiveCall, WaitedSend, WaitedReceive}
 use Rattle.mq.proofs.Replies.{send-waits, receive-waits}
 use Rattle.mq.proofs.Messages.{message-kept, received-kept}
 use Rattle.mq.proofs.Growing.{own-recorded, calls-on}
@@ -170,14 +170,14 @@ collects-later {old} {mid} {new} {result} {before} {after} first same c = record
 }
 
 -- a wait and then its collect
-pub waited : {old mid new : Ticket Record} {result : Outcome} {before after : List ℕ} (call : Call) (given : List ℕ) → Calls old mid (recorded old.number call given Waits ∷ []) → (c : Collects mid new result before after) → Waited old new call given c.by
-waited call given first c = record { calls = calls-on (λ n. recorded n Collect [] (Collected c.by) ∷ []) first c.calls }
+pub waited : {old mid new : Ticket Record} {result : Outcome} {before after : List ℕ} (call : Call) (given : List ℕ) → Begins old mid call given → (c : Collects mid new result before after) → Waited old new call given c.by
+waited {old} {mid} call given first c = record { begun = mid; begins = first; calls = calls-on (λ n. recorded n Collect [] (Collected c.by) ∷ []) first.calls c.calls }
 
 -- a send waits where its start says so
 pub send-waited : {old mid new : Ticket Record} {outcome : Outcome} {before after : List ℕ} {call : Call} {bytes : List ℕ} → OneCall start_send_says old mid call bytes (Ok false) → Collects mid new outcome before after → WaitedSend old new call bytes (Ok tt)
 send-waited {old} {mid} {new} {outcome} {before} {after} {call} {bytes} start c =
     let waits : start.reply ≡ Waits = send-waits start.reply (Ok false) start.says_so refl in
-    let first : Calls old mid (recorded old.number call bytes Waits ∷ []) = rw waits at start.calls in
+    let first : Begins old mid call bytes = record { calls = rw waits at start.calls; found = rw waits at start.found } in
     record { by = c.by; waited = waited call bytes first c; is = refl }
 
 -- and a receive: then the message is that of the send that answered it
@@ -185,7 +185,7 @@ pub receive-waited : {old mid new : Ticket Record} {received : Received} {before
     → waiting_call mid.left mid.number ≡ call → Collects mid new (GotMessage received) between after → WaitedReceive old new call before after (Ok received)
 receive-waited {old} {mid} {new} {received} {before} {between} {after} {call} receives start called c =
     let waits : start.reply ≡ Waits = receive-waits mid.left start.reply (Ok None) start.says_so refl in
-    let first : Calls old mid (recorded old.number call [] Waits ∷ []) = rw waits at start.calls in
+    let first : Begins old mid call [] = record { calls = rw waits at start.calls; found = rw waits at start.found } in
     let same_call : waiting_call c.found mid.number ≡ call = c.call ∙ called in
     let value : Some (GotMessage (received_at c.found c.by)) ≡ Some (GotMessage received) = rw (same_call, c.answered, receives) at c.value in
     let same : received_at c.found c.by ≡ received = cc in
@@ -207,24 +207,26 @@ receive-gets {mid} {new} {before} {after} {call} receives called c =
     let value : Some (GotMessage (received_at c.found c.by)) ≡ Some Sent = rw (same_call, c.answered, receives) at c.value in cc
 
 -- a wait and then its withdrawal
-pub expired : {R : Type 0} {gives : Deadline → Type 0} {old mid new : Ticket Record} {call : Call} {given : List ℕ} → Calls old mid (recorded old.number call given Waits ∷ []) → Withdraws gives mid new → Expired {R = R} gives old new call given (Err TimedOut)
+pub expired : {R : Type 0} {gives : Deadline → Type 0} {old mid new : Ticket Record} {call : Call} {given : List ℕ} → Begins old mid call given → Withdraws gives mid new → Expired {R = R} gives old new call given (Err TimedOut)
 expired {R} {gives} {old} {mid} {new} {call} {given} first w = record {
   now = w.now;
   moment = w.moment;
   wait = w.withdraws.wait;
-  calls = calls-on (λ n. recorded n (Withdraw w.now) [] (Withdrawn w.withdraws.wait) ∷ []) first w.withdraws.calls;
+  begun = mid;
+  begins = first;
+  calls = calls-on (λ n. recorded n (Withdraw w.now) [] (Withdrawn w.withdraws.wait) ∷ []) first.calls w.withdraws.calls;
   is = refl;
 }
 
 pub send-expired : {gives : Deadline → Type 0} {old mid new : Ticket Record} {call : Call} {bytes : List ℕ} → OneCall start_send_says old mid call bytes (Ok false) → Withdraws gives mid new → Expired {R = Unit {0}} gives old new call bytes (Err TimedOut)
 send-expired {gives} {old} {mid} {new} {call} {bytes} start w =
     let waits : start.reply ≡ Waits = send-waits start.reply (Ok false) start.says_so refl in
-    let first : Calls old mid (recorded old.number call bytes Waits ∷ []) = rw waits at start.calls in
+    let first : Begins old mid call bytes = record { calls = rw waits at start.calls; found = rw waits at start.found } in
     expired first w
 
 pub receive-expired : {gives : Deadline → Type 0} {old mid new : Ticket Record} {call : Call} {before between : List ℕ} → ReceiveCall start_receive_says old mid call before between (Ok None) → Withdraws gives mid new → Expired {R = Received} gives old new call [] (Err TimedOut) × (between ≡ before)
 receive-expired {gives} {old} {mid} {new} {call} {before} {between} start w =
     let waits : start.reply ≡ Waits = receive-waits mid.left start.reply (Ok None) start.says_so refl in
-    let first : Calls old mid (recorded old.number call [] Waits ∷ []) = rw waits at start.calls in
+    let first : Begins old mid call [] = record { calls = rw waits at start.calls; found = rw waits at start.found } in
     let untouched : between ≡ before = rw waits at start.buffer in
     (expired first w, untouched)

@@ -5,13 +5,14 @@ use Rattle.std.proofs.lemmas.List.Elements.{filter-append, All-nil, All-cons}
 use Rattle.mq_model.specs.Record.{Record, Past}
 use Rattle.mq_model.specs.Waits.{open_wait, is_wait}
 use Rattle.mq_model.specs.Answer.{Legal}
+use Rattle.mq_model.specs.Bounds.{has_entry}
 use Rattle.mq_model.proofs.Places.{split}
 use Rattle.mq_model.specs.declared.entries.Call.{Call}
 use Rattle.mq_model.specs.declared.entries.Reply.{Reply}
 use Rattle.mq_model.specs.declared.entries.Reply.TheVariants.{Waits}
 use Rattle.mq_state.specs.Kept.{Kept}
 use Rattle.fast_mutex.specs.Items.{LockId, Ticket, Grows, GrowsBy, items_of}
-use Rattle.mq.specs.Calls.{owner, recorded, made, is_no_memory, Calls, Came, ticket_of}
+use Rattle.mq.specs.Calls.{owner, recorded, made, Calls, Came, ticket_of}
 use Rattle.mq.proofs.Others.{wait-grown}
 
 -- one stay behind another
@@ -31,14 +32,14 @@ own-recorded p call given reply = rw (eq-eqb p p refl) refl
 
 -- what a call adds is its process's own
 pub own-made : (p : ℕ) (call : Call) (given : List ℕ) (reply : Reply) → items_of owner p (made p call given reply) ≡ made p call given reply
-own-made p call given reply = split (is_no_memory reply)
-    (λ none. rw none refl)
+own-made p call given reply = split (has_entry reply)
     (λ some. rw some (own-recorded p call given reply))
+    (λ none. rw none refl)
 
 pub all-made : (p : ℕ) (call : Call) (given : List ℕ) (reply : Reply) → All (λ x. owner x ≡ p) (made p call given reply)
-all-made p call given reply = split (is_no_memory reply)
-    (λ none. rw none (All-nil (λ x. owner x ≡ p)))
+all-made p call given reply = split (has_entry reply)
     (λ some. rw some (All-cons (λ x. owner x ≡ p) (recorded p call given reply) [] refl (All-nil (λ x. owner x ≡ p))))
+    (λ none. rw none (All-nil (λ x. owner x ≡ p)))
 
 pub calls-on : {old mid new : Ticket Record} {first : Past} (own : ℕ → Past) → Calls old mid first → Calls mid new (own mid.number) → Calls old new (own old.number ++ first)
 calls-on {old} {mid} {new} {first} own a b = record {

@@ -12,7 +12,7 @@ use Rattle.mq_model.specs.declared.entries.Reply.{Reply}
 use Rattle.mq_model.specs.declared.entries.Reply.TheVariants.{Opened, Queued, Handed, Waits, Got, Collected, Attrs, Notice, Done, Refused, Withdrawn}
 use Rattle.mq_model.specs.Answer.{payload_of}
 use Rattle.mq_state.specs.Buffers.{message_at, received_at, with_front, filled, room_of}
-use Rattle.mq.specs.Calls.{recorded, made, is_no_memory}
+use Rattle.mq.specs.Calls.{recorded, made}
 
 none-here : (past : Past) (m : ℕ) → m ≡ length past → record_at past m ≡ None
 none-here past m here = by (record_at past m) refl

@@ -2,6 +2,7 @@
 use Rattle.std.proofs.Common.{◌≡◌, ◌≢◌, ℕ, Bool, true, false, List, [], ◌∷◌, ◌++◌, Option, Some, None, is_some, Result, Ok, Err, refl, ap, sym, ◌∙◌, subst}
 use Rattle.mq_model.specs.Record.{Record, Past}
 use Rattle.mq_model.specs.Answer.{Appends, answer}
+use Rattle.mq_model.specs.Bounds.{has_entry}
 use Rattle.mq_model.specs.Waits.{is_wait}
 use Rattle.mq_model.proofs.Places.{split}
 use Rattle.mq_model.proofs.Cases.{Says, answer_says, OpenReply, DoneReply, AttrsReply, SendSays, ReceiveSays}
@@ -11,11 +12,10 @@ use Rattle.mq_model.specs.declared.entries.Call.TheVariants.{MqOpen, MqClose, Mq
 use Rattle.mq_model.specs.declared.entries.Reply.{Reply}
 use Rattle.mq_model.specs.declared.entries.Reply.TheVariants.{Opened, Queued, Handed, Waits, Got, Collected, Attrs, Notice, Done, Refused, Withdrawn}
 use Rattle.mq_model.specs.declared.faults.Fault.{Fault}
-use Rattle.mq_model.specs.declared.faults.Fault.TheVariants.{Again, BadDescriptor, Busy, Exists, Invalid, TooManyOpen, MessageSize, NameTooLong, NoEntry, NoSpace, NoMemory, TimedOut}
 use Rattle.mq_model.specs.declared.entries.Received.{Received}
 use Rattle.mq_state.specs.Buffers.{received_at}
 use Rattle.mq.specs.Says.{start_send_says, start_receive_says}
-use Rattle.mq.specs.Calls.{recorded, made, is_no_memory}
+use Rattle.mq.specs.Calls.{recorded, made}
 use Rattle.mq.specs.Asked.{may_reply, is_opened, is_done, is_attributes, is_notice, is_sent, is_received, is_collected, is_plain, is_of_name}
 
 opened : (reply : Reply) → OpenReply reply → is_opened reply ≡ true
@@ -99,46 +99,33 @@ may-answer past p NextNotice given = refl
 may-answer past p Collect given = refl
 may-answer past p (Withdraw now) given = refl
 
-pub no-memory : (reply : Reply) → is_no_memory reply ≡ true → reply ≡ Refused NoMemory
-no-memory (Refused NoMemory) e = refl
-no-memory (Refused Again) e = absurd (cc)
-no-memory (Refused BadDescriptor) e = absurd (cc)
-no-memory (Refused Busy) e = absurd (cc)
-no-memory (Refused Exists) e = absurd (cc)
-no-memory (Refused Invalid) e = absurd (cc)
-no-memory (Refused TooManyOpen) e = absurd (cc)
-no-memory (Refused MessageSize) e = absurd (cc)
-no-memory (Refused NameTooLong) e = absurd (cc)
-no-memory (Refused NoEntry) e = absurd (cc)
-no-memory (Refused NoSpace) e = absurd (cc)
-no-memory (Refused TimedOut) e = absurd (cc)
-no-memory (Opened d c) e = absurd (cc)
-no-memory (Queued n) e = absurd (cc)
-no-memory (Handed w) e = absurd (cc)
-no-memory Waits e = absurd (cc)
-no-memory (Got m a n) e = absurd (cc)
-no-memory (Collected by) e = absurd (cc)
-no-memory (Withdrawn by) e = absurd (cc)
-no-memory (Attrs s) e = absurd (cc)
-no-memory (Notice v) e = absurd (cc)
-no-memory Done e = absurd (cc)
+-- a reply without an entry is a refusal
+pub unentered : (reply : Reply) → has_entry reply ≡ false → (f : Fault) × (reply ≡ Refused f)
+unentered (Refused f) e = (f, refl)
+unentered (Opened d c) e = absurd (cc)
+unentered (Queued n) e = absurd (cc)
+unentered (Handed w) e = absurd (cc)
+unentered Waits e = absurd (cc)
+unentered (Got m a n) e = absurd (cc)
+unentered (Collected by) e = absurd (cc)
+unentered (Withdrawn by) e = absurd (cc)
+unentered (Attrs s) e = absurd (cc)
+unentered (Notice v) e = absurd (cc)
+unentered Done e = absurd (cc)
 
-pub some-memory : (reply : Reply) → is_no_memory reply ≡ false → reply ≢ Refused NoMemory
-some-memory reply e same = let bad : is_no_memory reply ≡ true = rw same refl in let clash : true ≡ false = sym bad ∙ e in absurd (cc)
-
--- what a call on the books leaves: its record, or nothing for want of memory
+-- what a call on the books leaves: its record, or nothing for want of memory or because the journal is full
 pub asked : {old new : Past} {p : ℕ} {call : Call} {given : List ℕ} {reply : Reply}
-    → (reply ≢ Refused NoMemory → Appends old new p call given reply) → (reply ≡ Refused NoMemory → new ≡ old) → new ≡ made p call given reply ++ old
-asked {old} {new} {p} {call} {given} {reply} entry none = split (is_no_memory reply)
-    (λ want. rw want (none (no-memory reply want)))
-    (λ room. rw room ((entry (some-memory reply room)).records))
+    → (has_entry reply ≡ true → Appends old new p call given reply) → (has_entry reply ≡ false → new ≡ old) → new ≡ made p call given reply ++ old
+asked {old} {new} {p} {call} {given} {reply} entry none = split (has_entry reply)
+    (λ room. rw room ((entry room).records))
+    (λ want. rw want (none want))
 
 -- and its reply is one that it may be given
 pub replied : {old new : Past} {p : ℕ} {call : Call} {given : List ℕ} {reply : Reply}
-    → (reply ≢ Refused NoMemory → Appends old new p call given reply) → may_reply call (Refused NoMemory) ≡ true → may_reply call reply ≡ true
-replied {old} {new} {p} {call} {given} {reply} entry refused = split (is_no_memory reply)
-    (λ want. rw (no-memory reply want) refused)
-    (λ room. rw ((entry (some-memory reply room)).answers) (may-answer old p call given))
+    → (has_entry reply ≡ true → Appends old new p call given reply) → ((f : Fault) → may_reply call (Refused f) ≡ true) → may_reply call reply ≡ true
+replied {old} {new} {p} {call} {given} {reply} entry refused = split (has_entry reply)
+    (λ room. rw ((entry room).answers) (may-answer old p call given))
+    (λ want. let x = unentered reply want in rw x.1 (refused x.0))
 
 not-opened : (reply : Reply) → is_opened reply ≡ true → is_wait reply ≡ false
 not-opened Waits e = absurd (cc)

@@ -7,6 +7,8 @@ use Rattle.mq_model.specs.Descriptors.{lowest_held}
 use Rattle.mq_model.specs.Deadlines.{deadline_of}
 use Rattle.mq_model.specs.Waits.{open_wait, wait_deadline, answered_by, is_answered}
 use Rattle.mq_model.specs.Answer.{Legal, payload_of}
+use Rattle.mq_model.specs.Bounds.{has_entry, HeedsBounds}
+use Rattle.mq_model.specs.declared.bounds.Bounds.{Bounds}
 use Rattle.mq_model.specs.declared.entries.Received.{Received}
 use Rattle.mq_model.specs.declared.entries.Deadline.{Deadline}
 use Rattle.mq_model.specs.declared.entries.Call.{Call}
@@ -14,7 +16,7 @@ use Rattle.mq_model.specs.declared.entries.Call.TheVariants.{MqClose, MqSend, Mq
 use Rattle.mq_model.specs.declared.entries.Reply.{Reply}
 use Rattle.mq_model.specs.declared.entries.Reply.TheVariants.{Opened, Queued, Handed, Waits, Got, Collected, Withdrawn, Attrs, Notice, Done, Refused}
 use Rattle.mq_model.specs.declared.faults.Fault.{Fault}
-use Rattle.mq_model.specs.declared.faults.Fault.TheVariants.{Again, BadDescriptor, Busy, Exists, Invalid, TooManyOpen, MessageSize, NameTooLong, NoEntry, NoSpace, NoMemory, TimedOut}
+use Rattle.mq_model.specs.declared.faults.Fault.TheVariants.{TimedOut}
 use Rattle.mq_state.specs.Buffers.{filled, with_front, message_at, received_at, collected, collected_into, waiting_call, waiting_room, room_of}
 use Rattle.mq_state.specs.Kept.{Kept}
 use Rattle.mq_state.specs.declared.collected.Collected.{Collected as Outcome}
@@ -27,13 +29,22 @@ owner r = r.entry.process
 abbrev pub recorded : ℕ → Call → List ℕ → Reply → Record
 recorded p call given reply = record { entry = record { process = p; call = call; reply = reply }; payload = payload_of call reply given }
 
-abbrev pub is_no_memory : Reply → Bool
-is_no_memory (Refused NoMemory) = true
-is_no_memory _ = false
-
--- what a call adds to the journal: its record, or nothing for want of memory
+-- what a call adds to the journal: its record, or nothing for want of memory or because the journal is full
 abbrev pub made : ℕ → Call → List ℕ → Reply → Past
-made p call given reply = if is_no_memory reply then [] else recorded p call given reply ∷ []
+made p call given reply = if has_entry reply then recorded p call given reply ∷ [] else []
+
+-- the fixed part of the state: the number of processes, and the bounds of the journal
+abbrev pub fixed_of : ℕ → Option Bounds → List ℕ
+fixed_of n None = n ∷ []
+fixed_of n (Some b) = n ∷ b.entries ∷ b.bytes ∷ []
+
+abbrev pub bounds_in : List ℕ → Option Bounds
+bounds_in (n ∷ entries ∷ bytes ∷ []) = Some (record { entries = entries; bytes = bytes })
+bounds_in _ = None
+
+-- the bounds of the system that a process belongs to
+abbrev pub bounds_of : Ticket Record → Option Bounds
+bounds_of t = bounds_in t.lock.fixed
 
 -- the process has no open wait
 abbrev pub IsFree : Ticket Record → Type 0
@@ -58,16 +69,24 @@ pub record Calls (old new : Ticket Record) (own : Past) : Type 0 where
   pub legal : Legal new.left
   pub grows : Grows owner old.number old.left new.left own
 
--- a call in one stay: it left its record, or none for want of memory, and its result is what the reply in it says
+-- the journal that a call found: it added its record to it, and its reply is that the journal is full exactly where it was
+pub record Found (old new : Ticket Record) (call : Call) (given : List ℕ) (reply : Reply) : Type 0 where
+  pub journal : Past
+  pub added : new.left ≡ made old.number call given reply ++ journal
+  pub heeds : HeedsBounds (bounds_of old) journal old.number call given reply
+
+-- a call in one stay: it left its record, or none for want of memory or because the journal is full, and its result is what the reply says
 pub record OneCall {R : Type 0} (says : Reply → Option R) (old new : Ticket Record) (call : Call) (given : List ℕ) (result : R) : Type 0 where
   pub reply : Reply
   pub calls : Calls old new (made old.number call given reply)
+  pub found : Found old new call given reply
   pub says_so : says reply ≡ Some result
 
 -- a receive in one stay: `before` is what the buffer held, `after` what it holds
 pub record ReceiveCall {R : Type 0} (says : Past → Reply → Option R) (old new : Ticket Record) (call : Call) (before after : List ℕ) (result : R) : Type 0 where
   pub reply : Reply
   pub calls : Calls old new (made old.number call [] reply)
+  pub found : Found old new call [] reply
   pub says_so : says new.left reply ≡ Some result
   pub buffer : after ≡ filled new.left reply before
 
@@ -90,8 +109,15 @@ pub record StillWaits (old new : Ticket Record) : Type 0 where
   pub call : waiting_call new.left new.number ≡ waiting_call old.left old.number
   pub unanswered : is_answered new.left new.number ≡ false
 
+-- a wait that a call began in its first stay, whose ticket behind it was `begun`
+pub record Begins (old begun : Ticket Record) (call : Call) (given : List ℕ) : Type 0 where
+  pub calls : Calls old begun (recorded old.number call given Waits ∷ [])
+  pub found : Found old begun call given Waits
+
 -- a call that waited left two records, the wait and then the collect, which names the entry that answered the wait
 pub record Waited (old new : Ticket Record) (call : Call) (given : List ℕ) (by : ℕ) : Type 0 where
+  pub begun : Ticket Record
+  pub begins : Begins old begun call given
   pub calls : Calls old new (recorded old.number Collect [] (Collected by) ∷ recorded old.number call given Waits ∷ [])
 
 -- a send that waited, and was then accepted
@@ -132,6 +158,8 @@ pub record Expired {R : Type 0} (gives : Deadline → Type 0) (old new : Ticket 
   pub now : Deadline
   pub moment : gives now
   pub wait : ℕ
+  pub begun : Ticket Record
+  pub begins : Begins old begun call given
   pub calls : Calls old new (recorded old.number (Withdraw now) [] (Withdrawn wait) ∷ recorded old.number call given Waits ∷ [])
   pub is : result ≡ Err TimedOut
 
@@ -165,13 +193,20 @@ pub record Closing (found after : Past) (p : ℕ) : Type 0 where
   pub is : after ≡ closes p ds ++ found
   pub lowest : AreLowest found p ds
 
--- an exit: it left closes alone. After Ok no descriptor is held, and it fails by want of memory alone
+-- an exit that stopped at descriptor d, the lowest that is still held: for its close memory was wanting, or the journal full
+pub record Stops (bounds : Option Bounds) (left : Past) (p : ℕ) (fault : Fault) : Type 0 where
+  pub d : ℕ
+  pub lowest : lowest_held left p ≡ Some d
+  pub unentered : has_entry (Refused fault) ≡ false
+  pub heeds : HeedsBounds bounds left p (MqClose d) [] (Refused fault)
+
+-- an exit: it left closes alone. After Ok no descriptor is held, and it fails by want of memory or because the journal is full
 pub record Exits (old new : Ticket Record) (result : Result (Unit {0}) Fault) : Type 0 where
   pub found : Past
   pub closing : Closing found new.left old.number
   pub calls : Calls old new (closes old.number closing.ds)
   pub ok : OnOk result (lowest_held new.left new.number ≡ None)
-  pub err : IfErr result (λ e. e ≡ NoMemory)
+  pub err : IfErr result (Stops (bounds_of old) new.left old.number)
 
 -- inside the lock ----------------------------------------------------------------------------------------------------------
 
@@ -203,6 +238,7 @@ pub record Came (old : Ticket Record) (system : LockId) (stay : Ticket Record) (
   pub some : 1 ≤ p
   pub few : p ≤ books.n
   pub n : books.n ≡ system.count
+  pub bounds : books.bounds ≡ bounds_in system.fixed
   pub found : stay.left ≡ books.records
   pub grows : Grows owner old.number old.left books.records []
   pub told : old.told ≡ true → is_answered books.records old.number ≡ true

@@ -1,3 +1,4 @@
 pub mod Says
+pub mod Blocked
 pub mod Calls
 pub mod Asked

@@ -6,6 +6,7 @@ ghost use Rattle.mq_model.specs.Waits.{open_wait, wait_deadline, answered_by};
 ghost use Rattle.mq_model.specs.declared.entries.Call.{Call};
 ghost use Rattle.mq_model.specs.Messages.{is_send, is_receive};
 ghost use Rattle.mq_state.specs.Buffers.{filled, length_sent, room_of, waiting_call, collected, collected_into};
+ghost use Rattle.mq_model.specs.Bounds.{HeedsBounds};
 ghost use Rattle.mq.specs.Calls.{made};
 ghost use Rattle.mq.specs.Asked.{is_plain, is_of_name, is_sent, is_received, may_reply};
 ghost use Rattle.mq.specs.Says.{done_says, attributes_says};
@@ -23,7 +24,9 @@ pub(crate) fn ask(books: &mut Books, p: u32, call: Call) -> Reply
     requires plain { is_plain call ≡ true }
     ensures records { books.new.records ≡ made p call [] result ++ books.old.records }
     ensures replies { may_reply call result ≡ true }
+    ensures heeds { HeedsBounds books.old.bounds books.old.records p call [] result }
     ensures processes { books.new.n ≡ books.old.n }
+    ensures bounds { books.new.bounds ≡ books.old.bounds }
 {
     match call {
         Call::MqClose { d } => books.close(p, d),
@@ -50,7 +53,9 @@ pub(crate) fn ask_by_name(books: &mut Books, p: u32, call: Call, name: &Name) ->
     requires by_name { is_of_name call ≡ true }
     ensures records { books.new.records ≡ made p call name.now result ++ books.old.records }
     ensures replies { may_reply call result ≡ true }
+    ensures heeds { HeedsBounds books.old.bounds books.old.records p call name.now result }
     ensures processes { books.new.n ≡ books.old.n }
+    ensures bounds { books.new.bounds ≡ books.old.bounds }
 {
     match call {
         Call::MqOpen { flags, attr } => books.open(p, name, flags, attr),
@@ -67,7 +72,9 @@ pub(crate) fn ask_send(books: &mut Books, p: u32, call: Call, bytes: &[u8]) -> R
     requires length { length_sent call ≡ length bytes.now }
     ensures records { books.new.records ≡ made p call bytes.now result ++ books.old.records }
     ensures replies { is_sent result ≡ true }
+    ensures heeds { HeedsBounds books.old.bounds books.old.records p call bytes.now result }
     ensures processes { books.new.n ≡ books.old.n }
+    ensures bounds { books.new.bounds ≡ books.old.bounds }
 {
     match call {
         Call::MqSend { d, prio, len: _ } => books.send(p, d, bytes, prio),
@@ -90,8 +97,10 @@ pub(crate) fn ask_receive(books: &mut Books, p: u32, call: Call, buf: &mut [u8])
     requires room { room_of call ≡ length buf.old }
     ensures records { books.new.records ≡ made p call [] result ++ books.old.records }
     ensures replies { is_received result ≡ true }
+    ensures heeds { HeedsBounds books.old.bounds books.old.records p call [] result }
     ensures buffer { buf.new ≡ filled books.old.records result buf.old }
     ensures processes { books.new.n ≡ books.old.n }
+    ensures bounds { books.new.bounds ≡ books.old.bounds }
 {
     match call {
         Call::MqReceive { d, room: _ } => books.receive(p, d, buf),
@@ -123,6 +132,7 @@ pub(crate) fn end_wait(
     ensures withdraws { result ≡ None → IfSome (open_wait books.old.records p) (λ wait. Appends books.old.records books.new.records p (Call.Withdraw now) [] (Reply.Withdrawn wait)) }
     ensures buffer { buf.new ≡ collected_into books.old.records p buf.old }
     ensures processes { books.new.n ≡ books.old.n }
+    ensures bounds { books.new.bounds ≡ books.old.bounds }
 {
     match books.collect(p, buf) {
         Some(outcome) => Some(outcome),

@@ -27,7 +27,7 @@ impl Model for LoggedRecord {
 }
 
 /// The queues of one thread, guarded by a lock: its list is the journal, the latest record first, and its fixed part the
-/// number of processes.
+/// number of processes and the bounds of the journal.
 #[derive(Drop)]
 pub struct Guarded {
     pub(crate) books: Books,
@@ -51,12 +51,12 @@ impl Logged for Guarded {
 
     ghost use Rattle.std.specs.Prelude.{◌∷◌, [], refl};
     ghost use Rattle.mq_model.specs.Waits.{is_answered};
-    ghost use Rattle.mq.specs.Calls.{owner};
+    ghost use Rattle.mq.specs.Calls.{owner, fixed_of};
     ghost use Rattle.mq_model.proofs.OthersLeave.{answered-stays};
 
     ghost items = { λ s. s.books.records };
 
-    ghost fixed = { λ s. s.books.n ∷ [] };
+    ghost fixed = { λ s. fixed_of s.books.n s.books.bounds };
 
     ghost owner = { owner };
 

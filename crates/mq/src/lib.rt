@@ -26,6 +26,7 @@ pub use mq_model::faults::Fault;
 pub use mq_model::journals::Journal;
 pub use mq_model::names::Name;
 pub use mq_state::collected::Collected;
+pub use mq_state::memory::memory_of;
 pub use process::Process;
 pub use system::Mq;
 

@@ -8,6 +8,7 @@ ghost use Rattle.mq.specs.Calls.{ticket_of};
 ghost use Rattle.mq.specs.Asked.{is_done, is_attributes};
 ghost use Rattle.mq.specs.Says.{done_says, attributes_says};
 
+mod blocked;
 mod exits;
 mod messages;
 mod timed;
@@ -68,7 +69,7 @@ impl<L: Look<Guarded>> Process<L> {
     ghost use Rattle.mq_state.specs.Buffers.{waiting_room, waiting_call, room_of, filled};
     ghost use Rattle.mq.specs.Asked.{is_plain, is_of_name, may_reply};
     ghost use Rattle.mq.specs.Says.{open_says, done_says, attributes_says, notice_says, start_send_says, start_receive_says};
-    ghost use Rattle.mq.specs.Calls.{IsFree, Calls, OneCall, ReceiveCall, SendCall, WholeReceive, Collects, StillWaits, Exits, made};
+    ghost use Rattle.mq.specs.Calls.{IsFree, Calls, OneCall, ReceiveCall, SendCall, WholeReceive, Collects, StillWaits, Exits, Found, made};
 
     /// The number of the process.
     pub fn number(&self) -> u32
@@ -95,6 +96,7 @@ impl<L: Look<Guarded>> Process<L> {
         requires free { IsFree self.old }
         requires plain { is_plain call ≡ true }
         ensures calls { Calls self.old self.new (made self.old.number call [] result) }
+        ensures found { Found self.old self.new call [] result }
         ensures replies { may_reply call result ≡ true }
         ensures free { IsFree self.new }
     {
@@ -110,6 +112,7 @@ impl<L: Look<Guarded>> Process<L> {
         requires free { IsFree self.old }
         requires by_name { is_of_name call ≡ true }
         ensures calls { Calls self.old self.new (made self.old.number call name.now result) }
+        ensures found { Found self.old self.new call name.now result }
         ensures replies { may_reply call result ≡ true }
         ensures free { IsFree self.new }
     {
@@ -120,7 +123,7 @@ impl<L: Look<Guarded>> Process<L> {
     }
 
     /// Opens the queue of that name (`mq_open`) and gives the lowest free descriptor. Refused with `Exists`, `NoEntry`, `Invalid`,
-    /// `TooManyOpen`, `NoSpace` or `NoMemory`.
+    /// `TooManyOpen`, `NoSpace`, `NoMemory` or `JournalFull`.
     pub fn open<R: Wait>(
         &mut self,
         rt: &R,
@@ -141,7 +144,7 @@ impl<L: Look<Guarded>> Process<L> {
         }
     }
 
-    /// Closes descriptor d (`mq_close`). Refused with `BadDescriptor` or `NoMemory`.
+    /// Closes descriptor d (`mq_close`). Refused with `BadDescriptor`, `NoMemory` or `JournalFull`.
     pub fn close<R: Wait>(&mut self, rt: &R, mq: &Mq<L>, d: u32) -> Result<(), Fault>
         requires made { self.old.lock ≡ mq.now }
         requires free { IsFree self.old }
@@ -151,7 +154,7 @@ impl<L: Look<Guarded>> Process<L> {
         done(self.call(rt, mq, Call::MqClose { d }))
     }
 
-    /// Unbinds a name from its queue (`mq_unlink`). Refused with `NoEntry` or `NoMemory`.
+    /// Unbinds a name from its queue (`mq_unlink`). Refused with `NoEntry`, `NoMemory` or `JournalFull`.
     pub fn unlink<R: Wait>(&mut self, rt: &R, mq: &Mq<L>, name: &Name) -> Result<(), Fault>
         requires made { self.old.lock ≡ mq.now }
         requires free { IsFree self.old }
@@ -162,7 +165,7 @@ impl<L: Look<Guarded>> Process<L> {
     }
 
     /// Registers on the queue of descriptor d with the value of the notice, or removes the registration (`mq_notify`). Refused
-    /// with `BadDescriptor`, `Busy`, `NoMemory` or, a removal, `Invalid`.
+    /// with `BadDescriptor`, `Busy`, `NoMemory`, `JournalFull` or, a removal, `Invalid`.
     pub fn notify<R: Wait>(
         &mut self,
         rt: &R,
@@ -178,7 +181,7 @@ impl<L: Look<Guarded>> Process<L> {
         done(self.call(rt, mq, Call::MqNotify { d, value }))
     }
 
-    /// The attributes of descriptor d (`mq_getattr`). Refused with `BadDescriptor` or `NoMemory`.
+    /// The attributes of descriptor d (`mq_getattr`). Refused with `BadDescriptor`, `NoMemory` or `JournalFull`.
     pub fn getattr<R: Wait>(&mut self, rt: &R, mq: &Mq<L>, d: u32) -> Result<Status, Fault>
         requires made { self.old.lock ≡ mq.now }
         requires free { IsFree self.old }
@@ -189,7 +192,7 @@ impl<L: Look<Guarded>> Process<L> {
     }
 
     /// Sets the flag of descriptor d and gives the attributes from before (`mq_setattr`): of `new` its `nonblock` alone is used.
-    /// Refused with `BadDescriptor` or `NoMemory`.
+    /// Refused with `BadDescriptor`, `NoMemory` or `JournalFull`.
     pub fn setattr<R: Wait>(
         &mut self,
         rt: &R,
@@ -206,7 +209,7 @@ impl<L: Look<Guarded>> Process<L> {
         attributes(self.call(rt, mq, Call::MqSetattr { d, nonblock }))
     }
 
-    /// The value of the oldest notice that the process has not yet taken. Refused with `NoMemory` alone.
+    /// The value of the oldest notice that the process has not yet taken. Refused with `NoMemory` or `JournalFull` alone.
     pub fn next_notice<R: Wait>(&mut self, rt: &R, mq: &Mq<L>) -> Result<Option<u64>, Fault>
         requires made { self.old.lock ≡ mq.now }
         requires free { IsFree self.old }

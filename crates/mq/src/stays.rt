@@ -2,7 +2,7 @@
 ghost use Rattle.std.specs.Prelude.{◌≡◌, IsSome, false};
 ghost use Rattle.fast_mutex.specs.Items.{GrowsBy};
 ghost use Rattle.mq_model.specs.Answer.{Legal};
-ghost use Rattle.mq.specs.Calls.{Came, Knows, ticket_of, owner};
+ghost use Rattle.mq.specs.Calls.{Came, Knows, ticket_of, owner, bounds_in};
 
 use crate::guarded::{Guarded, Visit};
 use crate::system::Mq;
@@ -35,6 +35,7 @@ pub(crate) fn depart<L: Look<Guarded>>(
 )
     requires lock { (L.stay inside).lock ≡ mq.now }
     requires n { visit.books.n ≡ mq.now.count }
+    requires bounds { visit.books.bounds ≡ bounds_in mq.now.fixed }
     requires knows { Knows (L.stay inside) visit.process visit.answered visit.places visit.own }
     requires grows { GrowsBy owner (L.stay inside).number (L.stay inside).left visit.books.records }
     ensures some { IsSome seat.new }

@@ -35,33 +35,34 @@ pub struct Mq<L: Look<Guarded>> {
 impl<L: Look<Guarded>> Model for Mq<L> {
     ghost use Rattle.std.specs.Prelude.{◌≡◌, ◌∷◌, [], ◌≤◌};
     ghost use Rattle.fast_mutex.specs.Items.{LockId};
+    ghost use Rattle.mq.specs.Calls.{fixed_of, bounds_in};
 
     ghost Value = { LockId };
 
     ghost view = { λ q. L.id q.lock };
 
-    ghost invariant = { λ q. ((L.id q.lock).fixed ≡ (L.id q.lock).count ∷ []) × (q.n ≡ (L.id q.lock).count) × (q.n ≤ 32) };
+    ghost invariant = { λ q. ((L.id q.lock).fixed ≡ fixed_of (L.id q.lock).count (bounds_in (L.id q.lock).fixed)) × (q.n ≡ (L.id q.lock).count) × (q.n ≤ 32) };
 }
 
 impl<L: Look<Guarded>> Mq<L> {
-    ghost use Rattle.std.specs.Prelude.{◌≡◌, ◌≤◌, ◌<◌, ◌⊎◌, ◌↔◌, ◌∷◌, [], map, length, Err, IfOk, IfErr, IsOk, vec_len, vec_capacity};
+    ghost use Rattle.std.specs.Prelude.{◌≡◌, ◌≤◌, ◌<◌, ◌⊎◌, ◌↔◌, ◌∷◌, [], Some, None, map, length, Err, IfOk, IfErr, IsOk, vec_len, vec_capacity};
     ghost use Rattle.std.specs.List.{All};
     ghost use Rattle.fast_mutex.specs.Items.{Grows, tickets_from};
     ghost use Rattle.mq_model.specs.Answer.{Legal};
     ghost use Rattle.mq_model.specs.declared.faults.Fault.TheVariants.{Invalid, NoMemory};
-    ghost use Rattle.mq.specs.Calls.{owner};
+    ghost use Rattle.mq.specs.Calls.{owner, fixed_of, bounds_in};
 
-    /// The queues of n processes, none yet, and the processes 1 to n in order, each of which has left the empty journal.
-    /// `Invalid` where n is not from 1 to 32, else `NoMemory` where a growth was refused.
-    pub fn new(alloc: Global, n: u32) -> Result<(Mq<L>, Vec<Process<L>>), Fault>
-        ensures invalid { ((1 ≤ n) × (n ≤ 32)) ⊎ (result ≡ Err Invalid) }
-        ensures faults { IfErr result (λ e. (e ≡ NoMemory) ⊎ ((e ≡ Invalid) × ((n ≡ 0) ⊎ (32 < n)))) }
+    // The system over these queues of n processes, with an empty journal.
+    fn over(alloc: Global, n: u32, books: Books) -> Result<(Mq<L>, Vec<Process<L>>), Fault>
+        requires some { 1 ≤ n }
+        requires few { n ≤ 32 }
+        requires empty { books.records ≡ [] }
+        requires processes { books.n ≡ n }
+        ensures faults { IfErr result (λ e. e ≡ NoMemory) }
         ensures count { IfOk result (λ r. r.0.count ≡ n) }
+        ensures bounds { IfOk result (λ r. bounds_in r.0.fixed ≡ books.bounds) }
         ensures processes { IfOk result (λ r. r.1.items ≡ tickets_from r.0 1 n) }
     {
-        if n == 0 || n > 32 {
-            return Err(Fault::Invalid);
-        }
         let Ok(seats) = Vec::with_capacity(alloc, 32) else {
             return Err(Fault::NoMemory);
         };
@@ -69,13 +70,52 @@ impl<L: Look<Guarded>> Mq<L> {
         let Ok(processes) = Vec::with_capacity(alloc, n as usize) else {
             return Err(Fault::NoMemory);
         };
-        let Ok(books) = Books::new(alloc, n) else {
-            return Err(Fault::NoMemory);
-        };
         let Ok((lock, seats)) = L::new(alloc, n, Guarded::holding(books)) else {
             return Err(Fault::NoMemory);
         };
         Ok((Mq { lock, n, room }, processes_of(seats, processes)))
+    }
+
+    /// The queues of n processes, none yet, and the processes 1 to n in order, each of which has left the empty journal.
+    /// `Invalid` where n is not from 1 to 32, else `NoMemory` where a growth was refused.
+    pub fn new(alloc: Global, n: u32) -> Result<(Mq<L>, Vec<Process<L>>), Fault>
+        ensures invalid { ((1 ≤ n) × (n ≤ 32)) ⊎ (result ≡ Err Invalid) }
+        ensures faults { IfErr result (λ e. (e ≡ NoMemory) ⊎ ((e ≡ Invalid) × ((n ≡ 0) ⊎ (32 < n)))) }
+        ensures count { IfOk result (λ r. r.0.count ≡ n) }
+        ensures bounds { IfOk result (λ r. bounds_in r.0.fixed ≡ None) }
+        ensures processes { IfOk result (λ r. r.1.items ≡ tickets_from r.0 1 n) }
+    {
+        if n == 0 || n > 32 {
+            return Err(Fault::Invalid);
+        }
+        let Ok(books) = Books::new(alloc, n) else {
+            return Err(Fault::NoMemory);
+        };
+        Mq::over(alloc, n, books)
+    }
+
+    /// The same, with a journal that may hold so many entries and so many payload bytes, those of names and of messages. All the memory
+    /// that later calls could need is taken here, so that no call of a process is refused with `NoMemory`; a call that finds the journal
+    /// full is refused with `JournalFull`. `Invalid` where n is not from 1 to 32, else `NoMemory` where the memory was refused.
+    pub fn bounded(
+        alloc: Global,
+        n: u32,
+        entries: u64,
+        bytes: u64,
+    ) -> Result<(Mq<L>, Vec<Process<L>>), Fault>
+        ensures invalid { ((1 ≤ n) × (n ≤ 32)) ⊎ (result ≡ Err Invalid) }
+        ensures faults { IfErr result (λ e. (e ≡ NoMemory) ⊎ ((e ≡ Invalid) × ((n ≡ 0) ⊎ (32 < n)))) }
+        ensures count { IfOk result (λ r. r.0.count ≡ n) }
+        ensures bounds { IfOk result (λ r. bounds_in r.0.fixed ≡ Some (record { entries = entries; bytes = bytes })) }
+        ensures processes { IfOk result (λ r. r.1.items ≡ tickets_from r.0 1 n) }
+    {
+        if n == 0 || n > 32 {
+            return Err(Fault::Invalid);
+        }
+        let Ok(books) = Books::bounded(alloc, n, entries, bytes) else {
+            return Err(Fault::NoMemory);
+        };
+        Mq::over(alloc, n, books)
     }
 
     /// Ends the queues and gives their journal, where all n processes are there; else everything comes back as it was.
@@ -105,7 +145,7 @@ impl<L: Look<Guarded>> Mq<L> {
 
     pub(crate) fn lock(&self) -> &L
         ensures id { L.id result.now ≡ self.now }
-        ensures fixed { self.now.fixed ≡ self.now.count ∷ [] }
+        ensures fixed { self.now.fixed ≡ fixed_of self.now.count (bounds_in self.now.fixed) }
     {
         &self.lock
     }

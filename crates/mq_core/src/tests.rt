@@ -77,6 +77,7 @@ fn each_fault_prints_as_its_name(rt: HostRuntime) -> Result<(), Fail> {
         (Fault::NoSpace, "ENOSPC"),
         (Fault::NoMemory, "NOMEMORY"),
         (Fault::TimedOut, "ETIMEDOUT"),
+        (Fault::JournalFull, "JOURNALFULL"),
     ];
     let mut number = 1;
     for (fault, name) in faults {
@@ -239,6 +240,18 @@ fn a_wait_has_its_deadline_until_it_is_withdrawn(rt: HostRuntime) -> Result<(), 
     assert_eq!(rt; owners::first_wait(&table, 0, false), None);
     assert_eq!(rt; owners::open_waits(&table), 1);
     Ok(())
+}
+
+#[test]
+fn moments_are_ordered_by_seconds_and_then_by_nanoseconds(rt: HostRuntime) {
+    let before = Deadline {
+        sec: -1,
+        nsec: 999_999_999,
+    };
+    let zero = Deadline { sec: 0, nsec: 0 };
+    let after = Deadline { sec: 0, nsec: 1 };
+    assert!(rt; before < zero && zero < after && after < UNTIL);
+    assert!(rt; !(zero < zero) && zero <= zero && after > before);
 }
 
 const REGISTER: Entry = Entry {

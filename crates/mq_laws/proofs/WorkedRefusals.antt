@@ -5,7 +5,7 @@ use Rattle.mq_model.specs.Record.{Past}
 use Rattle.mq_model.specs.Descriptors.{descriptor_numbers}
 use Rattle.mq_model.specs.Answer.{IsLegalNext}
 use Rattle.mq_model.specs.declared.entries.Access.TheVariants.{Read, Write, Both}
-use Rattle.mq_model.specs.declared.faults.Fault.TheVariants.{NoEntry, NoMemory}
+use Rattle.mq_model.specs.declared.faults.Fault.TheVariants.{NoEntry, NoMemory, JournalFull}
 use Rattle.mq_model.specs.declared.entries.Call.TheVariants.{MqClose, MqUnlink, MqSend, MqReceive, MqNotify, Collect}
 use Rattle.mq_model.specs.declared.entries.Reply.TheVariants.{Opened, Queued, Handed, Waits, Got, Collected, Done, Refused}
 use Rattle.mq_laws.proofs.WorkedJournals.{made, opening, opening_with}
@@ -49,6 +49,11 @@ want_of_memory =
 pub want_of_memory-refused : IsLegalNext want_of_memory (made 1 (MqSend 0 1 1) (Refused NoMemory) []) → ⊥
 unfolding descriptor_numbers
 want_of_memory-refused h = let wrong = h.reply in cc
+
+-- nor has a full journal
+pub full_journal-refused : IsLegalNext want_of_memory (made 1 (MqSend 0 1 1) (Refused JournalFull) []) → ⊥
+unfolding descriptor_numbers
+full_journal-refused h = let wrong = h.reply in cc
 
 -- a message without its bytes
 abbrev lost_payload : Past

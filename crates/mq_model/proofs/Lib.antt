@@ -15,6 +15,7 @@ pub mod OthersLeave
 pub mod OwnerLines
 pub mod OwnersStart
 pub mod OwnersKeep
+pub mod OpenCount
 pub mod Pending
 pub mod LowestFree
 pub mod OpenReplies

@@ -1,4 +1,4 @@
--- No call is answered that memory was wanting: that is no matter of the journal.
+-- No call is answered that memory was wanting, or that the journal is full: that is no matter of the journal.
 use Rattle.std.proofs.Common.{◌≡◌, ◌≢◌, ℕ, Bool, true, false, ◌&&◌, ◌==◌, not, List, length, Option, Some, None, is_some, is_none, if◌then◌else◌, sym, subst}
 use Rattle.std.specs.Prelude.{nat_le, int_lt, pos}
 use Rattle.mq_model.specs.Record.{Past}
@@ -19,10 +19,11 @@ use Rattle.mq_model.specs.declared.entries.Call.{Call}
 use Rattle.mq_model.specs.declared.entries.Call.TheVariants.{MqOpen, MqClose, MqUnlink, MqSend, MqReceive, MqTimedSend, MqTimedReceive, MqGetattr, MqSetattr, MqNotify, NextNotice, Collect, Withdraw}
 use Rattle.mq_model.specs.declared.entries.Reply.{Reply}
 use Rattle.mq_model.specs.declared.entries.Reply.TheVariants.{Waits, Queued, Refused}
-use Rattle.mq_model.specs.declared.faults.Fault.TheVariants.{Again, Invalid, TimedOut, NoMemory}
+use Rattle.mq_model.specs.declared.faults.Fault.TheVariants.{Again, Invalid, TimedOut, NoMemory, JournalFull}
 
 abbrev Other : Reply → Type 0
 Other (Refused NoMemory) = ⊥
+Other (Refused JournalFull) = ⊥
 Other reply = Unit {0}
 
 accepted-other : (w : Option ℕ) (full : Bool) (n : Option ℕ) → Other (accepted_reply w full n)
@@ -97,4 +98,11 @@ pub answers-other : (past : Past) (p : ℕ) (call : Call) (name : List ℕ) (rep
 answers-other past p call name reply is want =
     let other : Other reply = subst Other (sym is) (answer-other past p call name) in
     let none : Other (Refused NoMemory) = subst Other want other in
+    absurd none
+
+-- nor is it that the journal is full
+pub answers-room : (past : Past) (p : ℕ) (call : Call) (name : List ℕ) (reply : Reply) → reply ≡ answer past p call name → reply ≢ Refused JournalFull
+answers-room past p call name reply is full =
+    let other : Other reply = subst Other (sym is) (answer-other past p call name) in
+    let none : Other (Refused JournalFull) = subst Other full other in
     absurd none

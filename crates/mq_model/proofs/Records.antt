@@ -1,5 +1,5 @@
 -- What a journal shows, from what it stores.
-use Rattle.std.proofs.Common.{◌≡◌, ℕ, zero, suc, ◌+◌, ◌<◌, ◌≤◌, ◌==◌, get_or, List, [], ◌∷◌, ◌++◌, length, map, reverse, refl, sym, ◌∙◌, ap, arith, Some, None, if◌then◌else◌}
+use Rattle.std.proofs.Common.{◌≡◌, ℕ, zero, suc, ◌+◌, ◌<◌, ◌≤◌, ◌==◌, get_or, List, [], ◌∷◌, ◌++◌, length, length-append, map, reverse, refl, sym, ◌∙◌, ap, arith, Some, None, if◌then◌else◌}
 use Rattle.std.proofs.lemmas.List.{reverse-append, reverse-reverse, map-append}
 use Rattle.std.specs.Prelude.{slice_get, slice_range}
 use Rattle.std.specs.List.{All}
@@ -7,7 +7,7 @@ use Rattle.std.specs.Option.{option_map}
 use Rattle.std.proofs.lemmas.Option.{slice_get-map, slice_get_read}
 use Rattle.std.proofs.lemmas.Bool.Decides.{nat_tests}
 use Rattle.std.proofs.lemmas.Grind.{common_steps}
-use Rattle.std.proofs.lemmas.List.Elements.{All-head, All-tail}
+use Rattle.std.proofs.lemmas.List.Elements.{All-head, All-tail, All-weaker, All-push}
 use Rattle.mq_model.specs.Record.{Record, Past, record_at}
 use Rattle.mq_model.specs.Stored.{record_of, records_of, LiesIn}
 use Rattle.mq_model.specs.declared.journals.Stored.{Stored}
@@ -60,6 +60,14 @@ records_of-push bytes more stored s lie start end =
     ∙ reverse-append (map (record_of (bytes ++ more)) stored) (record_of (bytes ++ more) s ∷ [])
     ∙ ap (λ rs. record_of (bytes ++ more) s ∷ reverse rs) (map-more_bytes bytes more stored lie)
     ∙ ap (λ p. (let r : Record = record { entry = s.entry; payload = p } in r) ∷ records_of bytes stored) payload
+
+-- each payload still lies among the bytes
+pub lies-push : (bytes more : List ℕ) (stored : List Stored) (s : Stored) → All (LiesIn bytes) stored → s.start ≡ length bytes → s.end ≡ length bytes + length more → All (LiesIn (bytes ++ more)) (stored ++ s ∷ [])
+lies-push bytes more stored s lie start end =
+    let long = length-append bytes more in
+    All-push (LiesIn (bytes ++ more)) stored s
+    (All-weaker (LiesIn bytes) (LiesIn (bytes ++ more)) (λ x lies. (lies.0, let le = lies.1 in omega (arith, le, long))) stored lie)
+    (omega (arith, start, end), omega (arith, end, long))
 
 -- the record at a place, read from what is stored there
 pub record_at-read : (bytes : List ℕ) (stored : List Stored) (k : ℕ) (s : Stored) → k < length stored → s ≡ get_or stored k s → record_at (records_of bytes stored) k ≡ Some (record_of bytes s)

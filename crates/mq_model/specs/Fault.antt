@@ -1,7 +1,7 @@
 -- The numbers and the printed names of faults.
 use Rattle.std.specs.Prelude.{ℕ, List, codes}
 use Rattle.mq_model.specs.declared.faults.Fault.{Fault}
-use Rattle.mq_model.specs.declared.faults.Fault.TheVariants.{Again, BadDescriptor, Busy, Exists, Invalid, TooManyOpen, MessageSize, NameTooLong, NoEntry, NoSpace, NoMemory, TimedOut}
+use Rattle.mq_model.specs.declared.faults.Fault.TheVariants.{Again, BadDescriptor, Busy, Exists, Invalid, TooManyOpen, MessageSize, NameTooLong, NoEntry, NoSpace, NoMemory, TimedOut, JournalFull}
 
 -- this project's own number of a fault
 abbrev pub number_of : Fault → ℕ
@@ -17,6 +17,7 @@ number_of NoEntry = 9
 number_of NoSpace = 10
 number_of NoMemory = 11
 number_of TimedOut = 12
+number_of JournalFull = 13
 
 -- the bytes that a fault is printed as: the standard's name of the error
 abbrev pub text_of : Fault → List ℕ
@@ -32,3 +33,4 @@ text_of NoEntry = codes "ENOENT"
 text_of NoSpace = codes "ENOSPC"
 text_of NoMemory = codes "NOMEMORY"
 text_of TimedOut = codes "ETIMEDOUT"
+text_of JournalFull = codes "JOURNALFULL"

@@ -11,6 +11,7 @@ pub mod Messages
 pub mod Notices
 pub mod Waits
 pub mod Answer
+pub mod Bounds
 pub mod OnePass
 pub mod Owners
 pub mod OwnersNoted

@@ -1,6 +1,6 @@
 -- What a journal shows. Lists of records are latest first throughout: the record made last is the head, so a journal that
 -- begins with the journal `old` is `more ++ old`.
-use Rattle.std.specs.Prelude.{ℕ, ◌-◌, drop, List, [], ◌∷◌, ◌==◌, length, Option, Some, None, if◌then◌else◌}
+use Rattle.std.specs.Prelude.{ℕ, ◌+◌, ◌-◌, drop, List, [], ◌∷◌, ◌==◌, length, Option, Some, None, if◌then◌else◌}
 use Rattle.mq_model.specs.declared.entries.Entry.{Entry}
 
 -- an entry of the journal with its payload
@@ -20,6 +20,11 @@ record_at (r ∷ past) place = if place == length past then Some r else record_a
 -- the first k of the records
 abbrev pub first : ℕ → Past → Past
 first k past = drop (length past - k) past
+
+-- how many payload bytes the records have
+abbrev pub payload_bytes : Past → ℕ
+payload_bytes [] = 0
+payload_bytes (r ∷ past) = length r.payload + payload_bytes past
 
 -- what a journal shows: its records, and how many more entries and payload bytes it has room for
 pub record Shown : Type 0 where

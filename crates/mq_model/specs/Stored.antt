@@ -1,6 +1,6 @@
 -- What a journal shows, from what it stores: entries and payload bytes, each oldest first.
-use Rattle.std.specs.Prelude.{ℕ, ◌-◌, ◌≤◌, List, map, reverse, slice_range, All, vec_len, vec_capacity, length}
-use Rattle.mq_model.specs.Record.{Record, Past, Shown}
+use Rattle.std.specs.Prelude.{ℕ, ◌≡◌, ◌-◌, ◌≤◌, List, map, reverse, slice_range, All, vec_len, vec_capacity, length}
+use Rattle.mq_model.specs.Record.{Record, Past, Shown, payload_bytes}
 use Rattle.mq_model.specs.declared.journals.Stored.{Stored}
 use Rattle.mq_model.specs.declared.journals.Journal.TheInside.{Inside}
 
@@ -21,6 +21,7 @@ shown j = record {
 abbrev pub LiesIn : List ℕ → Stored → Type 0
 LiesIn bytes s = (s.start ≤ s.end) × (s.end ≤ length bytes)
 
--- each payload lies among the bytes
+-- each payload lies among the bytes, and these are those of the payloads alone
 pub record IsStored (j : Inside) : Type 0 where
   pub payloads : All (LiesIn j.bytes.items) j.stored.items
+  pub total : payload_bytes (records_of j.bytes.items j.stored.items) ≡ vec_len j.bytes

@@ -125,7 +125,7 @@ pub struct Received {
 
 /// A moment of a clock, and the moment until which a timed call waits (`struct timespec` of `mq_timedsend` and `mq_timedreceive`).
 /// Of two moments the later is that of more seconds, and of equal seconds that of more nanoseconds.
-#[derive(Clone, Copy, Debug, PartialEq, Eq)]
+#[derive(Clone, Copy, Debug, PartialEq, Eq, PartialOrd, Ord)]
 pub struct Deadline {
     /// Seconds since the start of the caller's clock, or before it.
     pub sec: i64,

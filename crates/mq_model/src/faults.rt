@@ -3,7 +3,8 @@ ghost use Rattle.std.specs.Prelude.{◌≡◌};
 
 use thiserror::Error;
 
-/// Why a call was refused. It prints as the name that POSIX gives the error (`errno.h`); `NOMEMORY` is this project's own.
+/// Why a call was refused. It prints as the name that POSIX gives the error (`errno.h`); `NOMEMORY` and
+/// `JOURNALFULL` are this project's own.
 #[derive(Clone, Copy, Debug, PartialEq, Eq, Error)]
 #[error("{}", self.name())]
 pub enum Fault {
@@ -31,12 +32,14 @@ pub enum Fault {
     NoMemory,
     /// The call would wait, and its deadline has passed; or the deadline passed while it waited.
     TimedOut,
+    /// The journal has bounds, and no room for what the call needs. Nothing has changed.
+    JournalFull,
 }
 
 impl Fault {
     ghost use Rattle.mq_model.specs.Fault.{number_of, text_of};
 
-    /// This project's own number of the fault, from 1 to 12.
+    /// This project's own number of the fault, from 1 to 13.
     pub fn number(&self) -> u32
         ensures { result ≡ number_of self.now }
     {
@@ -53,6 +56,7 @@ impl Fault {
             Fault::NoSpace => 10,
             Fault::NoMemory => 11,
             Fault::TimedOut => 12,
+            Fault::JournalFull => 13,
         }
     }
 
@@ -73,6 +77,7 @@ impl Fault {
             Fault::NoSpace => "ENOSPC",
             Fault::NoMemory => "NOMEMORY",
             Fault::TimedOut => "ETIMEDOUT",
+            Fault::JournalFull => "JOURNALFULL",
         }
     }
 }

@@ -48,9 +48,9 @@ fn add_bytes(bytes: &mut Vec<u8>, more: &[u8])
 }
 
 impl Journal {
-    ghost use Rattle.std.specs.Prelude.{Some};
+    ghost use Rattle.std.specs.Prelude.{Some, ◌^◌, IfOk};
     ghost use Rattle.std.specs.Option.{option_map};
-    ghost use Rattle.mq_model.specs.Record.{Record, record_at, first};
+    ghost use Rattle.mq_model.specs.Record.{Record, record_at, first, payload_bytes};
 
     /// The empty journal, which takes no memory.
     pub fn new(alloc: Global) -> Journal
@@ -60,6 +60,17 @@ impl Journal {
             stored: Vec::new(alloc),
             bytes: Vec::new(alloc),
         }
+    }
+
+    /// The empty journal with room for just that many entries and payload bytes. The error is that the memory was refused.
+    pub fn with_room(alloc: Global, entries: usize, bytes: usize) -> Result<Journal, AllocError>
+        ensures records { IfOk result (λ j. j.records ≡ []) }
+        ensures room { IfOk result (λ j. (j.entry_room ≡ entries) × (j.byte_room ≡ bytes)) }
+    {
+        Ok(Journal {
+            stored: Vec::with_capacity(alloc, entries)?,
+            bytes: Vec::with_capacity(alloc, bytes)?,
+        })
     }
 
     /// Makes room for that many more entries and payload bytes. It fails only where a growth was refused, and then loses no
@@ -96,9 +107,18 @@ impl Journal {
 
     /// How many entries there are.
     pub fn len(&self) -> u64
-        ensures { result ≡ length self.now.records }
+        ensures count { result ≡ length self.now.records }
+        ensures bound { result < 2 ^ 63 }
     {
         self.stored.len() as u64
+    }
+
+    /// How many payload bytes there are, of all entries.
+    pub fn payload_bytes(&self) -> u64
+        ensures count { result ≡ payload_bytes self.now.records }
+        ensures bound { result < 2 ^ 63 }
+    {
+        self.bytes.len() as u64
     }
 
     /// The entry at a place, or `None` at the length and beyond.

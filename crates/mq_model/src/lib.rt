@@ -1,6 +1,7 @@
 //! The types, the journal and the definitions of the message queues.
 #![tactic(auto)]
 
+pub mod bounds;
 pub mod clock;
 pub mod entries;
 pub mod faults;

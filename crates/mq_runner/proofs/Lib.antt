@@ -1,7 +1,9 @@
-pub mod Buffers
+pub mod AtOnce
+pub mod Blocking
 pub mod KnownBytes
 pub mod Lists
 pub mod Owners
+pub mod Standing
 pub mod Stopping
 pub mod Taking
 pub mod Working

@@ -2,18 +2,16 @@
 use Rattle.std.proofs.Common.{◌≡◌, ◌<◌, ◌+◌, ◌++◌, ℕ, List, [], ◌∷◌, length, get_or, take, map, refl, ap, arith, sym, ◌∙◌, subst, append_assoc, append-nil, All, Vec, Global, zero, suc}
 use Rattle.std.proofs.lemmas.List.{length-map, take_more, map-append}
 use Rattle.std.proofs.lemmas.List.Elements.{All-from_recursion, recursion_from_All}
-use Rattle.std.specs.List.{AllByRecursion as ByRecursion}
+use Rattle.std.specs.List.{AllByRecursion as ByRecursion, AllZip}
 use Rattle.fast_mutex.specs.Items.{LockId, Ticket, tickets_from}
 use Rattle.mq_model.specs.Record.{Record}
 use Rattle.mq_runner.specs.Buffer.{buffer_given}
 use Rattle.lines.specs.Words.{Word}
-use Rattle.mq_runner.specs.Members.{AllHaveShares, AllOff, HasShare}
 use Rattle.mq_runner.specs.Phase.{AllWorkOff, WorksOff, calls_in, text_in}
 use Rattle.mq_runner.specs.Runs.{IsReady, Performs, RunsCalls, RunsPhase, RunsPhases, calls_of}
 use Rattle.mq_script.specs.ReplyLines.{reply_lines}
 use Rattle.mq_script.specs.Script.{WrittenCall, said_calls, said_phases}
 use Rattle.mq_script.specs.declared.line.ScriptCall.{ScriptCall}
-use Rattle.mq_runner.specs.declared.phase.Member.{Member}
 use Rattle.mq_script.specs.declared.reply.Answer.{Answer}
 use Rattle.mq_runner.specs.declared.turns.Share.{Share}
 use Rattle.mq_runner.specs.declared.turns.Turn.{Turn}
@@ -35,27 +33,12 @@ pub nothing-ran : (turns : List Turn) (answers : List Answer) (process : Ticket 
 nothing-ran [] answers process few none = rw none refl
 nothing-ran (turn ∷ turns) answers process few none = absurd (omega arith)
 
--- one more member
-pub AllHaveShares-push : {L S W I : Type 0} (shares : List (Share (Ticket Record))) (members : List (Member L S W I)) (share : Share (Ticket Record)) (member : Member L S W I) → AllHaveShares shares members → HasShare share member → AllHaveShares (shares ++ share ∷ []) (members ++ member ∷ [])
-AllHaveShares-push [] [] share member all has = (has, tt)
-AllHaveShares-push [] (m ∷ members) share member all has = absurd all
-AllHaveShares-push (s ∷ shares) [] share member all has = absurd all
-AllHaveShares-push (s ∷ shares) (m ∷ members) share member all has = (all.0, AllHaveShares-push shares members share member all.1 has)
-
--- the next member gave its worker
-pub AllOff-push : {L S W I : Type 0} (shares : List (Share (Ticket Record))) (workers : List (Worked (Ticket Record))) (member : Member L S W I) (members : List (Member L S W I)) (worked : Worked (Ticket Record)) → AllOff shares workers (member ∷ members) → ((share : Share (Ticket Record)) → HasShare share member → WorksOff share worked) → AllOff shares (workers ++ worked ∷ []) members
-AllOff-push [] [] member members worked off gives = absurd off
-AllOff-push (share ∷ shares) [] member members worked off gives = (gives share off.0, off.1)
-AllOff-push [] (w ∷ workers) member members worked off gives = absurd off
-AllOff-push (share ∷ shares) (w ∷ workers) member members worked off gives = (off.0, AllOff-push shares workers member members worked off.1 gives)
-
--- no member is left
-pub AllOff-all : {L S W I : Type 0} (shares : List (Share (Ticket Record))) (workers : List (Worked (Ticket Record))) (members : List (Member L S W I)) → AllOff shares workers members → members ≡ [] → AllWorkOff shares workers
-AllOff-all [] [] members off none = tt
-AllOff-all [] (w ∷ workers) members off none = absurd off
-AllOff-all (s ∷ shares) [] members off none =
-    let P : List (Member _ _ _ _) → Type 0 = λ ms. AllHaveShares (s ∷ shares) ms in absurd (subst P none off)
-AllOff-all (s ∷ shares) (w ∷ workers) members off none = (off.0, AllOff-all shares workers members off.1 none)
+-- one more behind the others
+pub zip-push : {A B : Type 0} (R : A → B → Type 0) (xs : List A) (ys : List B) (x : A) (y : B) → AllZip R xs ys → R x y → AllZip R (xs ++ x ∷ []) (ys ++ y ∷ [])
+zip-push R [] [] x y all has = (has, tt)
+zip-push R [] (b ∷ ys) x y all has = absurd all
+zip-push R (a ∷ xs) [] x y all has = absurd all
+zip-push R (a ∷ xs) (b ∷ ys) x y all has = (all.0, zip-push R xs ys x y all.1 has)
 
 -- the processes that come back are ready again
 ready-again : (mq : LockId) (shares : List (Share (Ticket Record))) (workers : List (Worked (Ticket Record))) → AllWorkOff shares workers → ByRecursion (λ (share : Share (Ticket Record)). IsReady mq share.process) shares → ByRecursion (IsReady mq) (map (λ (worked : Worked (Ticket Record)). worked.process) workers)

@@ -5,4 +5,5 @@ pub mod Members
 pub mod Phase
 pub mod RunFault
 pub mod Runs
+pub mod Stands
 pub mod Stops

@@ -1,19 +1,30 @@
 -- Why a run ended before its end: what is printed, and the exit status.
-use Rattle.std.specs.Prelude.{◌≡◌, ℕ, List, codes, Result, Ok, Err}
+use Rattle.std.specs.Prelude.{◌≡◌, ◌++◌, ℕ, List, [], ◌∷◌, codes, Result, Ok, Err}
+use Rattle.std.specs.Fmt.{decimal}
 use Rattle.lines.specs.declared.input.ReadFault.{ReadFault}
 use Rattle.lines.specs.declared.input.ReadFault.TheVariants as read
 use Rattle.mq_script.specs.ScriptFault.{script_fault_text}
 use Rattle.mq_script.specs.declared.fault.ScriptFault.{ScriptFault}
 use Rattle.mq_script.specs.declared.fault.ScriptFault.TheVariants as script
 use Rattle.mq_runner.specs.declared.fault.RunFault.{RunFault}
-use Rattle.mq_runner.specs.declared.fault.RunFault.TheVariants.{BadCall, Input, Output, NoMemory}
+use Rattle.mq_runner.specs.declared.fault.RunFault.TheVariants.{BadCall, Deadlock, Input, Output, NoMemory}
 
--- the line on the error stream
+-- one line for each line of the script whose call waits, with a line feed between them
+abbrev pub wait_text : ℕ → List ℕ
+wait_text line = codes "line " ++ (decimal line ++ codes ": waits for ever")
+
+abbrev pub waits_text : List ℕ → List ℕ
+waits_text [] = []
+waits_text (line ∷ []) = wait_text line
+waits_text (line ∷ lines) = wait_text line ++ (10 ∷ waits_text lines)
+
+-- what stands on the error stream
 abbrev pub fault_text : RunFault → List ℕ
 fault_text (BadCall line) = script_fault_text (script.BadCall line)
 fault_text Input = codes "input fault"
 fault_text Output = codes "output fault"
 fault_text NoMemory = codes "no memory"
+fault_text (Deadlock lines) = waits_text lines.items
 
 -- the exit status of the program
 abbrev pub exit_status : RunFault → ℕ
@@ -21,6 +32,7 @@ exit_status (BadCall line) = 2
 exit_status Input = 3
 exit_status Output = 3
 exit_status NoMemory = 4
+exit_status (Deadlock lines) = 5
 
 -- why a run ends whose script was not read to its end
 abbrev pub of_read_fault : ReadFault → RunFault
@@ -38,6 +50,7 @@ IsLate (BadCall line) = ⊥
 IsLate Input = ⊥
 IsLate Output = Unit {0}
 IsLate NoMemory = Unit {0}
+IsLate (Deadlock lines) = Unit {0}
 
 -- a run of a script that is at fault in this line: it says so, unless a read failed or memory ran out before
 abbrev pub StopsAt : ℕ → Result (Unit {0}) RunFault → Type 0
@@ -45,4 +58,5 @@ StopsAt line (Err (BadCall k)) = k ≡ line
 StopsAt line (Err Input) = Unit {0}
 StopsAt line (Err NoMemory) = Unit {0}
 StopsAt line (Err Output) = ⊥
+StopsAt line (Err (Deadlock lines)) = ⊥
 StopsAt line (Ok done) = ⊥

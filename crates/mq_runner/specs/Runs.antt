@@ -1,20 +1,23 @@
 -- What the calls of a script leave. A process shows its ticket: its lock, its number, and the journal that it last left.
-use Rattle.std.specs.Prelude.{◌≡◌, ◌≤◌, ◌==◌, ◌++◌, ℕ, List, [], ◌∷◌, codes, filter, IsFalse, IsTrue, Option, Result, Ok, Err}
+use Rattle.std.specs.Prelude.{◌≡◌, ◌≤◌, ◌==◌, ◌++◌, ℕ, List, [], ◌∷◌, codes, filter, length, IsFalse, IsSome, IsTrue, Option, Result, Ok, Err}
 use Rattle.std.specs.List.{All}
 use Rattle.std.specs.Io.KnownBytes as known
 use Rattle.fast_mutex.specs.Items.{LockId, Ticket, Grows, tickets_from}
-use Rattle.mq.specs.Calls.{IsFree, Exits, OneCall, SendCall, TimedReceive, TimedSend, WholeReceive, owner}
+use Rattle.mq.specs.Calls.{Calls, IsFree, Exits, OneCall, SendCall, TimedReceive, TimedSend, WholeReceive, owner, recorded}
 use Rattle.mq.specs.Says.{attributes_says, done_says, notice_says, open_says}
 use Rattle.mq_model.specs.Answer.{Legal}
 use Rattle.mq_model.specs.Name.{has_name_form, is_name, is_short}
 use Rattle.mq_model.specs.Record.{Past, Record}
 use Rattle.mq_model.specs.declared.entries.Call.{Call}
-use Rattle.mq_model.specs.declared.entries.Call.TheVariants.{MqOpen, MqClose, MqUnlink, MqGetattr, MqSetattr, MqNotify, NextNotice}
+use Rattle.mq_model.specs.declared.entries.Call.TheVariants.{MqOpen, MqClose, MqUnlink, MqSend, MqReceive, MqTimedSend, MqTimedReceive, MqGetattr, MqSetattr, MqNotify, NextNotice}
 use Rattle.mq_model.specs.declared.entries.Deadline.{Deadline}
 use Rattle.mq_model.specs.declared.entries.Reply.{Reply}
+use Rattle.mq_model.specs.declared.entries.Reply.TheVariants.{Waits}
 use Rattle.mq_model.specs.declared.faults.Fault.{Fault}
 use Rattle.mq_model.specs.declared.faults.Fault.TheVariants.{Invalid, NameTooLong}
+use Rattle.mq_model.specs.Waits.{open_wait}
 use Rattle.mq_runner.specs.Buffer.{buffer_given}
+use Rattle.mq_state.specs.Buffers.{waiting_call}
 use Rattle.lines.specs.Words.{Word}
 use Rattle.mq_script.specs.ReplyLines.{reply_lines}
 use Rattle.mq_script.specs.Script.{WrittenCall, Whole}
@@ -65,6 +68,20 @@ Performs moment (command.Setattr d nonblock) before behind old new came = Shows 
 Performs moment (command.Notify d value) before behind old new came = Shows (λ _. outcomes.Done) (OneCall done_says old new (MqNotify d value) []) came
 Performs moment command.Notice before behind old new came = Shows outcomes.Notice (OneCall notice_says old new NextNotice []) came
 Performs moment command.Exit before behind old new came = Shows (λ _. outcomes.Done) (Exits old new) came
+
+-- the process made this call of the queues, and waits in it: behind the journal that it left before, the wait is its only record
+pub record WaitsFor (old new : Ticket Record) (call : Call) (given : List ℕ) : Type 0 where
+  pub calls : Calls old new (recorded old.number call given Waits ∷ [])
+  pub still : IsSome (open_wait new.left new.number)
+  pub waits : waiting_call new.left new.number ≡ call
+
+-- the process began the command in a phase of that moment, and waits in its call. `before` is what the buffer held
+abbrev pub Blocks : Deadline → Command Word → List ℕ → Ticket Record → Ticket Record → Type 0
+Blocks moment (command.Send d prio message) before old new = WaitsFor old new (MqSend d prio (length message)) message
+Blocks moment (command.Receive d room) before old new = WaitsFor old new (MqReceive d (length before)) []
+Blocks moment (command.TimedSend d prio until message) before old new = WaitsFor old new (MqTimedSend d prio (length message) until moment) message
+Blocks moment (command.TimedReceive d room until) before old new = WaitsFor old new (MqTimedReceive d (length before) until moment) []
+Blocks moment other before old new = ⊥
 
 -- a process made these calls one behind the other, and this is what they came to
 abbrev pub RunsCalls : List WrittenCall → List Answer → Ticket Record → Ticket Record → Type 0

@@ -5,6 +5,7 @@ use Rattle.fast_mutex.specs.Items.{LockId, Ticket, tickets_from}
 use Rattle.mq_model.specs.Record.{Record}
 use Rattle.mq_script.specs.Script.{WrittenCall, Whole}
 use Rattle.mq_runner.specs.Runs.{RunsPhase, RunsPhases, last_line}
+use Rattle.mq_runner.specs.Stands.{ComesToAStand}
 
 -- some phases were run from the first on, and known bytes have grown by just their replies
 pub record RunsFront (phases : List (List WrittenCall)) (before : List (Ticket Record)) (old new : Option (List ℕ)) : Type 0 where
@@ -49,3 +50,21 @@ pub record StopsInWrite (script : Whole) (old new : Option (List ℕ)) : Type 0 
   pub stops :
       StopsInPhase script.phases (tickets_from system 1 script.processes) old new
       ⊎ StopsInLastLine script.phases (tickets_from system 1 script.processes) old new
+
+-- phases were run from the first on, and their replies are written and nothing else. The next phase came to a stand in the calls of
+-- these lines
+pub record StopsBlocked (phases : List (List WrittenCall)) (before : List (Ticket Record)) (lines : List ℕ) (old new : Option (List ℕ)) : Type 0 where
+  pub first : List (List WrittenCall)
+  pub last : List WrittenCall
+  pub later : List (List WrittenCall)
+  pub are : phases ≡ first ++ last ∷ later
+  pub between : List (Ticket Record)
+  pub replies : List ℕ
+  pub ran : RunsPhases first before between replies
+  pub stands : ComesToAStand last between lines
+  pub written : known.Appends old new replies
+
+-- a script was run up to a phase that came to a stand
+pub record StopsInDeadlock (script : Whole) (lines : List ℕ) (old new : Option (List ℕ)) : Type 0 where
+  pub system : LockId
+  pub stops : StopsBlocked script.phases (tickets_from system 1 script.processes) lines old new

@@ -1,16 +1,18 @@
 //! The calls of commands, made by a process.
-ghost use Rattle.std.specs.Prelude.{◌≡◌, ℕ, [], length};
-ghost use Rattle.mq.specs.Calls.{IsFree, Exits, SendCall, TimedReceive, WholeReceive};
+ghost use Rattle.std.specs.Prelude.{◌≡◌, ℕ, IfNone, IfSome, [], length};
+ghost use Rattle.mq.specs.Calls.{IsFree, Exits};
 ghost use Rattle.mq.specs.Says.{attributes_says, done_says, notice_says, open_says};
 ghost use Rattle.mq_model.specs.declared.entries.Call.{Call};
 ghost use Rattle.mq_script.specs.Grammar.{said};
 ghost use Rattle.mq_script.specs.Replies.{HasMessage};
-ghost use Rattle.mq_runner.specs.Runs.{IsSameProcess, MakesNamed, Performs, Shows, outcome_by};
+ghost use Rattle.mq_runner.specs.Runs.{Blocks, IsSameProcess, MakesNamed, Performs, outcome_by};
 ghost use Rattle.mq_script.specs.declared.reply.Outcome.TheVariants as outcomes;
 
+use crate::peers::Peer;
+use crate::waiting;
 use fast_mutex::Look;
 use mq::{Guarded, Mq, Process};
-use mq_model::entries::{Attr, Deadline, OpenFlags, Status};
+use mq_model::entries::{Attr, OpenFlags, Status};
 use mq_model::faults::Fault;
 use mq_model::names::Name;
 use mq_script::clock::FixedClock;
@@ -19,42 +21,50 @@ use mq_script::reply::Outcome;
 use std::sync::Wait;
 use std::time::Clock;
 
-/// Makes the call of a command, which may block. A call with a deadline is lent the clock. A message that is received is put into the front of the buffer.
+/// Makes the call of a command, which may block. A call with a deadline is made at the moment of the clock. A message that is received is
+/// put into the front of the buffer. `None`: the call waits for ever, since none of the peers that may still call goes on.
 pub fn perform<L: Look<Guarded>, R: Wait + Clock>(
     rt: &R,
     mq: &Mq<L>,
     process: &mut Process<L>,
+    peers: &[Peer],
     clock: &FixedClock,
     command: &Command<&[u8]>,
     buffer: &mut [u8],
-) -> Outcome
+) -> Option<Outcome>
     requires made { process.old.lock ≡ mq.now }
     requires free { IsFree process.old }
-    ensures free { IsFree process.new }
     ensures same { IsSameProcess process.old process.new }
-    ensures message { HasMessage result (length buffer.old) }
-    ensures performed { Performs clock.now.moment (said command.now) buffer.old buffer.new process.old process.new result }
+    ensures free { IfSome result (λ _. IsFree process.new) }
+    ensures message { IfSome result (λ came. HasMessage came (length buffer.old)) }
+    ensures performed { IfSome result (Performs clock.now.moment (said command.now) buffer.old buffer.new process.old process.new) }
+    ensures blocks { IfNone result (Blocks clock.now.moment (said command.now) buffer.old process.old process.new) }
 {
+    let now = clock.moment;
     match *command {
-        Command::Open { name, flags, attr } => open(rt, mq, process, name, flags, attr),
-        Command::Close { d } => done(process.close(rt, mq, d)),
-        Command::Unlink { name } => unlink(rt, mq, process, name),
-        Command::Send { d, prio, message } => done(process.send(rt, mq, d, message, prio)),
-        Command::Receive { d, room: _ } => receive(rt, mq, process, d, buffer),
+        Command::Open { name, flags, attr } => Some(open(rt, mq, process, name, flags, attr)),
+        Command::Close { d } => Some(done(process.close(rt, mq, d))),
+        Command::Unlink { name } => Some(unlink(rt, mq, process, name)),
+        Command::Send { d, prio, message } => {
+            waiting::send(rt, mq, process, peers, d, message, prio)
+        }
+        Command::Receive { d, room: _ } => waiting::receive(rt, mq, process, peers, d, buffer),
         Command::TimedSend {
             d,
             prio,
             until,
             message,
-        } => done(process.timed_send(rt, mq, d, message, prio, until, clock)),
+        } => waiting::timed_send(rt, mq, process, peers, d, message, prio, until, now),
         Command::TimedReceive { d, room: _, until } => {
-            timed_receive(rt, mq, process, d, buffer, until, clock)
+            waiting::timed_receive(rt, mq, process, peers, d, buffer, until, now)
         }
-        Command::Getattr { d } => attributes(process.getattr(rt, mq, d)),
-        Command::Setattr { d, nonblock } => attributes(process.setattr(rt, mq, d, flag(nonblock))),
-        Command::Notify { d, value } => done(process.notify(rt, mq, d, value)),
-        Command::Notice => notice(process.next_notice(rt, mq)),
-        Command::Exit => done(process.exit(rt, mq)),
+        Command::Getattr { d } => Some(attributes(process.getattr(rt, mq, d))),
+        Command::Setattr { d, nonblock } => {
+            Some(attributes(process.setattr(rt, mq, d, flag(nonblock))))
+        }
+        Command::Notify { d, value } => Some(done(process.notify(rt, mq, d, value))),
+        Command::Notice => Some(notice(process.next_notice(rt, mq))),
+        Command::Exit => Some(done(process.exit(rt, mq))),
     }
 }
 
@@ -94,48 +104,6 @@ fn unlink<L: Look<Guarded>, R: Wait>(
 {
     match Name::read(name) {
         Ok(name) => done(process.unlink(rt, mq, &name)),
-        Err(fault) => Outcome::Refused(fault),
-    }
-}
-
-fn receive<L: Look<Guarded>, R: Wait + Clock>(
-    rt: &R,
-    mq: &Mq<L>,
-    process: &mut Process<L>,
-    d: u32,
-    buffer: &mut [u8],
-) -> Outcome
-    requires made { process.old.lock ≡ mq.now }
-    requires free { IsFree process.old }
-    ensures free { IsFree process.new }
-    ensures same { IsSameProcess process.old process.new }
-    ensures message { HasMessage result (length buffer.old) }
-    ensures made { Shows outcomes.Got (WholeReceive process.old process.new d buffer.old buffer.new) result }
-{
-    match process.receive(rt, mq, d, buffer) {
-        Ok(received) => Outcome::Got(received),
-        Err(fault) => Outcome::Refused(fault),
-    }
-}
-
-fn timed_receive<L: Look<Guarded>, R: Wait + Clock>(
-    rt: &R,
-    mq: &Mq<L>,
-    process: &mut Process<L>,
-    d: u32,
-    buffer: &mut [u8],
-    until: Deadline,
-    clock: &FixedClock,
-) -> Outcome
-    requires made { process.old.lock ≡ mq.now }
-    requires free { IsFree process.old }
-    ensures free { IsFree process.new }
-    ensures same { IsSameProcess process.old process.new }
-    ensures message { HasMessage result (length buffer.old) }
-    ensures made { Shows outcomes.Got (TimedReceive (λ now. now ≡ clock.now.moment) process.old process.new d buffer.old buffer.new until) result }
-{
-    match process.timed_receive(rt, mq, d, buffer, until, clock) {
-        Ok(received) => Outcome::Got(received),
         Err(fault) => Outcome::Refused(fault),
     }
 }

@@ -1,7 +1,8 @@
 //! Why a run ended before its end.
-ghost use Rattle.std.specs.Prelude.{◌≡◌, Some};
+ghost use Rattle.std.specs.Prelude.{◌≡◌, Some, length};
+ghost use Rattle.std.specs.Fmt.{DisplaysOnOk};
 ghost use Rattle.mq_runner.specs.declared.fault.RunFault.TheVariants.{NoMemory, Output};
-ghost use Rattle.mq_runner.specs.RunFault.{exit_status, fault_text, of_read_fault, of_script_fault};
+ghost use Rattle.mq_runner.specs.RunFault.{exit_status, fault_text, of_read_fault, of_script_fault, wait_text, waits_text};
 
 use lines::input::ReadFault;
 use lines::output::WriteFailed;
@@ -10,8 +11,9 @@ use std::alloc::{AllocError, AllocFailed};
 use std::error::Error;
 use std::fmt;
 
-/// Why a run ended before its end. Its text is the line that the program writes to the error stream.
-#[derive(Clone, Copy, Debug, PartialEq, Eq)]
+/// Why a run ended before its end. Its text is what the program writes to the error stream: one line, or of a deadlock one for each
+/// process that waits.
+#[derive(Debug, Drop, PartialEq, Eq)]
 pub enum RunFault {
     /// The script is at fault in this line, counted from 1.
     BadCall(u64),
@@ -21,17 +23,20 @@ pub enum RunFault {
     Output,
     /// Memory, or a thread, was refused outside a call.
     NoMemory,
+    /// The calls in these lines wait for ever, one of each process that waits, in the order of the processes.
+    Deadlock(Vec<u64>),
 }
 
 impl RunFault {
     /// The exit status of the program.
-    pub fn status(self) -> u8
-        ensures { result ≡ exit_status self }
+    pub fn status(&self) -> u8
+        ensures { result ≡ exit_status self.now }
     {
         match self {
             RunFault::BadCall(_) => 2,
             RunFault::Input | RunFault::Output => 3,
             RunFault::NoMemory => 4,
+            RunFault::Deadlock(_) => 5,
         }
     }
 }
@@ -48,8 +53,30 @@ impl fmt::Display for RunFault {
             RunFault::Input => f.write_str("input fault"),
             RunFault::Output => f.write_str("output fault"),
             RunFault::NoMemory => f.write_str("no memory"),
+            RunFault::Deadlock(lines) => write_waits(lines, f),
         }
     }
+}
+
+// One line for each of these, with a line feed between them.
+fn write_waits<W: fmt::Write>(lines: &[u64], f: &mut fmt::Formatter<W>) -> fmt::Result
+    ensures { DisplaysOnOk W.write_str_gives f.old result (Some (waits_text lines.now)) f.new }
+{
+    match lines {
+        [] => Ok(()),
+        [line] => write_wait(*line, f),
+        [line, others @ ..] => {
+            write_wait(*line, f)?;
+            f.write_str("\n")?;
+            write_waits(others, f)
+        }
+    }
+}
+
+fn write_wait<W: fmt::Write>(line: u64, f: &mut fmt::Formatter<W>) -> fmt::Result
+    ensures { DisplaysOnOk W.write_str_gives f.old result (Some (wait_text line)) f.new }
+{
+    write!(f, "line {line}: waits for ever")
 }
 
 impl Error for RunFault {}

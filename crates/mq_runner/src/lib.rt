@@ -5,10 +5,13 @@ mod calls;
 mod deal;
 mod fault;
 mod gate;
+mod peers;
 mod phase;
 mod run;
+mod settling;
 mod text;
 mod turns;
+mod waiting;
 
 pub use fault::RunFault;
 pub use gate::{Gate, Plain};

@@ -1,14 +1,17 @@
 //! A phase: each process that has calls makes them in a thread of its own.
-ghost use Rattle.std.specs.Prelude.{◌≡◌, IfOk, vec_len};
+ghost use Rattle.std.specs.Prelude.{◌≡◌, [], IfErr, IfNone, IfOk, IfSome, vec_len};
 ghost use Rattle.mq.specs.Calls.{IsFree};
-ghost use Rattle.mq_runner.specs.Members.{AllHaveShares};
-ghost use Rattle.mq_runner.specs.Phase.{AllWorkOff, AreReady, WorksOff};
-ghost use Rattle.mq_script.specs.Grammar.{said};
 ghost use Rattle.mq_runner.specs.Buffer.{buffer_given};
-ghost use Rattle.mq_runner.specs.Runs.{IsReady, IsSameProcess, Performs};
+ghost use Rattle.mq_runner.specs.Members.{AllGive, AllHaveShares, Gives};
+ghost use Rattle.mq_runner.specs.Phase.{AllWorkOff, AreReady, Ends, EndsEarly};
+ghost use Rattle.mq_runner.specs.Runs.{Blocks, IsReady, IsSameProcess, Performs};
+ghost use Rattle.mq_script.specs.Grammar.{said};
 
 use crate::calls::perform;
+use crate::fault::RunFault;
 use crate::gate::Gate;
+use crate::peers::{Peer, leave, leave_all, peers_of};
+use crate::settling::settled;
 use crate::turns::{Share, Turn, Worked};
 use fast_mutex::Look;
 use mq::{Guarded, Mq, Process};
@@ -20,12 +23,12 @@ use std::thread;
 use std::thread::{Promise, PromisedHandle, Threads};
 use std::time::Clock;
 
-// A thread gives back the process of its share, which has made its calls and has no open wait.
+// A thread gives back the process of its share, which has made its calls, or waits in one of them.
 #[derive(Drop)]
 pub struct Works<'s, L: Look<Guarded>>(Snapshot<Share<'s, Process<L>>>);
 
 impl<'s, L: Look<Guarded>> Promise<Worked<Process<L>>> for Works<'s, L> {
-    ghost kept_by = { λ p worked. WorksOff p.0.value worked };
+    ghost kept_by = { λ p worked. Ends p.0.value worked };
 }
 
 /// A process in a phase that has begun: without calls, or in its thread.
@@ -35,23 +38,45 @@ enum Member<'s, L: Look<Guarded>> {
     Busy(PromisedHandle<Worked<Process<L>>, Works<'s, L>>),
 }
 
-/// Runs a phase, and joins all its threads. An error: memory or a thread was refused. Those threads that were started have then
-/// run to their end.
+/// Runs a phase, and joins all its threads. `RunFault::NoMemory`: memory or a thread was refused. Those threads that were started
+/// have then run to their end. `RunFault::Deadlock`: some processes wait for ever, in the calls of these lines.
 pub fn run_phase<'s, L: Look<Guarded> + Sync, R: Threads + Wait + Clock + Sync, G: Gate + Sync>(
     rt: &'s R,
     alloc: Global,
     mq: &'s Mq<L>,
     gate: &'s G,
     shares: Vec<Share<'s, Process<L>>>,
-) -> Result<Vec<Worked<Process<L>>>, AllocError>
+) -> Result<Vec<Worked<Process<L>>>, RunFault>
 where
     L::Seat: Send,
     L::Walk: Send,
     requires { AreReady mq.now shares.items }
-    ensures { IfOk result (λ workers. AllWorkOff shares.entry.items workers.items) }
+    ensures through { IfOk result (λ workers. AllWorkOff shares.entry.items workers.items) }
+    ensures fault { IfErr result (EndsEarly shares.entry.items) }
 {
-    let mut workers = Vec::with_capacity(alloc, shares.len())?;
-    let members = thread::scope(
+    let peers = peers_of(alloc, &shares)?;
+    let workers = Vec::with_capacity(alloc, shares.len())?;
+    let members = start_all(rt, alloc, mq, gate, &peers, shares)?;
+    let workers = join_all(rt, members, workers)?;
+    settled(rt, alloc, mq, workers)
+}
+
+// Starts the threads of a phase, which have run to their end when it returns.
+fn start_all<'s, L: Look<Guarded> + Sync, R: Threads + Wait + Clock + Sync, G: Gate + Sync>(
+    rt: &'s R,
+    alloc: Global,
+    mq: &'s Mq<L>,
+    gate: &'s G,
+    peers: &'s [Peer],
+    shares: Vec<Share<'s, Process<L>>>,
+) -> Result<Vec<Member<'s, L>>, AllocError>
+where
+    L::Seat: Send,
+    L::Walk: Send,
+    requires { AreReady mq.now shares.items }
+    ensures { IfOk result (λ members. AllHaveShares shares.entry.items members.items) }
+{
+    thread::scope(
         thread::scope_env(),
         rt,
         |scope| -> Result<Vec<Member<L>>, AllocError>
@@ -64,43 +89,68 @@ where
                     Member::Idle(idle(share))
                 } else {
                     let promise = Works(Snapshot::of(&share));
-                    Member::Busy(scope.spawn_with(promise, move || work(rt, mq, gate, share))?)
+                    match scope.spawn_with(promise, move || work(rt, mq, gate, peers, share)) {
+                        Ok(handle) => Member::Busy(handle),
+                        Err(refused) => {
+                            leave_all(peers);
+                            return Err(AllocError::from(refused));
+                        }
+                    }
                 };
                 members.push(member)?;
             }
             Ok(members)
         },
-    )?;
+    )
+}
+
+// Joins the threads of a phase.
+fn join_all<L: Look<Guarded>, R: Threads + Wait>(
+    rt: &R,
+    members: Vec<Member<'_, L>>,
+    mut workers: Vec<Worked<Process<L>>>,
+) -> Result<Vec<Worked<Process<L>>>, AllocError>
+    requires { workers.items ≡ [] }
+    ensures { IfOk result (λ workers. AllGive members.entry.items workers.items) }
+{
     for member in members {
-        workers.push(match member {
-            Member::Idle(worked) => worked,
-            Member::Busy(handle) => handle.join(rt),
-        })?;
+        workers.push(joined(rt, member))?;
     }
     Ok(workers)
+}
+
+fn joined<L: Look<Guarded>, R: Threads + Wait>(rt: &R, member: Member<'_, L>) -> Worked<Process<L>>
+    ensures { Gives member.entry result }
+{
+    match member {
+        Member::Idle(worked) => worked,
+        Member::Busy(handle) => handle.join(rt),
+    }
 }
 
 // A process without calls.
 fn idle<L: Look<Guarded>>(share: Share<'_, Process<L>>) -> Worked<Process<L>>
     requires free { IsFree share.process }
     requires none { vec_len share.turns ≡ 0 }
-    ensures { WorksOff share.entry result }
+    ensures { Ends share.entry result }
 {
     Worked {
         process: share.process,
         answers: share.answers,
+        blocked: None,
     }
 }
 
-// Makes the calls of a share in their order.
+// Makes the calls of a share in their order, up to one that waits for ever.
 fn work<L: Look<Guarded>, R: Wait + Clock, G: Gate>(
     rt: &R,
     mq: &Mq<L>,
     gate: &G,
+    peers: &[Peer],
     share: Share<'_, Process<L>>,
 ) -> Worked<Process<L>>
     requires { IsReady mq.now share.process }
-    ensures { WorksOff share.entry result }
+    ensures { Ends share.entry result }
 {
     let Share {
         mut process,
@@ -108,31 +158,49 @@ fn work<L: Look<Guarded>, R: Wait + Clock, G: Gate>(
         mut answers,
     } = share;
     for turn in turns {
-        gate.before(process.number(), turn.call.line);
-        answers.push_reserved(answer(rt, mq, &mut process, turn));
+        let line = turn.call.line;
+        gate.before(process.number(), line);
+        match answer(rt, mq, &mut process, peers, turn) {
+            Some(answer) => answers.push_reserved(answer),
+            None => {
+                return Worked {
+                    process,
+                    answers,
+                    blocked: Some(line),
+                };
+            }
+        }
     }
-    Worked { process, answers }
+    leave(peers, process.number());
+    Worked {
+        process,
+        answers,
+        blocked: None,
+    }
 }
 
 fn answer<L: Look<Guarded>, R: Wait + Clock>(
     rt: &R,
     mq: &Mq<L>,
     process: &mut Process<L>,
+    peers: &[Peer],
     turn: Turn<'_>,
-) -> Answer
+) -> Option<Answer>
     requires { IsReady mq.now process.old }
-    ensures free { IsFree process.new }
     ensures same { IsSameProcess process.old process.new }
-    ensures performed { Performs turn.entry.call.clock.moment (said turn.entry.call.command) (buffer_given (said turn.entry.call.command)) result.buffer.items process.old process.new result.outcome }
+    ensures free { IfSome result (λ _. IsFree process.new) }
+    ensures performed { IfSome result (λ answer. Performs turn.entry.call.clock.moment (said turn.entry.call.command) (buffer_given (said turn.entry.call.command)) answer.buffer.items process.old process.new answer.outcome) }
+    ensures blocks { IfNone result (Blocks turn.entry.call.clock.moment (said turn.entry.call.command) (buffer_given (said turn.entry.call.command)) process.old process.new) }
 {
     let Turn { call, mut buffer } = turn;
     let outcome = perform(
         rt,
         mq,
         process,
+        peers,
         &call.clock,
         &call.command,
         buffer.as_mut_slice(),
-    );
-    Answer { outcome, buffer }
+    )?;
+    Some(Answer { outcome, buffer })
 }

@@ -1,5 +1,5 @@
 //! A script, from its bytes to the bytes of its replies.
-ghost use Rattle.std.specs.Prelude.{◌≡◌, ◌≤◌, ◌+◌, ◌↔◌, ℕ, List, IfErr, IfOk, IsErr, IsErrOf, IsOk, OnErr, OnOk, Some, Ok, Err, length, take, vec_len};
+ghost use Rattle.std.specs.Prelude.{◌≡◌, ◌≤◌, ◌+◌, ◌↔◌, ℕ, List, IfErr, IfOk, IsErr, IsErrOf, IsOk, OnErr, OnOk, Some, Ok, Err, Vec, length, take, vec_len};
 ghost use Rattle.std.specs.Io.KnownBytes.{Appends, Consumes};
 ghost use Rattle.std.specs.List.{All};
 ghost use Rattle.mq_model.specs.Answer.{Legal};
@@ -8,9 +8,10 @@ ghost use Rattle.fast_mutex.specs.Items.{Ticket};
 ghost use Rattle.lines.specs.Output.{AppendsTooLittle};
 ghost use Rattle.mq_model.specs.Record.{Record};
 ghost use Rattle.mq_runner.specs.Runs.{IsReady, RunsPhase, RunsPhases, RunsScript, last_line};
-ghost use Rattle.mq_runner.specs.Stops.{RunsFront, StopsBehindPhase, StopsInPhase, StopsInWrite};
+ghost use Rattle.mq_runner.specs.Stops.{RunsFront, StopsBehindPhase, StopsBlocked, StopsInDeadlock, StopsInPhase, StopsInWrite};
+ghost use Rattle.mq_runner.specs.Stands.{ComesToAStand};
 ghost use Rattle.mq_script.specs.Script.{Whole, said_calls, said_phases, said_script, script_written};
-ghost use Rattle.mq_runner.specs.declared.fault.RunFault.TheVariants.{BadCall, Input, NoMemory, Output};
+ghost use Rattle.mq_runner.specs.declared.fault.RunFault.TheVariants.{BadCall, Deadlock, Input, NoMemory, Output};
 
 use crate::deal::{processes_of, shares_of};
 use crate::fault::RunFault;
@@ -37,7 +38,8 @@ use std::time::Clock;
 /// nothing is written. `RunFault::Output`: a write failed; the replies of the phases before are written, and of what it was to
 /// write a front part. `RunFault::NoMemory`: a growth outside a call, or a thread, was refused; the replies of the phases before
 /// are written, and nothing of that phase.
-/// A script in which a call waits and is never answered does not end.
+/// `RunFault::Deadlock`: in a phase all processes that are not through with their calls wait, and nothing answers them; the replies of
+/// the phases before are written, and nothing of that phase.
 pub fn run_script<L, S, R, W, G>(
     rt: &S,
     alloc: Global,
@@ -67,6 +69,9 @@ where
     ensures output { (all : List ℕ) (script : Whole) → R.remaining input.old ≡ Some all →
         script_written (take (MOST_BYTES + 1) all) ≡ Ok script → IsErrOf result Output →
         StopsInWrite script (W.contents output.old) (W.contents output.new) }
+    ensures deadlock { (all : List ℕ) (script : Whole) (lines : Vec ℕ Global) → R.remaining input.old ≡ Some all →
+        script_written (take (MOST_BYTES + 1) all) ≡ Ok script → IsErrOf result (Deadlock lines) →
+        StopsInDeadlock script lines.items (W.contents output.old) (W.contents output.new) }
     ensures done { (all : List ℕ) (script : Whole) → R.remaining input.old ≡ Some all →
         script_written (take (MOST_BYTES + 1) all) ≡ Ok script →
         OnOk result (RunsScript script (W.contents output.old) (W.contents output.new)) }
@@ -95,6 +100,7 @@ where
     ensures fault { IfErr result IsLate }
     ensures no_memory { IsErrOf result NoMemory → StopsBehindPhase (said_script script.now) (W.contents output.old) (W.contents output.new) }
     ensures output { IsErrOf result Output → StopsInWrite (said_script script.now) (W.contents output.old) (W.contents output.new) }
+    ensures deadlock { (lines : Vec ℕ Global) → IsErrOf result (Deadlock lines) → StopsInDeadlock (said_script script.now) lines.items (W.contents output.old) (W.contents output.new) }
     ensures done { OnOk result (RunsScript (said_script script.now) (W.contents output.old) (W.contents output.new)) }
 {
     let Ok((mq, processes)) = Mq::<L>::new(alloc, script.processes) else {
@@ -131,6 +137,7 @@ where
     ensures fault { IfErr result IsLate }
     ensures no_memory { IsErrOf result NoMemory → RunsFront (said_phases phases.now) processes.items (W.contents output.old) (W.contents output.new) }
     ensures output { IsErrOf result Output → StopsInPhase (said_phases phases.now) processes.items (W.contents output.old) (W.contents output.new) }
+    ensures deadlock { (lines : Vec ℕ Global) → IsErrOf result (Deadlock lines) → StopsBlocked (said_phases phases.now) processes.items lines.items (W.contents output.old) (W.contents output.new) }
     ensures ready { IfOk result (λ after. All (IsReady mq.now) after.items) }
     ensures count { IfOk result (λ after. vec_len after ≡ vec_len processes) }
     ensures ran { IfOk result (λ after. (replies : List ℕ) × RunsPhases (said_phases phases.now) processes.items after.items replies × Appends (W.contents output.old) (W.contents output.new) replies) }
@@ -161,6 +168,7 @@ where
     requires { All (IsReady mq.now) processes.items }
     ensures fault { IfErr result IsLate }
     ensures no_memory { IsErrOf result NoMemory → W.contents output.new ≡ W.contents output.old }
+    ensures deadlock { (lines : Vec ℕ Global) → IsErrOf result (Deadlock lines) → ComesToAStand (said_calls calls.now) processes.items lines.items × (W.contents output.new ≡ W.contents output.old) }
     ensures output { IsErrOf result Output → (after : List (Ticket Record)) × (text : List ℕ) × RunsPhase (said_calls calls.now) processes.items after text × AppendsTooLittle (W.contents output.old) (W.contents output.new) text }
     ensures ready { IfOk result (λ after. All (IsReady mq.now) after.items) }
     ensures count { IfOk result (λ after. vec_len after ≡ vec_len processes) }

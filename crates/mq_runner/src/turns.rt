@@ -26,11 +26,13 @@ pub struct Share<'s, P> {
     ghost room: { vec_len turns ≤ vec_capacity answers },
 }
 
-/// A process that made its calls of a phase, with what they came to.
+/// A process that made its calls of a phase, with what they came to; or some first ones, and then waits in one for ever.
 #[derive(Drop)]
 pub struct Worked<P> {
     pub process: P,
     pub answers: Vec<Answer>,
+    /// The line of the call that waits.
+    pub blocked: Option<u64>,
 }
 
 /// A call with the buffer that it is given.

@@ -99,6 +99,14 @@ impl Slots {
         Some((best.prio, best.place))
     }
 
+    /// Takes all messages out. The room stays as it was.
+    pub fn clear(&mut self)
+        ensures empty { self.new.messages ≡ [] }
+        ensures cap { self.new.cap ≡ self.old.cap }
+    {
+        while self.pop().is_some() {}
+    }
+
     /// The message that is received next, as its priority and its place.
     pub fn best(&self) -> Option<(u32, u64)>
         ensures none { IsNone result ↔ (self.now.messages ≡ []) }

@@ -1,6 +1,6 @@
 -- The table of inboxes, line by line.
 use Rattle.std.proofs.Common.{◌≡◌, ℕ, zero, suc, ◌+◌, ◌<◌, ◌≤◌, ◌==◌, Bool, true, false, List, [], ◌∷◌, ◌++◌, length, Some, if◌then◌else◌, set, get_or, refl, ◌∙◌, ap, arith, eqb-true, eq-eqb}
-use Rattle.std.specs.Prelude.{slice_get, OnOk, Result, Ok, Err}
+use Rattle.std.specs.Prelude.{slice_get, OnOk, OnErr, Result, Ok, Err}
 use Rattle.std.specs.Option.{option_map, unwrap_or}
 use Rattle.std.proofs.lemmas.Bool.Decides.{nat_tests}
 use Rattle.std.proofs.lemmas.Option.{slice_get-get_or}
@@ -90,3 +90,15 @@ none-push (x ∷ xs) y none is (suc k) = none-push xs y (λ j. none (suc j)) is 
 pub on-ok : {E : Type 0} (r : Result (Unit {0}) E) (P Q : Type 0) → (P → Q) → OnOk r P → OnOk r Q
 on-ok (Ok x) P Q f p = f p
 on-ok (Err e) P Q f p = p
+
+pub on-err : {E : Type 0} (r : Result (Unit {0}) E) (P Q : Type 0) → (P → Q) → OnErr r P → OnErr r Q
+on-err (Ok x) P Q f p = p
+on-err (Err e) P Q f p = f p
+
+-- one more line with that room, behind those that have it
+pub room-push : (xs : List InboxShown) (y : InboxShown) (room : ℕ) → ((k : ℕ) → k < length xs → room ≤ room_in xs k) → room ≤ y.room → (k : ℕ) → k < length xs + 1 → room ≤ room_in (xs ++ y ∷ []) k
+unfolding room_in
+room-push [] y room has le zero lt = le
+room-push [] y room has le (suc k) lt = absurd (omega (arith, lt))
+room-push (x ∷ xs) y room has le zero lt = has 0 (omega arith)
+room-push (x ∷ xs) y room has le (suc k) lt = room-push xs y room (λ j at. has (suc j) (omega (arith, at))) le k (omega (arith, lt))

@@ -12,3 +12,5 @@ pub mod WaitsNoted
 pub mod Starting
 pub mod Fitting
 pub mod Collecting
+pub mod Bounded
+pub mod Pooling

@@ -1,6 +1,7 @@
 -- The table of queues, line by line.
 use Rattle.std.proofs.Common.{◌≡◌, ℕ, zero, suc, ◌+◌, ◌<◌, ◌==◌, Bool, true, false, List, [], ◌∷◌, ◌++◌, length, map, Option, Some, None, if◌then◌else◌, set, get_or, take, drop, refl, sym, ◌∙◌, ap, arith, eqb-true, eq-eqb, not, ◌⊎◌, inl, inr}
-use Rattle.std.specs.List.{find, filter, position, position_from}
+use Rattle.std.specs.List.{All, find, filter, position, position_from}
+use Rattle.std.proofs.lemmas.List.Elements.{All-nil, All-cons}
 use Rattle.mq_model.specs.Messages.{is_in}
 use Rattle.std.specs.Option.{option_map}
 use Rattle.std.proofs.lemmas.List.Quantifiers.{position-Some}
@@ -192,3 +193,16 @@ queue_in-push (z ∷ queues) y k x e = split (z.place == k)
 pub places-push : (queues : List QueueShown) (y : QueueShown) → map (λ x. x.place) (queues ++ y ∷ []) ≡ map (λ x. x.place) queues ++ y.place ∷ []
 places-push [] y = refl
 places-push (z ∷ queues) y = ap (λ rest. z.place ∷ rest) (places-push queues y)
+
+-- where it is found, queue q has that index
+pub position-here : (queues : List QueueShown) (q i : ℕ) (d : QueueShown) → position (λ x. x.place == q) queues ≡ Some i → (i < length queues) × (((get_or queues i d).place == q) ≡ true)
+position-here queues q i d e = let is = is_first queues q i d e in (is.inside, is.here)
+
+nowhere-from : (queues : List QueueShown) (q i : ℕ) → position_from (λ x. x.place == q) i queues ≡ None → All (λ x. not (x.place == q) ≡ true) queues
+nowhere-from [] q i e = All-nil (λ x. not (x.place == q) ≡ true)
+nowhere-from (x ∷ queues) q i e = split (x.place == q)
+    (λ t. let same : Some i ≡ None = rw t at e in absurd (cc))
+    (λ n. let rest : position_from (λ x. x.place == q) (i + 1) queues ≡ None = rw n at e in All-cons (λ x. not (x.place == q) ≡ true) x queues (rw n refl) (nowhere-from queues q (i + 1) rest))
+
+pub position-nowhere : (queues : List QueueShown) (q : ℕ) → position (λ x. x.place == q) queues ≡ None → All (λ x. not (x.place == q) ≡ true) queues
+position-nowhere queues q e = nowhere-from queues q 0 (sym (position_from-zero (λ x. x.place == q) queues) ∙ e)

@@ -1,28 +1,49 @@
-use Rattle.std.specs.Prelude.{ℕ, ◌≡◌, ◌≢◌, ◌+◌, ◌≤◌, List, None}
-use Rattle.mq_model.specs.Record.{Past, Shown}
+use Rattle.std.specs.Prelude.{ℕ, ◌≡◌, ◌+◌, ◌≤◌, true, false, List, length, Option, Some, None, Result, Ok, Err, ◌⊎◌}
+use Rattle.mq_model.specs.Record.{Past, Shown, payload_bytes}
 use Rattle.mq_model.specs.Answer.{Legal, Appends}
 use Rattle.mq_model.specs.Waits.{open_wait}
 use Rattle.mq_model.specs.declared.entries.Call.{Call}
-use Rattle.mq_model.specs.declared.faults.Fault.TheVariants.{NoMemory}
+use Rattle.mq_model.specs.Bounds.{has_entry, exceeds, entries_needed, bytes_needed, HeedsBounds}
+use Rattle.mq_model.specs.declared.faults.Fault.{Fault}
+use Rattle.mq_model.specs.declared.faults.Fault.TheVariants.{NoMemory, JournalFull}
+use Rattle.mq_model.specs.declared.bounds.Bounds.{Bounds}
 use Rattle.mq_model.specs.Owners.{waits_count}
 use Rattle.mq_model.specs.declared.entries.Reply.{Reply}
-use Rattle.mq_model.specs.declared.entries.Reply.TheVariants.{Waits, Collected, Withdrawn, Refused}
+use Rattle.mq_model.specs.declared.entries.Reply.TheVariants.{Waits, Collected, Withdrawn}
+use Rattle.mq_state.specs.Pool.{IsPooled}
+use Rattle.mq_state.specs.InboxShown.{InboxShown}
+use Rattle.mq_state.specs.Inboxes.{room_in}
 use Rattle.mq_state.specs.Tables.{TablesMirror, AreAtMost, HasNoticeRoom}
 use Rattle.mq_state.specs.declared.tables.Tables.{Tables}
 
--- what a `Books` shows: its records, the latest first, how many processes it has, and for how many more payload bytes there is
--- room
+-- what a `Books` shows: its records, the latest first, how many processes it has, the bounds of its journal, and for how many more
+-- payload bytes there is room
 pub record Kept : Type 0 where
   pub records : Past
   pub n : ℕ
+  pub bounds : Option Bounds
   pub byte_room : ℕ
 
 -- the tables are those of the journal
 abbrev pub Mirrors : Shown → Tables → Type 0
 Mirrors j t = TablesMirror j.records t.n t.owners.items t.queues.items t.inboxes.items
 
+-- for how many notices of each process there is room with bounds: for as many as there may be entries, and one from each queue
+abbrev pub notice_room : Option Bounds → ℕ
+notice_room None = 0
+notice_room (Some b) = b.entries + 64
+
+-- that room, behind so many entries, each of which brings a process one notice at most
+abbrev pub HasNotices : Option Bounds → ℕ → ℕ → List InboxShown → Type 0
+HasNotices bounds entries n inboxes = (p : ℕ) → p ≤ n → notice_room bounds ≤ entries + room_in inboxes p
+
+-- there is room for as many entries and payload bytes as the bounds allow, those that are there included
+abbrev pub HasRoomWithin : Option Bounds → Shown → Type 0
+HasRoomWithin None j = Unit {0}
+HasRoomWithin (Some b) j = (b.entries ≤ length j.records + j.entry_room) × (b.bytes ≤ payload_bytes j.records + j.byte_room)
+
 -- the journal is legal and has entries of the first n processes alone, the tables are those of the journal, and there is
--- room for the entry that ends each open wait and for the notice of each registration
+-- room for the entry that ends each open wait, for the notice of each registration, and for all that the bounds allow
 pub record IsKeptBy (j : Shown) (t : Tables) : Type 0 where
   pub legal : Legal j.records
   pub few : t.n ≤ 32
@@ -31,19 +52,30 @@ pub record IsKeptBy (j : Shown) (t : Tables) : Type 0 where
   pub waits : t.waits ≡ waits_count t.owners.items
   pub room : waits_count t.owners.items ≤ j.entry_room
   pub notice_room : HasNoticeRoom t.queues.items t.inboxes.items
+  pub bounded : HasRoomWithin t.bounds j
+  pub notices : HasNotices t.bounds (length j.records) t.n t.inboxes.items
+
+-- the same, and the orders of the queues
+pub record IsWhole (j : Shown) (t : Tables) : Type 0 where
+  pub kept : IsKeptBy j t
+  pub pool : IsPooled None t
 
 -- process p may make a call: it is one of the processes, and has no open wait
 pub record MayCall (j : Shown) (t : Tables) (p : ℕ) : Type 0 where
   pub kept : IsKeptBy j t
+  pub pool : IsPooled None t
   pub process : (1 ≤ p) × (p ≤ t.n)
   pub no_wait : open_wait j.records p ≡ None
 
--- a call of process p got its answer: it has its entry, or none and the answer that memory was wanting
+-- a call of process p got its answer: it has its entry, or none and the answer that memory was wanting or the journal is full
 pub record IsCalled (j j' : Shown) (t t' : Tables) (p : ℕ) (call : Call) (given : List ℕ) (reply : Reply) : Type 0 where
-  pub entry : reply ≢ Refused NoMemory → Appends j.records j'.records p call given reply
-  pub no_memory : reply ≡ Refused NoMemory → j'.records ≡ j.records
+  pub entry : has_entry reply ≡ true → Appends j.records j'.records p call given reply
+  pub no_entry : has_entry reply ≡ false → j'.records ≡ j.records
+  pub heeds : HeedsBounds t.bounds j.records p call given reply
   pub kept : IsKeptBy j' t'
+  pub pool : IsPooled None t'
   pub n : t'.n ≡ t.n
+  pub bounds : t'.bounds ≡ t.bounds
 
 -- room for the entry, for the entry that ends each open wait, and for that of a wait that the entry begins. A collect or a
 -- withdrawal itself stands in the room that was kept for it
@@ -52,3 +84,14 @@ HasEntryRoom Waits waits room = waits + 2 ≤ room
 HasEntryRoom (Collected by) waits room = waits ≤ room
 HasEntryRoom (Withdrawn wait) waits room = waits ≤ room
 HasEntryRoom _ waits room = waits + 1 ≤ room
+
+-- room that was asked for, with which there would be so many entries and payload bytes, is refused because the journal is full exactly
+-- where that is more than the bounds allow, and with bounds for no other reason
+pub record IsRoomRefused (bounds : Option Bounds) (entries bytes : ℕ) (result : Result (Unit {0}) Fault) : Type 0 where
+  pub full : exceeds bounds entries bytes ≡ true → result ≡ Err JournalFull
+  pub room : exceeds bounds entries bytes ≡ false → (result ≡ Ok tt) ⊎ ((result ≡ Err NoMemory) × (bounds ≡ None))
+
+-- a call needs room for just so many entries and payload bytes
+pub record NeedsJust (entries bytes : ℕ) (past : Past) (p : ℕ) (call : Call) (given : List ℕ) : Type 0 where
+  pub entries_are : entries_needed call ≡ entries
+  pub bytes_are : bytes_needed past p call given ≡ bytes

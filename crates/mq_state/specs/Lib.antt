@@ -6,6 +6,8 @@ pub mod InboxShown
 pub mod InboxModel
 pub mod Tables
 pub mod Inboxes
+pub mod Pool
 pub mod Kept
 pub mod Buffers
 pub mod BooksModel
+pub mod Memory

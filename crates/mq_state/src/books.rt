@@ -1,19 +1,22 @@
 //! The queues of one thread, with the journal of the calls made on them.
 //!
 //! Each call is made by a process p from 1 to n that has no open wait, appends exactly one entry, the call with the answer
-//! that the definitions give, and returns that reply. A call that is answered `Refused(NoMemory)` has no entry and changes
-//! nothing; it comes only where a growth was refused.
-ghost use Rattle.std.specs.Prelude.{◌≡◌, ◌≢◌, ◌<◌, ◌≤◌, ◌+◌, IfOk, IfSome, IsSome, IsTrue, ◌↔◌, Some, None, length, [], All, false, ◌&&◌, is_none};
+//! that the definitions give, and returns that reply. A call that is answered `Refused(NoMemory)` or `Refused(JournalFull)` has no
+//! entry and changes nothing. The first comes only where a growth was refused, and never with bounds; the second only with bounds, and
+//! exactly where the call finds the journal full.
+ghost use Rattle.std.specs.Prelude.{◌≡◌, ◌≢◌, ◌<◌, ◌≤◌, ◌+◌, IfOk, IfSome, IsSome, IsTrue, ◌↔◌, Some, None, length, [], All, true, false, ◌&&◌, is_none};
 ghost use Rattle.mq_model.specs.Deadlines.{is_over};
 ghost use Rattle.mq_model.specs.Waits.{open_wait, wait_deadline, answered_by, is_answered};
 ghost use Rattle.mq_model.specs.Descriptors.{lowest_held};
 ghost use Rattle.mq_model.specs.Answer.{Appends, Legal};
 ghost use Rattle.mq_state.specs.Buffers.{filled, collected, collected_into, collected_by, into_by, waiting_call, waiting_room, room_of, FitsOutcome};
-ghost use Rattle.mq_state.specs.Kept.{IsKeptBy};
+ghost use Rattle.mq_model.specs.Bounds.{has_entry, HeedsBounds};
+ghost use Rattle.mq_state.specs.Kept.{IsKeptBy, HasRoomWithin};
 
 use crate::buffers;
 use crate::collected::{Collected, received};
 use crate::tables::Tables;
+use mq_model::bounds::Bounds;
 use mq_model::entries::{Attr, Call, Deadline, OpenFlags, Reply, Status};
 use mq_model::faults::Fault;
 use mq_model::journals::Journal;
@@ -47,28 +50,51 @@ impl Model for Books {
 }
 
 impl Books {
-    /// The queues of n processes: none yet, and an empty journal.
-    pub fn new(alloc: Global, n: u32) -> Result<Books, AllocError>
+    fn make(alloc: Global, n: u32, bounds: Option<Bounds>) -> Result<Books, AllocError>
         requires { (1 ≤ n) × (n ≤ 32) }
         ensures empty { IfOk result (λ b. b.records ≡ []) }
         ensures processes { IfOk result (λ b. b.n ≡ n) }
+        ensures bounds { IfOk result (λ b. b.bounds ≡ bounds) }
     {
         let shelf = Shelf {
-            journal: Journal::new(alloc),
-            tables: Tables::new(alloc, n)?,
+            journal: empty_journal(alloc, bounds)?,
+            tables: Tables::new(alloc, n, bounds)?,
         };
         Ok(Books {
             shelf: Box::new(alloc, shelf)?,
         })
     }
 
+    /// The queues of n processes: none yet, and an empty journal.
+    pub fn new(alloc: Global, n: u32) -> Result<Books, AllocError>
+        requires { (1 ≤ n) × (n ≤ 32) }
+        ensures empty { IfOk result (λ b. b.records ≡ []) }
+        ensures processes { IfOk result (λ b. b.n ≡ n) }
+        ensures bounds { IfOk result (λ b. b.bounds ≡ None) }
+    {
+        Books::make(alloc, n, None)
+    }
+
+    /// The queues of n processes, whose journal may hold so many entries and so many payload bytes, those of names and of messages. All
+    /// the memory that later calls could need is taken here; the error is that it was refused.
+    pub fn bounded(alloc: Global, n: u32, entries: u64, bytes: u64) -> Result<Books, AllocError>
+        requires { (1 ≤ n) × (n ≤ 32) }
+        ensures empty { IfOk result (λ b. b.records ≡ []) }
+        ensures processes { IfOk result (λ b. b.n ≡ n) }
+        ensures bounds { IfOk result (λ b. b.bounds ≡ Some (record { entries = entries; bytes = bytes })) }
+    {
+        Books::make(alloc, n, Some(Bounds { entries, bytes }))
+    }
+
     /// An open of a name (`mq_open`). Replies `Opened`, or refuses with `Exists`, `NoEntry`, `Invalid`, `TooManyOpen` or `NoSpace`.
     pub fn open(&mut self, p: u32, name: &Name, flags: OpenFlags, attr: Option<Attr>) -> Reply
         requires process { (1 ≤ p) × (p ≤ self.old.n) }
         requires no_wait { open_wait self.old.records p ≡ None }
-        ensures entry { result ≢ Reply.Refused Fault.NoMemory → Appends self.old.records self.new.records p (Call.MqOpen flags attr) name.now result }
-        ensures no_memory { result ≡ Reply.Refused Fault.NoMemory → self.new.records ≡ self.old.records }
+        ensures entry { has_entry result ≡ true → Appends self.old.records self.new.records p (Call.MqOpen flags attr) name.now result }
+        ensures no_entry { has_entry result ≡ false → self.new.records ≡ self.old.records }
+        ensures full { HeedsBounds self.old.bounds self.old.records p (Call.MqOpen flags attr) name.now result }
         ensures processes { self.new.n ≡ self.old.n }
+        ensures bounds { self.new.bounds ≡ self.old.bounds }
     {
         let Shelf { journal, tables } = &mut *self.shelf;
         tables.open(journal, p, name.bytes(), flags, attr)
@@ -78,9 +104,11 @@ impl Books {
     pub fn close(&mut self, p: u32, d: u32) -> Reply
         requires process { (1 ≤ p) × (p ≤ self.old.n) }
         requires no_wait { open_wait self.old.records p ≡ None }
-        ensures entry { result ≢ Reply.Refused Fault.NoMemory → Appends self.old.records self.new.records p (Call.MqClose d) [] result }
-        ensures no_memory { result ≡ Reply.Refused Fault.NoMemory → self.new.records ≡ self.old.records }
+        ensures entry { has_entry result ≡ true → Appends self.old.records self.new.records p (Call.MqClose d) [] result }
+        ensures no_entry { has_entry result ≡ false → self.new.records ≡ self.old.records }
+        ensures full { HeedsBounds self.old.bounds self.old.records p (Call.MqClose d) [] result }
         ensures processes { self.new.n ≡ self.old.n }
+        ensures bounds { self.new.bounds ≡ self.old.bounds }
     {
         let Shelf { journal, tables } = &mut *self.shelf;
         tables.close(journal, p, d)
@@ -90,9 +118,11 @@ impl Books {
     pub fn unlink(&mut self, p: u32, name: &Name) -> Reply
         requires process { (1 ≤ p) × (p ≤ self.old.n) }
         requires no_wait { open_wait self.old.records p ≡ None }
-        ensures entry { result ≢ Reply.Refused Fault.NoMemory → Appends self.old.records self.new.records p (Call.MqUnlink) name.now result }
-        ensures no_memory { result ≡ Reply.Refused Fault.NoMemory → self.new.records ≡ self.old.records }
+        ensures entry { has_entry result ≡ true → Appends self.old.records self.new.records p (Call.MqUnlink) name.now result }
+        ensures no_entry { has_entry result ≡ false → self.new.records ≡ self.old.records }
+        ensures full { HeedsBounds self.old.bounds self.old.records p (Call.MqUnlink) name.now result }
         ensures processes { self.new.n ≡ self.old.n }
+        ensures bounds { self.new.bounds ≡ self.old.bounds }
     {
         let Shelf { journal, tables } = &mut *self.shelf;
         tables.unlink(journal, p, name.bytes())
@@ -102,9 +132,11 @@ impl Books {
     pub fn getattr(&mut self, p: u32, d: u32) -> Reply
         requires process { (1 ≤ p) × (p ≤ self.old.n) }
         requires no_wait { open_wait self.old.records p ≡ None }
-        ensures entry { result ≢ Reply.Refused Fault.NoMemory → Appends self.old.records self.new.records p (Call.MqGetattr d) [] result }
-        ensures no_memory { result ≡ Reply.Refused Fault.NoMemory → self.new.records ≡ self.old.records }
+        ensures entry { has_entry result ≡ true → Appends self.old.records self.new.records p (Call.MqGetattr d) [] result }
+        ensures no_entry { has_entry result ≡ false → self.new.records ≡ self.old.records }
+        ensures full { HeedsBounds self.old.bounds self.old.records p (Call.MqGetattr d) [] result }
         ensures processes { self.new.n ≡ self.old.n }
+        ensures bounds { self.new.bounds ≡ self.old.bounds }
     {
         let Shelf { journal, tables } = &mut *self.shelf;
         tables.getattr(journal, p, d)
@@ -115,9 +147,11 @@ impl Books {
     pub fn setattr(&mut self, p: u32, d: u32, new: Status) -> Reply
         requires process { (1 ≤ p) × (p ≤ self.old.n) }
         requires no_wait { open_wait self.old.records p ≡ None }
-        ensures entry { result ≢ Reply.Refused Fault.NoMemory → Appends self.old.records self.new.records p (Call.MqSetattr d new.nonblock) [] result }
-        ensures no_memory { result ≡ Reply.Refused Fault.NoMemory → self.new.records ≡ self.old.records }
+        ensures entry { has_entry result ≡ true → Appends self.old.records self.new.records p (Call.MqSetattr d new.nonblock) [] result }
+        ensures no_entry { has_entry result ≡ false → self.new.records ≡ self.old.records }
+        ensures full { HeedsBounds self.old.bounds self.old.records p (Call.MqSetattr d new.nonblock) [] result }
         ensures processes { self.new.n ≡ self.old.n }
+        ensures bounds { self.new.bounds ≡ self.old.bounds }
     {
         let Shelf { journal, tables } = &mut *self.shelf;
         tables.setattr(journal, p, d, new.nonblock)
@@ -128,9 +162,11 @@ impl Books {
     pub fn notify(&mut self, p: u32, d: u32, value: Option<u64>) -> Reply
         requires process { (1 ≤ p) × (p ≤ self.old.n) }
         requires no_wait { open_wait self.old.records p ≡ None }
-        ensures entry { result ≢ Reply.Refused Fault.NoMemory → Appends self.old.records self.new.records p (Call.MqNotify d value) [] result }
-        ensures no_memory { result ≡ Reply.Refused Fault.NoMemory → self.new.records ≡ self.old.records }
+        ensures entry { has_entry result ≡ true → Appends self.old.records self.new.records p (Call.MqNotify d value) [] result }
+        ensures no_entry { has_entry result ≡ false → self.new.records ≡ self.old.records }
+        ensures full { HeedsBounds self.old.bounds self.old.records p (Call.MqNotify d value) [] result }
         ensures processes { self.new.n ≡ self.old.n }
+        ensures bounds { self.new.bounds ≡ self.old.bounds }
     {
         let Shelf { journal, tables } = &mut *self.shelf;
         tables.notify(journal, p, d, value)
@@ -140,9 +176,11 @@ impl Books {
     pub fn next_notice(&mut self, p: u32) -> Reply
         requires process { (1 ≤ p) × (p ≤ self.old.n) }
         requires no_wait { open_wait self.old.records p ≡ None }
-        ensures entry { result ≢ Reply.Refused Fault.NoMemory → Appends self.old.records self.new.records p (Call.NextNotice) [] result }
-        ensures no_memory { result ≡ Reply.Refused Fault.NoMemory → self.new.records ≡ self.old.records }
+        ensures entry { has_entry result ≡ true → Appends self.old.records self.new.records p (Call.NextNotice) [] result }
+        ensures no_entry { has_entry result ≡ false → self.new.records ≡ self.old.records }
+        ensures full { HeedsBounds self.old.bounds self.old.records p (Call.NextNotice) [] result }
         ensures processes { self.new.n ≡ self.old.n }
+        ensures bounds { self.new.bounds ≡ self.old.bounds }
     {
         let Shelf { journal, tables } = &mut *self.shelf;
         tables.next_notice(journal, p)
@@ -153,10 +191,12 @@ impl Books {
     pub fn send(&mut self, p: u32, d: u32, bytes: &[u8], prio: u32) -> Reply
         requires process { (1 ≤ p) × (p ≤ self.old.n) }
         requires no_wait { open_wait self.old.records p ≡ None }
-        ensures entry { result ≢ Reply.Refused Fault.NoMemory → Appends self.old.records self.new.records p (Call.MqSend d prio (length bytes.now)) bytes.now result }
-        ensures no_memory { result ≡ Reply.Refused Fault.NoMemory → self.new.records ≡ self.old.records }
+        ensures entry { has_entry result ≡ true → Appends self.old.records self.new.records p (Call.MqSend d prio (length bytes.now)) bytes.now result }
+        ensures no_entry { has_entry result ≡ false → self.new.records ≡ self.old.records }
+        ensures full { HeedsBounds self.old.bounds self.old.records p (Call.MqSend d prio (length bytes.now)) bytes.now result }
         ensures refused { (fault : Fault) → result ≡ Reply.Refused fault → fault ≢ Fault.NoMemory → self.new.byte_room ≡ self.old.byte_room }
         ensures processes { self.new.n ≡ self.old.n }
+        ensures bounds { self.new.bounds ≡ self.old.bounds }
     {
         let Shelf { journal, tables } = &mut *self.shelf;
         tables.send(journal, p, d, bytes, prio)
@@ -167,9 +207,11 @@ impl Books {
     pub fn receive(&mut self, p: u32, d: u32, buf: &mut [u8]) -> Reply
         requires process { (1 ≤ p) × (p ≤ self.old.n) }
         requires no_wait { open_wait self.old.records p ≡ None }
-        ensures entry { result ≢ Reply.Refused Fault.NoMemory → Appends self.old.records self.new.records p (Call.MqReceive d (length buf.old)) [] result }
-        ensures no_memory { result ≡ Reply.Refused Fault.NoMemory → self.new.records ≡ self.old.records }
+        ensures entry { has_entry result ≡ true → Appends self.old.records self.new.records p (Call.MqReceive d (length buf.old)) [] result }
+        ensures no_entry { has_entry result ≡ false → self.new.records ≡ self.old.records }
+        ensures full { HeedsBounds self.old.bounds self.old.records p (Call.MqReceive d (length buf.old)) [] result }
         ensures processes { self.new.n ≡ self.old.n }
+        ensures bounds { self.new.bounds ≡ self.old.bounds }
         ensures buffer { buf.new ≡ filled self.old.records result buf.old }
     {
         let Shelf { journal, tables } = &mut *self.shelf;
@@ -190,10 +232,12 @@ impl Books {
     ) -> Reply
         requires process { (1 ≤ p) × (p ≤ self.old.n) }
         requires no_wait { open_wait self.old.records p ≡ None }
-        ensures entry { result ≢ Reply.Refused Fault.NoMemory → Appends self.old.records self.new.records p (Call.MqTimedSend d prio (length bytes.now) until now) bytes.now result }
-        ensures no_memory { result ≡ Reply.Refused Fault.NoMemory → self.new.records ≡ self.old.records }
+        ensures entry { has_entry result ≡ true → Appends self.old.records self.new.records p (Call.MqTimedSend d prio (length bytes.now) until now) bytes.now result }
+        ensures no_entry { has_entry result ≡ false → self.new.records ≡ self.old.records }
+        ensures full { HeedsBounds self.old.bounds self.old.records p (Call.MqTimedSend d prio (length bytes.now) until now) bytes.now result }
         ensures refused { (fault : Fault) → result ≡ Reply.Refused fault → fault ≢ Fault.NoMemory → self.new.byte_room ≡ self.old.byte_room }
         ensures processes { self.new.n ≡ self.old.n }
+        ensures bounds { self.new.bounds ≡ self.old.bounds }
     {
         let Shelf { journal, tables } = &mut *self.shelf;
         tables.timed_send(journal, p, d, bytes, prio, until, now)
@@ -212,9 +256,11 @@ impl Books {
     ) -> Reply
         requires process { (1 ≤ p) × (p ≤ self.old.n) }
         requires no_wait { open_wait self.old.records p ≡ None }
-        ensures entry { result ≢ Reply.Refused Fault.NoMemory → Appends self.old.records self.new.records p (Call.MqTimedReceive d (length buf.old) until now) [] result }
-        ensures no_memory { result ≡ Reply.Refused Fault.NoMemory → self.new.records ≡ self.old.records }
+        ensures entry { has_entry result ≡ true → Appends self.old.records self.new.records p (Call.MqTimedReceive d (length buf.old) until now) [] result }
+        ensures no_entry { has_entry result ≡ false → self.new.records ≡ self.old.records }
+        ensures full { HeedsBounds self.old.bounds self.old.records p (Call.MqTimedReceive d (length buf.old) until now) [] result }
         ensures processes { self.new.n ≡ self.old.n }
+        ensures bounds { self.new.bounds ≡ self.old.bounds }
         ensures buffer { buf.new ≡ filled self.old.records result buf.old }
     {
         let Shelf { journal, tables } = &mut *self.shelf;
@@ -251,6 +297,7 @@ impl Books {
         ensures none { result ≡ None → self.new.records ≡ self.old.records }
         ensures buffer { buf.new ≡ collected_into self.old.records p buf.old }
         ensures processes { self.new.n ≡ self.old.n }
+        ensures bounds { self.new.bounds ≡ self.old.bounds }
     {
         let Shelf { journal, tables } = &mut *self.shelf;
         let by = tables.answer(p)?;
@@ -269,6 +316,7 @@ impl Books {
         ensures waited { IsTrue result → IsSome (open_wait self.old.records p) }
         ensures none { result ≡ false → self.new.records ≡ self.old.records }
         ensures processes { self.new.n ≡ self.old.n }
+        ensures bounds { self.new.bounds ≡ self.old.bounds }
     {
         let Shelf { journal, tables } = &mut *self.shelf;
         tables.withdraw(journal, p, now)
@@ -297,6 +345,17 @@ impl Books {
         ensures processes { All (λ r. r.entry.process ≤ self.n) result.records }
     {
         Box::into_inner(self.shelf).journal
+    }
+}
+
+// An empty journal, with room for all that the bounds allow.
+fn empty_journal(alloc: Global, bounds: Option<Bounds>) -> Result<Journal, AllocError>
+    ensures empty { IfOk result (λ j. j.records ≡ []) }
+    ensures room { IfOk result (HasRoomWithin bounds) }
+{
+    match bounds {
+        None => Ok(Journal::new(alloc)),
+        Some(b) => Journal::with_room(alloc, b.entries as usize, b.bytes as usize),
     }
 }
 

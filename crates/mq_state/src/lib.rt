@@ -4,6 +4,7 @@
 pub mod books;
 mod buffers;
 pub mod collected;
+pub mod memory;
 mod notices;
 mod queues;
 mod tables;

@@ -23,13 +23,14 @@ impl Model for Inbox {
 }
 
 impl Inbox {
-    /// No notice, which takes no memory.
-    pub fn new(alloc: Global) -> Inbox
-        ensures { result.values ≡ [] }
+    /// No notice, and room for so many. Room for none takes no memory.
+    pub fn new(alloc: Global, room: usize) -> Result<Inbox, AllocError>
+        ensures values { IfOk result (λ b. b.values ≡ []) }
+        ensures room { IfOk result (λ b. room ≤ b.room) }
     {
-        Inbox {
-            values: VecDeque::new(alloc),
-        }
+        Ok(Inbox {
+            values: VecDeque::with_capacity(alloc, room)?,
+        })
     }
 
     /// Makes room for that many more notices.
@@ -37,6 +38,7 @@ impl Inbox {
         ensures values { self.new.values ≡ self.old.values }
         ensures room { self.old.room ≤ self.new.room }
         ensures ok { OnOk result (more ≤ self.new.room) }
+        ensures err { OnErr result (self.old.room < more) }
     {
         self.values.reserve(more)
     }
@@ -108,18 +110,20 @@ pub fn make_room(inboxes: &mut [Inbox], p: u32, more: usize) -> Result<(), Alloc
     ensures same { (k : ℕ) → notices_in inboxes.new k ≡ notices_in inboxes.old k }
     ensures room { (k : ℕ) → room_in inboxes.old k ≤ room_in inboxes.new k }
     ensures ok { OnOk result (more ≤ room_in inboxes.new p) }
+    ensures err { OnErr result (room_in inboxes.old p < more) }
 {
     inboxes[p as usize].reserve(more)
 }
 
-/// Inboxes of so many processes, with no notice.
-pub fn empty(alloc: Global, count: usize) -> Result<Vec<Inbox>, AllocError>
+/// Inboxes of so many processes, with no notice, and room for so many notices of each.
+pub fn empty(alloc: Global, count: usize, room: usize) -> Result<Vec<Inbox>, AllocError>
     ensures count { IfOk result (λ v. length v.items ≡ count) }
     ensures empty { IfOk result (λ v. (k : ℕ) → notices_in v.items k ≡ []) }
+    ensures room { IfOk result (λ v. (k : ℕ) → k < count → room ≤ room_in v.items k) }
 {
     let mut inboxes = Vec::with_capacity(alloc, count)?;
     for _ in 0..count {
-        inboxes.push(Inbox::new(alloc))?;
+        inboxes.push(Inbox::new(alloc, room)?)?;
     }
     Ok(inboxes)
 }

@@ -1,17 +1,19 @@
 //! The queues that exist: which are still named, who is registered on them, and their messages.
-ghost use Rattle.std.specs.Prelude.{◌≡◌, ◌<◌, ◌^◌, ◌==◌, ◌++◌, ◌∷◌, [], IfOk, position, length, not, Some, None, map, ℕ, vec_len, vec_capacity, ◌≤◌, int_le, pos, true};
+ghost use Rattle.std.specs.Prelude.{◌≡◌, ◌<◌, ◌^◌, ◌==◌, ◌++◌, ◌∷◌, [], IfOk, position, length, not, Some, None, map, ℕ, vec_len, vec_capacity, ◌≤◌, int_le, pos, true, All};
 ghost use Rattle.std.specs.Option.{option_map};
 ghost use Rattle.std.specs.Str.{bytes_eq};
 ghost use Rattle.mq_model.specs.Names.{name_of, are_within_limits};
 ghost use Rattle.mq_state.specs.Queues.{queue_in, slots_in, registration_in, is_named_in, bound_in, changed, renewed, renewed_done, HasRoom, IsInOrder, reregistered, without_queue, fresh, frees, may_free, released, noted_queues};
 ghost use Rattle.mq_state.specs.QueueShown.{QueueShown};
 ghost use Rattle.mq_state.specs.Order.{best_slot, slots_for};
+ghost use Rattle.mq_state.specs.Pool.{Pool, IsSpare, emptied};
 
 use mq_model::entries::{Attr, Call, Entry, Registration, Reply};
 use mq_model::journals::Journal;
 use mq_model::owners::Owner;
-use mq_model::{owners, registrations};
+use mq_model::{limits, owners, registrations};
 use mq_slots::Slots;
+use std::alloc::{AllocError, Global};
 use std::marker::Model;
 
 /// A queue that exists, named by the place of the open that created it.
@@ -112,6 +114,14 @@ impl Queue {
         if let Call::MqUnlink = call {
             self.unname();
         }
+    }
+
+    /// The order in which the queue's messages stood.
+    pub fn into_slots(self) -> Slots
+        ensures { result.cap ≡ self.cap }
+    {
+        let Queue { slots, .. } = self;
+        slots
     }
 
     /// Notes the entry at place `here`, which was made on this queue: what it lets in and takes out, and whether the queue is
@@ -249,13 +259,27 @@ pub fn bound(journal: &Journal, queues: &[Queue], name: &[u8]) -> Option<u64>
     }
 }
 
-// Queue q exists no longer.
-#[tactic(auto, unfolding(crate::specs::Queues::without_queue))]
-fn remove(queues: &mut Vec<Queue>, q: u64)
+// Keeps an order, emptied, for a queue to come, where there is a place for it.
+fn keep(spares: &mut Vec<Slots>, mut slots: Slots)
+    ensures capacity { vec_capacity spares.new ≡ vec_capacity spares.old }
+    ensures kept { vec_len spares.old < vec_capacity spares.old → spares.new.items ≡ spares.old.items ++ emptied slots ∷ [] }
+{
+    if spares.len() < spares.capacity() {
+        slots.clear();
+        spares.push_reserved(slots);
+    }
+}
+
+// Queue q exists no longer. Its order is kept for a queue to come.
+fn remove(queues: &mut Vec<Queue>, spares: &mut Vec<Slots>, q: u64)
     ensures items { queues.new.items ≡ without_queue queues.old.items q }
     ensures room { (vec_len queues.new ≤ vec_len queues.old) × (vec_capacity queues.new ≡ vec_capacity queues.old) }
+    ensures pool { (m : ℕ) → Pool m queues.old.items spares.old.items (vec_capacity queues.old) (vec_capacity spares.old) → Pool m queues.new.items spares.new.items (vec_capacity queues.new) (vec_capacity spares.new) }
 {
-    queues.retain(|x| x.place() != q);
+    while let Some(i) = index_of(queues, q) {
+        let queue = queues.remove(i);
+        keep(spares, queue.into_slots());
+    }
 }
 
 // Notes an entry in the line of its queue.
@@ -300,33 +324,67 @@ fn may_free(entry: Entry) -> bool
 }
 
 // Gives back the place of queue q, where an entry may have freed it and nobody needs it.
-fn release(owners: &[Owner], freed: bool, queues: &mut Vec<Queue>, q: u64)
+fn release(owners: &[Owner], freed: bool, queues: &mut Vec<Queue>, spares: &mut Vec<Slots>, q: u64)
     ensures items { queues.new.items ≡ released owners.now freed queues.old.items q }
     ensures room { (vec_len queues.new ≤ vec_len queues.old) × (vec_capacity queues.new ≡ vec_capacity queues.old) }
+    ensures pool { (m : ℕ) → Pool m queues.old.items spares.old.items (vec_capacity queues.old) (vec_capacity spares.old) → Pool m queues.new.items spares.new.items (vec_capacity queues.new) (vec_capacity spares.new) }
 {
     if freed && !(is_named(queues, q) || owners::is_held(owners, q)) {
-        remove(queues, q);
+        remove(queues, spares, q);
     }
 }
 
+// Notes an entry made on queue q in the lines: its registrations, and what its own queue lets in and gives out.
+fn note_lines(queues: &mut Vec<Queue>, here: u64, entry: Entry, q: u64, prio: u32)
+    requires room { (x : QueueShown) → queue_in (map (reregistered q here entry) queues.old.items) q ≡ Some x → HasRoom entry.reply x }
+    requires order { (x : QueueShown) → queue_in (map (reregistered q here entry) queues.old.items) q ≡ Some x → IsInOrder here entry.call entry.reply prio x }
+    ensures items { queues.new.items ≡ changed (renewed here entry.call entry.reply prio) (map (reregistered q here entry) queues.old.items) q }
+    ensures room { (vec_len queues.new ≡ vec_len queues.old) × (vec_capacity queues.new ≡ vec_capacity queues.old) }
+{
+    note_registrations(queues, q, here, entry);
+    renew(queues, q, here, entry, prio);
+}
+
 /// Notes the entry at place `here`, made on queue q, where the table of processes has noted it. A message that it admits has
-/// priority `prio`. A queue that it creates is added apart.
-pub fn note(queues: &mut Vec<Queue>, owners: &[Owner], here: u64, entry: Entry, q: u64, prio: u32)
+/// priority `prio`. A queue that it creates is added apart. The order of a queue that exists no longer joins the spare ones.
+pub fn note(
+    queues: &mut Vec<Queue>,
+    spares: &mut Vec<Slots>,
+    owners: &[Owner],
+    here: u64,
+    entry: Entry,
+    q: u64,
+    prio: u32,
+)
     requires room { (x : QueueShown) → queue_in (map (reregistered q here entry) queues.old.items) q ≡ Some x → HasRoom entry.reply x }
     requires order { (x : QueueShown) → queue_in (map (reregistered q here entry) queues.old.items) q ≡ Some x → IsInOrder here entry.call entry.reply prio x }
     ensures items { queues.new.items ≡ noted_queues owners.now here entry q prio queues.old.items }
     ensures room { vec_len queues.old < vec_capacity queues.old → vec_len queues.new < vec_capacity queues.new }
+    ensures pool { (m : ℕ) → Pool m queues.old.items spares.old.items (vec_capacity queues.old) (vec_capacity spares.old) → Pool m queues.new.items spares.new.items (vec_capacity queues.new) (vec_capacity spares.new) }
 {
-    note_registrations(queues, q, here, entry);
-    renew(queues, q, here, entry, prio);
-    release(owners, may_free(entry), queues, q);
+    note_lines(queues, here, entry, q, prio);
+    release(owners, may_free(entry), queues, spares, q);
 }
 
 /// Adds the queue that the entry at place `here` creates, in room that is there.
 pub fn add(queues: &mut Vec<Queue>, here: u64, slots: Slots)
     requires empty { slots.messages ≡ [] }
     requires room { vec_len queues.old < vec_capacity queues.old }
-    ensures { queues.new.items ≡ queues.old.items ++ fresh here slots.cap ∷ [] }
+    ensures items { queues.new.items ≡ queues.old.items ++ fresh here slots.cap ∷ [] }
+    ensures capacity { vec_capacity queues.new ≡ vec_capacity queues.old }
 {
     queues.push_reserved(Queue::new(here, slots));
+}
+
+/// So many orders, each with room for the messages of any queue.
+pub fn spare_orders(alloc: Global, count: usize) -> Result<Vec<Slots>, AllocError>
+    ensures spare { IfOk result (λ v. All IsSpare v.items) }
+    ensures count { IfOk result (λ v. length v.items ≡ count) }
+    ensures room { IfOk result (λ v. count ≤ vec_capacity v) }
+{
+    let mut spares = Vec::with_capacity(alloc, count)?;
+    for _ in 0..count {
+        spares.push(Slots::new(alloc, limits::MESSAGES as u32)?)?;
+    }
+    Ok(spares)
 }

@@ -7,7 +7,8 @@ ghost use Rattle.mq_model.specs.Owners.{waits_count, free_owner};
 ghost use Rattle.std.specs.Option.{option_map, unwrap_or};
 ghost use Rattle.mq_model.specs.Names.{bound_queue};
 ghost use Rattle.mq_state.specs.Tables.{entry_queue, admitted_priority};
-ghost use Rattle.mq_state.specs.Kept.{Mirrors};
+ghost use Rattle.mq_state.specs.Kept.{Mirrors, notice_room};
+ghost use Rattle.mq_state.specs.Pool.{order_count};
 
 mod calls;
 mod facts;
@@ -15,10 +16,11 @@ mod facts;
 use crate::notices::Inbox;
 use crate::queues::Queue;
 use crate::{buffers, notices, queues};
+use mq_model::bounds::Bounds;
 use mq_model::entries::{Call, Entry, Reply};
 use mq_model::journals::Journal;
 use mq_model::owners::Owner;
-use mq_model::{owners, registrations};
+use mq_model::{limits, owners, registrations};
 use mq_slots::Slots;
 use std::alloc::{AllocError, Global};
 
@@ -27,30 +29,43 @@ use std::alloc::{AllocError, Global};
 pub struct Tables {
     alloc: Global,
     n: u32,
+    bounds: Option<Bounds>,
     owners: Vec<Owner>,
     // how many processes have an open wait
     waits: usize,
     queues: Vec<Queue>,
+    // the orders of queues to come, where the tables have bounds
+    spares: Vec<Slots>,
     inboxes: Vec<Inbox>,
 }
 
 impl Tables {
     ghost use Rattle.mq_state.specs.Tables.{TablesMirror, HasNoticeRoom};
+    ghost use Rattle.mq_state.specs.Kept.{HasNotices};
+    ghost use Rattle.mq_state.specs.Pool.{IsPooled};
 
-    /// The tables of n processes that have nothing, with no queue.
-    pub fn new(alloc: Global, n: u32) -> Result<Tables, AllocError>
+    /// The tables of n processes that have nothing, with no queue. With bounds they have room for all that the bounds allow.
+    pub fn new(alloc: Global, n: u32, bounds: Option<Bounds>) -> Result<Tables, AllocError>
         requires { n ≤ 32 }
-        ensures { IfOk result (λ t. (t.n ≡ n) × TablesMirror [] t.n t.owners.items t.queues.items t.inboxes.items × (waits_count t.owners.items ≡ 0) × (t.waits ≡ 0) × HasNoticeRoom t.queues.items t.inboxes.items) }
+        ensures empty { IfOk result (λ t. (t.n ≡ n) × TablesMirror [] t.n t.owners.items t.queues.items t.inboxes.items × (waits_count t.owners.items ≡ 0) × (t.waits ≡ 0) × HasNoticeRoom t.queues.items t.inboxes.items) }
+        ensures bounds { IfOk result (λ t. t.bounds ≡ bounds) }
+        ensures notices { IfOk result (λ t. HasNotices bounds 0 n t.inboxes.items) }
+        ensures pool { IfOk result (IsPooled None) }
     {
         let count = n as usize + 1;
         let owners = free_owners(alloc, count)?;
-        let inboxes = notices::empty(alloc, count)?;
+        let inboxes = notices::empty(alloc, count, notice_room(bounds)?)?;
+        let orders = order_count(bounds);
+        let queues = Vec::with_capacity(alloc, orders)?;
+        let spares = queues::spare_orders(alloc, orders)?;
         Ok(Tables {
             alloc,
             n,
+            bounds,
             owners,
             waits: 0,
-            queues: Vec::new(alloc),
+            queues,
+            spares,
             inboxes,
         })
     }
@@ -110,6 +125,7 @@ impl Tables {
     ghost use Rattle.mq_state.specs.Queues.{queue_in, reregistered, noted_queues, registration_in, HasRoom, IsInOrder};
     ghost use Rattle.mq_state.specs.Inboxes.{notices_in, room_in};
     ghost use Rattle.mq_state.specs.QueueShown.{QueueShown};
+    ghost use Rattle.mq_state.specs.Pool.{IsPooled};
     ghost use Rattle.mq_state.specs.Tables.{BringsOrder, notices_brought, noted_values, notified_values, with_fresh};
 
     // Notes in the inboxes what an entry made on queue q brings and takes.
@@ -120,6 +136,8 @@ impl Tables {
         ensures waits { self.new.waits ≡ self.old.waits }
         ensures queues { self.new.queues ≡ self.old.queues }
         ensures n { self.new.n ≡ self.old.n }
+        ensures bounds { self.new.bounds ≡ self.old.bounds }
+        ensures spares { self.new.spares ≡ self.old.spares }
         ensures count { length self.new.inboxes.items ≡ length self.old.inboxes.items }
         ensures inboxes { (k : ℕ) → notices_in self.new.inboxes.items k ≡ noted_values entry.process (registration_in self.old.queues.items q) entry.reply k (notices_in self.old.inboxes.items k) }
         ensures notice_room { (k : ℕ) → room_in self.old.inboxes.items k ≤ room_in self.new.inboxes.items k + notices_brought (registration_in self.old.queues.items q) entry.reply k }
@@ -145,6 +163,8 @@ impl Tables {
         requires waits { self.old.waits ≡ waits_count self.old.owners.items }
         ensures waits { self.new.waits ≡ waits_count self.new.owners.items }
         ensures n { self.new.n ≡ self.old.n }
+        ensures bounds { self.new.bounds ≡ self.old.bounds }
+        ensures pool { IsPooled fresh self.old → IsPooled None self.new }
         ensures owners { self.new.owners.items ≡ noted self.old.owners.items (length journal.now.records) entry.process entry.call entry.reply q }
         ensures queues { self.new.queues.items ≡ with_fresh fresh (length journal.now.records) (noted_queues self.new.owners.items (length journal.now.records) entry q (admitted_priority journal.now.records entry.reply) self.old.queues.items) }
         ensures count { length self.new.inboxes.items ≡ length self.old.inboxes.items }
@@ -155,10 +175,42 @@ impl Tables {
         let prio = admitted_priority(journal, entry.reply);
         self.note_notices(entry, q);
         self.waits = note_owners(&mut self.owners, self.waits, here, entry, q);
-        queues::note(&mut self.queues, &self.owners, here, entry, q, prio);
+        queues::note(
+            &mut self.queues,
+            &mut self.spares,
+            &self.owners,
+            here,
+            entry,
+            q,
+            prio,
+        );
         if let Some(slots) = fresh {
             queues::add(&mut self.queues, here, slots);
         }
+    }
+}
+
+// How many orders of messages tables have from their making on: with bounds one for each queue that may exist.
+fn order_count(bounds: Option<Bounds>) -> usize
+    ensures { result ≡ order_count bounds }
+{
+    match bounds {
+        None => 0,
+        Some(_) => limits::QUEUES as usize,
+    }
+}
+
+// For how many notices of each process there is room from the making on: with bounds for as many as there may be entries, and for one
+// from each queue.
+fn notice_room(bounds: Option<Bounds>) -> Result<usize, AllocError>
+    ensures { IfOk result (λ room. room ≡ notice_room bounds) }
+{
+    match bounds {
+        None => Ok(0),
+        Some(b) => match b.entries.checked_add(limits::QUEUES) {
+            Some(room) => Ok(room as usize),
+            None => Err(AllocError),
+        },
     }
 }
 

@@ -16,6 +16,7 @@ use std::marker::Model;
 use std::process::Abort;
 use std::test::Fail;
 
+mod bounded;
 mod deadlines;
 mod memory;
 

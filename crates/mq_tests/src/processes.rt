@@ -17,6 +17,7 @@ use std::sync::Wait;
 use std::time::Clock;
 use steps::{Ask, CREATE, OPEN, Step, Told, expect_steps};
 
+mod bounded;
 mod calls;
 mod deadlines;
 mod ends;

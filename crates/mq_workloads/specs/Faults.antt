@@ -5,7 +5,7 @@ use Rattle.lines.specs.declared.input.ReadFault.TheVariants as read
 use Rattle.mq_workloads.specs.declared.fault.BenchFault.{BenchFault}
 use Rattle.mq_workloads.specs.declared.fault.BenchFault.TheVariants.{BadLine, Input, Output, Failed}
 use Rattle.mq_workloads.specs.declared.fault.WorkFault.{WorkFault}
-use Rattle.mq_workloads.specs.declared.fault.WorkFault.TheVariants.{NoMemory, NoThread, NoClock, Refused, Stopped}
+use Rattle.mq_workloads.specs.declared.fault.WorkFault.TheVariants.{NoMemory, NoThread, NoClock, Refused}
 use Rattle.mq_workloads.specs.declared.workload.Request.{Request}
 
 abbrev pub work_fault_text : WorkFault → List ℕ
@@ -13,7 +13,6 @@ work_fault_text NoMemory = codes "no memory"
 work_fault_text NoThread = codes "no thread"
 work_fault_text NoClock = codes "no clock"
 work_fault_text Refused = codes "a call was refused"
-work_fault_text Stopped = codes "the other process stopped"
 
 -- the line on the error stream
 abbrev pub fault_text : BenchFault → List ℕ

@@ -12,7 +12,7 @@ use std::sync::Wait;
 use std::time::{Clock, Duration, Instant};
 
 /// What one process does with its queue.
-#[derive(Clone, Copy, Debug, PartialEq, Eq)]
+#[derive(Clone, Copy)]
 pub enum Task {
     /// A send and a receive in turn, so many times each.
     Pair { rounds: u32 },
@@ -68,7 +68,8 @@ fn carry_out<L: Look<Guarded>, R: Wait + Clock>(
     }
 }
 
-fn pairs<L: Look<Guarded>, R: Wait + Clock>(
+/// Sends and receives in turn, so many times each.
+pub fn pairs<L: Look<Guarded>, R: Wait + Clock>(
     rt: &R,
     mq: &Mq<L>,
     process: &mut Process<L>,

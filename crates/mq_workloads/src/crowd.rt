@@ -1,4 +1,4 @@
-//! The workload of many processes on one queue, half of which send and half receive.
+//! Workloads of processes that take two parts in turn, each process in a thread of its own.
 ghost use Rattle.std.specs.Prelude.{◌≡◌};
 ghost use Rattle.std.specs.List.{All};
 ghost use Rattle.mq_workloads.specs.Ready.{IsReady};
@@ -14,12 +14,13 @@ use std::thread;
 use std::thread::Threads;
 use std::time::{Clock, Duration, Instant};
 
-/// So many processes over a fresh system, in turn one that sends and one that receives, each so many messages and in a thread of
-/// its own. Gives the time from when all were ready until all had ended.
+/// So many processes over a fresh system, which take the two parts in turn, each so many rounds and in a thread of its own. Gives
+/// the time from when all were ready until all had ended.
 pub fn crowd<L: Look<Guarded> + Sync, R: Wait + Threads + Clock + Sync>(
     rt: &R,
     alloc: Global,
     count: u32,
+    parts: (Part, Part),
     rounds: u32,
 ) -> Result<Duration, WorkFault>
 where
@@ -28,7 +29,7 @@ where
 {
     let (mq, processes) = Mq::<L>::new(alloc, count)?;
     let gate = Gate::new();
-    let start = in_threads(rt, &mq, &gate, processes, count, rounds)?;
+    let start = in_threads(rt, &mq, &gate, processes, count, parts, rounds)?;
     let time = start.elapsed(rt)?;
     if gate.is_refused() {
         return Err(WorkFault::Refused);
@@ -43,6 +44,7 @@ fn in_threads<L: Look<Guarded> + Sync, R: Wait + Threads + Clock + Sync>(
     gate: &Gate,
     processes: Vec<Process<L>>,
     count: u32,
+    parts: (Part, Part),
     rounds: u32,
 ) -> Result<Instant, WorkFault>
 where
@@ -56,7 +58,6 @@ where
         |scope| -> Result<Instant, WorkFault>
             requires { All (IsReady mq.now) processes.items }
         {
-            let parts = (Part::Sends, Part::Receives);
             start_members(scope, rt, mq, gate, processes, parts, rounds)?;
             gate.await_arrivals(rt, count);
             let start = Instant::now(rt);

@@ -22,8 +22,6 @@ pub enum WorkFault {
     NoClock,
     /// A call was refused, though memory was not.
     Refused,
-    /// The other process stopped early.
-    Stopped,
 }
 
 /// Why a run ended without a result. Its text is the line that the program writes to the error stream.
@@ -61,7 +59,6 @@ impl fmt::Display for WorkFault {
             WorkFault::NoThread => f.write_str("no thread"),
             WorkFault::NoClock => f.write_str("no clock"),
             WorkFault::Refused => f.write_str("a call was refused"),
-            WorkFault::Stopped => f.write_str("the other process stopped"),
         }
     }
 }

@@ -1,15 +1,21 @@
 //! Where threads wait for one another before they begin.
 use crossbeam_utils::Backoff;
 use std::sync::Wait;
-use std::sync::atomic::{AtomicBool, AtomicU32, Ordering};
+use std::sync::atomic::{AtomicU32, Ordering};
+
+// What a gate shows.
+const CLOSED: u32 = 0;
+
+const OPEN: u32 = 1;
+
+const CALLED_OFF: u32 = 2;
 
 /// A gate that is opened once all are there, or called off.
 #[derive(Drop)]
 pub struct Gate {
     ready: AtomicU32,
-    open: AtomicBool,
-    off: AtomicBool,
-    refused: AtomicBool,
+    shows: AtomicU32,
+    refusals: AtomicU32,
 }
 
 impl Gate {
@@ -17,9 +23,8 @@ impl Gate {
     pub fn new() -> Gate {
         Gate {
             ready: AtomicU32::new(0),
-            open: AtomicBool::new(false),
-            off: AtomicBool::new(false),
-            refused: AtomicBool::new(false),
+            shows: AtomicU32::new(CLOSED),
+            refusals: AtomicU32::new(0),
         }
     }
 
@@ -41,36 +46,33 @@ impl Gate {
 
     /// Lets all begin.
     pub fn open(&self) {
-        self.open.store(true, Ordering::SeqCst);
+        self.shows.store(OPEN, Ordering::SeqCst);
     }
 
     /// Sends all away, since one that they need could not be started.
     pub fn call_off(&self) {
-        self.off.store(true, Ordering::SeqCst);
+        self.shows.store(CALLED_OFF, Ordering::SeqCst);
     }
 
     /// Waits until the gate is open, or called off: then false.
     pub fn await_opening<R: Wait>(&self, rt: &R) -> bool {
         let backoff = Backoff::new();
         for _ in rt.forever() {
-            if self.open.load(Ordering::SeqCst) {
-                return true;
+            match self.shows.load(Ordering::SeqCst) {
+                CLOSED => backoff.snooze(),
+                shown => return shown == OPEN,
             }
-            if self.off.load(Ordering::SeqCst) {
-                return false;
-            }
-            backoff.snooze();
         }
         unreachable!()
     }
 
     /// Says that a call of one of them was refused.
     pub fn refuse(&self) {
-        self.refused.store(true, Ordering::SeqCst);
+        self.refusals.fetch_add(1, Ordering::SeqCst);
     }
 
     /// Whether a call of one of them was refused.
     pub fn is_refused(&self) -> bool {
-        self.refused.load(Ordering::SeqCst)
+        self.refusals.load(Ordering::SeqCst) > 0
     }
 }

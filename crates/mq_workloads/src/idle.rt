@@ -3,8 +3,8 @@ ghost use Rattle.std.specs.Prelude.{◌≡◌};
 ghost use Rattle.std.specs.List.{All};
 ghost use Rattle.mq_workloads.specs.Ready.{IsReady};
 
-use crate::alone::DEPTH;
-use crate::calls::{open, receive, send, send_surely};
+use crate::alone::{DEPTH, pairs};
+use crate::calls::{open, send_surely};
 use crate::fault::WorkFault;
 use crate::gate::Gate;
 use crate::members::{Part, QUEUE, start_members};
@@ -17,7 +17,7 @@ use std::thread::Threads;
 use std::time::{Clock, CpuClock, Duration, Instant};
 
 /// What the process that works did.
-#[derive(Clone, Copy, Debug, PartialEq, Eq)]
+#[derive(Clone, Copy)]
 pub struct Worked {
     pub operations: u64,
     pub time: Duration,
@@ -104,7 +104,7 @@ fn work<L: Look<Guarded>, R: Wait + Clock + CpuClock>(
     let start = Instant::now(rt)?;
     let mut operations = 0u64;
     for _ in rt.forever() {
-        some_pairs(rt, mq, process, d)?;
+        pairs(rt, mq, process, d, PAIRS)?;
         operations = operations.saturating_add(2 * u64::from(PAIRS));
         let passed = start.elapsed(rt)?;
         if passed >= time {
@@ -117,23 +117,6 @@ fn work<L: Look<Guarded>, R: Wait + Clock + CpuClock>(
         }
     }
     unreachable!()
-}
-
-// Sends and receives in turn, as often as lies between two looks at the clock.
-fn some_pairs<L: Look<Guarded>, R: Wait + Clock>(
-    rt: &R,
-    mq: &Mq<L>,
-    process: &mut Process<L>,
-    d: u32,
-) -> Result<(), WorkFault>
-    requires ready { IsReady mq.now process.old }
-    ensures ready { IsReady mq.now process.new }
-{
-    for _ in 0..PAIRS {
-        send(rt, mq, process, d, 0)?;
-        receive(rt, mq, process, d)?;
-    }
-    Ok(())
 }
 
 // Sends a message to each of so many that are blocked.

@@ -14,7 +14,6 @@ mod report;
 mod run;
 mod storm;
 mod tally;
-mod together;
 mod workload;
 
 pub use fault::{BenchFault, WorkFault};

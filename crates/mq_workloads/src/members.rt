@@ -1,4 +1,4 @@
-//! Many processes on one queue, each in a thread of its own.
+//! Processes on the same queues, each in a thread of its own.
 ghost use Rattle.std.specs.Prelude.{◌≡◌};
 ghost use Rattle.std.specs.List.{All};
 ghost use Rattle.mq_workloads.specs.Ready.{IsReady};
@@ -16,11 +16,27 @@ use std::time::Clock;
 /// The queue that the members share.
 pub const QUEUE: &[u8] = b"/members";
 
-/// What a member does with the queue, in each round.
-#[derive(Clone, Copy, Debug, PartialEq, Eq)]
+// The queue by which replies come back.
+const BACK: &[u8] = b"/back";
+
+/// What a member does in each round.
+#[derive(Clone, Copy)]
 pub enum Part {
+    /// Sends on the queue.
     Sends,
+    /// Receives from the queue.
     Receives,
+    /// Sends on the queue, and receives from the one by which replies come back.
+    Asks,
+    /// Receives from the queue, and sends on the one by which replies come back.
+    Replies,
+}
+
+// The descriptors of both queues.
+#[derive(Clone, Copy)]
+struct Queues {
+    to: u32,
+    back: u32,
 }
 
 /// Starts a thread for each process, which takes the two parts in turn, so many rounds each, once the gate is open. An error: a
@@ -41,8 +57,8 @@ where
 {
     let (mut part, mut next) = parts;
     for mut process in processes {
-        let d = match open(rt, mq, &mut process, QUEUE, DEPTH) {
-            Ok(d) => d,
+        let queues = match queues_of(rt, mq, &mut process) {
+            Ok(queues) => queues,
             Err(fault) => {
                 gate.call_off();
                 return Err(fault);
@@ -51,7 +67,7 @@ where
         let started = scope.spawn(
             move || -> ()
                 requires { IsReady mq.now process }
-            { take_part(rt, mq, gate, process, d, part, rounds) },
+            { take_part(rt, mq, gate, process, queues, part, rounds) },
         );
         if started.is_err() {
             gate.call_off();
@@ -62,20 +78,33 @@ where
     Ok(())
 }
 
+fn queues_of<L: Look<Guarded>, R: Wait>(
+    rt: &R,
+    mq: &Mq<L>,
+    process: &mut Process<L>,
+) -> Result<Queues, WorkFault>
+    requires ready { IsReady mq.now process.old }
+    ensures ready { IsReady mq.now process.new }
+{
+    let to = open(rt, mq, process, QUEUE, DEPTH)?;
+    let back = open(rt, mq, process, BACK, DEPTH)?;
+    Ok(Queues { to, back })
+}
+
 // Takes a part once the gate is open.
 fn take_part<L: Look<Guarded>, R: Wait + Clock>(
     rt: &R,
     mq: &Mq<L>,
     gate: &Gate,
     mut process: Process<L>,
-    d: u32,
+    queues: Queues,
     part: Part,
     rounds: u32,
 )
     requires ready { IsReady mq.now process }
 {
     gate.arrive();
-    if gate.await_opening(rt) && all_rounds(rt, mq, &mut process, d, part, rounds).is_err() {
+    if gate.await_opening(rt) && all_rounds(rt, mq, &mut process, queues, part, rounds).is_err() {
         gate.refuse();
     }
 }
@@ -84,7 +113,7 @@ fn all_rounds<L: Look<Guarded>, R: Wait + Clock>(
     rt: &R,
     mq: &Mq<L>,
     process: &mut Process<L>,
-    d: u32,
+    queues: Queues,
     part: Part,
     rounds: u32,
 ) -> Result<(), WorkFault>
@@ -92,10 +121,31 @@ fn all_rounds<L: Look<Guarded>, R: Wait + Clock>(
     ensures ready { IsReady mq.now process.new }
 {
     for _ in 0..rounds {
-        match part {
-            Part::Sends => send_surely(rt, mq, process, d)?,
-            Part::Receives => receive_surely(rt, mq, process, d)?,
-        }
+        round(rt, mq, process, queues, part)?;
     }
     Ok(())
+}
+
+fn round<L: Look<Guarded>, R: Wait + Clock>(
+    rt: &R,
+    mq: &Mq<L>,
+    process: &mut Process<L>,
+    queues: Queues,
+    part: Part,
+) -> Result<(), WorkFault>
+    requires ready { IsReady mq.now process.old }
+    ensures ready { IsReady mq.now process.new }
+{
+    match part {
+        Part::Sends => send_surely(rt, mq, process, queues.to),
+        Part::Receives => receive_surely(rt, mq, process, queues.to),
+        Part::Asks => {
+            send_surely(rt, mq, process, queues.to)?;
+            receive_surely(rt, mq, process, queues.back)
+        }
+        Part::Replies => {
+            receive_surely(rt, mq, process, queues.to)?;
+            send_surely(rt, mq, process, queues.back)
+        }
+    }
 }

@@ -10,7 +10,7 @@ use std::alloc::{AllocError, Global};
 use std::time::Duration;
 
 /// What a run took.
-#[derive(Clone, Copy, Debug, PartialEq, Eq)]
+#[derive(Clone, Copy)]
 pub struct Measured {
     pub operations: u64,
     pub nanoseconds: u128,
@@ -18,7 +18,7 @@ pub struct Measured {
 }
 
 /// What was measured besides the time.
-#[derive(Clone, Copy, Debug, PartialEq, Eq)]
+#[derive(Clone, Copy)]
 pub enum Besides {
     Nothing,
     /// The entries of the journal, and the bytes of their payloads.
@@ -47,7 +47,16 @@ const ENTRY_SIZE: u128 = (size_of::<Entry>() + 2 * size_of::<usize>()) as u128;
 // How many nanoseconds a millisecond has.
 const MILLISECOND: u128 = 1_000_000;
 
-/// What a run of so many operations took.
+/// What a run of so many operations took, of which the time alone was measured.
+pub fn timed(operations: u64, time: Duration) -> Measured {
+    Measured {
+        operations,
+        nanoseconds: time.as_nanos(),
+        besides: Besides::Nothing,
+    }
+}
+
+/// What a run of so many operations took, with the journal that it left.
 pub fn result_of(operations: u64, time: Duration, journal: &Journal) -> Measured {
     Measured {
         operations,

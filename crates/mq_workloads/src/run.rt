@@ -12,9 +12,9 @@ use crate::alone::{Task, alone};
 use crate::crowd::crowd;
 use crate::fault::{BenchFault, WorkFault};
 use crate::idle::idle;
-use crate::report::{Besides, Measured, line_of, result_of, stormed, title_of};
+use crate::members::Part;
+use crate::report::{Besides, Measured, line_of, result_of, stormed, timed, title_of};
 use crate::storm::storm;
-use crate::together::{Role, together};
 use crate::workload::{Request, Workload, request_of};
 use fast_mutex::FastMutex;
 use lines::input::read_all;
@@ -129,14 +129,14 @@ fn measure<S: Wait + Threads + Clock + CpuClock + Sync>(
             ))
         }
         Workload::PingPong { rounds } => {
-            let roles = (Role::Ping, Role::Pong);
-            let (time, journal) = together::<Lamport, S>(rt, alloc, roles, rounds)?;
-            Ok(result_of(4 * u64::from(rounds), time, &journal))
+            let parts = (Part::Asks, Part::Replies);
+            let time = crowd::<Lamport, S>(rt, alloc, 2, parts, rounds)?;
+            Ok(timed(4 * u64::from(rounds), time))
         }
         Workload::Stream { rounds } => {
-            let roles = (Role::Receiver, Role::Sender);
-            let (time, journal) = together::<Lamport, S>(rt, alloc, roles, rounds)?;
-            Ok(result_of(2 * u64::from(rounds), time, &journal))
+            let parts = (Part::Sends, Part::Receives);
+            let time = crowd::<Lamport, S>(rt, alloc, 2, parts, rounds)?;
+            Ok(timed(2 * u64::from(rounds), time))
         }
         Workload::Check { entries } => {
             let task = Task::Calls {
@@ -149,12 +149,9 @@ fn measure<S: Wait + Threads + Clock + CpuClock + Sync>(
             Ok(result_of(u64::from(entries), time, &journal))
         }
         Workload::Crowd { processes, rounds } => {
-            let time = crowd::<Lamport, S>(rt, alloc, processes, rounds)?;
-            Ok(Measured {
-                operations: u64::from(processes) * u64::from(rounds),
-                nanoseconds: time.as_nanos(),
-                besides: Besides::Nothing,
-            })
+            let parts = (Part::Sends, Part::Receives);
+            let time = crowd::<Lamport, S>(rt, alloc, processes, parts, rounds)?;
+            Ok(timed(u64::from(processes) * u64::from(rounds), time))
         }
         Workload::Storm { seed, calls } => {
             let (time, journal) = storm::<Lamport, S>(rt, alloc, seed, calls)?;

@@ -6,7 +6,7 @@ ghost use Rattle.mq_workloads.specs.Grammar.{request_written, workload_written, 
 use lines::words::count_of;
 
 /// What is measured, with its sizes.
-#[derive(Clone, Copy, Debug, PartialEq, Eq)]
+#[derive(Clone, Copy)]
 pub enum Workload {
     /// One process sends and receives in turn.
     Pair { rounds: u32 },
@@ -27,14 +27,14 @@ pub enum Workload {
 }
 
 /// What a line asks for.
-#[derive(Clone, Copy, Debug, PartialEq, Eq)]
+#[derive(Clone, Copy)]
 pub enum Request {
     Usage,
     Measure(Workload),
 }
 
 /// The first word of a line.
-#[derive(Clone, Copy, Debug, PartialEq, Eq)]
+#[derive(Clone, Copy)]
 pub enum Name {
     Pair,
     Deep,

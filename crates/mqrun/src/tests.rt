@@ -11,6 +11,7 @@ use std::thread::Threads;
 use std::time::Clock;
 
 mod deadlines;
+mod deadlocks;
 mod gates;
 mod limits;
 mod scripts;

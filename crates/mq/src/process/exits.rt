@@ -2,10 +2,9 @@
 ghost use Rattle.std.specs.Prelude.{◌≡◌, ◌≤◌, ◌∷◌, [], Some, None, OnOk, IfOk, IfErr};
 ghost use Rattle.mq_model.specs.Waits.{open_wait};
 ghost use Rattle.mq_model.specs.Descriptors.{lowest_held};
-ghost use Rattle.mq_model.specs.declared.faults.Fault.TheVariants.{NoMemory};
 ghost use Rattle.mq_model.specs.declared.entries.Call.{Call};
 ghost use Rattle.mq_model.specs.declared.entries.Reply.{Reply};
-ghost use Rattle.mq.specs.Calls.{Closing, recorded};
+ghost use Rattle.mq.specs.Calls.{Closing, Stops, recorded};
 
 use super::Process;
 use crate::guarded::Guarded;
@@ -26,8 +25,9 @@ fn close_lowest(books: &mut Books, p: u32, d: u32) -> Result<(), Fault>
     requires no_wait { open_wait books.old.records p ≡ None }
     requires lowest { lowest_held books.old.records p ≡ Some d }
     ensures ok { IfOk result (λ _. books.new.records ≡ recorded p (Call.MqClose d) [] Reply.Done ∷ books.old.records) }
-    ensures err { IfErr result (λ e. (e ≡ NoMemory) × (books.new.records ≡ books.old.records)) }
+    ensures err { IfErr result (λ e. Stops books.old.bounds books.old.records p e × (books.new.records ≡ books.old.records)) }
     ensures processes { books.new.n ≡ books.old.n }
+    ensures bounds { books.new.bounds ≡ books.old.bounds }
 {
     match books.close(p, d) {
         Reply::Done => Ok(()),
@@ -36,15 +36,16 @@ fn close_lowest(books: &mut Books, p: u32, d: u32) -> Result<(), Fault>
     }
 }
 
-// Closes all descriptors of process p in rising order, until a growth is refused.
+// Closes all descriptors of process p in rising order, until one is refused.
 fn close_all(books: &mut Books, p: u32) -> Result<(), Fault>
     requires process { (1 ≤ p) × (p ≤ books.old.n) }
     requires no_wait { open_wait books.old.records p ≡ None }
     ensures closing { Closing books.old.records books.new.records p }
     ensures ok { OnOk result (lowest_held books.new.records p ≡ None) }
-    ensures err { IfErr result (λ e. e ≡ NoMemory) }
+    ensures err { IfErr result (Stops books.old.bounds books.new.records p) }
     ensures free { open_wait books.new.records p ≡ None }
     ensures processes { books.new.n ≡ books.old.n }
+    ensures bounds { books.new.bounds ≡ books.old.bounds }
 {
     'descriptors: for d in 0..DESCRIPTORS {
         if books.lowest_open(p) == Some(d) {
@@ -59,7 +60,7 @@ impl<L: Look<Guarded>> Process<L> {
     ghost use Rattle.mq.specs.Calls.{IsFree, Exits};
 
     /// Closes the descriptors of the process in rising order, in one stay, as the end of a process does. Refused with `NoMemory`
-    /// alone: then those closed so far stay closed, the others stand, and it may be called again.
+    /// or `JournalFull` alone: then those closed so far stay closed, the others stand, and it may be called again.
     pub fn exit<R: Wait>(&mut self, rt: &R, mq: &Mq<L>) -> Result<(), Fault>
         requires made { self.old.lock ≡ mq.now }
         requires free { IsFree self.old }

@@ -182,7 +182,7 @@ impl<L: Look<Guarded>> Process<L> {
     }
 
     /// Sends a message of that priority (`mq_send`). Where the queue is full it waits until the message is admitted, unless the
-    /// descriptor does not block. Refused with `BadDescriptor`, `Invalid`, `MessageSize`, `Again` or `NoMemory`.
+    /// descriptor does not block. Refused with `BadDescriptor`, `Invalid`, `MessageSize`, `Again`, `NoMemory` or `JournalFull`.
     pub fn send<R: Wait + Clock>(
         &mut self,
         rt: &R,
@@ -207,7 +207,7 @@ impl<L: Look<Guarded>> Process<L> {
     }
 
     /// Receives the oldest message of the highest priority into the front of the buffer (`mq_receive`). Where there is none it
-    /// waits for one, unless the descriptor does not block. Refused with `BadDescriptor`, `MessageSize`, `Again` or `NoMemory`.
+    /// waits for one, unless the descriptor does not block. Refused with `BadDescriptor`, `MessageSize`, `Again`, `NoMemory` or `JournalFull`.
     pub fn receive<R: Wait + Clock>(
         &mut self,
         rt: &R,

@@ -1,5 +1,5 @@
 //! The calls: each makes room, decides its reply, and appends its entry, which the tables note.
-ghost use Rattle.std.specs.Prelude.{◌≡◌, ◌≢◌, ◌<◌, ◌≤◌, ◌+◌, ◌-◌, IfOk, IfSome, IsSome, OnOk, IsTrue, Some, None, true, false, ℕ, length, [], ◌∷◌, is_some, vec_len, vec_capacity, if◌then◌else◌};
+ghost use Rattle.std.specs.Prelude.{◌≡◌, ◌≢◌, ◌<◌, ◌≤◌, ◌+◌, ◌-◌, ◌^◌, IfOk, IfSome, IsSome, OnOk, OnErr, Err, IsTrue, Some, None, true, false, ℕ, length, [], ◌∷◌, is_some, vec_len, vec_capacity, if◌then◌else◌};
 ghost use Rattle.mq_model.specs.Name.{is_name};
 ghost use Rattle.mq_model.specs.Names.{creates};
 ghost use Rattle.mq_model.specs.Waits.{open_wait, answered_by};
@@ -9,14 +9,18 @@ ghost use Rattle.mq_model.specs.Owners.{waits_count, answer_in, wait_in, lowest_
 ghost use Rattle.mq_model.specs.Messages.{is_send, is_receive};
 ghost use Rattle.mq_state.specs.Buffers.{filled, room_of, length_sent};
 ghost use Rattle.mq_state.specs.Tables.{entry_queue, HasRoomToRegister, BringsOrder, CreatesWithin};
-ghost use Rattle.mq_state.specs.Kept.{IsKeptBy, HasEntryRoom, MayCall, IsCalled};
+ghost use Rattle.mq_model.specs.Record.{payload_bytes};
+ghost use Rattle.mq_model.specs.Bounds.{open_waits, exceeds};
+ghost use Rattle.mq_state.specs.Inboxes.{room_in};
+ghost use Rattle.mq_state.specs.Pool.{IsPooled};
+ghost use Rattle.mq_state.specs.Kept.{IsKeptBy, HasEntryRoom, MayCall, IsCalled, IsRoomRefused, NeedsJust};
 
 use crate::tables::Tables;
 use crate::{buffers, notices, queues};
 use mq_model::entries::{Attr, Call, Deadline, Entry, OpenFlags, Reply};
 use mq_model::faults::Fault;
 use mq_model::journals::Journal;
-use mq_model::{ladder, owners};
+use mq_model::{bounds, ladder, owners};
 use mq_slots::Slots;
 use std::alloc::{AllocError, Global};
 
@@ -35,7 +39,58 @@ fn payload_of(call: Call, reply: Reply, given: &[u8]) -> &[u8]
     }
 }
 
+// How many bytes of its message a send with this reply keeps.
+fn bytes_kept(reply: Reply, bytes: &[u8]) -> usize
+    ensures { result ≡ (if is_refused reply then 0 else length bytes.now) }
+{
+    match reply {
+        Reply::Refused(_) => 0,
+        _ => bytes.len(),
+    }
+}
+
 impl Tables {
+    // With so many more entries and payload bytes, and the entries that end the open waits, there would be more than the bounds allow.
+    fn exceeds(&self, journal: &Journal, entries: usize, bytes: usize) -> bool
+        requires kept { IsKeptBy journal.now self.now }
+        requires few { entries ≤ 2 }
+        requires slice { bytes < 2 ^ 63 }
+        ensures { result ≡ exceeds self.now.bounds (length journal.now.records + open_waits journal.now.records + entries) (payload_bytes journal.now.records + bytes) }
+    {
+        let entries = journal.len() + (self.open_waits() + entries) as u64;
+        let bytes = journal.payload_bytes() + bytes as u64;
+        bounds::exceeds(self.bounds, entries, bytes)
+    }
+
+    // Makes room for the entries and the payload bytes of a call that would keep `most` bytes if it were not refused, besides the entries
+    // that end the open waits; or says what is wanting.
+    fn make_room(
+        &self,
+        journal: &mut Journal,
+        entries: usize,
+        most: usize,
+        bytes: usize,
+    ) -> Result<(), Fault>
+        requires kept { IsKeptBy journal.old self.now }
+        requires few { entries ≤ 2 }
+        requires slice { most < 2 ^ 63 }
+        requires within { bytes ≤ most }
+        ensures records { journal.new.records ≡ journal.old.records }
+        ensures kept { IsKeptBy journal.new self.now }
+        ensures room { OnOk result ((waits_count self.now.owners.items + entries ≤ journal.new.entry_room) × (bytes ≤ journal.new.byte_room)) }
+        ensures full { IsRoomRefused self.now.bounds (length journal.old.records + open_waits journal.old.records + entries) (payload_bytes journal.old.records + most) result }
+        ensures same { result ≡ Err Fault.JournalFull → journal.new ≡ journal.old }
+        ensures enough { bytes ≤ journal.old.byte_room → journal.new.byte_room ≡ journal.old.byte_room }
+    {
+        if self.exceeds(journal, entries, most) {
+            return Err(Fault::JournalFull);
+        }
+        if journal.reserve(self.open_waits() + entries, bytes).is_err() {
+            return Err(Fault::NoMemory);
+        }
+        Ok(())
+    }
+
     /// How many processes have an open wait.
     pub fn open_waits(&self) -> usize
         requires { self.now.waits ≡ waits_count self.now.owners.items }
@@ -54,10 +109,13 @@ impl Tables {
         requires brings { BringsOrder entry.call entry.reply (vec_len self.old.queues) (vec_capacity self.old.queues) fresh }
         requires bytes { length payload.now ≤ journal.old.byte_room }
         requires entries { HasEntryRoom entry.reply (waits_count self.old.owners.items) journal.old.entry_room }
+        requires pool { IsPooled fresh self.old }
         ensures records { journal.new.records ≡ record { entry = entry; payload = payload.now } ∷ journal.old.records }
         ensures no_bytes { payload.now ≡ [] → journal.new.byte_room ≡ journal.old.byte_room }
         ensures kept { IsKeptBy journal.new self.new }
+        ensures pool { IsPooled None self.new }
         ensures n { self.new.n ≡ self.old.n }
+        ensures bounds { self.new.bounds ≡ self.old.bounds }
     {
         let q = self.entry_queue(journal, entry.process, entry.call, payload);
         self.note(journal, entry, q, fresh);
@@ -83,10 +141,13 @@ impl Tables {
         requires brings { BringsOrder call reply (vec_len self.old.queues) (vec_capacity self.old.queues) fresh }
         requires bytes { length (payload_of call reply given.now) ≤ journal.old.byte_room }
         requires entries { HasEntryRoom reply (waits_count self.old.owners.items) journal.old.entry_room }
+        requires pool { IsPooled fresh self.old }
         ensures appends { Appends journal.old.records journal.new.records p call given.now reply }
         ensures no_bytes { payload_of call reply given.now ≡ [] → journal.new.byte_room ≡ journal.old.byte_room }
         ensures kept { IsKeptBy journal.new self.new }
+        ensures pool { IsPooled None self.new }
         ensures n { self.new.n ≡ self.old.n }
+        ensures bounds { self.new.bounds ≡ self.old.bounds }
     {
         let entry = Entry {
             process: p,
@@ -112,10 +173,11 @@ impl Tables {
         requires registration { HasRoomToRegister self.old.queues.items self.old.inboxes.items p call reply }
         requires creates { creates call reply ≡ false }
         requires entries { HasEntryRoom reply (waits_count self.old.owners.items) (waits_count self.old.owners.items + 1) }
+        requires needs { NeedsJust 1 (length given.now) journal.old.records p call given.now }
         ensures { IsCalled journal.old journal.new self.old self.new p call given.now result }
     {
-        if journal.reserve(self.open_waits() + 1, given.len()).is_err() {
-            return Reply::Refused(Fault::NoMemory);
+        if let Err(fault) = self.make_room(journal, 1, given.len(), given.len()) {
+            return Reply::Refused(fault);
         }
         self.record(journal, p, call, reply, given, None);
         reply
@@ -130,6 +192,24 @@ impl Tables {
         self.settle(journal, p, Call::MqClose { d }, reply, &[])
     }
 
+    // An order for so many messages: with bounds a spare one.
+    fn order_for(&mut self, cap: u32) -> Result<Slots, AllocError>
+        requires some { 1 ≤ cap }
+        requires few { cap ≤ 4096 }
+        requires pool { IsPooled None self.old }
+        requires place { vec_len self.old.queues < 64 }
+        ensures empty { IfOk result (λ o. o.messages ≡ []) }
+        ensures roomy { IfOk result (λ o. cap ≤ o.cap) }
+        ensures pool { IfOk result (λ o. IsPooled (Some o) self.new) }
+        ensures memory { OnErr result (self.new.bounds ≡ None) }
+        ensures same { self.new ≡ record self.old { spares = self.new.spares } }
+    {
+        match self.bounds {
+            None => Slots::new(self.alloc, cap),
+            Some(_) => Ok(self.spares.pop().unwrap()),
+        }
+    }
+
     // The slots of the queue that an open creates, if it creates one, and a place for the queue.
     fn fresh_slots(
         &mut self,
@@ -139,9 +219,14 @@ impl Tables {
         reply: Reply,
     ) -> Result<Option<Slots>, AllocError>
         requires kept { IsKeptBy journal.now self.old }
+        requires pool { IsPooled None self.old }
         requires within { CreatesWithin (Call.MqOpen flags attr) reply }
+        requires few { creates (Call.MqOpen flags attr) reply ≡ true → vec_len self.old.queues < 64 }
         ensures kept { IsKeptBy journal.now self.new }
+        ensures pool { IfOk result (λ fresh. IsPooled fresh self.new) }
+        ensures memory { OnErr result (self.new.bounds ≡ None) }
         ensures n { self.new.n ≡ self.old.n }
+        ensures bounds { self.new.bounds ≡ self.old.bounds }
         ensures waits { waits_count self.new.owners.items ≡ waits_count self.old.owners.items }
         ensures brings { IfOk result (BringsOrder (Call.MqOpen flags attr) reply (vec_len self.new.queues) (vec_capacity self.new.queues)) }
     {
@@ -152,7 +237,7 @@ impl Tables {
             } => {
                 let cap = queues::slots_for(ladder::attributes_given(Call::MqOpen { flags, attr }));
                 self.queues.reserve(1)?;
-                let slots = Slots::new(self.alloc, cap)?;
+                let slots = self.order_for(cap)?;
                 Ok(Some(slots))
             }
             _ => Ok(None),
@@ -172,8 +257,8 @@ impl Tables {
         requires form { IsTrue (is_name name.now) }
         ensures { IsCalled journal.old journal.new self.old self.new p (Call.MqOpen flags attr) name.now result }
     {
-        if journal.reserve(self.open_waits() + 1, name.len()).is_err() {
-            return Reply::Refused(Fault::NoMemory);
+        if let Err(fault) = self.make_room(journal, 1, name.len(), name.len()) {
+            return Reply::Refused(fault);
         }
         let reply = self.answer_open(journal, p, name, flags, attr);
         let Ok(fresh) = self.fresh_slots(journal, flags, attr, reply) else {
@@ -221,9 +306,13 @@ impl Tables {
         reply: Reply,
     ) -> Result<(), AllocError>
         requires kept { IsKeptBy journal.now self.old }
+        requires pool { IsPooled None self.old }
         requires process { p ≤ self.old.n }
         ensures kept { IsKeptBy journal.now self.new }
+        ensures pool { IsPooled None self.new }
+        ensures memory { OnErr result (room_in self.old.inboxes.items p < length self.old.queues.items) }
         ensures n { self.new.n ≡ self.old.n }
+        ensures bounds { self.new.bounds ≡ self.old.bounds }
         ensures waits { waits_count self.new.owners.items ≡ waits_count self.old.owners.items }
         ensures room { OnOk result (HasRoomToRegister self.new.queues.items self.new.inboxes.items p call reply) }
     {
@@ -244,8 +333,8 @@ impl Tables {
         requires { MayCall journal.old self.old p }
         ensures { IsCalled journal.old journal.new self.old self.new p (Call.MqNotify d value) [] result }
     {
-        if journal.reserve(self.open_waits() + 1, 0).is_err() {
-            return Reply::Refused(Fault::NoMemory);
+        if let Err(fault) = self.make_room(journal, 1, 0, 0) {
+            return Reply::Refused(fault);
         }
         let call = Call::MqNotify { d, value };
         let reply = self.answer_notify(journal, p, d, value);
@@ -265,7 +354,8 @@ impl Tables {
         self.settle(journal, p, Call::NextNotice, reply, &[])
     }
 
-    // Settles a send: makes room for its entry, and only once nothing refuses it for the bytes of its message, and appends it.
+    // Settles a send, which would keep `most` bytes if its deadline, where it has one, did not refuse it: makes room for its entry and,
+    // where nothing refuses it, for the bytes of its message, and appends it.
     fn settle_send(
         &mut self,
         journal: &mut Journal,
@@ -273,21 +363,21 @@ impl Tables {
         call: Call,
         reply: Reply,
         bytes: &[u8],
+        most: usize,
     ) -> Reply
         requires may_call { MayCall journal.old self.old p }
         requires sends { is_send call ≡ true }
         requires length { length_sent call ≡ length bytes.now }
         requires answers { reply ≡ answer journal.old.records p call bytes.now }
+        requires needs { NeedsJust 2 most journal.old.records p call bytes.now }
+        requires most { most ≤ length bytes.now }
+        requires kept { length (payload_of call reply bytes.now) ≤ most }
         ensures called { IsCalled journal.old journal.new self.old self.new p call bytes.now result }
         ensures refused { (fault : Fault) → result ≡ Reply.Refused fault → fault ≢ Fault.NoMemory → journal.new.byte_room ≡ journal.old.byte_room }
     {
-        let entries = self.open_waits() + 2;
-        if journal.reserve(entries, 0).is_err() {
-            return Reply::Refused(Fault::NoMemory);
-        }
         let kept = payload_of(call, reply, bytes);
-        if journal.reserve(0, kept.len()).is_err() {
-            return Reply::Refused(Fault::NoMemory);
+        if let Err(fault) = self.make_room(journal, 2, most, kept.len()) {
+            return Reply::Refused(fault);
         }
         self.record(journal, p, call, reply, bytes, None);
         reply
@@ -301,7 +391,15 @@ impl Tables {
     {
         let len = bytes.len() as u64;
         let reply = self.answer_send(journal, p, d, prio, len);
-        self.settle_send(journal, p, Call::MqSend { d, prio, len }, reply, bytes)
+        let most = bytes_kept(reply, bytes);
+        self.settle_send(
+            journal,
+            p,
+            Call::MqSend { d, prio, len },
+            reply,
+            bytes,
+            most,
+        )
     }
 
     /// A send with a deadline (`mq_timedsend`).
@@ -320,7 +418,8 @@ impl Tables {
         ensures refused { (fault : Fault) → result ≡ Reply.Refused fault → fault ≢ Fault.NoMemory → journal.new.byte_room ≡ journal.old.byte_room }
     {
         let len = bytes.len() as u64;
-        let reply = ladder::timed(until, now, self.answer_send(journal, p, d, prio, len));
+        let plain = self.answer_send(journal, p, d, prio, len);
+        let reply = ladder::timed(until, now, plain);
         let call = Call::MqTimedSend {
             d,
             prio,
@@ -328,7 +427,7 @@ impl Tables {
             until,
             now,
         };
-        self.settle_send(journal, p, call, reply, bytes)
+        self.settle_send(journal, p, call, reply, bytes, bytes_kept(plain, bytes))
     }
 
     // Settles a receive: makes room for its entry, fills the front of the buffer where it gets a message, and appends it.
@@ -347,8 +446,8 @@ impl Tables {
         ensures called { IsCalled journal.old journal.new self.old self.new p call [] result }
         ensures buffer { buf.new ≡ filled journal.old.records result buf.old }
     {
-        if journal.reserve(self.open_waits() + 2, 0).is_err() {
-            return Reply::Refused(Fault::NoMemory);
+        if let Err(fault) = self.make_room(journal, 2, 0, 0) {
+            return Reply::Refused(fault);
         }
         buffers::fill(journal, reply, buf);
         self.record(journal, p, call, reply, &[], None);
@@ -418,11 +517,14 @@ impl Tables {
     /// The end of the open wait of process p, which the entry at a place answers.
     pub fn collect(&mut self, journal: &mut Journal, p: u32, by: u64)
         requires kept { IsKeptBy journal.old self.old }
+        requires pool { IsPooled None self.old }
         requires process { (1 ≤ p) × (p ≤ self.old.n) }
         requires answered { answered_by journal.old.records p ≡ Some by }
         ensures appends { Appends journal.old.records journal.new.records p Call.Collect [] (Reply.Collected by) }
         ensures kept { IsKeptBy journal.new self.new }
+        ensures pool { IsPooled None self.new }
         ensures n { self.new.n ≡ self.old.n }
+        ensures bounds { self.new.bounds ≡ self.old.bounds }
     {
         self.record(
             journal,
@@ -438,13 +540,16 @@ impl Tables {
     /// at the moment `now`.
     pub fn withdraw(&mut self, journal: &mut Journal, p: u32, now: Deadline) -> bool
         requires kept { IsKeptBy journal.old self.old }
+        requires pool { IsPooled None self.old }
         requires process { (1 ≤ p) × (p ≤ self.old.n) }
         ensures value { result ≡ may_call journal.old.records p (Call.Withdraw now) }
         ensures entry { IsTrue result → IfSome (open_wait journal.old.records p) (λ wait. Appends journal.old.records journal.new.records p (Call.Withdraw now) [] (Reply.Withdrawn wait)) }
         ensures waited { IsTrue result → IsSome (open_wait journal.old.records p) }
         ensures none { result ≡ false → journal.new.records ≡ journal.old.records }
         ensures kept { IsKeptBy journal.new self.new }
+        ensures pool { IsPooled None self.new }
         ensures n { self.new.n ≡ self.old.n }
+        ensures bounds { self.new.bounds ≡ self.old.bounds }
     {
         let Some(wait) = owners::wait(&self.owners, p) else {
             return false;

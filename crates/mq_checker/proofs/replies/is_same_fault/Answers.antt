@@ -1,13 +1,13 @@
 use Rattle.std.proofs.Common.{◌≡◌, ℕ, ◌==◌, if◌then◌else◌, refl, sym, ◌∙◌, ap, eqb-true, eq-eqb}
 use Rattle.mq_model.specs.Fault.{number_of}
 use Rattle.mq_model.specs.declared.faults.Fault.{Fault}
-use Rattle.mq_model.specs.declared.faults.Fault.TheVariants.{Again, BadDescriptor, Busy, Exists, Invalid, TooManyOpen, MessageSize, NameTooLong, NoEntry, NoSpace, NoMemory, TimedOut}
+use Rattle.mq_model.specs.declared.faults.Fault.TheVariants.{Again, BadDescriptor, Busy, Exists, Invalid, TooManyOpen, MessageSize, NameTooLong, NoEntry, NoSpace, NoMemory, TimedOut, JournalFull}
 use Rattle.mq_checker.proofs.replies.is_same_fault.Goals as goal
 
 abbrev fault_of : ℕ → Fault
 fault_of n =
     if n == 1 then Again else (if n == 2 then BadDescriptor else (if n == 3 then Busy else (if n == 4 then Exists else (if n == 5 then Invalid else (if n == 6 then TooManyOpen
-    else (if n == 7 then MessageSize else (if n == 8 then NameTooLong else (if n == 9 then NoEntry else (if n == 10 then NoSpace else (if n == 11 then NoMemory else TimedOut))))))))))
+    else (if n == 7 then MessageSize else (if n == 8 then NameTooLong else (if n == 9 then NoEntry else (if n == 10 then NoSpace else (if n == 11 then NoMemory else (if n == 12 then TimedOut else JournalFull)))))))))))
 
 back : (f : Fault) → fault_of (number_of f) ≡ f
 back Again = refl
@@ -22,6 +22,7 @@ back NoEntry = refl
 back NoSpace = refl
 back NoMemory = refl
 back TimedOut = refl
+back JournalFull = refl
 
 pub returns : goal.returns
 returns c = (

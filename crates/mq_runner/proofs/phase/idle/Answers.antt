@@ -6,6 +6,6 @@ use Rattle.mq_runner.proofs.phase.idle.Goals as goal
 pub returns : goal.returns
 returns g c = let share = c.args.share in let few : length share.turns.items ≡ 0 = grind (arith, common_steps) in record {
   same = record { lock = refl; number = refl };
-  free = c.requires.free;
-  calls = nothing-ran share.turns.items share.answers.items share.process few share.none;
+  free = λ _. c.requires.free;
+  ends = nothing-ran share.turns.items share.answers.items share.process few share.none;
 }

@@ -1,13 +1,13 @@
-use Rattle.std.proofs.Common.{◌≡◌, subst, ℕ, List, take, Ok, OnOk}
+use Rattle.std.proofs.Common.{◌≡◌, subst, ℕ, List, take, Ok, OnOk, Vec, Global}
 use Rattle.mq_runner.specs.Runs.{RunsScript}
-use Rattle.mq_runner.specs.Stops.{StopsBehindPhase, StopsInWrite}
+use Rattle.mq_runner.specs.Stops.{StopsBehindPhase, StopsInDeadlock, StopsInWrite}
 use Rattle.mq_script.specs.Script.{Whole, said_script, script_written}
 use Rattle.lines.specs.declared.input.ReadFault.{ReadFault}
 use Rattle.lines.specs.declared.input.ReadFault.TheVariants as read
 use Rattle.mq_script.specs.declared.fault.ScriptFault.{ScriptFault}
 use Rattle.mq_script.specs.declared.fault.ScriptFault.TheVariants as script
 use Rattle.mq_runner.specs.RunFault.{of_read_fault, of_script_fault}
-use Rattle.mq_runner.specs.declared.fault.RunFault.TheVariants.{Output}
+use Rattle.mq_runner.specs.declared.fault.RunFault.TheVariants.{Deadlock, Output}
 use Rattle.mq_runner.proofs.run.run_script.Goals as goal
 
 -- reading the script comes to no output fault
@@ -49,3 +49,26 @@ returns-clause-output g c = λ all script known written failed.
     let text : c.in_ok-text.text.items ≡ take 1048577 all = rw known at c.in_ok-text.ensures.bytes in
     let same = same_script _ _ (take 1048577 all) (said_script c.in_ok-script.script) script text c.as_slice.ensures.value c.in_ok-script.ensures.written written in
     subst (λ s. StopsInWrite s (g.W.Write.contents c.args.output.now) (g.W.Write.contents c.run_phases.new.output)) same (c.run_phases.ensures.output failed)
+
+-- nor to a deadlock
+read-no_deadlock : (lines : Vec ℕ Global) (fault : ReadFault) → Deadlock lines ≡ of_read_fault fault → ⊥
+read-no_deadlock lines read.Failed is = cc
+read-no_deadlock lines read.NoMemory is = cc
+
+script-no_deadlock : (lines : Vec ℕ Global) (fault : ScriptFault) → Deadlock lines ≡ of_script_fault fault → ⊥
+script-no_deadlock lines (script.BadCall line) is = cc
+script-no_deadlock lines script.NoMemory is = cc
+
+pub returns-in_err-text-clause-deadlock : goal.returns-in_err-text-clause-deadlock
+returns-in_err-text-clause-deadlock g c = λ all script lines known written failed.
+    absurd (read-no_deadlock lines c.in_err-text.field-0.0 (rw failed at c.from_residual.ensures.1))
+
+pub returns-in_err-script-clause-deadlock : goal.returns-in_err-script-clause-deadlock
+returns-in_err-script-clause-deadlock g c = λ all script lines known written failed.
+    absurd (script-no_deadlock lines c.in_err-script.field-0.0 (rw failed at c.from_residual-in_err-script.ensures.1))
+
+pub returns-clause-deadlock : goal.returns-clause-deadlock
+returns-clause-deadlock g c = λ all script lines known written failed.
+    let text : c.in_ok-text.text.items ≡ take 1048577 all = rw known at c.in_ok-text.ensures.bytes in
+    let same = same_script _ _ (take 1048577 all) (said_script c.in_ok-script.script) script text c.as_slice.ensures.value c.in_ok-script.ensures.written written in
+    subst (λ s. StopsInDeadlock s lines.items (g.W.Write.contents c.args.output.now) (g.W.Write.contents c.run_phases.new.output)) same (c.run_phases.ensures.deadlock lines failed)

@@ -3,8 +3,9 @@ use Rattle.std.specs.Io.KnownBytes.{Appends}
 use Rattle.std.specs.List.{take-map}
 use Rattle.lines.specs.Words.{Word}
 use Rattle.mq_runner.specs.Runs.{RunsPhase, RunsPhases}
+use Rattle.mq_runner.specs.Stands.{ComesToAStand}
 use Rattle.mq_script.specs.Script.{said_calls, said_phases}
-use Rattle.mq_runner.specs.declared.fault.RunFault.TheVariants.{NoMemory, Output}
+use Rattle.mq_runner.specs.declared.fault.RunFault.TheVariants.{Deadlock, NoMemory, Output}
 use Rattle.mq_script.specs.declared.line.ScriptCall.{ScriptCall}
 use Rattle.mq_runner.proofs.KnownBytes.{Appends-then}
 use Rattle.mq_runner.proofs.Stopping.{appends-into, phases-split}
@@ -61,4 +62,23 @@ returns-in_err-processes-clause-output g c = λ failed.
       text = stopped.1;
       ran_last = last;
       written = appends-into _ _ _ was.ran.0 stopped.1 was.ran.2 stopped.3;
+    }
+
+pub returns-in_err-processes-clause-deadlock : goal.returns-in_err-processes-clause-deadlock
+returns-in_err-processes-clause-deadlock g c = λ lines failed.
+    let was = c.loop-calls.invariant in let phases = c.args.phases.now in let i = c.loop-calls.calls-index in let d = c.calls-item.result in
+    let fault : c.in_err-processes.field-0.0 ≡ Deadlock lines = sym (rw failed at c.from_residual.ensures.1) in
+    let stuck = c.run_written.ensures.deadlock lines (c.in_err-processes.was ∙ ap Err fault) in
+    let calls : c.as_slice.result.now ≡ (get_or phases i d).items = c.as_slice.ensures.value ∙ ap (λ (v : Vec (ScriptCall (Bor Word)) Global). v.items) c.calls-item.is in
+    let stands : ComesToAStand (said_calls (get_or phases i d).items) c.loop-calls.processes.items lines.items = rw calls at stuck.0 in
+    record {
+      first = said_phases (take i phases);
+      last = said_calls (get_or phases i d).items;
+      later = said_phases (drop (suc i) phases);
+      are = phases-split phases i d c.loop-calls-test.true;
+      between = c.loop-calls.processes.items;
+      replies = was.ran.0;
+      ran = was.ran.1;
+      stands = stands;
+      written = subst (λ known. Appends (g.W.Write.contents c.args.output.now) known was.ran.0) (sym stuck.1) was.ran.2;
     }

@@ -1,5 +1,5 @@
 use Rattle.std.proofs.Common.{rules, ◌≡◌, ◌∙◌, ap, sym, refl, length, []}
-use Rattle.mq.proofs.Calling.{came-free, came-grows, came-made, still-free, now-waits, room-begun}
+use Rattle.mq.proofs.Calling.{came-free, came-grows, came-made, came-found, still-free, now-waits, room-begun}
 use Rattle.mq.specs.Calls.{wait_begun}
 use Rattle.mq.proofs.Replies.{receive-waits, receive-answered}
 use Rattle.mq_state.specs.Buffers.{filled}
@@ -27,6 +27,7 @@ returns-clause-call g c =
     rw c.depart.ensures.left (record {
       reply = c.ask_receive-reply.result;
       calls = came-made c.args.call [] c.ask_receive-reply.result came c.requires.made is c.depart.ensures.legal;
+      found = came-found c.args.call [] c.ask_receive-reply.result came c.requires.made is c.ask_receive-reply.ensures.heeds;
       says_so = c.message_got-got.ensures;
       buffer = c.ask_receive-reply.ensures.buffer ∙ sym (ap (λ past. filled past c.ask_receive-reply.result c.args.buf.now) is ∙ filled-kept c.come-process.result.2.books.records c.come-process.result.0 c.args.call c.ask_receive-reply.result c.args.buf.now c.requires.receives);
     })

@@ -1,5 +1,5 @@
 use Rattle.std.proofs.Common.{◌≡◌, ◌∙◌, ap, sym, refl, length}
-use Rattle.mq.proofs.Calling.{came-free, came-grows, came-made, still-free, now-waits, room-begun}
+use Rattle.mq.proofs.Calling.{came-free, came-grows, came-made, came-found, still-free, now-waits, room-begun}
 use Rattle.mq.specs.Calls.{wait_begun}
 use Rattle.mq.proofs.Replies.{send-waits, send-answered}
 use Rattle.mq.proofs.Messages.{no-room}
@@ -25,6 +25,7 @@ returns-clause-call g c =
     rw c.depart.ensures.left (record {
       reply = c.ask_send-reply.result;
       calls = came-made c.args.call c.args.bytes.now c.ask_send-reply.result came c.requires.made is c.depart.ensures.legal;
+      found = came-found c.args.call c.args.bytes.now c.ask_send-reply.result came c.requires.made is c.ask_send-reply.ensures.heeds;
       says_so = c.accepted.ensures;
     })
 

@@ -1,5 +1,5 @@
 use Rattle.std.proofs.Common.{[]}
-use Rattle.mq.proofs.Calling.{came-free, came-made, still-free, room-kept}
+use Rattle.mq.proofs.Calling.{came-free, came-made, came-found, still-free, room-kept}
 use Rattle.mq.proofs.Replies.{plain-answered}
 use Rattle.mq.proofs.process.Process.call.Goals as goal
 
@@ -14,6 +14,10 @@ invariant_of-self g c =
 pub returns-clause-calls : goal.returns-clause-calls
 returns-clause-calls g c =
     rw c.depart.ensures.left (came-made c.args.call [] c.ask-reply.result (rw c.self.view_is at c.come-process.ensures.came) c.requires.made c.ask-reply.ensures.records c.depart.ensures.legal)
+
+pub returns-clause-found : goal.returns-clause-found
+returns-clause-found g c =
+    rw c.depart.ensures.left (came-found c.args.call [] c.ask-reply.result (rw c.self.view_is at c.come-process.ensures.came) c.requires.made c.ask-reply.ensures.records c.ask-reply.ensures.heeds)
 
 pub returns-clause-free : goal.returns-clause-free
 returns-clause-free g c =

@@ -1,6 +1,6 @@
 use Rattle.std.proofs.Common.{◌∙◌, sym}
 use Rattle.mq.specs.Calls.{closes}
-use Rattle.mq.proofs.Calling.{came-free, came-calls, came-grows_by, same-number}
+use Rattle.mq.proofs.Calling.{came-free, came-calls, came-stops, came-grows_by, same-number}
 use Rattle.mq.proofs.Closings.{own-closes, all-closes}
 use Rattle.mq.proofs.process.Process.exit.Goals as goal
 
@@ -20,5 +20,5 @@ returns-clause-call g c =
       closing = record { ds = closing.ds; is = rw came.process at closing.is; lowest = rw came.process at closing.lowest };
       calls = came-calls (λ q. closes q closing.ds) came c.requires.made closing.is (own-closes c.come-process.result.0 closing.ds) c.depart.ensures.legal;
       ok = rw (same-number came) c.close_all-done.ensures.ok;
-      err = c.close_all-done.ensures.err;
+      err = came-stops c.close_all-done.new.books.records c.close_all-done.result came c.requires.made c.close_all-done.ensures.err;
     })

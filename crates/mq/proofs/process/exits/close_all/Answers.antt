@@ -13,6 +13,7 @@ descriptors-preserved c = elim c.if-eq.branch [
       let lowest = lowest-is c.descriptors.books.records c.args.p c.descriptors.d c.lowest_open.result c.lowest_open.ensures w.if-eq.ensures in
       rw w.books-is (record {
         n = w.close_lowest.ensures.processes ∙ c.descriptors.invariant.n;
+        bounds = w.close_lowest.ensures.bounds ∙ c.descriptors.invariant.bounds;
         free = rw w.in_ok-close_lowest.ensures.ok (closed-free c.descriptors.books.records c.args.p c.descriptors.d);
         closing = closing-more c.descriptors.invariant.closing lowest w.in_ok-close_lowest.ensures.ok;
         from = rw w.in_ok-close_lowest.ensures.ok (from-closed c.descriptors.books.records c.args.p c.descriptors.d lowest);
@@ -20,6 +21,7 @@ descriptors-preserved c = elim c.if-eq.branch [
   | else-eq w ↦
       rw w.books-is (record {
         n = c.descriptors.invariant.n;
+        bounds = c.descriptors.invariant.bounds;
         free = c.descriptors.invariant.free;
         closing = c.descriptors.invariant.closing;
         from = from-next c.descriptors.books.records c.args.p c.descriptors.d c.descriptors.invariant.from (lowest-is_not c.descriptors.books.records c.args.p c.descriptors.d c.lowest_open.result c.lowest_open.ensures w.if-eq.ensures);

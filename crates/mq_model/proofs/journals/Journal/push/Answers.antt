@@ -1,7 +1,7 @@
-use Rattle.std.proofs.Common.{◌≡◌, ◌-◌, arith, ap, vec_capacity, vec_len}
-use Rattle.mq_model.specs.Record.{Shown}
+use Rattle.std.proofs.Common.{◌≡◌, ◌+◌, ◌-◌, ◌∷◌, ◌∙◌, arith, ap, vec_capacity, vec_len, length}
+use Rattle.mq_model.specs.Record.{Shown, Record, payload_bytes}
 use Rattle.mq_model.specs.Stored.{records_of}
-use Rattle.mq_model.proofs.Records.{records_of-push}
+use Rattle.mq_model.proofs.Records.{records_of-push, lies-push}
 use Rattle.mq_model.proofs.journals.Journal.push.Goals as goal
 
 pub add_bytes-requires : goal.add_bytes-requires
@@ -9,6 +9,20 @@ add_bytes-requires c =
     let bytes = c.self.inside.bytes in
     let shows : vec_capacity bytes - vec_len bytes ≡ c.args.self.now.byte_room = ap (λ (v : Shown). v.byte_room) c.self.view_is in
     omega (arith, shows, c.requires.byte_room, bytes.ok.0)
+
+pub invariant_of-self : goal.invariant_of-self
+invariant_of-self c = record {
+  payloads =
+      let bytes = c.self.inside.bytes in
+      rw (c.add_bytes.ensures.items, c.push_reserved.ensures.items) (lies-push bytes.items c.args.payload.now c.self.inside.stored.items _ c.self.invariant.payloads (omega (arith, bytes.ok.0)) (omega (arith, bytes.ok.0, c.add_bytes.ensures.len)));
+  total =
+      let bytes = c.self.inside.bytes in
+      let stored = c.self.inside.stored.items in
+      let added = records_of-push bytes.items c.args.payload.now stored _ c.self.invariant.payloads (omega (arith, bytes.ok.0)) (omega (arith, bytes.ok.0, c.add_bytes.ensures.len)) in
+      let more : payload_bytes (records_of c.add_bytes.new.bytes.items c.push_reserved.new.self.items) ≡ length c.args.payload.now + payload_bytes (records_of bytes.items stored) =
+      rw (c.add_bytes.ensures.items, c.push_reserved.ensures.items) (ap payload_bytes added) in
+      omega (arith, more, c.self.invariant.total, c.add_bytes.ensures.len);
+}
 
 pub returns-clause-records : goal.returns-clause-records
 returns-clause-records c =

@@ -1,4 +1,4 @@
-use Rattle.std.proofs.Common.{◌≡◌, ◌∙◌, ◌+◌, ◌≤◌, ◌∷◌, ℕ, List, length, sym, ap, subst, arith, vec_len, vec_capacity}
+use Rattle.std.proofs.Common.{◌≡◌, ◌∙◌, ◌+◌, ◌≤◌, ◌∷◌, ℕ, List, Option, length, sym, ap, subst, arith, vec_len, vec_capacity}
 use Rattle.std.proofs.lemmas.List.Elements.{All-cons}
 use Rattle.mq_model.specs.Record.{Record, Past}
 use Rattle.mq_model.specs.Answer.{Legal}
@@ -15,6 +15,9 @@ use Rattle.mq_state.proofs.TablesKeep.{entry-on, queued-free, tables-keep}
 use Rattle.mq_state.proofs.WaitsNoted.{length-noted, waits-noted}
 use Rattle.mq_state.proofs.NoticeRoom.{notice-room-keeps, room-to-notify}
 use Rattle.mq_state.proofs.Arriving.{IsInOrderIn, line-order}
+use Rattle.mq_model.specs.declared.bounds.Bounds.{Bounds}
+use Rattle.mq_state.specs.Kept.{HasRoomWithin, notice_room}
+use Rattle.mq_state.proofs.Bounded.{room-keeps, brought-one}
 use Rattle.mq_state.proofs.tables.Tables.append.Goals as goal
 
 pub note-requires-clause-numbers : goal.note-requires-clause-numbers
@@ -88,4 +91,13 @@ returns-clause-kept c =
           (notice-room-keeps past c.requires.kept.legal before.queues.items c.requires.kept.mirror.existing e.process e.call e.reply payload c.requires.next before.inboxes.items after.inboxes.items c.requires.kept.notice_room
           (λ k. subst (λ j. room_in before.inboxes.items k ≤ room_in after.inboxes.items k + notices_brought (registration_in before.queues.items j) e.reply k) c.entry_queue-q.ensures (c.note.ensures.notice_room k))
           c.requires.registration c.args.fresh after.owners.items (admitted_priority past e.reply));
+      bounded = subst (λ (o : Option Bounds). HasRoomWithin o c.push.new.self) (sym c.note.ensures.bounds)
+          (room-keeps before.bounds c.args.journal.now c.push.new.self r c.requires.kept.bounded c.push.ensures.records c.push.ensures.entry_room c.push.ensures.byte_room);
+      notices = λ k le.
+          let has = c.requires.kept.notices k (let same = c.note.ensures.n in omega (arith, le, same)) in
+          let kept = c.note.ensures.notice_room k in
+          let one = brought-one (registration_in before.queues.items c.entry_queue-q.result) e.reply k in
+          let same : notice_room after.bounds ≡ notice_room before.bounds = ap notice_room c.note.ensures.bounds in
+          let long : length c.push.new.self.records ≡ length (r ∷ past) = ap length c.push.ensures.records in
+          omega (arith, has, kept, one, same, long);
     }

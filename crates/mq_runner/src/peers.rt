@@ -1,0 +1,60 @@
+//! Which processes of a phase may still call.
+use crate::turns::Share;
+use arrayvec::ArrayVec;
+use fast_mutex::Look;
+use mq::{Guarded, Process};
+use std::alloc::{AllocError, Global};
+use std::sync::atomic::{AtomicBool, Ordering};
+
+/// The most processes of a phase.
+const MOST: usize = 32;
+
+/// A process of a phase, and whether it may still make calls. It is through only after its last call was made.
+#[derive(Drop)]
+pub struct Peer {
+    number: u32,
+    is_through: AtomicBool,
+}
+
+/// The processes of these shares, in their order. Those without calls are through from the start.
+pub fn peers_of<L: Look<Guarded>>(
+    alloc: Global,
+    shares: &[Share<'_, Process<L>>],
+) -> Result<Vec<Peer>, AllocError> {
+    let mut peers = Vec::with_capacity(alloc, shares.len())?;
+    for share in shares {
+        peers.push(Peer {
+            number: share.process.number(),
+            is_through: AtomicBool::new(share.turns.is_empty()),
+        })?;
+    }
+    Ok(peers)
+}
+
+/// The processes that may still call. One of them may be through by now, and none that is left out calls again.
+pub fn calling(peers: &[Peer]) -> ArrayVec<u32, MOST> {
+    let mut numbers = ArrayVec::new();
+    for peer in peers {
+        if !peer.is_through.load(Ordering::SeqCst) {
+            // There are no more processes than places.
+            let _ = numbers.try_push(peer.number);
+        }
+    }
+    numbers
+}
+
+/// The process makes no further call in this phase.
+pub fn leave(peers: &[Peer], process: u32) {
+    for peer in peers {
+        if peer.number == process {
+            peer.is_through.store(true, Ordering::SeqCst);
+        }
+    }
+}
+
+/// None of the processes makes a further call in this phase: it was called off.
+pub fn leave_all(peers: &[Peer]) {
+    for peer in peers {
+        peer.is_through.store(true, Ordering::SeqCst);
+    }
+}

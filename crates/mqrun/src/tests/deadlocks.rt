@@ -1,0 +1,203 @@
+// Scripts that can't go on, and those that can by one call more.
+use super::scripts::Run;
+use super::{expect_replies, output_of};
+use mq_runner::RunFault;
+use std::alloc::Global;
+use std::process::Abort;
+use std::sync::Wait;
+use std::test::Fail;
+use std::thread::Threads;
+use std::time::Clock;
+
+// A script that can't go on: what it writes before, the lines of the calls that wait, and how the fault reads.
+#[derive(Clone, Copy)]
+struct Stuck {
+    script: &'static str,
+    replies: &'static str,
+    lines: &'static [u64],
+    text: &'static str,
+}
+
+// Two processes that each receive from the queue that the other would fill.
+const CROSSED: Stuck = Stuck {
+    script: "processes 2\n\
+             1 open /p bc 1 8\n\
+             1 open /q bc 1 8\n\
+             --\n\
+             2 open /p b\n\
+             2 open /q b\n\
+             --\n\
+             1 recv 0 8\n\
+             1 send 1 0 a\n\
+             2 recv 1 8\n\
+             2 send 0 0 b\n",
+    replies: "1 fd 0\n1 fd 1\n2 fd 0\n2 fd 1\n",
+    lines: &[8, 10],
+    text: "line 8: waits for ever\nline 10: waits for ever",
+};
+
+// One send more of process 1, before it receives.
+const CROSSED_ENDS: Run = Run {
+    script: "processes 2\n\
+             1 open /p bc 1 8\n\
+             1 open /q bc 1 8\n\
+             --\n\
+             2 open /p b\n\
+             2 open /q b\n\
+             --\n\
+             1 send 1 0 a\n\
+             1 recv 0 8\n\
+             2 recv 1 8\n\
+             2 send 0 0 b\n",
+    replies: "1 fd 0\n\
+             1 fd 1\n\
+             2 fd 0\n\
+             2 fd 1\n\
+             1 ok\n\
+             1 got 0 1 b\n\
+             2 got 0 1 a\n\
+             2 ok\n\
+             history ok\n",
+};
+
+// A full queue and its one sender.
+const FULL: Stuck = Stuck {
+    script: "processes 1\n1 open /q bc 1 8\n1 send 0 0 a\n1 send 0 0 b\n1 exit\n",
+    replies: "",
+    lines: &[4],
+    text: "line 4: waits for ever",
+};
+
+const FULL_ENDS: Run = Run {
+    script: "processes 1\n1 open /q bc 1 8\n1 send 0 0 a\n1 recv 0 8\n1 send 0 0 b\n1 exit\n",
+    replies: "1 fd 0\n1 ok\n1 got 0 1 a\n1 ok\n1 ok\nhistory ok\n",
+};
+
+// A process that ended its lines while another waits for it, and one that has none.
+const LEFT_ALONE: Stuck = Stuck {
+    script: "processes 3\n\
+             1 open /q bc 1 8\n\
+             --\n\
+             2 open /q b\n\
+             --\n\
+             1 send 0 7 a\n\
+             2 recv 0 8\n\
+             2 recv 0 8\n",
+    replies: "1 fd 0\n2 fd 0\n",
+    lines: &[8],
+    text: "line 8: waits for ever",
+};
+
+const LEFT_ALONE_ENDS: Run = Run {
+    script: "processes 3\n\
+             1 open /q bc 1 8\n\
+             --\n\
+             2 open /q b\n\
+             --\n\
+             1 send 0 7 a\n\
+             1 send 0 7 b\n\
+             2 recv 0 8\n\
+             2 recv 0 8\n",
+    replies: "1 fd 0\n\
+             2 fd 0\n\
+             1 ok\n\
+             1 ok\n\
+             2 got 7 1 a\n\
+             2 got 7 1 b\n\
+             history ok\n",
+};
+
+// Calls with a deadline wait for ever where it lies after the moment of the phase, and not where it has passed.
+const DEADLINE: Stuck = Stuck {
+    script: "processes 2\n\
+             1 open /q bc 1 8\n\
+             --\n\
+             2 open /q b\n\
+             --\n\
+             clock 5 0\n\
+             1 trecv 0 8 5 0\n\
+             --\n\
+             1 trecv 0 8 5 1\n\
+             2 trecv 0 8 4 0\n",
+    replies: "1 fd 0\n2 fd 0\n1 ETIMEDOUT\n",
+    lines: &[9],
+    text: "line 9: waits for ever",
+};
+
+const DEADLINE_ENDS: Run = Run {
+    script: "processes 2\n\
+             1 open /q bc 1 8\n\
+             --\n\
+             2 open /q b\n\
+             --\n\
+             clock 5 0\n\
+             1 trecv 0 8 5 0\n\
+             --\n\
+             1 trecv 0 8 5 1\n\
+             2 getattr 7\n\
+             2 tsend 0 0 4 0 a\n",
+    replies: "1 fd 0\n\
+             2 fd 0\n\
+             1 ETIMEDOUT\n\
+             1 got 0 1 a\n\
+             2 EBADF\n\
+             2 ok\n\
+             history ok\n",
+};
+
+// A send and a timed send to a full queue, and a receive from an empty one: one line of each process, in their order.
+const THREE: Stuck = Stuck {
+    script: "processes 3\n\
+             1 open /full bc 1 8\n\
+             1 open /empty bc 1 8\n\
+             1 send 0 0 a\n\
+             --\n\
+             2 open /full b\n\
+             3 open /full b\n\
+             --\n\
+             3 tsend 0 0 1 0 c\n\
+             2 send 0 0 b\n\
+             1 recv 1 8\n",
+    replies: "1 fd 0\n1 fd 1\n1 ok\n2 fd 0\n3 fd 0\n",
+    lines: &[11, 10, 9],
+    text: "line 11: waits for ever\nline 10: waits for ever\nline 9: waits for ever",
+};
+
+// A run of the script must end by a deadlock in these lines, with what the phases before wrote.
+fn expect_deadlock<S: Threads + Wait + Clock + Sync + Abort>(rt: &S, alloc: Global, stuck: Stuck) {
+    let (script, replies) = (stuck.script, stuck.replies.as_bytes());
+    let (outcome, output) = output_of(rt, alloc, script.as_bytes());
+    match outcome {
+        Err(RunFault::Deadlock(lines)) => assert!(rt; lines.as_slice() == stuck.lines, "{script}"),
+        _ => assert!(rt; false, "{script}"),
+    }
+    assert!(rt; output.as_slice() == replies, "{script}");
+}
+
+#[test]
+fn a_script_that_cannot_go_on_ends_and_one_call_more_mends_it(rt: HostRuntime) {
+    for _ in 0..20 {
+        for stuck in [CROSSED, FULL, LEFT_ALONE, DEADLINE, THREE] {
+            expect_deadlock(&rt, rt.alloc(), stuck);
+        }
+        for run in [CROSSED_ENDS, FULL_ENDS, LEFT_ALONE_ENDS, DEADLINE_ENDS] {
+            expect_replies(&rt, rt.alloc(), run);
+        }
+    }
+}
+
+#[test]
+fn a_deadlock_has_a_line_for_each_process_and_status_5(rt: HostRuntime) -> Result<(), Fail> {
+    for stuck in [CROSSED, FULL, THREE] {
+        let (outcome, _) = output_of(&rt, rt.alloc(), stuck.script.as_bytes());
+        match outcome {
+            Err(fault) => {
+                assert_eq!(rt; fault.status(), 5);
+                let text = format!(in rt.alloc(); "{fault}")?;
+                assert!(rt; text.as_bytes() == stuck.text.as_bytes());
+            }
+            Ok(()) => assert!(rt; false),
+        }
+    }
+    Ok(())
+}
