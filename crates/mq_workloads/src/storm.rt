@@ -44,7 +44,7 @@ where
     let time = start.elapsed(rt)?;
     match mq.finish(processes) {
         Ok(journal) => Ok((time, journal)),
-        Err(_) => Err(WorkFault::Stopped),
+        Err(_) => Err(WorkFault::Refused),
     }
 }
 
