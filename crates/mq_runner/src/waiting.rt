@@ -18,7 +18,7 @@ use std::thread;
 use std::time::{Clock, Duration};
 
 // How often a blocked call yields the processor before it sleeps.
-const MOST_YIELDS: u32 = 200;
+const MOST_YIELDS: u32 = 10;
 
 // The first sleep and the longest, in microseconds.
 const FIRST_SLEEP: u64 = 20;

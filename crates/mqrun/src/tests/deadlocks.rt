@@ -1,11 +1,12 @@
 // Scripts that can't go on, and those that can by one call more.
 use super::scripts::Run;
-use super::{expect_replies, output_of};
-use mq_runner::RunFault;
+use super::{expect_replies, output_at, output_of};
+use mq_runner::{Gate, RunFault};
 use std::alloc::Global;
 use std::process::Abort;
 use std::sync::Wait;
 use std::test::Fail;
+use std::thread;
 use std::thread::Threads;
 use std::time::Clock;
 
@@ -200,4 +201,26 @@ fn a_deadlock_has_a_line_for_each_process_and_status_5(rt: HostRuntime) -> Resul
         }
     }
     Ok(())
+}
+
+// Process 2 comes late to each of its calls.
+#[derive(Drop)]
+struct Late;
+
+impl Gate for Late {
+    fn before(&self, process: u32, _line: u64) {
+        if process == 2 {
+            for _ in 0..200_000 {
+                thread::yield_now();
+            }
+        }
+    }
+}
+
+#[test]
+fn a_process_that_comes_late_is_waited_for(rt: HostRuntime) {
+    let Run { script, replies } = CROSSED_ENDS;
+    let (outcome, output) = output_at(&rt, rt.alloc(), script.as_bytes(), &Late);
+    assert_eq!(rt; outcome, Ok(()));
+    assert!(rt; output.as_slice() == replies.as_bytes());
 }
