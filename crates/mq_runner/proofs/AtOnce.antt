@@ -63,13 +63,13 @@ says-none past (Notice v) fault says = absurd (cc)
 says-none past Done fault says = absurd (cc)
 
 pub send-done : {old new : Ticket Record} {call : Call} {bytes : List ℕ} → OneCall start_send_says old new call bytes (Ok true) → OneCall send_says old new call bytes (Ok tt)
-send-done start = record { reply = start.reply; calls = start.calls; says_so = says-done start.reply start.says_so }
+send-done start = record { reply = start.reply; calls = start.calls; found = start.found; says_so = says-done start.reply start.says_so }
 
 pub send-refused : {old new : Ticket Record} {call : Call} {bytes : List ℕ} {fault : Fault} → OneCall start_send_says old new call bytes (Err fault) → OneCall send_says old new call bytes (Err fault)
-send-refused {fault = fault} start = record { reply = start.reply; calls = start.calls; says_so = says-not start.reply fault start.says_so }
+send-refused {fault = fault} start = record { reply = start.reply; calls = start.calls; found = start.found; says_so = says-not start.reply fault start.says_so }
 
 pub receive-done : {old new : Ticket Record} {call : Call} {before after : List ℕ} {received : Received} → ReceiveCall start_receive_says old new call before after (Ok (Some received)) → ReceiveCall receive_says old new call before after (Ok received)
-receive-done {new = new} {received = received} start = record { reply = start.reply; calls = start.calls; says_so = says-got new.left start.reply received start.says_so; buffer = start.buffer }
+receive-done {new = new} {received = received} start = record { reply = start.reply; calls = start.calls; found = start.found; says_so = says-got new.left start.reply received start.says_so; buffer = start.buffer }
 
 pub receive-refused : {old new : Ticket Record} {call : Call} {before after : List ℕ} {fault : Fault} → ReceiveCall start_receive_says old new call before after (Err fault) → ReceiveCall receive_says old new call before after (Err fault)
-receive-refused {new = new} {fault = fault} start = record { reply = start.reply; calls = start.calls; says_so = says-none new.left start.reply fault start.says_so; buffer = start.buffer }
+receive-refused {new = new} {fault = fault} start = record { reply = start.reply; calls = start.calls; found = start.found; says_so = says-none new.left start.reply fault start.says_so; buffer = start.buffer }
