@@ -132,16 +132,12 @@ fn without_an_entry_each_call_that_has_one_is_refused(rt: HostRuntime) {
 
 #[test]
 fn a_bounded_system_has_1_to_32_processes(rt: HostRuntime) {
-    for (n, made) in [
-        (0, Err(Fault::Invalid)),
-        (1, Ok(1)),
-        (32, Ok(32)),
-        (33, Err(Fault::Invalid)),
-    ] {
-        let found = match Mq::<FastMutex<Guarded>>::bounded(rt.alloc(), n, 4, 4) {
-            Ok((_, processes)) => Ok(processes.len()),
-            Err(fault) => Err(fault),
-        };
-        assert!(rt; found == made || found == Err(Fault::NoMemory), "{n}");
+    for n in [0, 33] {
+        let made = Mq::<FastMutex<Guarded>>::bounded(rt.alloc(), n, 4, 4);
+        assert!(rt; made.err() == Some(Fault::Invalid), "{n}");
+    }
+    for n in [1, 32] {
+        let made = Mq::<FastMutex<Guarded>>::bounded(rt.alloc(), n, 4, 4);
+        assert!(rt; matches!(made.err(), None | Some(Fault::NoMemory)), "{n}");
     }
 }
