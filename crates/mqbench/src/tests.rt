@@ -1,5 +1,5 @@
 //! Each workload with small sizes, and lines that are refused.
-use mq_workloads::{BenchFault, run_line};
+use mq_workloads::{BenchFault, WorkFault, run_line};
 use std::alloc::Global;
 use std::sync::Wait;
 use std::thread::Threads;
@@ -26,7 +26,7 @@ const RESULTS: [(&str, &str); 10] = [
     ("check 5\n", "check: 5 operations, "),
     ("crowd 2 30\n", "crowd: 60 operations, "),
     ("crowd 8 20\n", "crowd: 160 operations, "),
-    ("bounded 7 20 pair 3\n", "pair: 6 operations, "),
+    ("bounded 8 54 pair 3\n", "pair: 6 operations, "),
     ("bounded 1000 1000 crowd 4 20\n", "crowd: 80 operations, "),
 ];
 
@@ -105,6 +105,17 @@ const REFUSED: [&str; 37] = [
     "pair\n1\n",
     "\n\n",
 ];
+
+#[test]
+fn a_journal_that_is_full_ends_a_workload(rt: HostRuntime) {
+    for line in ["bounded 7 54 pair 3\n", "bounded 8 53 pair 3\n"] {
+        let refused = output_of(&rt, rt.alloc(), line);
+        assert!(rt;
+            refused.err() == Some(BenchFault::Failed(WorkFault::Refused)),
+            "{line}"
+        );
+    }
+}
 
 #[test]
 fn other_lines_are_refused(rt: HostRuntime) {
