@@ -100,13 +100,27 @@ workload_written name.Crowd = crowd_written
 workload_written name.Idle = idle_written
 workload_written name.Storm = storm_written
 
+-- a workload in a system with bounds: how many entries, how many payload bytes, and the workload
+abbrev pub bounded_written : List Word → Option Request
+bounded_written (entries ∷ bytes ∷ word ∷ arguments) = do
+  entries ← count_written 1000000000 entries
+  bytes ← count_written 1000000000 bytes
+  name ← name_written word
+  workload ← workload_written name arguments
+  Some (request.Measure workload (Some (record { entries = entries; bytes = bytes })))
+bounded_written words = None
+
+-- a workload in a system without
+abbrev pub unbounded_written : Word → List Word → Option Request
+unbounded_written word arguments = do
+  name ← name_written word
+  workload ← workload_written name arguments
+  Some (request.Measure workload None)
+
 -- what the words of a line ask for
 abbrev pub request_written : List Word → Option Request
 request_written [] = Some request.Usage
-request_written (word ∷ arguments) = do
-  name ← name_written word
-  workload ← workload_written name arguments
-  Some (request.Measure workload)
+request_written (word ∷ arguments) = if bytes_eq word (codes "bounded") then bounded_written arguments else unbounded_written word arguments
 
 -- the bytes without the feed that ends them, if one does
 abbrev pub without_feed : List ℕ → List ℕ

@@ -15,5 +15,6 @@ usage_text =
     ++ line (codes "  crowd P N   P processes in P threads on one queue: half of them send N messages each, half receive N each")
     ++ line (codes "  idle P T    P processes in P threads: one works alone for T milliseconds, on a queue of its own, while the others are blocked in a receive")
     ++ line (codes "  storm S N   32 processes in 32 threads: N calls of every kind at random from the seed S, and a journal that is checked up to 8000 entries")
+    ++ line (codes "  bounded E B and one of these lines: the same in a system whose journal has at most E entries and B payload bytes, E and B up to 1000000000")
     ++ line (codes "N, K and S from 1 to 10000000, D from 1 to 4096, D times N at most 10000000")
     ++ line (codes "P from 2 to 32, even for a crowd, P times N at most 10000000 there, T from 1 to 60000")

@@ -4,8 +4,10 @@ ghost use Rattle.mq_workloads.specs.Ready.{IsReady};
 
 use crate::calls::{open, receive, send};
 use crate::fault::WorkFault;
+use crate::made::make;
 use fast_mutex::Look;
 use mq::{Guarded, Mq, Process};
+use mq_model::bounds::Bounds;
 use mq_model::journals::Journal;
 use std::alloc::Global;
 use std::sync::Wait;
@@ -30,9 +32,10 @@ pub const DEPTH: u32 = 10;
 pub fn alone<L: Look<Guarded>, R: Wait + Clock>(
     rt: &R,
     alloc: Global,
+    bounds: Option<Bounds>,
     task: Task,
 ) -> Result<(Duration, Journal), WorkFault> {
-    let (mq, mut processes) = Mq::<L>::new(alloc, 1)?;
+    let (mq, mut processes) = make::<L>(alloc, 1, bounds)?;
     let Some(mut process) = processes.pop() else {
         unreachable!()
     };

@@ -5,9 +5,11 @@ ghost use Rattle.mq_workloads.specs.Ready.{IsReady};
 
 use crate::fault::WorkFault;
 use crate::gate::Gate;
+use crate::made::make;
 use crate::members::{Part, start_members};
 use fast_mutex::Look;
 use mq::{Guarded, Mq, Process};
+use mq_model::bounds::Bounds;
 use std::alloc::Global;
 use std::sync::Wait;
 use std::thread;
@@ -19,6 +21,7 @@ use std::time::{Clock, Duration, Instant};
 pub fn crowd<L: Look<Guarded> + Sync, R: Wait + Threads + Clock + Sync>(
     rt: &R,
     alloc: Global,
+    bounds: Option<Bounds>,
     count: u32,
     parts: (Part, Part),
     rounds: u32,
@@ -27,7 +30,7 @@ where
     L::Seat: Send,
     L::Walk: Send,
 {
-    let (mq, processes) = Mq::<L>::new(alloc, count)?;
+    let (mq, processes) = make::<L>(alloc, count, bounds)?;
     let gate = Gate::new();
     let start = in_threads(rt, &mq, &gate, processes, count, parts, rounds)?;
     let time = start.elapsed(rt)?;

@@ -7,9 +7,11 @@ use crate::alone::{DEPTH, pairs};
 use crate::calls::{open, send_surely};
 use crate::fault::WorkFault;
 use crate::gate::Gate;
+use crate::made::make;
 use crate::members::{Part, QUEUE, start_members};
 use fast_mutex::Look;
 use mq::{Guarded, Mq, Process};
+use mq_model::bounds::Bounds;
 use std::alloc::Global;
 use std::sync::Wait;
 use std::thread;
@@ -33,6 +35,7 @@ const PAIRS: u32 = 64;
 pub fn idle<L: Look<Guarded> + Sync, R: Wait + Threads + Clock + CpuClock + Sync>(
     rt: &R,
     alloc: Global,
+    bounds: Option<Bounds>,
     count: u32,
     time: Duration,
 ) -> Result<Worked, WorkFault>
@@ -40,7 +43,7 @@ where
     L::Seat: Send,
     L::Walk: Send,
 {
-    let (mq, mut processes) = Mq::<L>::new(alloc, count)?;
+    let (mq, mut processes) = make::<L>(alloc, count, bounds)?;
     let Some(mut worker) = processes.pop() else {
         return Err(WorkFault::Refused);
     };

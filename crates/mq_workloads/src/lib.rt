@@ -9,6 +9,7 @@ mod fault;
 mod gate;
 mod gusts;
 mod idle;
+mod made;
 mod members;
 mod report;
 mod run;

@@ -1,5 +1,5 @@
 //! A run, from the bytes of its input to its output.
-ghost use Rattle.std.specs.Prelude.{◌≡◌, ◌+◌, ℕ, List, IsErrOf, OnOk, Some, None, take};
+ghost use Rattle.std.specs.Prelude.{◌≡◌, ◌+◌, ℕ, List, IsErrOf, OnOk, Option, Some, None, take};
 ghost use Rattle.std.specs.Io.KnownBytes.{Appends};
 ghost use Rattle.mq_workloads.specs.Faults.{Reads, IsRefusal};
 ghost use Rattle.mq_workloads.specs.Grammar.{is_one_line, request_read, without_feed};
@@ -7,6 +7,7 @@ ghost use Rattle.mq_workloads.specs.Usage.{usage_text};
 ghost use Rattle.mq_workloads.specs.declared.fault.BenchFault.TheVariants.{BadLine};
 ghost use Rattle.mq_workloads.specs.declared.workload.Request.TheVariants.{Usage, Measure};
 ghost use Rattle.mq_workloads.specs.declared.workload.Workload.{Workload};
+ghost use Rattle.mq_model.specs.declared.bounds.Bounds.{Bounds};
 
 use crate::alone::{Task, alone};
 use crate::crowd::crowd;
@@ -22,6 +23,7 @@ use lines::output::write_all;
 use lines::words::words;
 use mq::Guarded;
 use mq_checker::checker::check_history;
+use mq_model::bounds::Bounds;
 use std::alloc::Global;
 use std::io::{Read, Write};
 use std::sync::Wait;
@@ -45,6 +47,7 @@ usage: one line on the standard input, of a workload and its sizes
   crowd P N   P processes in P threads on one queue: half of them send N messages each, half receive N each
   idle P T    P processes in P threads: one works alone for T milliseconds, on a queue of its own, while the others are blocked in a receive
   storm S N   32 processes in 32 threads: N calls of every kind at random from the seed S, and a journal that is checked up to 8000 entries
+  bounded E B and one of these lines: the same in a system whose journal has at most E entries and B payload bytes, E and B up to 1000000000
 N, K and S from 1 to 10000000, D from 1 to 4096, D times N at most 10000000
 P from 2 to 32, even for a crowd, P times N at most 10000000 there, T from 1 to 60000
 ";
@@ -64,15 +67,15 @@ pub fn run_line<S: Wait + Threads + Clock + CpuClock + Sync, R: Read, W: Write>(
     ensures usage { (all : List ℕ) → R.remaining input.old ≡ Some all →
         request_read (take (MOST_BYTES + 1) all) ≡ Some Usage →
         OnOk result (Appends (W.contents output.old) (W.contents output.new) usage_text) }
-    ensures workload { (all : List ℕ) (workload : Workload) → R.remaining input.old ≡ Some all →
-        request_read (take (MOST_BYTES + 1) all) ≡ Some (Measure workload) →
+    ensures workload { (all : List ℕ) (workload : Workload) (bounds : Option Bounds) → R.remaining input.old ≡ Some all →
+        request_read (take (MOST_BYTES + 1) all) ≡ Some (Measure workload bounds) →
         IsErrOf result BadLine → ⊥ }
 {
     let text = read_all(alloc, input, MOST_BYTES)?;
     match request_in(alloc, text.as_slice())? {
         Request::Usage => write_all(output, USAGE)?,
-        Request::Measure(workload) => {
-            let result = measure(rt, alloc, workload)?;
+        Request::Measure(workload, bounds) => {
+            let result = measure(rt, alloc, workload, bounds)?;
             let line = line_of(alloc, title_of(workload), result)?;
             write_all(output, line.as_bytes())?;
         }
@@ -114,14 +117,20 @@ fn measure<S: Wait + Threads + Clock + CpuClock + Sync>(
     rt: &S,
     alloc: Global,
     workload: Workload,
+    bounds: Option<Bounds>,
 ) -> Result<Measured, WorkFault> {
     match workload {
         Workload::Pair { rounds } => {
-            let (time, journal) = alone::<Lamport, S>(rt, alloc, Task::Pair { rounds })?;
+            let (time, journal) = alone::<Lamport, S>(rt, alloc, bounds, Task::Pair { rounds })?;
             Ok(result_of(2 * u64::from(rounds), time, &journal))
         }
         Workload::Deep { depth, rounds } => {
-            let (time, journal) = alone::<Lamport, S>(rt, alloc, Task::Deep { depth, rounds })?;
+            let (time, journal) = alone::<Lamport, S>(
+                rt,
+                alloc,
+                bounds,
+                Task::Deep { depth, rounds },
+            )?;
             Ok(result_of(
                 u64::from(rounds).saturating_mul(2 * u64::from(depth)),
                 time,
@@ -130,19 +139,19 @@ fn measure<S: Wait + Threads + Clock + CpuClock + Sync>(
         }
         Workload::PingPong { rounds } => {
             let parts = (Part::Asks, Part::Replies);
-            let time = crowd::<Lamport, S>(rt, alloc, 2, parts, rounds)?;
+            let time = crowd::<Lamport, S>(rt, alloc, bounds, 2, parts, rounds)?;
             Ok(timed(4 * u64::from(rounds), time))
         }
         Workload::Stream { rounds } => {
             let parts = (Part::Sends, Part::Receives);
-            let time = crowd::<Lamport, S>(rt, alloc, 2, parts, rounds)?;
+            let time = crowd::<Lamport, S>(rt, alloc, bounds, 2, parts, rounds)?;
             Ok(timed(2 * u64::from(rounds), time))
         }
         Workload::Check { entries } => {
             let task = Task::Calls {
                 count: entries.saturating_sub(1),
             };
-            let (_, journal) = alone::<Lamport, S>(rt, alloc, task)?;
+            let (_, journal) = alone::<Lamport, S>(rt, alloc, bounds, task)?;
             let start = Instant::now(rt)?;
             let _ = check_history(&journal);
             let time = start.elapsed(rt)?;
@@ -150,11 +159,11 @@ fn measure<S: Wait + Threads + Clock + CpuClock + Sync>(
         }
         Workload::Crowd { processes, rounds } => {
             let parts = (Part::Sends, Part::Receives);
-            let time = crowd::<Lamport, S>(rt, alloc, processes, parts, rounds)?;
+            let time = crowd::<Lamport, S>(rt, alloc, bounds, processes, parts, rounds)?;
             Ok(timed(u64::from(processes) * u64::from(rounds), time))
         }
         Workload::Storm { seed, calls } => {
-            let (time, journal) = storm::<Lamport, S>(rt, alloc, seed, calls)?;
+            let (time, journal) = storm::<Lamport, S>(rt, alloc, bounds, seed, calls)?;
             Ok(stormed(seed, time, &journal))
         }
         Workload::Idle {
@@ -162,7 +171,7 @@ fn measure<S: Wait + Threads + Clock + CpuClock + Sync>(
             milliseconds,
         } => {
             let time = Duration::from_millis(u64::from(milliseconds));
-            let worked = idle::<Lamport, S>(rt, alloc, processes, time)?;
+            let worked = idle::<Lamport, S>(rt, alloc, bounds, processes, time)?;
             Ok(Measured {
                 operations: worked.operations,
                 nanoseconds: worked.time.as_nanos(),

@@ -7,8 +7,10 @@ ghost use Rattle.mq_workloads.specs.Ready.{IsReady};
 use crate::dice::Dice;
 use crate::fault::WorkFault;
 use crate::gusts;
+use crate::made::make;
 use fast_mutex::Look;
 use mq::{Guarded, Monotonic, Mq, Process};
+use mq_model::bounds::Bounds;
 use mq_model::journals::Journal;
 use std::alloc::Global;
 use std::sync::Wait;
@@ -22,6 +24,7 @@ const PROCESSES: u32 = 32;
 pub fn storm<L: Look<Guarded> + Sync, R: Wait + Threads + Clock + Sync>(
     rt: &R,
     alloc: Global,
+    bounds: Option<Bounds>,
     seed: u32,
     calls: u32,
 ) -> Result<(Duration, Journal), WorkFault>
@@ -30,7 +33,7 @@ where
     L::Walk: Send,
     ensures legal { IfOk result (λ r. Legal r.1.records) }
 {
-    let (mq, processes) = Mq::<L>::new(alloc, PROCESSES)?;
+    let (mq, processes) = make::<L>(alloc, PROCESSES, bounds)?;
     let rounds = calls / PROCESSES + 1;
     let start = Instant::now(rt)?;
     let processes = map_vec(

@@ -1,9 +1,10 @@
 //! What a run is asked for, and the words that write it.
 ghost use Rattle.std.specs.Prelude.{◌≡◌, ◌≤◌, ◌*◌, map, IfSome};
 ghost use Rattle.lines.specs.Words.{count_written};
-ghost use Rattle.mq_workloads.specs.Grammar.{request_written, workload_written, pair_written, deep_written, ping_pong_written, stream_written, check_written, crowd_written, idle_written, storm_written, name_written};
+ghost use Rattle.mq_workloads.specs.Grammar.{request_written, bounded_written, workload_written, pair_written, deep_written, ping_pong_written, stream_written, check_written, crowd_written, idle_written, storm_written, name_written};
 
 use lines::words::count_of;
+use mq_model::bounds::Bounds;
 
 /// What is measured, with its sizes.
 #[derive(Clone, Copy)]
@@ -30,7 +31,8 @@ pub enum Workload {
 #[derive(Clone, Copy)]
 pub enum Request {
     Usage,
-    Measure(Workload),
+    /// A workload, in a system whose journal has these bounds.
+    Measure(Workload, Option<Bounds>),
 }
 
 /// The first word of a line.
@@ -53,6 +55,8 @@ const MOST_DEPTH: u32 = 4096;
 
 /// The most processes, the most that a system has.
 const MOST_PROCESSES: u32 = 32;
+/// The most entries of a bounded journal, and the most payload bytes.
+const MOST_BOUND: u32 = 1_000_000_000;
 /// The longest time of a workload, in milliseconds.
 const MOST_MILLISECONDS: u32 = 60_000;
 
@@ -94,8 +98,29 @@ pub fn request_of(words: &[&[u8]]) -> Option<Request>
     match words {
         [] => Some(Request::Usage),
         [word, arguments @ ..] => {
-            Some(Request::Measure(workload_of(name_of(word)?, arguments)?))
+            if *word == b"bounded".as_slice() {
+                return bounded_of(arguments);
+            }
+            Some(Request::Measure(workload_of(name_of(word)?, arguments)?, None))
         }
+    }
+}
+
+fn bounded_of(arguments: &[&[u8]]) -> Option<Request>
+    ensures { result ≡ bounded_written (map (λ word. word.now) arguments.now) }
+{
+    match arguments {
+        [entries, bytes, word, arguments @ ..] => {
+            let entries = count_of(MOST_BOUND, entries)?;
+            let bytes = count_of(MOST_BOUND, bytes)?;
+            let workload = workload_of(name_of(word)?, arguments)?;
+            let bounds = Bounds {
+                entries: u64::from(entries),
+                bytes: u64::from(bytes),
+            };
+            Some(Request::Measure(workload, Some(bounds)))
+        }
+        _ => None,
     }
 }
 

@@ -1,5 +1,5 @@
 //! Each workload with small sizes, and lines that are refused.
-use mq_workloads::{BenchFault, run_line};
+use mq_workloads::{BenchFault, WorkFault, run_line};
 use std::alloc::Global;
 use std::sync::Wait;
 use std::thread::Threads;
@@ -17,7 +17,7 @@ fn output_of<S: Wait + Threads + Clock + CpuClock + Sync>(
 }
 
 // Lines, and how their results begin.
-const RESULTS: [(&str, &str); 8] = [
+const RESULTS: [(&str, &str); 10] = [
     ("pair 3\n", "pair: 6 operations, "),
     (" deep  4 2 \n", "deep: 16 operations, "),
     ("deep 1 002", "deep: 4 operations, "),
@@ -26,6 +26,8 @@ const RESULTS: [(&str, &str); 8] = [
     ("check 5\n", "check: 5 operations, "),
     ("crowd 2 30\n", "crowd: 60 operations, "),
     ("crowd 8 20\n", "crowd: 160 operations, "),
+    ("bounded 8 54 pair 3\n", "pair: 6 operations, "),
+    ("bounded 1000 1000 crowd 4 20\n", "crowd: 80 operations, "),
 ];
 
 #[test]
@@ -64,7 +66,7 @@ fn a_storm_prints_its_seed_its_counts_and_a_checked_history(rt: HostRuntime) {
     assert!(rt; text.ends_with(b"; history ok\n"));
 }
 
-const REFUSED: [&str; 33] = [
+const REFUSED: [&str; 37] = [
     "word\n",
     "Pair 1\n",
     "pair\n",
@@ -94,11 +96,26 @@ const REFUSED: [&str; 33] = [
     "storm 0 1\n",
     "storm 1 10000001\n",
     "storm 1 1 1\n",
+    "bounded\n",
+    "bounded 1 1\n",
+    "bounded 0 1 pair 1\n",
+    "bounded 1 1000000001 pair 1\n",
     "pair 1\npair 1\n",
     "pair 1\n\n",
     "pair\n1\n",
     "\n\n",
 ];
+
+#[test]
+fn a_journal_that_is_full_ends_a_workload(rt: HostRuntime) {
+    for line in ["bounded 7 54 pair 3\n", "bounded 8 53 pair 3\n"] {
+        let refused = output_of(&rt, rt.alloc(), line);
+        assert!(rt;
+            refused.err() == Some(BenchFault::Failed(WorkFault::Refused)),
+            "{line}"
+        );
+    }
+}
 
 #[test]
 fn other_lines_are_refused(rt: HostRuntime) {
