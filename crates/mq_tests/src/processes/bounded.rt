@@ -141,3 +141,28 @@ fn a_bounded_system_has_1_to_32_processes(rt: HostRuntime) {
         assert!(rt; matches!(made.err(), None | Some(Fault::NoMemory)), "{n}");
     }
 }
+
+#[test]
+fn bounds_beyond_all_memory_are_refused_at_the_making(rt: HostRuntime) {
+    for (entries, bytes) in [(u64::MAX, 0), (0, u64::MAX), (u64::MAX, u64::MAX)] {
+        let made = Mq::<FastMutex<Guarded>>::bounded(rt.alloc(), 1, entries, bytes);
+        assert!(rt; made.err() == Some(Fault::NoMemory), "{entries} {bytes}");
+    }
+}
+
+// One entry, and the two bytes of the name.
+const ONE_ENTRY: [Step; 3] = [
+    (1, Ask::Open(CREATE, 2), Told::Opened(0)),
+    (1, Ask::Getattr(0), FULL),
+    (1, Ask::Exit, FULL),
+];
+
+const NO_OPEN: [Step; 1] = [(1, Ask::Open(CREATE, 2), FULL)];
+
+#[test]
+fn a_bound_of_one_entry_has_room_for_an_open(rt: HostRuntime) {
+    let entries = expect_alone::<FastMutex<Guarded>, _>(&rt, rt.alloc(), 1, 2, &ONE_ENTRY);
+    assert_eq!(rt; entries, Some(1));
+    let entries = expect_alone::<FastMutex<Guarded>, _>(&rt, rt.alloc(), 1, 1, &NO_OPEN);
+    assert_eq!(rt; entries, Some(0));
+}
