@@ -3,7 +3,7 @@ use Rattle.std.specs.Prelude.{◌≡◌, ℕ, ◌+◌, ◌<◌, Bool, true, fals
 use Rattle.std.specs.Option.{option_map, unwrap_or}
 use Rattle.mq_model.specs.Limits.{most_processes}
 use Rattle.mq_model.specs.Name.{is_name}
-use Rattle.mq_model.specs.Record.{Record, Past, first}
+use Rattle.mq_model.specs.Record.{Record, Past, first, Place, Process}
 use Rattle.mq_model.specs.Names.{bound_queue, attributes}
 use Rattle.mq_model.specs.Descriptors.{held, lowest_free, alive}
 use Rattle.mq_model.specs.Messages.{present, best, least, waiting_sends, waiting_receives}
@@ -26,7 +26,7 @@ use Rattle.mq_model.specs.declared.entries.Reply.TheVariants.{Collected, Withdra
 
 -- the facts that a reply depends on, as the definitions give them, and the replies to them -----------------------------------
 
-abbrev pub open_facts : Past → ℕ → List ℕ → OpenFacts
+abbrev pub open_facts : Past → Process → List ℕ → OpenFacts
 open_facts past p name = record { bound = is_some (bound_queue past name); free = lowest_free past p; queues = length (alive past) }
 
 -- of a send the receive that waits the longest counts, and of a receive the send
@@ -56,7 +56,7 @@ abbrev pub notify_facts : Past → Description → NotifyFacts
 notify_facts past h = record { registered = registered past h.queue }
 
 -- mq_open
-abbrev pub answer_open : Past → ℕ → OpenFlags → Option Attr → List ℕ → Reply
+abbrev pub answer_open : Past → Process → OpenFlags → Option Attr → List ℕ → Reply
 answer_open past p flags attr name = open_reply flags attr (open_facts past p name)
 
 -- mq_send, by what its descriptor is
@@ -72,12 +72,12 @@ abbrev pub answer_attributes : Past → Option Description → Reply
 answer_attributes past held = status_reply (option_map (status_facts past) held)
 
 -- mq_notify
-abbrev pub answer_notify : Past → ℕ → Option Description → Option ℕ → Reply
+abbrev pub answer_notify : Past → Process → Option Description → Option ℕ → Reply
 answer_notify past p held value = notify_reply p value (option_map (notify_facts past) held)
 
 -- what a call of process p is answered, a name being that of an open or an unlink. The 0 of a collect or a
 -- withdrawal never stands in a legal journal, where a process collects only once its wait is answered, and withdraws only a wait
-abbrev pub answer : Past → ℕ → Call → List ℕ → Reply
+abbrev pub answer : Past → Process → Call → List ℕ → Reply
 answer past p (MqOpen flags attr) name = answer_open past p flags attr name
 answer past p (MqClose d) name = close_reply (held past p d)
 answer past p MqUnlink name = unlink_reply (bound_queue past name)
@@ -106,7 +106,7 @@ is_payload _ reply payload = length payload == 0
 
 -- a process with an open wait may only collect, once the wait is answered, or withdraw, where its deadline has passed and it is not
 -- answered. No other process may collect or withdraw
-abbrev pub may_call : Past → ℕ → Call → Bool
+abbrev pub may_call : Past → Process → Call → Bool
 may_call past p Collect = is_some (answered_by past p)
 may_call past p (Withdraw now) = is_none (answered_by past p) && is_over (wait_deadline past p) now
 may_call past p _ = is_none (open_wait past p)
@@ -124,7 +124,7 @@ Legal [] = Unit {0}
 Legal (r ∷ past) = Legal past × IsLegalNext past r
 
 -- the records before place k are legal, and with the record at k they are not
-pub record IsFirstIllegal (past : Past) (k : ℕ) : Type 0 where
+pub record IsFirstIllegal (past : Past) (k : Place) : Type 0 where
   pub place : k < length past
   pub before : Legal (first k past)
   pub illegal : Legal (first (k + 1) past) → ⊥
@@ -138,6 +138,6 @@ payload_of (MqTimedSend d prio len until now) reply given = if is_refused reply 
 payload_of _ reply given = []
 
 -- one record was added: this call of process p with its answer, and with the payload that the bytes given make
-pub record Appends (old new : Past) (p : ℕ) (call : Call) (given : List ℕ) (reply : Reply) : Type 0 where
+pub record Appends (old new : Past) (p : Process) (call : Call) (given : List ℕ) (reply : Reply) : Type 0 where
   pub answers : reply ≡ answer old p call given
   pub records : new ≡ record { entry = record { process = p; call = call; reply = reply }; payload = payload_of call reply given } ∷ old

@@ -2,7 +2,7 @@
 use Rattle.std.specs.Prelude.{ℕ, ◌≡◌, ◌≢◌, ◌↔◌, ◌+◌, Bool, true, false, ◌||◌, nat_lt, List, length, Option, Some, None, is_some, if◌then◌else◌}
 use Rattle.std.specs.List.{count_by}
 use Rattle.mq_model.specs.Limits.{most_processes}
-use Rattle.mq_model.specs.Record.{Past, payload_bytes}
+use Rattle.mq_model.specs.Record.{Past, payload_bytes, Process}
 use Rattle.mq_model.specs.Descriptors.{held, numbers_from}
 use Rattle.mq_model.specs.Waits.{open_wait}
 use Rattle.mq_model.specs.Answer.{answer_send, is_refused}
@@ -35,7 +35,7 @@ entries_needed _ = 1
 
 -- the payload bytes that it needs room for: those of the name, or of the message, but of a message only where the send, did it have no
 -- deadline, is not refused
-abbrev pub bytes_needed : Past → ℕ → Call → List ℕ → ℕ
+abbrev pub bytes_needed : Past → Process → Call → List ℕ → ℕ
 bytes_needed past p (MqOpen flags attr) given = length given
 bytes_needed past p MqUnlink given = length given
 bytes_needed past p (MqSend d prio len) given = if is_refused (answer_send past (held past p d) prio len) then 0 else length given
@@ -44,7 +44,7 @@ bytes_needed past p call given = 0
 
 -- a call of process p that is given these bytes, a name or a message, finds the journal full: with what it needs, and with the entries
 -- that end the open waits, there would be more than the journal may hold
-abbrev pub finds_full : Option Bounds → Past → ℕ → Call → List ℕ → Bool
+abbrev pub finds_full : Option Bounds → Past → Process → Call → List ℕ → Bool
 finds_full bounds past p call given = exceeds bounds (length past + open_waits past + entries_needed call) (payload_bytes past + bytes_needed past p call given)
 
 -- a reply that stands in no entry: memory was wanting, or the journal is full
@@ -54,6 +54,6 @@ has_entry (Refused JournalFull) = false
 has_entry _ = true
 
 -- the reply to a call: it is that the journal is full exactly where the call finds it so, and with bounds memory is never wanting
-pub record HeedsBounds (bounds : Option Bounds) (past : Past) (p : ℕ) (call : Call) (given : List ℕ) (reply : Reply) : Type 0 where
+pub record HeedsBounds (bounds : Option Bounds) (past : Past) (p : Process) (call : Call) (given : List ℕ) (reply : Reply) : Type 0 where
   pub full : (reply ≡ Refused JournalFull) ↔ (finds_full bounds past p call given ≡ true)
   pub memory : is_some bounds ≡ true → reply ≢ Refused NoMemory

@@ -3,7 +3,7 @@ use Rattle.std.specs.Prelude.{ℕ, pos, Bool, true, false, ◌&&◌, List, [], �
 use Rattle.std.specs.Str.{bytes_eq}
 use Rattle.std.specs.Option.{option_map, unwrap_or}
 use Rattle.mq_model.specs.Limits.{most_messages, most_message_bytes, default_messages, default_message_bytes}
-use Rattle.mq_model.specs.Record.{Past, record_at}
+use Rattle.mq_model.specs.Record.{Past, record_at, Queue}
 use Rattle.mq_model.specs.declared.entries.Attr.{Attr}
 use Rattle.mq_model.specs.declared.entries.Call.{Call}
 use Rattle.mq_model.specs.declared.entries.Call.TheVariants.{MqOpen, MqUnlink}
@@ -29,7 +29,7 @@ unlinks call Done = is_unlink call
 unlinks call _ = false
 
 -- the queue that a name is bound to: its latest creating open, unless the name was unlinked behind it
-abbrev pub bound_queue : Past → List ℕ → Option ℕ
+abbrev pub bound_queue : Past → List ℕ → Option Queue
 bound_queue [] name = None
 bound_queue (r ∷ past) name =
     if creates r.entry.call r.entry.reply && bytes_eq r.payload name then Some (length past)
@@ -37,7 +37,7 @@ bound_queue (r ∷ past) name =
     else bound_queue past name)
 
 -- the name that a queue was created under. The empty one never stands for a queue
-abbrev pub name_of : Past → ℕ → List ℕ
+abbrev pub name_of : Past → Queue → List ℕ
 name_of past q = unwrap_or (option_map (λ r. r.payload) (record_at past q)) []
 
 -- the attributes of a queue that was created without any
@@ -49,7 +49,7 @@ attributes_given (MqOpen flags (Some attr)) = attr
 attributes_given _ = default_attributes
 
 -- mq_maxmsg and mq_msgsize of a queue: the most messages that it holds, and the most bytes of a message
-abbrev pub attributes : Past → ℕ → Attr
+abbrev pub attributes : Past → Queue → Attr
 attributes past q = unwrap_or (option_map (λ r. attributes_given r.entry.call) (record_at past q)) default_attributes
 
 -- attributes that a queue may be created with

@@ -3,6 +3,26 @@
 use Rattle.std.specs.Prelude.{ℕ, ◌+◌, ◌-◌, drop, List, [], ◌∷◌, ◌==◌, length, Option, Some, None, if◌then◌else◌}
 use Rattle.mq_model.specs.declared.entries.Entry.{Entry}
 
+-- what a number of the definitions stands for: the place of an entry, which is how many entries there are before it
+abbrev pub Place : Type 0
+Place = ℕ
+
+-- a process, from 1
+abbrev pub Process : Type 0
+Process = ℕ
+
+-- a descriptor of a process
+abbrev pub Descriptor : Type 0
+Descriptor = ℕ
+
+-- a queue, by the place of the open that created it
+abbrev pub Queue : Type 0
+Queue = Place
+
+-- a message, by the place of its send
+abbrev pub Message : Type 0
+Message = Place
+
 -- an entry of the journal with its payload
 pub record Record : Type 0 where
   pub entry : Entry
@@ -13,7 +33,7 @@ abbrev pub Past : Type 0
 Past = List Record
 
 -- the record at a place
-abbrev pub record_at : Past → ℕ → Option Record
+abbrev pub record_at : Past → Place → Option Record
 record_at [] place = None
 record_at (r ∷ past) place = if place == length past then Some r else record_at past place
 
