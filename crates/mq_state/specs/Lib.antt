@@ -1,3 +1,4 @@
+pub mod Prefixes
 pub mod Order
 pub mod QueueShown
 pub mod Queues

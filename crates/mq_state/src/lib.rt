@@ -6,5 +6,6 @@ mod buffers;
 pub mod collected;
 pub mod memory;
 mod notices;
+mod prefixes;
 mod queues;
 mod tables;

@@ -10,10 +10,10 @@ ghost use Rattle.mq_model.specs.Owners.{waiting, waits_count};
 ghost use Rattle.mq_state.specs.Kept.{Mirrors};
 
 use crate::notices;
+use crate::prefixes::Prefix;
 use crate::queues::{self, LineFacts};
 use crate::tables::Tables;
 use mq_model::entries::{Attr, Call, Description, OpenFlags, Registration, Reply};
-use mq_model::journals::Journal;
 use mq_model::ladder::{
     DEFAULT_ATTRIBUTES, NotifyFacts, OpenFacts, ReceiveFacts, SendFacts, StatusFacts,
     attributes_given,
@@ -21,7 +21,7 @@ use mq_model::ladder::{
 use mq_model::{ladder, owners};
 
 // `maxmsg` and `msgsize` of queue q, as the journal has them.
-fn attributes(journal: &Journal, q: u64) -> Attr
+fn attributes(journal: &Prefix<'_>, q: u64) -> Attr
     ensures { result ≡ attributes journal.now.records q }
 {
     match journal.entry(q) {
@@ -52,7 +52,7 @@ fn registration_place(registration: Option<Registration>) -> Option<u64>
 
 impl Tables {
     // What process p holds under descriptor d: a queue that exists.
-    fn held(&self, journal: &Journal, p: u32, d: u32) -> Option<Description>
+    fn held(&self, journal: &Prefix<'_>, p: u32, d: u32) -> Option<Description>
         requires mirror { Mirrors journal.now self.now }
         requires legal { Legal journal.now.records }
         ensures held { result ≡ held journal.now.records p d }
@@ -62,7 +62,7 @@ impl Tables {
     }
 
     // The lowest descriptor that process p does not hold.
-    fn lowest_free(&self, journal: &Journal, p: u32) -> Option<u32>
+    fn lowest_free(&self, journal: &Prefix<'_>, p: u32) -> Option<u32>
         requires mirror { Mirrors journal.now self.now }
         ensures { result ≡ lowest_free journal.now.records p }
     {
@@ -70,7 +70,7 @@ impl Tables {
     }
 
     // The queue that a name is bound to.
-    pub(crate) fn bound(&self, journal: &Journal, name: &[u8]) -> Option<u64>
+    pub(crate) fn bound(&self, journal: &Prefix<'_>, name: &[u8]) -> Option<u64>
         requires mirror { Mirrors journal.now self.now }
         ensures { result ≡ bound_queue journal.now.records name.now }
     {
@@ -78,7 +78,7 @@ impl Tables {
     }
 
     // How many queues exist.
-    fn queue_count(&self, journal: &Journal) -> u64
+    fn queue_count(&self, journal: &Prefix<'_>) -> u64
         requires mirror { Mirrors journal.now self.now }
         ensures { result ≡ length (alive journal.now.records) }
     {
@@ -86,7 +86,7 @@ impl Tables {
     }
 
     // What the table says of queue q: its messages, and the registration that stands.
-    fn line(&self, journal: &Journal, q: u64) -> LineFacts
+    fn line(&self, journal: &Prefix<'_>, q: u64) -> LineFacts
         requires mirror { Mirrors journal.now self.now }
         requires alive { IsTrue (is_in (alive journal.now.records) q) }
         ensures count { result.count ≡ length (present journal.now.records q) }
@@ -98,7 +98,7 @@ impl Tables {
     }
 
     // The place of the send, or receive, that waits the longest on queue q.
-    fn first_wait(&self, journal: &Journal, q: u64, sends: bool) -> Option<u64>
+    fn first_wait(&self, journal: &Prefix<'_>, q: u64, sends: bool) -> Option<u64>
         requires mirror { Mirrors journal.now self.now }
         requires legal { Legal journal.now.records }
         requires few { self.now.n ≤ 32 }
@@ -116,7 +116,7 @@ impl Tables {
 }
 
 impl Tables {
-    fn open_facts(&self, journal: &Journal, p: u32, name: &[u8]) -> OpenFacts
+    fn open_facts(&self, journal: &Prefix<'_>, p: u32, name: &[u8]) -> OpenFacts
         requires mirror { Mirrors journal.now self.now }
         ensures { result ≡ open_facts journal.now.records p name.now }
     {
@@ -130,7 +130,7 @@ impl Tables {
     // The reply to an open.
     pub(crate) fn answer_open(
         &self,
-        journal: &Journal,
+        journal: &Prefix<'_>,
         p: u32,
         name: &[u8],
         flags: OpenFlags,
@@ -143,7 +143,7 @@ impl Tables {
     }
 
     // The reply to a close.
-    pub(crate) fn answer_close(&self, journal: &Journal, p: u32, d: u32) -> Reply
+    pub(crate) fn answer_close(&self, journal: &Prefix<'_>, p: u32, d: u32) -> Reply
         requires mirror { Mirrors journal.now self.now }
         requires legal { Legal journal.now.records }
         ensures { result ≡ answer journal.now.records p (Call.MqClose d) [] }
@@ -152,14 +152,14 @@ impl Tables {
     }
 
     // The reply to an unlink.
-    pub(crate) fn answer_unlink(&self, journal: &Journal, p: u32, name: &[u8]) -> Reply
+    pub(crate) fn answer_unlink(&self, journal: &Prefix<'_>, p: u32, name: &[u8]) -> Reply
         requires mirror { Mirrors journal.now self.now }
         ensures { result ≡ answer journal.now.records p Call.MqUnlink name.now }
     {
         ladder::unlink(self.bound(journal, name))
     }
 
-    fn status_facts(&self, journal: &Journal, h: Description) -> StatusFacts
+    fn status_facts(&self, journal: &Prefix<'_>, h: Description) -> StatusFacts
         requires mirror { Mirrors journal.now self.now }
         requires alive { IsTrue (is_in (alive journal.now.records) h.queue) }
         ensures facts { result ≡ status_facts journal.now.records h }
@@ -173,7 +173,7 @@ impl Tables {
     }
 
     // The reply to a getattr, and to a setattr.
-    pub(crate) fn answer_attributes(&self, journal: &Journal, p: u32, d: u32) -> Reply
+    pub(crate) fn answer_attributes(&self, journal: &Prefix<'_>, p: u32, d: u32) -> Reply
         requires mirror { Mirrors journal.now self.now }
         requires legal { Legal journal.now.records }
         ensures { result ≡ answer_attributes journal.now.records (held journal.now.records p d) }
@@ -187,7 +187,7 @@ impl Tables {
     // The reply to a notify.
     pub(crate) fn answer_notify(
         &self,
-        journal: &Journal,
+        journal: &Prefix<'_>,
         p: u32,
         d: u32,
         value: Option<u64>,
@@ -206,14 +206,14 @@ impl Tables {
     }
 
     // The reply to a look for the oldest notice.
-    pub(crate) fn answer_next_notice(&self, journal: &Journal, p: u32) -> Reply
+    pub(crate) fn answer_next_notice(&self, journal: &Prefix<'_>, p: u32) -> Reply
         requires mirror { Mirrors journal.now self.now }
         ensures { result ≡ answer journal.now.records p Call.NextNotice [] }
     {
         Reply::Notice(notices::first(&self.inboxes, p))
     }
 
-    fn send_facts(&self, journal: &Journal, h: Description) -> SendFacts
+    fn send_facts(&self, journal: &Prefix<'_>, h: Description) -> SendFacts
         requires mirror { Mirrors journal.now self.now }
         requires legal { Legal journal.now.records }
         requires alive { IsTrue (is_in (alive journal.now.records) h.queue) }
@@ -234,7 +234,7 @@ impl Tables {
     // The reply to a send.
     pub(crate) fn answer_send(
         &self,
-        journal: &Journal,
+        journal: &Prefix<'_>,
         p: u32,
         d: u32,
         prio: u32,
@@ -252,7 +252,7 @@ impl Tables {
         }
     }
 
-    fn receive_facts(&self, journal: &Journal, h: Description) -> ReceiveFacts
+    fn receive_facts(&self, journal: &Prefix<'_>, h: Description) -> ReceiveFacts
         requires mirror { Mirrors journal.now self.now }
         requires legal { Legal journal.now.records }
         requires alive { IsTrue (is_in (alive journal.now.records) h.queue) }
@@ -272,7 +272,7 @@ impl Tables {
     }
 
     // The reply to a receive.
-    pub(crate) fn answer_receive(&self, journal: &Journal, p: u32, d: u32, room: u64) -> Reply
+    pub(crate) fn answer_receive(&self, journal: &Prefix<'_>, p: u32, d: u32, room: u64) -> Reply
         requires mirror { Mirrors journal.now self.now }
         requires legal { Legal journal.now.records }
         requires few { self.now.n ≤ 32 }
