@@ -15,3 +15,4 @@ pub mod Collecting
 pub mod Bounded
 pub mod Pooling
 pub mod Wholes
+pub mod Replaying

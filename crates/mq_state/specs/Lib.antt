@@ -12,3 +12,4 @@ pub mod Kept
 pub mod Buffers
 pub mod BooksModel
 pub mod Memory
+pub mod Replays

@@ -8,4 +8,5 @@ pub mod memory;
 mod notices;
 mod prefixes;
 mod queues;
+pub mod replay;
 mod tables;

@@ -127,6 +127,27 @@ impl Tables {
         self.note(journal, entry, q, fresh);
     }
 
+    // Makes the room that the next entry of a journal needs, and notes it with its payload. The tables have no bounds.
+    pub(crate) fn follow(
+        &mut self,
+        journal: &Prefix<'_>,
+        entry: Entry,
+        payload: &[u8],
+    ) -> Result<(), AllocError>
+        requires tables { AreThoseOf journal.now.records self.old }
+        requires next { IsLegalNext journal.now.records (record { entry = entry; payload = payload.now }) }
+        requires at_most { entry.process ≤ self.old.n }
+        requires unbounded { self.old.bounds ≡ None }
+        ensures tables { OnOk result (AreThoseOf (record { entry = entry; payload = payload.now } ∷ journal.now.records) self.new) }
+        ensures n { self.new.n ≡ self.old.n }
+        ensures bounds { self.new.bounds ≡ None }
+    {
+        self.make_notice_room(entry.process, entry.call, entry.reply)?;
+        let fresh = self.fresh_slots(entry.call, entry.reply)?;
+        self.note_next(journal, entry, payload, fresh);
+        Ok(())
+    }
+
     // Appends the entry of a call that gets its answer, with its payload.
     fn append(&mut self, journal: &mut Journal, entry: Entry, payload: &[u8], fresh: Option<Slots>)
         requires kept { IsKeptBy journal.old self.old }
@@ -246,6 +267,7 @@ impl Tables {
         requires within { CreatesWithin call reply }
         requires few { creates call reply ≡ true → vec_len self.old.queues < 64 }
         ensures same { SaysSame self.old self.new }
+        ensures inboxes { self.new.inboxes ≡ self.old.inboxes }
         ensures pool { IfOk result (λ fresh. IsPooled fresh self.new) }
         ensures memory { OnErr result (self.new.bounds ≡ None) }
         ensures brings { IfOk result (BringsOrder call reply (vec_len self.new.queues) (vec_capacity self.new.queues)) }

@@ -5,15 +5,16 @@ ghost use Rattle.mq_model.specs.Names.{attributes, bound_queue};
 ghost use Rattle.mq_model.specs.Descriptors.{held, lowest_free, alive};
 ghost use Rattle.mq_model.specs.Messages.{is_in, present, best, least};
 ghost use Rattle.mq_model.specs.Notices.{registered};
-ghost use Rattle.mq_model.specs.Answer.{Legal, answer, answer_attributes, open_facts, send_facts, receive_facts, status_facts};
+ghost use Rattle.mq_model.specs.Answer.{Legal, may_call, answer, answer_attributes, open_facts, send_facts, receive_facts, status_facts};
 ghost use Rattle.mq_model.specs.Owners.{waiting, waits_count};
-ghost use Rattle.mq_state.specs.Kept.{Mirrors};
+ghost use Rattle.mq_model.specs.Waits.{open_wait, wait_deadline, answered_by};
+ghost use Rattle.mq_state.specs.Kept.{Mirrors, AreThoseOf};
 
 use crate::notices;
 use crate::prefixes::Prefix;
 use crate::queues::{self, LineFacts};
 use crate::tables::Tables;
-use mq_model::entries::{Attr, Call, Description, OpenFlags, Registration, Reply};
+use mq_model::entries::{Attr, Call, Deadline, Description, OpenFlags, Registration, Reply};
 use mq_model::ladder::{
     DEFAULT_ATTRIBUTES, NotifyFacts, OpenFacts, ReceiveFacts, SendFacts, StatusFacts,
     attributes_given,
@@ -282,6 +283,90 @@ impl Tables {
         match self.held(journal, p, d) {
             Some(h) => ladder::receive(room, Some(self.receive_facts(journal, h))),
             None => ladder::receive(room, None),
+        }
+    }
+}
+
+impl Tables {
+    // The moment until which process p waits.
+    fn deadline(&self, journal: &Prefix<'_>, p: u32) -> Option<Deadline>
+        requires mirror { Mirrors journal.now self.now }
+        ensures { result ≡ wait_deadline journal.now.records p }
+    {
+        match owners::wait(&self.owners, p) {
+            None => None,
+            Some(wait) => wait.until,
+        }
+    }
+
+    // The place of the entry that answers the open wait of process p.
+    fn answered_by(&self, journal: &Prefix<'_>, p: u32) -> Option<u64>
+        requires mirror { Mirrors journal.now self.now }
+        ensures { result ≡ answered_by journal.now.records p }
+    {
+        owners::answer(&self.owners, p)
+    }
+
+    // The place of the open wait of process p.
+    fn open_wait(&self, journal: &Prefix<'_>, p: u32) -> Option<u64>
+        requires mirror { Mirrors journal.now self.now }
+        ensures { result ≡ open_wait journal.now.records p }
+    {
+        match owners::wait(&self.owners, p) {
+            None => None,
+            Some(wait) => Some(wait.place),
+        }
+    }
+
+    // Whether process p may make a call now.
+    pub(crate) fn may_call(&self, journal: &Prefix<'_>, p: u32, call: Call) -> bool
+        requires mirror { Mirrors journal.now self.now }
+        ensures { result ≡ may_call journal.now.records p call }
+    {
+        match call {
+            Call::Collect => self.answered_by(journal, p).is_some(),
+            Call::Withdraw { now } => {
+                self.answered_by(journal, p).is_none()
+                    && ladder::is_over(self.deadline(journal, p), now)
+            }
+            _ => self.open_wait(journal, p).is_none(),
+        }
+    }
+
+    // The reply to a call of process p, a name being that of an open or an unlink.
+    pub(crate) fn answer_to(&self, journal: &Prefix<'_>, p: u32, call: Call, name: &[u8]) -> Reply
+        requires { AreThoseOf journal.now.records self.now }
+        ensures { result ≡ answer journal.now.records p call name.now }
+    {
+        match call {
+            Call::MqOpen { flags, attr } => self.answer_open(journal, p, name, flags, attr),
+            Call::MqClose { d } => self.answer_close(journal, p, d),
+            Call::MqUnlink => self.answer_unlink(journal, p, name),
+            Call::MqSend { d, prio, len } => self.answer_send(journal, p, d, prio, len),
+            Call::MqReceive { d, room } => self.answer_receive(journal, p, d, room),
+            Call::MqTimedSend {
+                d,
+                prio,
+                len,
+                until,
+                now,
+            } => ladder::timed(until, now, self.answer_send(journal, p, d, prio, len)),
+            Call::MqTimedReceive {
+                d,
+                room,
+                until,
+                now,
+            } => ladder::timed(until, now, self.answer_receive(journal, p, d, room)),
+            Call::MqGetattr { d } => self.answer_attributes(journal, p, d),
+            Call::MqSetattr { d, nonblock: _ } => self.answer_attributes(journal, p, d),
+            Call::MqNotify { d, value } => self.answer_notify(journal, p, d, value),
+            Call::NextNotice => self.answer_next_notice(journal, p),
+            Call::Collect => Reply::Collected {
+                by: self.answered_by(journal, p).unwrap_or(0),
+            },
+            Call::Withdraw { now: _ } => Reply::Withdrawn {
+                wait: self.open_wait(journal, p).unwrap_or(0),
+            },
         }
     }
 }

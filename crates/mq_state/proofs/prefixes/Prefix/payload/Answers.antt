@@ -1,4 +1,4 @@
-use Rattle.std.proofs.Common.{◌≡◌, ◌∙◌, sym, ap, length, Option, None, arith}
+use Rattle.std.proofs.Common.{◌≡◌, ◌∙◌, sym, ap, arith}
 use Rattle.std.specs.Option.{option_map}
 use Rattle.mq_model.specs.Record.{Record, Shown, record_at, first}
 use Rattle.mq_model.proofs.Prefixes.{record_at-first}

@@ -1,11 +1,10 @@
 use Rattle.std.proofs.Common.{◌≡◌, Option, ◌≤◌, ◌∙◌, ◌∷◌, ℕ, length, sym, ap, subst, arith}
 use Rattle.std.proofs.lemmas.List.Elements.{All-cons}
 use Rattle.mq_model.specs.Record.{Record, Past, Shown}
-use Rattle.mq_model.specs.Answer.{Legal}
 use Rattle.mq_model.specs.Owners.{waits_count}
 use Rattle.mq_model.specs.OwnersNoted.{noted}
 use Rattle.mq_model.proofs.LegalReplies.{legal_says}
-use Rattle.mq_state.specs.Tables.{TablesMirror, AreAtMost, entry_queue}
+use Rattle.mq_state.specs.Tables.{AreAtMost, entry_queue}
 use Rattle.mq_state.specs.Kept.{HasRoomWithin, notice_room, AreThoseOf}
 use Rattle.mq_model.specs.declared.bounds.Bounds.{Bounds}
 use Rattle.mq_state.proofs.WaitsNoted.{waits-noted}

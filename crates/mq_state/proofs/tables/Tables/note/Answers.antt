@@ -1,4 +1,4 @@
-use Rattle.std.proofs.Common.{◌≡◌, ◌∙◌, ap, Some, None, Option, vec_capacity}
+use Rattle.std.proofs.Common.{◌≡◌, ◌∙◌, ap, Some, None, vec_capacity}
 use Rattle.mq_slots.specs.Held.{Held}
 use Rattle.mq_state.specs.Queues.{noted_queues}
 use Rattle.mq_state.specs.Pool.{PoolWithin}

@@ -1,23 +1,18 @@
-use Rattle.std.proofs.Common.{◌≡◌, ◌∙◌, ◌+◌, ◌≤◌, ◌∷◌, ℕ, List, Option, length, sym, ap, subst, arith, vec_len, vec_capacity}
-use Rattle.std.proofs.lemmas.List.Elements.{All-cons}
-use Rattle.mq_model.specs.Record.{Record, Past}
-use Rattle.mq_model.specs.Answer.{Legal}
-use Rattle.mq_model.specs.Owners.{waits_count}
+use Rattle.std.proofs.Common.{◌≡◌, ◌∙◌, ◌+◌, ◌≤◌, ◌∷◌, ℕ, List, length, sym, ap, subst, arith, vec_len, vec_capacity}
+use Rattle.mq_model.specs.Record.{Record}
 use Rattle.mq_model.specs.OwnersNoted.{noted}
 use Rattle.mq_model.proofs.LegalReplies.{legal_says}
 use Rattle.mq_model.proofs.OwnersKeep.{noted-fits}
-use Rattle.mq_state.specs.Tables.{TablesMirror, AreAtMost, entry_queue, admitted_priority, noted_values, with_fresh, notices_brought, HasNoticeRoom}
+use Rattle.mq_state.specs.Tables.{TablesMirror, entry_queue, admitted_priority, noted_values, with_fresh, notices_brought, HasNoticeRoom}
 use Rattle.mq_state.specs.Inboxes.{notices_in, room_in}
 use Rattle.mq_state.specs.QueueShown.{QueueShown}
 use Rattle.mq_state.specs.Queues.{noted_queues, registration_in}
 use Rattle.mq_state.proofs.QueuesNoted.{HasRoomIn, line-room}
 use Rattle.mq_state.proofs.TablesKeep.{entry-on, queued-free, tables-keep}
-use Rattle.mq_state.proofs.WaitsNoted.{length-noted, waits-noted}
+use Rattle.mq_state.proofs.WaitsNoted.{length-noted}
 use Rattle.mq_state.proofs.NoticeRoom.{notice-room-keeps, room-to-notify}
 use Rattle.mq_state.proofs.Arriving.{IsInOrderIn, line-order}
-use Rattle.mq_model.specs.declared.bounds.Bounds.{Bounds}
-use Rattle.mq_state.specs.Kept.{HasRoomWithin, notice_room}
-use Rattle.mq_state.proofs.Bounded.{room-keeps, brought-one}
+use Rattle.mq_state.proofs.Bounded.{brought-one}
 use Rattle.mq_state.proofs.tables.Tables.note_next.Goals as goal
 
 pub note-requires-clause-numbers : goal.note-requires-clause-numbers

@@ -3,7 +3,7 @@ use Rattle.std.proofs.Common.{◌∙◌, length, ap, refl}
 use Rattle.mq_model.specs.Record.{Past, Shown}
 use Rattle.mq_model.specs.Answer.{answer}
 use Rattle.mq_model.specs.declared.entries.Call.TheVariants.{MqOpen}
-use Rattle.mq_state.proofs.Bounded.{called, called-refused, called-wanting}
+use Rattle.mq_state.proofs.Bounded.{called}
 use Rattle.mq_state.proofs.tables.Tables.open.Goals as goal
 
 pub fresh_slots-requires-clause-within : goal.fresh_slots-requires-clause-within
