@@ -14,7 +14,7 @@ use mq_model::replies::is_same;
 use std::alloc::{AllocError, Global};
 
 /// Why an entry may not stand behind those before it: of these the first that is so.
-#[derive(Clone, Copy, Debug)]
+#[derive(Clone, Copy, Debug, PartialEq, Eq)]
 pub enum Cause {
     /// The process is none of 1 to 32.
     Process,
@@ -28,7 +28,7 @@ pub enum Cause {
 }
 
 /// The first place at which a journal is not legal, and why.
-#[derive(Clone, Copy, Debug)]
+#[derive(Clone, Copy, Debug, PartialEq, Eq)]
 pub struct Departure {
     pub place: u64,
     pub cause: Cause,
