@@ -27,6 +27,7 @@ pub use mq_model::journals::Journal;
 pub use mq_model::names::Name;
 pub use mq_state::collected::Collected;
 pub use mq_state::memory::memory_of;
+pub use mq_state::replay::{Cause, Departure, replay};
 pub use process::Process;
 pub use system::Mq;
 

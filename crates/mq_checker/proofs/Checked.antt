@@ -4,10 +4,6 @@ use Rattle.std.specs.Prelude.{nat_le}
 use Rattle.std.proofs.lemmas.Bool.{and_parts, and_from}
 use Rattle.mq_model.specs.Record.{Record, Past}
 use Rattle.mq_model.specs.Answer.{answer, is_payload, may_call, Legal}
-use Rattle.mq_model.specs.declared.entries.Status.{Status}
-
-pub status_from : (a b : Status) → a.nonblock ≡ b.nonblock → a.maxmsg ≡ b.maxmsg → a.msgsize ≡ b.msgsize → a.curmsgs ≡ b.curmsgs → a ≡ b
-status_from a b p q r s = λ i. record { nonblock = p i; maxmsg = q i; msgsize = r i; curmsgs = s i }
 
 -- the tests of a record, taken together
 pub legal_by : (past : Past) (r : Record) (process turn fits same : Bool) → Legal past → process ≡ (nat_le 1 r.entry.process && nat_le r.entry.process 32) → turn ≡ may_call past r.entry.process r.entry.call → fits ≡ is_payload r.entry.call r.entry.reply r.payload →

@@ -1,49 +1,19 @@
 //! Whether a journal is legal.
 #![tactic(auto, using(mq_model::proofs::Prefixes::prefixes))]
 
-ghost use Rattle.std.specs.Prelude.{◌≡◌, ◌+◌, ◌<◌, ◌≤◌, ◌&&◌, ◌↔◌, IsTrue, IsOk, IfErr, length, nat_le};
-ghost use Rattle.mq_model.specs.Limits.{most_processes};
+ghost use Rattle.std.specs.Prelude.{◌≡◌, ◌+◌, ◌<◌, ◌&&◌, ◌↔◌, IsTrue, IsOk, IfErr, length};
 ghost use Rattle.mq_model.specs.Record.{first};
-ghost use Rattle.mq_model.specs.Answer.{is_refused, is_payload, may_call, Legal, IsFirstIllegal};
+ghost use Rattle.mq_model.specs.Answer.{may_call, Legal, IsFirstIllegal};
 ghost use Rattle.mq_checker.specs.CheckerTables.{TablesMirror};
 
 use crate::expected::answer;
-use crate::replies::is_same;
 use crate::tables;
 use crate::tables::Tables;
-use mq_model::entries::{Call, Reply};
+use mq_model::entries::Call;
+use mq_model::forms::{is_payload, is_process};
 use mq_model::journals::Journal;
 use mq_model::ladder::is_over;
-use mq_model::limits::PROCESSES;
-use mq_model::names::is_name;
-
-fn is_refused(reply: Reply) -> bool
-    ensures { result ≡ is_refused reply }
-{
-    match reply {
-        Reply::Refused(_) => true,
-        _ => false,
-    }
-}
-
-fn is_payload(call: Call, reply: Reply, payload: &[u8]) -> bool
-    ensures { result ≡ is_payload call reply payload.now }
-{
-    match call {
-        Call::MqOpen { flags: _, attr: _ } => is_name(payload),
-        Call::MqUnlink => is_name(payload),
-        Call::MqSend { d: _, prio: _, len } => payload.len() as u64
-            == if is_refused(reply) { 0 } else { len },
-        Call::MqTimedSend {
-            d: _,
-            prio: _,
-            len,
-            until: _,
-            now: _,
-        } => payload.len() as u64 == if is_refused(reply) { 0 } else { len },
-        _ => payload.is_empty(),
-    }
-}
+use mq_model::replies::is_same;
 
 fn may_call(journal: &Journal, k: u64, tables: &Tables, p: u32, call: Call) -> bool
     requires { TablesMirror (first k journal.now.records) tables.now }
@@ -57,12 +27,6 @@ fn may_call(journal: &Journal, k: u64, tables: &Tables, p: u32, call: Call) -> b
         }
         _ => tables::wait(journal, k, tables, p).is_none(),
     }
-}
-
-fn is_process(p: u32) -> bool
-    ensures { result ≡ (nat_le 1 p && nat_le p most_processes) }
-{
-    1 <= p && p <= PROCESSES
 }
 
 fn all(process: bool, turn: bool, fits: bool, same: bool) -> bool

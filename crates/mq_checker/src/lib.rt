@@ -3,7 +3,6 @@
 
 pub mod checker;
 mod expected;
-mod replies;
 mod scan_messages;
 mod scan_names;
 mod scan_notices;

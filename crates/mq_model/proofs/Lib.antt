@@ -24,3 +24,4 @@ pub mod Presence
 pub mod PresentFew
 pub mod NoticeSteps
 pub mod Untouched
+pub mod SameReplies

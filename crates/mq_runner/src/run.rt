@@ -26,6 +26,7 @@ use mq_checker::checker::check_history;
 use mq_model::journals::Journal;
 use mq_script::line::ScriptCall;
 use mq_script::script::{MOST_BYTES, Script, read_script};
+use mq_state::replay::replay;
 use std::alloc::Global;
 use std::io::{Read, Write};
 use std::sync::Wait;
@@ -111,8 +112,8 @@ where
     let Ok(journal) = mq.finish(processes) else {
         unreachable!()
     };
-    // The journal of the queues is legal, so the checker accepts it.
-    write_last_line(output, &journal)?.unwrap();
+    // The journal of the queues is legal.
+    write_last_line(output, alloc, &journal)?.unwrap();
     Ok(())
 }
 
@@ -182,15 +183,30 @@ where
     Ok(processes)
 }
 
-// Writes that the history is ok, where the checker accepts it; else nothing, and gives the first place that is not legal.
-fn write_last_line<W: Write>(output: &mut W, journal: &Journal) -> Result<Result<(), u64>, RunFault>
+// Whether a journal is legal, or the first place that is not: by a replay, and where its memory is refused by the check that takes none.
+fn checked(alloc: Global, journal: &Journal) -> Result<(), u64>
+    ensures { IsOk result ↔ Legal journal.now.records }
+{
+    match replay(alloc, journal) {
+        Ok(None) => Ok(()),
+        Ok(Some(departure)) => Err(departure.place),
+        Err(_refused) => check_history(journal),
+    }
+}
+
+// Writes that the history is ok, where it is legal; else nothing, and gives the first place that is not legal.
+fn write_last_line<W: Write>(
+    output: &mut W,
+    alloc: Global,
+    journal: &Journal,
+) -> Result<Result<(), u64>, RunFault>
     ensures fault { IfErr result (λ fault. fault ≡ Output) }
     ensures part { OnErr result (AppendsTooLittle (W.contents output.old) (W.contents output.new) last_line) }
     ensures checked { IfOk result (λ verdict. IsOk verdict ↔ Legal journal.now.records) }
     ensures written { IfOk result (λ verdict. OnOk verdict (Appends (W.contents output.old) (W.contents output.new) last_line)) }
     ensures silent { IfOk result (λ verdict. IsErr verdict → W.contents output.new ≡ W.contents output.old) }
 {
-    let verdict = check_history(journal);
+    let verdict = checked(alloc, journal);
     if verdict.is_ok() {
         write_all(output, b"history ok\n")?;
     }

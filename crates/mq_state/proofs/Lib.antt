@@ -14,3 +14,5 @@ pub mod Fitting
 pub mod Collecting
 pub mod Bounded
 pub mod Pooling
+pub mod Wholes
+pub mod Replaying

@@ -12,7 +12,7 @@ use Rattle.mq_model.specs.declared.entries.Reply.{Reply}
 use Rattle.mq_model.specs.declared.entries.Reply.TheVariants.{Waits, Collected, Withdrawn}
 use Rattle.mq_state.specs.Pool.{IsPooled}
 use Rattle.mq_state.specs.InboxShown.{InboxShown}
-use Rattle.mq_state.specs.Inboxes.{room_in}
+use Rattle.mq_state.specs.Inboxes.{notices_in, room_in}
 use Rattle.mq_state.specs.Tables.{TablesMirror, AreAtMost, HasNoticeRoom}
 use Rattle.mq_state.specs.declared.tables.Tables.{Tables}
 
@@ -27,6 +27,25 @@ pub record Kept : Type 0 where
 -- the tables are those of the journal
 abbrev pub Mirrors : Shown → Tables → Type 0
 Mirrors j t = TablesMirror j.records t.n t.owners.items t.queues.items t.inboxes.items
+
+-- the tables are those of these records, which are legal, and have room for the notice of each registration
+pub record AreThoseOf (past : Past) (t : Tables) : Type 0 where
+  pub legal : Legal past
+  pub few : t.n ≤ 32
+  pub mirror : TablesMirror past t.n t.owners.items t.queues.items t.inboxes.items
+  pub waits : t.waits ≡ waits_count t.owners.items
+  pub notice_room : HasNoticeRoom t.queues.items t.inboxes.items
+
+-- tables that say the same, with as much room for notices at least
+pub record SaysSame (old new : Tables) : Type 0 where
+  pub n : new.n ≡ old.n
+  pub bounds : new.bounds ≡ old.bounds
+  pub waits : new.waits ≡ old.waits
+  pub owners : new.owners.items ≡ old.owners.items
+  pub queues : new.queues.items ≡ old.queues.items
+  pub inbox_count : length new.inboxes.items ≡ length old.inboxes.items
+  pub notices : (p : ℕ) → notices_in new.inboxes.items p ≡ notices_in old.inboxes.items p
+  pub room : (p : ℕ) → room_in old.inboxes.items p ≤ room_in new.inboxes.items p
 
 -- for how many notices of each process there is room with bounds: for as many as there may be entries, and one from each queue
 abbrev pub notice_room : Option Bounds → ℕ

@@ -1,3 +1,4 @@
+pub mod Prefixes
 pub mod Order
 pub mod QueueShown
 pub mod Queues
@@ -11,3 +12,4 @@ pub mod Kept
 pub mod Buffers
 pub mod BooksModel
 pub mod Memory
+pub mod Replays

@@ -3,11 +3,12 @@ ghost use Rattle.std.specs.Prelude.{◌≡◌, ◌≤◌, length};
 ghost use Rattle.mq_model.specs.Messages.{priority};
 ghost use Rattle.mq_state.specs.Buffers.{message_at, with_front, filled, Fits};
 
+use crate::prefixes::Prefix;
 use mq_model::entries::Reply;
 use mq_model::journals::Journal;
 
 /// The priority of the message that was sent at a place.
-pub fn priority_at(journal: &Journal, place: u64) -> u32
+pub fn priority_at(journal: &Prefix<'_>, place: u64) -> u32
     ensures { result ≡ priority journal.now.records place }
 {
     match journal.entry(place) {

@@ -2,6 +2,7 @@
 ghost use Rattle.std.specs.Prelude.{◌≡◌};
 
 use crate::buffers;
+use crate::prefixes::Prefix;
 use mq_model::entries::Received;
 use mq_model::journals::Journal;
 
@@ -24,6 +25,6 @@ pub fn received(journal: &Journal, place: u64) -> Received
     };
     Received {
         len,
-        prio: buffers::priority_at(journal, place),
+        prio: buffers::priority_at(&Prefix::whole(journal), place),
     }
 }

@@ -6,5 +6,7 @@ mod buffers;
 pub mod collected;
 pub mod memory;
 mod notices;
+mod prefixes;
 mod queues;
+pub mod replay;
 mod tables;

@@ -8,8 +8,8 @@ ghost use Rattle.mq_state.specs.QueueShown.{QueueShown};
 ghost use Rattle.mq_state.specs.Order.{best_slot, slots_for};
 ghost use Rattle.mq_state.specs.Pool.{Pool, IsSpare, emptied};
 
+use crate::prefixes::Prefix;
 use mq_model::entries::{Attr, Call, Entry, Registration, Reply};
-use mq_model::journals::Journal;
 use mq_model::owners::Owner;
 use mq_model::{limits, owners, registrations};
 use mq_slots::Slots;
@@ -236,7 +236,7 @@ pub fn is_named(queues: &[Queue], q: u64) -> bool
 }
 
 // The queue that was created at a place has this name.
-fn has_name(journal: &Journal, place: u64, name: &[u8]) -> bool
+fn has_name(journal: &Prefix<'_>, place: u64, name: &[u8]) -> bool
     ensures { result ≡ bytes_eq (name_of journal.now.records place) name.now }
 {
     match journal.payload(place) {
@@ -247,7 +247,7 @@ fn has_name(journal: &Journal, place: u64, name: &[u8]) -> bool
 
 /// The queue that a name is bound to.
 #[tactic(auto, unfolding(crate::specs::Queues::bound_in))]
-pub fn bound(journal: &Journal, queues: &[Queue], name: &[u8]) -> Option<u64>
+pub fn bound(journal: &Prefix<'_>, queues: &[Queue], name: &[u8]) -> Option<u64>
     ensures { result ≡ bound_in journal.now.records queues.now name.now }
 {
     let found = queues

@@ -14,11 +14,11 @@ mod calls;
 mod facts;
 
 use crate::notices::Inbox;
+use crate::prefixes::Prefix;
 use crate::queues::Queue;
 use crate::{buffers, notices, queues};
 use mq_model::bounds::Bounds;
 use mq_model::entries::{Call, Entry, Reply};
-use mq_model::journals::Journal;
 use mq_model::owners::Owner;
 use mq_model::{limits, owners, registrations};
 use mq_slots::Slots;
@@ -78,7 +78,7 @@ impl Tables {
     }
 
     // The queue of the descriptor that a call names, or the place of its entry.
-    fn descriptor_queue(&self, journal: &Journal, p: u32, d: u32) -> u64
+    fn descriptor_queue(&self, journal: &Prefix<'_>, p: u32, d: u32) -> u64
         requires mirror { Mirrors journal.now self.now }
         ensures { result ≡ unwrap_or (option_map (λ h. h.queue) (held journal.now.records p d)) (length journal.now.records) }
     {
@@ -89,7 +89,7 @@ impl Tables {
     }
 
     // The queue that a name is bound to, or the place of the entry.
-    fn named_queue(&self, journal: &Journal, name: &[u8]) -> u64
+    fn named_queue(&self, journal: &Prefix<'_>, name: &[u8]) -> u64
         requires mirror { Mirrors journal.now self.now }
         ensures { result ≡ unwrap_or (bound_queue journal.now.records name.now) (length journal.now.records) }
     {
@@ -100,7 +100,7 @@ impl Tables {
     }
 
     // The queue that an entry is made on.
-    fn entry_queue(&self, journal: &Journal, p: u32, call: Call, name: &[u8]) -> u64
+    fn entry_queue(&self, journal: &Prefix<'_>, p: u32, call: Call, name: &[u8]) -> u64
         requires mirror { Mirrors journal.now self.now }
         ensures { result ≡ entry_queue journal.now.records p call name.now }
     {
@@ -153,7 +153,7 @@ impl Tables {
     }
 
     // Notes an entry made on queue q, which brings the order of a queue that it creates.
-    fn note(&mut self, journal: &Journal, entry: Entry, q: u64, fresh: Option<Slots>)
+    fn note(&mut self, journal: &Prefix<'_>, entry: Entry, q: u64, fresh: Option<Slots>)
         requires process { (entry.process < length self.old.owners.items) × (entry.process < length self.old.inboxes.items) }
         requires numbers { FitsSlots entry.call entry.reply }
         requires room { (x : QueueShown) → queue_in (map (reregistered q (length journal.now.records) entry) self.old.queues.items) q ≡ Some x → HasRoom entry.reply x }
@@ -260,7 +260,7 @@ fn gives_notice(reply: Reply) -> bool
 }
 
 // The priority of the send that a reply admits.
-fn admitted_priority(journal: &Journal, reply: Reply) -> u32
+fn admitted_priority(journal: &Prefix<'_>, reply: Reply) -> u32
     ensures { result ≡ admitted_priority journal.now.records reply }
 {
     match reply {

@@ -7,14 +7,16 @@ ghost use Rattle.mq_model.specs.Answer.{Appends, answer, may_call, is_payload, p
 ghost use Rattle.std.specs.Option.{option_map};
 ghost use Rattle.mq_model.specs.Owners.{waits_count, answer_in, wait_in, lowest_held_in};
 ghost use Rattle.mq_model.specs.Messages.{is_send, is_receive};
+ghost use Rattle.mq_model.specs.OwnersNoted.{noted};
 ghost use Rattle.mq_state.specs.Buffers.{filled, room_of, length_sent};
 ghost use Rattle.mq_state.specs.Tables.{entry_queue, HasRoomToRegister, BringsOrder, CreatesWithin};
 ghost use Rattle.mq_model.specs.Record.{payload_bytes};
 ghost use Rattle.mq_model.specs.Bounds.{open_waits, exceeds};
 ghost use Rattle.mq_state.specs.Inboxes.{room_in};
 ghost use Rattle.mq_state.specs.Pool.{IsPooled};
-ghost use Rattle.mq_state.specs.Kept.{IsKeptBy, HasEntryRoom, MayCall, IsCalled, IsRoomRefused, NeedsJust};
+ghost use Rattle.mq_state.specs.Kept.{AreThoseOf, SaysSame, IsKeptBy, HasEntryRoom, MayCall, IsCalled, IsRoomRefused, NeedsJust};
 
+use crate::prefixes::Prefix;
 use crate::tables::Tables;
 use crate::{buffers, notices, queues};
 use mq_model::entries::{Attr, Call, Deadline, Entry, OpenFlags, Reply};
@@ -100,6 +102,52 @@ impl Tables {
         self.waits
     }
 
+    // Notes the next entry of a journal, with its payload.
+    pub(crate) fn note_next(
+        &mut self,
+        journal: &Prefix<'_>,
+        entry: Entry,
+        payload: &[u8],
+        fresh: Option<Slots>,
+    )
+        requires tables { AreThoseOf journal.now.records self.old }
+        requires next { IsLegalNext journal.now.records (record { entry = entry; payload = payload.now }) }
+        requires at_most { entry.process ≤ self.old.n }
+        requires registration { HasRoomToRegister self.old.queues.items self.old.inboxes.items entry.process entry.call entry.reply }
+        requires brings { BringsOrder entry.call entry.reply (vec_len self.old.queues) (vec_capacity self.old.queues) fresh }
+        requires pool { IsPooled fresh self.old }
+        ensures tables { AreThoseOf (record { entry = entry; payload = payload.now } ∷ journal.now.records) self.new }
+        ensures owners { self.new.owners.items ≡ noted self.old.owners.items (length journal.now.records) entry.process entry.call entry.reply (entry_queue journal.now.records entry.process entry.call payload.now) }
+        ensures notice_room { (k : ℕ) → room_in self.old.inboxes.items k ≤ room_in self.new.inboxes.items k + 1 }
+        ensures pool { IsPooled None self.new }
+        ensures n { self.new.n ≡ self.old.n }
+        ensures bounds { self.new.bounds ≡ self.old.bounds }
+    {
+        let q = self.entry_queue(journal, entry.process, entry.call, payload);
+        self.note(journal, entry, q, fresh);
+    }
+
+    // Makes the room that the next entry of a journal needs, and notes it with its payload. The tables have no bounds.
+    pub(crate) fn follow(
+        &mut self,
+        journal: &Prefix<'_>,
+        entry: Entry,
+        payload: &[u8],
+    ) -> Result<(), AllocError>
+        requires tables { AreThoseOf journal.now.records self.old }
+        requires next { IsLegalNext journal.now.records (record { entry = entry; payload = payload.now }) }
+        requires at_most { entry.process ≤ self.old.n }
+        requires unbounded { self.old.bounds ≡ None }
+        ensures tables { OnOk result (AreThoseOf (record { entry = entry; payload = payload.now } ∷ journal.now.records) self.new) }
+        ensures n { self.new.n ≡ self.old.n }
+        ensures bounds { self.new.bounds ≡ None }
+    {
+        self.make_notice_room(entry.process, entry.call, entry.reply)?;
+        let fresh = self.fresh_slots(entry.call, entry.reply)?;
+        self.note_next(journal, entry, payload, fresh);
+        Ok(())
+    }
+
     // Appends the entry of a call that gets its answer, with its payload.
     fn append(&mut self, journal: &mut Journal, entry: Entry, payload: &[u8], fresh: Option<Slots>)
         requires kept { IsKeptBy journal.old self.old }
@@ -117,8 +165,7 @@ impl Tables {
         ensures n { self.new.n ≡ self.old.n }
         ensures bounds { self.new.bounds ≡ self.old.bounds }
     {
-        let q = self.entry_queue(journal, entry.process, entry.call, payload);
-        self.note(journal, entry, q, fresh);
+        self.note_next(&Prefix::whole(journal), entry, payload, fresh);
         journal.push(entry, payload);
     }
 
@@ -188,7 +235,7 @@ impl Tables {
         requires { MayCall journal.old self.old p }
         ensures { IsCalled journal.old journal.new self.old self.new p (Call.MqClose d) [] result }
     {
-        let reply = self.answer_close(journal, p, d);
+        let reply = self.answer_close(&Prefix::whole(journal), p, d);
         self.settle(journal, p, Call::MqClose { d }, reply, &[])
     }
 
@@ -211,31 +258,29 @@ impl Tables {
     }
 
     // The slots of the queue that an open creates, if it creates one, and a place for the queue.
-    fn fresh_slots(
+    pub(crate) fn fresh_slots(
         &mut self,
-        journal: &Journal,
-        flags: OpenFlags,
-        attr: Option<Attr>,
+        call: Call,
         reply: Reply,
     ) -> Result<Option<Slots>, AllocError>
-        requires kept { IsKeptBy journal.now self.old }
         requires pool { IsPooled None self.old }
-        requires within { CreatesWithin (Call.MqOpen flags attr) reply }
-        requires few { creates (Call.MqOpen flags attr) reply ≡ true → vec_len self.old.queues < 64 }
-        ensures kept { IsKeptBy journal.now self.new }
+        requires within { CreatesWithin call reply }
+        requires few { creates call reply ≡ true → vec_len self.old.queues < 64 }
+        ensures same { SaysSame self.old self.new }
+        ensures inboxes { self.new.inboxes ≡ self.old.inboxes }
         ensures pool { IfOk result (λ fresh. IsPooled fresh self.new) }
         ensures memory { OnErr result (self.new.bounds ≡ None) }
-        ensures n { self.new.n ≡ self.old.n }
-        ensures bounds { self.new.bounds ≡ self.old.bounds }
-        ensures waits { waits_count self.new.owners.items ≡ waits_count self.old.owners.items }
-        ensures brings { IfOk result (BringsOrder (Call.MqOpen flags attr) reply (vec_len self.new.queues) (vec_capacity self.new.queues)) }
+        ensures brings { IfOk result (BringsOrder call reply (vec_len self.new.queues) (vec_capacity self.new.queues)) }
     {
-        match reply {
-            Reply::Opened {
-                d: _,
-                created: true,
-            } => {
-                let cap = queues::slots_for(ladder::attributes_given(Call::MqOpen { flags, attr }));
+        match (call, reply) {
+            (
+                Call::MqOpen { .. },
+                Reply::Opened {
+                    d: _,
+                    created: true,
+                },
+            ) => {
+                let cap = queues::slots_for(ladder::attributes_given(call));
                 self.queues.reserve(1)?;
                 let slots = self.order_for(cap)?;
                 Ok(Some(slots))
@@ -260,11 +305,12 @@ impl Tables {
         if let Err(fault) = self.make_room(journal, 1, name.len(), name.len()) {
             return Reply::Refused(fault);
         }
-        let reply = self.answer_open(journal, p, name, flags, attr);
-        let Ok(fresh) = self.fresh_slots(journal, flags, attr, reply) else {
+        let reply = self.answer_open(&Prefix::whole(journal), p, name, flags, attr);
+        let call = Call::MqOpen { flags, attr };
+        let Ok(fresh) = self.fresh_slots(call, reply) else {
             return Reply::Refused(Fault::NoMemory);
         };
-        self.record(journal, p, Call::MqOpen { flags, attr }, reply, name, fresh);
+        self.record(journal, p, call, reply, name, fresh);
         reply
     }
 
@@ -274,7 +320,7 @@ impl Tables {
         requires form { IsTrue (is_name name.now) }
         ensures { IsCalled journal.old journal.new self.old self.new p (Call.MqUnlink) name.now result }
     {
-        let reply = self.answer_unlink(journal, p, name);
+        let reply = self.answer_unlink(&Prefix::whole(journal), p, name);
         self.settle(journal, p, Call::MqUnlink, reply, name)
     }
 
@@ -283,7 +329,7 @@ impl Tables {
         requires { MayCall journal.old self.old p }
         ensures { IsCalled journal.old journal.new self.old self.new p (Call.MqGetattr d) [] result }
     {
-        let reply = self.answer_attributes(journal, p, d);
+        let reply = self.answer_attributes(&Prefix::whole(journal), p, d);
         self.settle(journal, p, Call::MqGetattr { d }, reply, &[])
     }
 
@@ -292,28 +338,23 @@ impl Tables {
         requires { MayCall journal.old self.old p }
         ensures { IsCalled journal.old journal.new self.old self.new p (Call.MqSetattr d nonblock) [] result }
     {
-        let reply = self.answer_attributes(journal, p, d);
+        let reply = self.answer_attributes(&Prefix::whole(journal), p, d);
         self.settle(journal, p, Call::MqSetattr { d, nonblock }, reply, &[])
     }
 
     // Makes room for the notice of the registration that a call of process p makes: for one from each queue, since at most
     // one registration stands on each.
-    fn make_notice_room(
+    pub(crate) fn make_notice_room(
         &mut self,
-        journal: &Journal,
         p: u32,
         call: Call,
         reply: Reply,
     ) -> Result<(), AllocError>
-        requires kept { IsKeptBy journal.now self.old }
         requires pool { IsPooled None self.old }
-        requires process { p ≤ self.old.n }
-        ensures kept { IsKeptBy journal.now self.new }
+        requires process { p < length self.old.inboxes.items }
+        ensures same { SaysSame self.old self.new }
         ensures pool { IsPooled None self.new }
         ensures memory { OnErr result (room_in self.old.inboxes.items p < length self.old.queues.items) }
-        ensures n { self.new.n ≡ self.old.n }
-        ensures bounds { self.new.bounds ≡ self.old.bounds }
-        ensures waits { waits_count self.new.owners.items ≡ waits_count self.old.owners.items }
         ensures room { OnOk result (HasRoomToRegister self.new.queues.items self.new.inboxes.items p call reply) }
     {
         match (call, reply) {
@@ -337,8 +378,8 @@ impl Tables {
             return Reply::Refused(fault);
         }
         let call = Call::MqNotify { d, value };
-        let reply = self.answer_notify(journal, p, d, value);
-        if self.make_notice_room(journal, p, call, reply).is_err() {
+        let reply = self.answer_notify(&Prefix::whole(journal), p, d, value);
+        if self.make_notice_room(p, call, reply).is_err() {
             return Reply::Refused(Fault::NoMemory);
         }
         self.record(journal, p, call, reply, &[], None);
@@ -350,7 +391,7 @@ impl Tables {
         requires { MayCall journal.old self.old p }
         ensures { IsCalled journal.old journal.new self.old self.new p (Call.NextNotice) [] result }
     {
-        let reply = self.answer_next_notice(journal, p);
+        let reply = self.answer_next_notice(&Prefix::whole(journal), p);
         self.settle(journal, p, Call::NextNotice, reply, &[])
     }
 
@@ -390,7 +431,7 @@ impl Tables {
         ensures refused { (fault : Fault) → result ≡ Reply.Refused fault → fault ≢ Fault.NoMemory → journal.new.byte_room ≡ journal.old.byte_room }
     {
         let len = bytes.len() as u64;
-        let reply = self.answer_send(journal, p, d, prio, len);
+        let reply = self.answer_send(&Prefix::whole(journal), p, d, prio, len);
         let most = bytes_kept(reply, bytes);
         self.settle_send(
             journal,
@@ -418,7 +459,7 @@ impl Tables {
         ensures refused { (fault : Fault) → result ≡ Reply.Refused fault → fault ≢ Fault.NoMemory → journal.new.byte_room ≡ journal.old.byte_room }
     {
         let len = bytes.len() as u64;
-        let plain = self.answer_send(journal, p, d, prio, len);
+        let plain = self.answer_send(&Prefix::whole(journal), p, d, prio, len);
         let reply = ladder::timed(until, now, plain);
         let call = Call::MqTimedSend {
             d,
@@ -461,7 +502,7 @@ impl Tables {
         ensures buffer { buf.new ≡ filled journal.old.records result buf.old }
     {
         let room = buf.len() as u64;
-        let reply = self.answer_receive(journal, p, d, room);
+        let reply = self.answer_receive(&Prefix::whole(journal), p, d, room);
         self.settle_receive(journal, p, Call::MqReceive { d, room }, reply, buf)
     }
 
@@ -480,7 +521,8 @@ impl Tables {
         ensures buffer { buf.new ≡ filled journal.old.records result buf.old }
     {
         let room = buf.len() as u64;
-        let reply = ladder::timed(until, now, self.answer_receive(journal, p, d, room));
+        let found = self.answer_receive(&Prefix::whole(journal), p, d, room);
+        let reply = ladder::timed(until, now, found);
         let call = Call::MqTimedReceive {
             d,
             room,

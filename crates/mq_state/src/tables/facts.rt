@@ -5,15 +5,16 @@ ghost use Rattle.mq_model.specs.Names.{attributes, bound_queue};
 ghost use Rattle.mq_model.specs.Descriptors.{held, lowest_free, alive};
 ghost use Rattle.mq_model.specs.Messages.{is_in, present, best, least};
 ghost use Rattle.mq_model.specs.Notices.{registered};
-ghost use Rattle.mq_model.specs.Answer.{Legal, answer, answer_attributes, open_facts, send_facts, receive_facts, status_facts};
+ghost use Rattle.mq_model.specs.Answer.{Legal, may_call, answer, answer_attributes, open_facts, send_facts, receive_facts, status_facts};
 ghost use Rattle.mq_model.specs.Owners.{waiting, waits_count};
-ghost use Rattle.mq_state.specs.Kept.{Mirrors};
+ghost use Rattle.mq_model.specs.Waits.{open_wait, wait_deadline, answered_by};
+ghost use Rattle.mq_state.specs.Kept.{Mirrors, AreThoseOf};
 
 use crate::notices;
+use crate::prefixes::Prefix;
 use crate::queues::{self, LineFacts};
 use crate::tables::Tables;
-use mq_model::entries::{Attr, Call, Description, OpenFlags, Registration, Reply};
-use mq_model::journals::Journal;
+use mq_model::entries::{Attr, Call, Deadline, Description, OpenFlags, Registration, Reply};
 use mq_model::ladder::{
     DEFAULT_ATTRIBUTES, NotifyFacts, OpenFacts, ReceiveFacts, SendFacts, StatusFacts,
     attributes_given,
@@ -21,7 +22,7 @@ use mq_model::ladder::{
 use mq_model::{ladder, owners};
 
 // `maxmsg` and `msgsize` of queue q, as the journal has them.
-fn attributes(journal: &Journal, q: u64) -> Attr
+fn attributes(journal: &Prefix<'_>, q: u64) -> Attr
     ensures { result ≡ attributes journal.now.records q }
 {
     match journal.entry(q) {
@@ -52,7 +53,7 @@ fn registration_place(registration: Option<Registration>) -> Option<u64>
 
 impl Tables {
     // What process p holds under descriptor d: a queue that exists.
-    fn held(&self, journal: &Journal, p: u32, d: u32) -> Option<Description>
+    fn held(&self, journal: &Prefix<'_>, p: u32, d: u32) -> Option<Description>
         requires mirror { Mirrors journal.now self.now }
         requires legal { Legal journal.now.records }
         ensures held { result ≡ held journal.now.records p d }
@@ -62,7 +63,7 @@ impl Tables {
     }
 
     // The lowest descriptor that process p does not hold.
-    fn lowest_free(&self, journal: &Journal, p: u32) -> Option<u32>
+    fn lowest_free(&self, journal: &Prefix<'_>, p: u32) -> Option<u32>
         requires mirror { Mirrors journal.now self.now }
         ensures { result ≡ lowest_free journal.now.records p }
     {
@@ -70,7 +71,7 @@ impl Tables {
     }
 
     // The queue that a name is bound to.
-    pub(crate) fn bound(&self, journal: &Journal, name: &[u8]) -> Option<u64>
+    pub(crate) fn bound(&self, journal: &Prefix<'_>, name: &[u8]) -> Option<u64>
         requires mirror { Mirrors journal.now self.now }
         ensures { result ≡ bound_queue journal.now.records name.now }
     {
@@ -78,7 +79,7 @@ impl Tables {
     }
 
     // How many queues exist.
-    fn queue_count(&self, journal: &Journal) -> u64
+    fn queue_count(&self, journal: &Prefix<'_>) -> u64
         requires mirror { Mirrors journal.now self.now }
         ensures { result ≡ length (alive journal.now.records) }
     {
@@ -86,7 +87,7 @@ impl Tables {
     }
 
     // What the table says of queue q: its messages, and the registration that stands.
-    fn line(&self, journal: &Journal, q: u64) -> LineFacts
+    fn line(&self, journal: &Prefix<'_>, q: u64) -> LineFacts
         requires mirror { Mirrors journal.now self.now }
         requires alive { IsTrue (is_in (alive journal.now.records) q) }
         ensures count { result.count ≡ length (present journal.now.records q) }
@@ -98,7 +99,7 @@ impl Tables {
     }
 
     // The place of the send, or receive, that waits the longest on queue q.
-    fn first_wait(&self, journal: &Journal, q: u64, sends: bool) -> Option<u64>
+    fn first_wait(&self, journal: &Prefix<'_>, q: u64, sends: bool) -> Option<u64>
         requires mirror { Mirrors journal.now self.now }
         requires legal { Legal journal.now.records }
         requires few { self.now.n ≤ 32 }
@@ -116,7 +117,7 @@ impl Tables {
 }
 
 impl Tables {
-    fn open_facts(&self, journal: &Journal, p: u32, name: &[u8]) -> OpenFacts
+    fn open_facts(&self, journal: &Prefix<'_>, p: u32, name: &[u8]) -> OpenFacts
         requires mirror { Mirrors journal.now self.now }
         ensures { result ≡ open_facts journal.now.records p name.now }
     {
@@ -130,7 +131,7 @@ impl Tables {
     // The reply to an open.
     pub(crate) fn answer_open(
         &self,
-        journal: &Journal,
+        journal: &Prefix<'_>,
         p: u32,
         name: &[u8],
         flags: OpenFlags,
@@ -143,7 +144,7 @@ impl Tables {
     }
 
     // The reply to a close.
-    pub(crate) fn answer_close(&self, journal: &Journal, p: u32, d: u32) -> Reply
+    pub(crate) fn answer_close(&self, journal: &Prefix<'_>, p: u32, d: u32) -> Reply
         requires mirror { Mirrors journal.now self.now }
         requires legal { Legal journal.now.records }
         ensures { result ≡ answer journal.now.records p (Call.MqClose d) [] }
@@ -152,14 +153,14 @@ impl Tables {
     }
 
     // The reply to an unlink.
-    pub(crate) fn answer_unlink(&self, journal: &Journal, p: u32, name: &[u8]) -> Reply
+    pub(crate) fn answer_unlink(&self, journal: &Prefix<'_>, p: u32, name: &[u8]) -> Reply
         requires mirror { Mirrors journal.now self.now }
         ensures { result ≡ answer journal.now.records p Call.MqUnlink name.now }
     {
         ladder::unlink(self.bound(journal, name))
     }
 
-    fn status_facts(&self, journal: &Journal, h: Description) -> StatusFacts
+    fn status_facts(&self, journal: &Prefix<'_>, h: Description) -> StatusFacts
         requires mirror { Mirrors journal.now self.now }
         requires alive { IsTrue (is_in (alive journal.now.records) h.queue) }
         ensures facts { result ≡ status_facts journal.now.records h }
@@ -173,7 +174,7 @@ impl Tables {
     }
 
     // The reply to a getattr, and to a setattr.
-    pub(crate) fn answer_attributes(&self, journal: &Journal, p: u32, d: u32) -> Reply
+    pub(crate) fn answer_attributes(&self, journal: &Prefix<'_>, p: u32, d: u32) -> Reply
         requires mirror { Mirrors journal.now self.now }
         requires legal { Legal journal.now.records }
         ensures { result ≡ answer_attributes journal.now.records (held journal.now.records p d) }
@@ -187,7 +188,7 @@ impl Tables {
     // The reply to a notify.
     pub(crate) fn answer_notify(
         &self,
-        journal: &Journal,
+        journal: &Prefix<'_>,
         p: u32,
         d: u32,
         value: Option<u64>,
@@ -206,14 +207,14 @@ impl Tables {
     }
 
     // The reply to a look for the oldest notice.
-    pub(crate) fn answer_next_notice(&self, journal: &Journal, p: u32) -> Reply
+    pub(crate) fn answer_next_notice(&self, journal: &Prefix<'_>, p: u32) -> Reply
         requires mirror { Mirrors journal.now self.now }
         ensures { result ≡ answer journal.now.records p Call.NextNotice [] }
     {
         Reply::Notice(notices::first(&self.inboxes, p))
     }
 
-    fn send_facts(&self, journal: &Journal, h: Description) -> SendFacts
+    fn send_facts(&self, journal: &Prefix<'_>, h: Description) -> SendFacts
         requires mirror { Mirrors journal.now self.now }
         requires legal { Legal journal.now.records }
         requires alive { IsTrue (is_in (alive journal.now.records) h.queue) }
@@ -234,7 +235,7 @@ impl Tables {
     // The reply to a send.
     pub(crate) fn answer_send(
         &self,
-        journal: &Journal,
+        journal: &Prefix<'_>,
         p: u32,
         d: u32,
         prio: u32,
@@ -252,7 +253,7 @@ impl Tables {
         }
     }
 
-    fn receive_facts(&self, journal: &Journal, h: Description) -> ReceiveFacts
+    fn receive_facts(&self, journal: &Prefix<'_>, h: Description) -> ReceiveFacts
         requires mirror { Mirrors journal.now self.now }
         requires legal { Legal journal.now.records }
         requires alive { IsTrue (is_in (alive journal.now.records) h.queue) }
@@ -272,7 +273,7 @@ impl Tables {
     }
 
     // The reply to a receive.
-    pub(crate) fn answer_receive(&self, journal: &Journal, p: u32, d: u32, room: u64) -> Reply
+    pub(crate) fn answer_receive(&self, journal: &Prefix<'_>, p: u32, d: u32, room: u64) -> Reply
         requires mirror { Mirrors journal.now self.now }
         requires legal { Legal journal.now.records }
         requires few { self.now.n ≤ 32 }
@@ -282,6 +283,90 @@ impl Tables {
         match self.held(journal, p, d) {
             Some(h) => ladder::receive(room, Some(self.receive_facts(journal, h))),
             None => ladder::receive(room, None),
+        }
+    }
+}
+
+impl Tables {
+    // The moment until which process p waits.
+    fn deadline(&self, journal: &Prefix<'_>, p: u32) -> Option<Deadline>
+        requires mirror { Mirrors journal.now self.now }
+        ensures { result ≡ wait_deadline journal.now.records p }
+    {
+        match owners::wait(&self.owners, p) {
+            None => None,
+            Some(wait) => wait.until,
+        }
+    }
+
+    // The place of the entry that answers the open wait of process p.
+    fn answered_by(&self, journal: &Prefix<'_>, p: u32) -> Option<u64>
+        requires mirror { Mirrors journal.now self.now }
+        ensures { result ≡ answered_by journal.now.records p }
+    {
+        owners::answer(&self.owners, p)
+    }
+
+    // The place of the open wait of process p.
+    fn open_wait(&self, journal: &Prefix<'_>, p: u32) -> Option<u64>
+        requires mirror { Mirrors journal.now self.now }
+        ensures { result ≡ open_wait journal.now.records p }
+    {
+        match owners::wait(&self.owners, p) {
+            None => None,
+            Some(wait) => Some(wait.place),
+        }
+    }
+
+    // Whether process p may make a call now.
+    pub(crate) fn may_call(&self, journal: &Prefix<'_>, p: u32, call: Call) -> bool
+        requires mirror { Mirrors journal.now self.now }
+        ensures { result ≡ may_call journal.now.records p call }
+    {
+        match call {
+            Call::Collect => self.answered_by(journal, p).is_some(),
+            Call::Withdraw { now } => {
+                self.answered_by(journal, p).is_none()
+                    && ladder::is_over(self.deadline(journal, p), now)
+            }
+            _ => self.open_wait(journal, p).is_none(),
+        }
+    }
+
+    // The reply to a call of process p, a name being that of an open or an unlink.
+    pub(crate) fn answer_to(&self, journal: &Prefix<'_>, p: u32, call: Call, name: &[u8]) -> Reply
+        requires { AreThoseOf journal.now.records self.now }
+        ensures { result ≡ answer journal.now.records p call name.now }
+    {
+        match call {
+            Call::MqOpen { flags, attr } => self.answer_open(journal, p, name, flags, attr),
+            Call::MqClose { d } => self.answer_close(journal, p, d),
+            Call::MqUnlink => self.answer_unlink(journal, p, name),
+            Call::MqSend { d, prio, len } => self.answer_send(journal, p, d, prio, len),
+            Call::MqReceive { d, room } => self.answer_receive(journal, p, d, room),
+            Call::MqTimedSend {
+                d,
+                prio,
+                len,
+                until,
+                now,
+            } => ladder::timed(until, now, self.answer_send(journal, p, d, prio, len)),
+            Call::MqTimedReceive {
+                d,
+                room,
+                until,
+                now,
+            } => ladder::timed(until, now, self.answer_receive(journal, p, d, room)),
+            Call::MqGetattr { d } => self.answer_attributes(journal, p, d),
+            Call::MqSetattr { d, nonblock: _ } => self.answer_attributes(journal, p, d),
+            Call::MqNotify { d, value } => self.answer_notify(journal, p, d, value),
+            Call::NextNotice => self.answer_next_notice(journal, p),
+            Call::Collect => Reply::Collected {
+                by: self.answered_by(journal, p).unwrap_or(0),
+            },
+            Call::Withdraw { now: _ } => Reply::Withdrawn {
+                wait: self.open_wait(journal, p).unwrap_or(0),
+            },
         }
     }
 }

@@ -1,56 +1,26 @@
-use Rattle.std.proofs.Common.{◌≡◌, ◌∙◌, ◌+◌, ◌≤◌, ◌∷◌, ℕ, List, Option, length, sym, ap, subst, arith, vec_len, vec_capacity}
+use Rattle.std.proofs.Common.{◌≡◌, Option, ◌≤◌, ◌∙◌, ◌∷◌, ℕ, length, sym, ap, subst, arith}
 use Rattle.std.proofs.lemmas.List.Elements.{All-cons}
-use Rattle.mq_model.specs.Record.{Record, Past}
-use Rattle.mq_model.specs.Answer.{Legal}
+use Rattle.mq_model.specs.Record.{Record, Past, Shown}
 use Rattle.mq_model.specs.Owners.{waits_count}
 use Rattle.mq_model.specs.OwnersNoted.{noted}
 use Rattle.mq_model.proofs.LegalReplies.{legal_says}
-use Rattle.mq_model.proofs.OwnersKeep.{noted-fits}
-use Rattle.mq_state.specs.Tables.{TablesMirror, AreAtMost, entry_queue, admitted_priority, noted_values, with_fresh, notices_brought, HasNoticeRoom}
-use Rattle.mq_state.specs.Inboxes.{notices_in, room_in}
-use Rattle.mq_state.specs.QueueShown.{QueueShown}
-use Rattle.mq_state.specs.Queues.{noted_queues, registration_in}
-use Rattle.mq_state.proofs.QueuesNoted.{HasRoomIn, line-room}
-use Rattle.mq_state.proofs.TablesKeep.{entry-on, queued-free, tables-keep}
-use Rattle.mq_state.proofs.WaitsNoted.{length-noted, waits-noted}
-use Rattle.mq_state.proofs.NoticeRoom.{notice-room-keeps, room-to-notify}
-use Rattle.mq_state.proofs.Arriving.{IsInOrderIn, line-order}
+use Rattle.mq_state.specs.Tables.{AreAtMost, entry_queue}
+use Rattle.mq_state.specs.Kept.{HasRoomWithin, notice_room, AreThoseOf}
 use Rattle.mq_model.specs.declared.bounds.Bounds.{Bounds}
-use Rattle.mq_state.specs.Kept.{HasRoomWithin, notice_room}
-use Rattle.mq_state.proofs.Bounded.{room-keeps, brought-one}
+use Rattle.mq_state.proofs.WaitsNoted.{waits-noted}
+use Rattle.mq_state.proofs.Bounded.{room-keeps}
+use Rattle.mq_state.proofs.Wholes.{those-of_whole}
 use Rattle.mq_state.proofs.tables.Tables.append.Goals as goal
 
-pub note-requires-clause-numbers : goal.note-requires-clause-numbers
-note-requires-clause-numbers c = noted-fits c.args.journal.now.records c.args.self.now.owners.items c.requires.kept.mirror.lines c.args.entry.process c.args.entry.call c.args.entry.reply c.args.payload.now c.requires.next.reply
-
-pub note-requires-clause-room : goal.note-requires-clause-room
-note-requires-clause-room c =
-    let past = c.args.journal.now.records in
-    let e = c.args.entry in
-    let q = entry_queue past e.process e.call c.args.payload.now in
-    let room : HasRoomIn c.args.self.now.queues.items q (length past) e =
-    line-room past c.args.self.now.queues.items c.requires.kept.mirror.existing e.process e.call e.reply c.args.payload.now q (admitted_priority past e.reply) (entry-on past e.process e.call e.reply c.args.payload.now c.requires.next) (queued-free past e.process e.call e.reply c.args.payload.now c.requires.next) in
-    subst (λ k. HasRoomIn c.args.self.now.queues.items k (length past) e) (sym c.entry_queue-q.ensures) room
-
-pub note-requires-clause-order : goal.note-requires-clause-order
-note-requires-clause-order c =
-    let past = c.args.journal.now.records in
-    let e = c.args.entry in
-    let prio = admitted_priority past e.reply in
-    let q = entry_queue past e.process e.call c.args.payload.now in
-    let order : IsInOrderIn c.args.self.now.queues.items q (length past) e prio =
-    line-order past c.requires.kept.legal c.args.self.now.queues.items c.requires.kept.mirror.existing e.process e.call e.reply c.args.payload.now q prio (legal_says past (record { entry = e; payload = c.args.payload.now }) c.requires.next) (entry-on past e.process e.call e.reply c.args.payload.now c.requires.next) in
-    subst (λ k. IsInOrderIn c.args.self.now.queues.items k (length past) e prio) (sym c.entry_queue-q.ensures) order
-
-pub note-requires-clause-notice_room : goal.note-requires-clause-notice_room
-note-requires-clause-notice_room c = λ n is. room-to-notify c.args.self.now.queues.items c.args.self.now.inboxes.items c.requires.kept.notice_room c.entry_queue-q.result n is
+pub note_next-requires-clause-tables : goal.note_next-requires-clause-tables
+note_next-requires-clause-tables c = those-of_whole c.args.journal.now c.whole.result c.args.self.now c.whole.ensures c.requires.kept
 
 pub push-requires-clause-entry_room : goal.push-requires-clause-entry_room
 push-requires-clause-entry_room c =
     let past = c.args.journal.now.records in
     let e = c.args.entry in
     let count = c.requires.kept.mirror.owner_count in
-    let room = waits-noted past c.args.self.now.owners.items c.requires.kept.mirror.lines e.process e.call e.reply c.entry_queue-q.result c.args.journal.now.entry_room (legal_says past (record { entry = e; payload = c.args.payload.now }) c.requires.next) c.requires.next.turn (let le = c.requires.at_most in omega (arith, le, count)) c.requires.entries in
+    let room = waits-noted past c.args.self.now.owners.items c.requires.kept.mirror.lines e.process e.call e.reply (entry_queue past e.process e.call c.args.payload.now) c.args.journal.now.entry_room (legal_says past (record { entry = e; payload = c.args.payload.now }) c.requires.next) c.requires.next.turn (let le = c.requires.at_most in omega (arith, le, count)) c.requires.entries in
     omega (arith, room)
 
 pub returns-clause-kept : goal.returns-clause-kept
@@ -59,45 +29,31 @@ returns-clause-kept c =
     let e = c.args.entry in
     let payload = c.args.payload.now in
     let before = c.args.self.now in
-    let after = c.note.new.self in
-    let q = entry_queue past e.process e.call payload in
+    let after = c.note_next.new.self in
     let r : Record = record { entry = e; payload = payload } in
     let count = c.requires.kept.mirror.owner_count in
-    let owners : after.owners.items ≡ noted before.owners.items (length past) e.process e.call e.reply q = c.note.ensures.owners ∙ ap (noted before.owners.items (length past) e.process e.call e.reply) c.entry_queue-q.ensures in
-    let room = waits-noted past before.owners.items c.requires.kept.mirror.lines e.process e.call e.reply q c.args.journal.now.entry_room (legal_says past r c.requires.next) c.requires.next.turn (let le = c.requires.at_most in omega (arith, le, count)) c.requires.entries in
-    let queues : after.queues.items ≡ with_fresh c.args.fresh (length past) (noted_queues after.owners.items (length past) e q (admitted_priority past e.reply) before.queues.items) =
-    c.note.ensures.queues ∙ ap (λ k. with_fresh c.args.fresh (length past) (noted_queues after.owners.items (length past) e k (admitted_priority past e.reply) before.queues.items)) c.entry_queue-q.ensures in
-    let waits : waits_count after.owners.items ≡ waits_count (noted before.owners.items (length past) e.process e.call e.reply q) = ap waits_count owners in
+    let same : c.whole.result.records ≡ past = ap (λ (j : Shown). j.records) c.whole.ensures in
+    let records : c.push.new.self.records ≡ r ∷ past = c.push.ensures.records in
+    let noted_owners : after.owners.items ≡ noted before.owners.items (length past) e.process e.call e.reply (entry_queue past e.process e.call payload) =
+    c.note_next.ensures.owners ∙ ap (λ (xs : Past). noted before.owners.items (length xs) e.process e.call e.reply (entry_queue xs e.process e.call payload)) same in
+    let waits : waits_count after.owners.items ≡ waits_count (noted before.owners.items (length past) e.process e.call e.reply (entry_queue past e.process e.call payload)) = ap waits_count noted_owners in
+    let room = waits-noted past before.owners.items c.requires.kept.mirror.lines e.process e.call e.reply (entry_queue past e.process e.call payload) c.args.journal.now.entry_room (legal_says past r c.requires.next) c.requires.next.turn (let le = c.requires.at_most in omega (arith, le, count)) c.requires.entries in
     let pushed = c.push.ensures.entry_room in
-    let mirror : TablesMirror (r ∷ past) before.n after.owners.items after.queues.items after.inboxes.items =
-    tables-keep past c.requires.kept.legal before.n before.owners.items after.owners.items before.queues.items after.queues.items before.inboxes.items after.inboxes.items c.requires.kept.mirror
-    e.process e.call e.reply payload (vec_len before.queues) (vec_capacity before.queues) c.args.fresh c.requires.next c.requires.at_most c.requires.brings
-    (line-room past before.queues.items c.requires.kept.mirror.existing e.process e.call e.reply payload q (admitted_priority past e.reply) (entry-on past e.process e.call e.reply payload c.requires.next) (queued-free past e.process e.call e.reply payload c.requires.next))
-    (record {
-      owners_are = owners;
-      queues_are = queues;
-      inbox_count = c.note.ensures.count;
-      inboxes_are = λ k. c.note.ensures.inboxes k ∙ ap (λ j. noted_values e.process (registration_in before.queues.items j) e.reply k (notices_in before.inboxes.items k)) c.entry_queue-q.ensures;
-    })
-    (ap length owners ∙ length-noted before.owners.items (length past) e.process e.call e.reply q) in
+    let those : AreThoseOf c.push.new.self.records after = subst (λ (xs : Past). AreThoseOf xs after) (ap (λ (xs : Past). r ∷ xs) same ∙ sym records) c.note_next.ensures.tables in
     record {
-      legal = subst Legal (sym c.push.ensures.records) (c.requires.kept.legal, c.requires.next);
-      few = subst (λ (n : ℕ). n ≤ 32) (sym c.note.ensures.n) c.requires.kept.few;
-      processes = subst (λ (xs : Past). AreAtMost after.n xs) (sym c.push.ensures.records) (subst (λ (n : ℕ). AreAtMost n (r ∷ past)) (sym c.note.ensures.n) (All-cons (λ (x : Record). x.entry.process ≤ before.n) r past c.requires.at_most c.requires.kept.processes));
-      mirror = subst (λ (xs : Past). TablesMirror xs after.n after.owners.items after.queues.items after.inboxes.items) (sym c.push.ensures.records) (subst (λ (n : ℕ). TablesMirror (r ∷ past) n after.owners.items after.queues.items after.inboxes.items) (sym c.note.ensures.n) mirror);
-      waits = c.note.ensures.waits;
+      legal = those.legal;
+      few = those.few;
+      processes = subst (λ (xs : Past). AreAtMost after.n xs) (sym records) (subst (λ (n : ℕ). AreAtMost n (r ∷ past)) (sym c.note_next.ensures.n) (All-cons (λ (x : Record). x.entry.process ≤ before.n) r past c.requires.at_most c.requires.kept.processes));
+      mirror = those.mirror;
+      waits = those.waits;
       room = omega (arith, waits, room, pushed);
-      notice_room = subst (λ (xs : List QueueShown). HasNoticeRoom xs after.inboxes.items) (sym queues)
-          (notice-room-keeps past c.requires.kept.legal before.queues.items c.requires.kept.mirror.existing e.process e.call e.reply payload c.requires.next before.inboxes.items after.inboxes.items c.requires.kept.notice_room
-          (λ k. subst (λ j. room_in before.inboxes.items k ≤ room_in after.inboxes.items k + notices_brought (registration_in before.queues.items j) e.reply k) c.entry_queue-q.ensures (c.note.ensures.notice_room k))
-          c.requires.registration c.args.fresh after.owners.items (admitted_priority past e.reply));
-      bounded = subst (λ (o : Option Bounds). HasRoomWithin o c.push.new.self) (sym c.note.ensures.bounds)
+      notice_room = those.notice_room;
+      bounded = subst (λ (o : Option Bounds). HasRoomWithin o c.push.new.self) (sym c.note_next.ensures.bounds)
           (room-keeps before.bounds c.args.journal.now c.push.new.self r c.requires.kept.bounded c.push.ensures.records c.push.ensures.entry_room c.push.ensures.byte_room);
       notices = λ k le.
-          let has = c.requires.kept.notices k (let same = c.note.ensures.n in omega (arith, le, same)) in
-          let kept = c.note.ensures.notice_room k in
-          let one = brought-one (registration_in before.queues.items c.entry_queue-q.result) e.reply k in
-          let same : notice_room after.bounds ≡ notice_room before.bounds = ap notice_room c.note.ensures.bounds in
-          let long : length c.push.new.self.records ≡ length (r ∷ past) = ap length c.push.ensures.records in
-          omega (arith, has, kept, one, same, long);
+          let has = c.requires.kept.notices k (let same = c.note_next.ensures.n in omega (arith, le, same)) in
+          let kept = c.note_next.ensures.notice_room k in
+          let same : notice_room after.bounds ≡ notice_room before.bounds = ap notice_room c.note_next.ensures.bounds in
+          let long : length c.push.new.self.records ≡ length (r ∷ past) = ap length records in
+          omega (arith, has, kept, same, long);
     }

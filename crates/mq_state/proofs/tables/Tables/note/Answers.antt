@@ -1,4 +1,4 @@
-use Rattle.std.proofs.Common.{◌≡◌, ◌∙◌, ap, Some, None, Option, vec_capacity}
+use Rattle.std.proofs.Common.{◌≡◌, ◌∙◌, ap, Some, None, vec_capacity}
 use Rattle.mq_slots.specs.Held.{Held}
 use Rattle.mq_state.specs.Queues.{noted_queues}
 use Rattle.mq_state.specs.Pool.{PoolWithin}
@@ -19,7 +19,7 @@ returns-in-Some-clause-pool g pooled =
 pub returns-in_default-clause-queues : goal.returns-in_default-clause-queues
 returns-in_default-clause-queues g =
     let none : g.args.fresh ≡ None = g.in_default.is in
-    let here = g.len-here.ensures.count in
+    let here = g.len-here.ensures in
     let prio = g.admitted_priority-prio.ensures in
     let owners = g.deref.ensures.value in
     let before : g.note_notices.new.self.queues.items ≡ g.args.self.now.queues.items = ap (λ v. v.items) g.note_notices.ensures.queues in

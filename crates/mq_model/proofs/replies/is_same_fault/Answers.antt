@@ -2,7 +2,7 @@ use Rattle.std.proofs.Common.{◌≡◌, ℕ, ◌==◌, if◌then◌else◌, ref
 use Rattle.mq_model.specs.Fault.{number_of}
 use Rattle.mq_model.specs.declared.faults.Fault.{Fault}
 use Rattle.mq_model.specs.declared.faults.Fault.TheVariants.{Again, BadDescriptor, Busy, Exists, Invalid, TooManyOpen, MessageSize, NameTooLong, NoEntry, NoSpace, NoMemory, TimedOut, JournalFull}
-use Rattle.mq_checker.proofs.replies.is_same_fault.Goals as goal
+use Rattle.mq_model.proofs.replies.is_same_fault.Goals as goal
 
 abbrev fault_of : ℕ → Fault
 fault_of n =

@@ -1,23 +1,23 @@
 //! When two replies are one.
 ghost use Rattle.std.specs.Prelude.{◌≡◌, IsTrue, ◌↔◌};
 
-use mq_model::entries::{Reply, Status};
-use mq_model::faults::Fault;
+use crate::entries::{Reply, Status};
+use crate::faults::Fault;
 
-pub(crate) fn is_same_fault(one: Fault, other: Fault) -> bool
+fn is_same_fault(one: Fault, other: Fault) -> bool
     ensures { IsTrue result ↔ (one ≡ other) }
 {
     one.number() == other.number()
 }
 
-pub(crate) fn is_same_place(one: Option<u64>, other: Option<u64>) -> bool
+fn is_same_place(one: Option<u64>, other: Option<u64>) -> bool
     ensures { IsTrue result ↔ (one ≡ other) }
 {
     one == other
 }
 
-#[tactic(auto, using(crate::proofs::Checked::status_from))]
-pub(crate) fn is_same_status(one: Status, other: Status) -> bool
+#[tactic(auto, using(crate::proofs::SameReplies::status_from))]
+fn is_same_status(one: Status, other: Status) -> bool
     ensures { IsTrue result ↔ (one ≡ other) }
 {
     if one.nonblock != other.nonblock {
@@ -35,7 +35,8 @@ pub(crate) fn is_same_status(one: Status, other: Status) -> bool
     true
 }
 
-pub(crate) fn is_same(one: Reply, other: Reply) -> bool
+/// Two replies are one.
+pub fn is_same(one: Reply, other: Reply) -> bool
     ensures { IsTrue result ↔ (one ≡ other) }
 {
     match one {

@@ -1,0 +1,29 @@
+-- Where and why a journal is not legal.
+use Rattle.std.specs.Prelude.{◌≡◌, ◌≢◌, ◌&&◌, Bool, true, false, nat_le, IfSome}
+use Rattle.mq_model.specs.Limits.{most_processes}
+use Rattle.mq_model.specs.Record.{Record, Past, record_at, first}
+use Rattle.mq_model.specs.Answer.{answer, may_call, is_payload, IsFirstIllegal}
+use Rattle.mq_state.specs.declared.replay.Cause.{Cause}
+use Rattle.mq_state.specs.declared.replay.Cause.TheVariants.{Process, Turn, Payload, Reply}
+use Rattle.mq_state.specs.declared.replay.Departure.{Departure}
+
+abbrev pub has_process : Record → Bool
+has_process r = nat_le 1 r.entry.process && nat_le r.entry.process most_processes
+
+abbrev pub is_in_turn : Past → Record → Bool
+is_in_turn past r = may_call past r.entry.process r.entry.call
+
+abbrev pub has_payload : Record → Bool
+has_payload r = is_payload r.entry.call r.entry.reply r.payload
+
+-- why the record may not stand behind these: the first of the four that is so. A wrong reply has the right one beside it
+abbrev pub IsCause : Past → Record → Cause → Type 0
+IsCause past r Process = has_process r ≡ false
+IsCause past r Turn = (has_process r ≡ true) × (is_in_turn past r ≡ false)
+IsCause past r Payload = (has_process r ≡ true) × (is_in_turn past r ≡ true) × (has_payload r ≡ false)
+IsCause past r (Reply expected) = (has_process r ≡ true) × (is_in_turn past r ≡ true) × (has_payload r ≡ true) × (expected ≡ answer past r.entry.process r.entry.call r.payload) × (r.entry.reply ≢ expected)
+
+-- the records before the place are legal, the record at the place may not stand behind them, and this is why
+pub record IsDeparture (past : Past) (d : Departure) : Type 0 where
+  pub first_illegal : IsFirstIllegal past d.place
+  pub cause : IfSome (record_at past d.place) (λ r. IsCause (first d.place past) r d.cause)

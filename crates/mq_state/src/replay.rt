@@ -1,0 +1,77 @@
+//! Whether a journal is legal, and where and why it is not, in time nearly linear in its length: the tables of the queues say what
+//! each call is answered, and note each entry.
+ghost use Rattle.std.specs.Prelude.{◌≡◌, ◌↔◌, IfOk, IfSome, None};
+ghost use Rattle.mq_model.specs.Answer.{Legal, IsLegalNext};
+ghost use Rattle.mq_state.specs.Kept.{AreThoseOf};
+
+use crate::prefixes::Prefix;
+use crate::tables::Tables;
+use mq_model::entries::{Entry, Reply};
+use mq_model::forms::{is_payload, is_process};
+use mq_model::journals::Journal;
+use mq_model::limits::PROCESSES;
+use mq_model::replies::is_same;
+use std::alloc::{AllocError, Global};
+
+/// Why an entry may not stand behind those before it: of these the first that is so.
+#[derive(Clone, Copy, Debug, PartialEq, Eq)]
+pub enum Cause {
+    /// The process is none of 1 to 32.
+    Process,
+    /// The process may not make this call now: it waits, and the call is none that ends the wait, or it collects or withdraws out of
+    /// turn.
+    Turn,
+    /// The payload is not the name, or the message, that belongs to the call and its reply.
+    Payload,
+    /// The call is answered with this reply, and not with that of the entry.
+    Reply(Reply),
+}
+
+/// The first place at which a journal is not legal, and why.
+#[derive(Clone, Copy, Debug, PartialEq, Eq)]
+pub struct Departure {
+    pub place: u64,
+    pub cause: Cause,
+}
+
+ghost use Rattle.mq_state.specs.Replays.{IsCause, IsDeparture};
+
+// Why an entry may not stand behind those that the tables are those of, if it may not.
+fn cause_at(past: &Prefix<'_>, tables: &Tables, entry: Entry, payload: &[u8]) -> Option<Cause>
+    requires { AreThoseOf past.now.records tables.now }
+    ensures legal { result ≡ None → IsLegalNext past.now.records (record { entry = entry; payload = payload.now }) }
+    ensures cause { IfSome result (IsCause past.now.records (record { entry = entry; payload = payload.now })) }
+{
+    if !is_process(entry.process) {
+        return Some(Cause::Process);
+    }
+    if !tables.may_call(past, entry.process, entry.call) {
+        return Some(Cause::Turn);
+    }
+    if !is_payload(entry.call, entry.reply, payload) {
+        return Some(Cause::Payload);
+    }
+    let expected = tables.answer_to(past, entry.process, entry.call, payload);
+    if !is_same(entry.reply, expected) {
+        return Some(Cause::Reply(expected));
+    }
+    None
+}
+
+/// Where a journal first departs from the definitions, and why, or `None` where it is legal: `check_history` gives the same places. It
+/// reads the journal once. The error is that memory was refused: beside the journal it takes that of the queues which exist at a time.
+pub fn replay(alloc: Global, journal: &Journal) -> Result<Option<Departure>, AllocError>
+    ensures legal { IfOk result (λ found. (found ≡ None) ↔ Legal journal.now.records) }
+    ensures departure { IfOk result (λ found. IfSome found (IsDeparture journal.now.records)) }
+{
+    let mut tables = Tables::new(alloc, PROCESSES, None)?;
+    for place in 0..journal.len() {
+        let past = Prefix::first(journal, place);
+        let (entry, payload) = journal.record(place);
+        if let Some(cause) = cause_at(&past, &tables, entry, payload) {
+            return Ok(Some(Departure { place, cause }));
+        }
+        tables.follow(&past, entry, payload)?;
+    }
+    Ok(None)
+}
