@@ -9,6 +9,12 @@ use std::sync::Wait;
 
 /// The entry that waits, which each lock has. It stands apart from `Lock`, so that code that never waits can use a lock.
 pub trait Enter<S: Logged>: Lock<S> {
+    /// Takes the walk on until it has come in, which waits until nobody else is inside.
+    fn come_in<R: Wait>(&self, rt: &R, walk: Self::Walk) -> Self::Walk
+        requires { (Self.walking walk).lock ≡ Self.id self.now }
+        ensures ticket { Self.walking result ≡ Self.walking walk }
+        ensures inside { Self.is_in result ≡ true };
+
     /// Waits until nobody else is inside, and takes the state.
     fn enter<R: Wait>(&self, rt: &R, seat: Self::Seat) -> (Self::Inside, S)
         requires { (Self.ticket seat).lock ≡ Self.id self.now }
@@ -20,25 +26,37 @@ pub trait Enter<S: Logged>: Lock<S> {
 }
 
 impl<S: Logged, L: Lock<S>> Enter<S> for L {
-    /// Step by step, the first five in straight line. It backs off after a step that left the walk where it was, longer each time,
-    /// and begins anew with the back-off once the walk has moved.
-    fn enter<R: Wait>(&self, rt: &R, seat: L::Seat) -> (L::Inside, S) {
-        let mut walk = hasten(self, self.begin(seat));
-        let backoff = Backoff::new();
-        for _ in rt.forever() {
-            if L::is_admitted(&walk) {
-                return L::admitted(walk);
-            }
-            let (next, has_moved) = self.step(walk);
-            walk = next;
-            if has_moved {
-                backoff.reset();
-            } else {
-                backoff.snooze();
-            }
-        }
-        unreachable!()
+    #[inline(always)]
+    fn come_in<R: Wait>(&self, rt: &R, walk: L::Walk) -> L::Walk {
+        wait_in(self, rt, hasten(self, walk))
     }
+
+    fn enter<R: Wait>(&self, rt: &R, seat: L::Seat) -> (L::Inside, S) {
+        L::admitted(self.come_in(rt, self.begin(seat)))
+    }
+}
+
+// Step by step. It backs off after a step that left the walk where it was, longer each time, and begins anew with the back-off once
+// the walk has moved.
+fn wait_in<S: Logged, L: Lock<S>, R: Wait>(lock: &L, rt: &R, mut walk: L::Walk) -> L::Walk
+    requires { (L.walking walk).lock ≡ L.id lock.now }
+    ensures ticket { L.walking result ≡ L.walking walk }
+    ensures inside { L.is_in result ≡ true }
+{
+    let backoff = Backoff::new();
+    for _ in rt.forever() {
+        if L::is_admitted(&walk) {
+            return walk;
+        }
+        let (next, has_moved) = lock.step(walk);
+        walk = next;
+        if has_moved {
+            backoff.reset();
+        } else {
+            backoff.snooze();
+        }
+    }
+    unreachable!()
 }
 
 // Five steps, as many as an entry takes that meets nobody. In straight line the compiler knows where the walk stands at each.

@@ -1,14 +1,14 @@
 -- What one stay of a process changes of the answers.
-use Rattle.std.proofs.Common.{◌≡◌, ◌≤◌, ℕ, zero, suc, ◌+◌, ◌-◌, ◌*◌, ◌==◌, Bool, true, false, List, [], ◌∷◌, ◌++◌, length, length-append, drop, Option, Some, None, is_some, refl, sym, ap, ◌∙◌, arith, eqb-true}
+use Rattle.std.proofs.Common.{◌≡◌, ◌≤◌, ℕ, zero, suc, ◌+◌, ◌-◌, ◌*◌, ◌==◌, Bool, false, ◌∷◌, length, length-append, drop, Option, Some, None, is_some, refl, sym, ap, ◌∙◌, arith, eqb-true}
 use Rattle.std.proofs.Math.Seq.{drop-append_seam}
 use Rattle.fast_mutex.specs.Items.{GrowsBy}
 use Rattle.fast_mutex.specs.Marks.{flag, answer_bits}
 use Rattle.mq_model.specs.Record.{Record, Past, first}
 use Rattle.mq_model.specs.Descriptors.{is_place}
-use Rattle.mq_model.specs.Waits.{named_wait, names_wait, open_wait, answered_by, is_answered}
+use Rattle.mq_model.specs.Waits.{named_wait, names_wait, open_wait, is_answered}
 use Rattle.mq_model.specs.declared.entries.Reply.{Reply}
 use Rattle.mq_model.proofs.Places.{split}
-use Rattle.mq.specs.Calls.{owner, answered_bits}
+use Rattle.mq.specs.Calls.{owner}
 
 -- the list found is the first records of the one that is left
 pub found-first : (p places : ℕ) (left now : Past) → GrowsBy owner p left now → places ≡ length left → first places now ≡ left

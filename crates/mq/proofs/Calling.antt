@@ -1,14 +1,13 @@
 -- What a call in one stay leaves.
-use Rattle.std.proofs.Common.{◌≡◌, ◌≢◌, ℕ, ◌==◌, Bool, true, false, List, [], ◌∷◌, ◌++◌, length, Option, Some, None, Result, IfErr, is_some, IsSome, refl, ap, sym, subst, ◌∙◌, eq-eqb}
+use Rattle.std.proofs.Common.{◌≡◌, ℕ, Bool, true, false, List, [], ◌∷◌, ◌++◌, length, Option, Some, None, Result, IfErr, refl, ap, sym, subst, ◌∙◌, eq-eqb}
 use Rattle.std.specs.List.{All}
-use Rattle.std.specs.Option.{option_map, option_and_then, unwrap_or}
-use Rattle.mq_model.specs.Record.{Record, Past, record_at}
+use Rattle.std.specs.Option.{option_map}
+use Rattle.mq_model.specs.Record.{Record, Past}
 use Rattle.mq_model.specs.Waits.{open_wait, wait_deadline, is_wait}
 use Rattle.mq_model.specs.Answer.{Legal}
 use Rattle.mq_model.specs.Bounds.{has_entry, HeedsBounds}
 use Rattle.mq_model.proofs.Places.{split}
 use Rattle.mq_model.specs.declared.entries.Call.{Call}
-use Rattle.mq_model.specs.declared.entries.Call.TheVariants.{Collect, Withdraw}
 use Rattle.mq_model.specs.declared.entries.Reply.{Reply}
 use Rattle.mq_model.specs.declared.entries.Reply.TheVariants.{Opened, Queued, Handed, Waits, Got, Collected, Attrs, Notice, Done, Refused, Withdrawn}
 use Rattle.mq_model.specs.declared.bounds.Bounds.{Bounds}
@@ -18,9 +17,13 @@ use Rattle.mq_state.specs.Buffers.{waiting_call, waiting_room, room_of}
 use Rattle.fast_mutex.specs.Items.{LockId, Ticket, Grows, GrowsBy, items_of}
 use Rattle.mq.specs.Calls.{owner, recorded, made, Calls, Found, Stops, fixed_of, bounds_of, bounds_in, Came, IsFree, WaitsIn, wait_begun}
 use Rattle.mq.proofs.Others.{wait-grown, deadline-grown, call-grown, room-grown}
-use Rattle.mq.proofs.Growing.{grows-on, own-made, all-made, own-recorded}
+use Rattle.mq.proofs.Growing.{grows-on, own-made, all-made}
 
 module _ {old stay : Ticket Record} {system : LockId} {books : Kept} {p : ℕ} where
+  -- who came in by a walk of its own, into this system
+  pub came-in : {t : Ticket Record} → Came t t.lock stay books p → t ≡ old → old.lock ≡ system → Came old system stay books p
+  came-in c same lock = subst (λ (l : LockId). Came old l stay books p) lock (subst (λ (t : Ticket Record). Came t t.lock stay books p) same c)
+
   pub same-number : Came old system stay books p → stay.number ≡ p
   same-number c = c.number ∙ sym c.process
 
@@ -30,6 +33,10 @@ module _ {old stay : Ticket Record} {system : LockId} {books : Kept} {p : ℕ} w
 
   pub came-room : Came old system stay books p → waiting_room books.records p ≡ waiting_room old.left old.number
   came-room c = rw (c.process) (room-grown c.grows)
+
+  -- where it adds nothing, it leaves the room that its wait needs as it was
+  pub came-waits : {waits : Option ℕ} → Came old system stay books p → waits ≡ waiting_room old.left old.number → waits ≡ waiting_room books.records stay.number
+  came-waits c kept = kept ∙ sym (rw (same-number c) (came-room c))
 
   pub came-call : Came old system stay books p → waiting_call books.records p ≡ waiting_call old.left old.number
   came-call c = rw (c.process) (call-grown c.grows)
@@ -149,11 +156,6 @@ module _ {old stay : Ticket Record} {system : LockId} {books : Kept} {p : ℕ} w
       let waits = now-waits call given c (rw same at is) in
       rw same (sym waits.room))
       (λ other. not-begun reply (room_of call) other ∙ sym (free-room records stay.number (still-free call given reply c free is other)))
-
-  -- a call that does not wait leaves it as it was
-  pub room-kept : {records : Past} {waits : Option ℕ} (call : Call) (given : List ℕ) (reply : Reply) → Came old system stay books p → IsFree old → records ≡ made p call given reply ++ books.records → is_wait reply ≡ false
-      → waits ≡ waiting_room old.left old.number → waits ≡ waiting_room records stay.number
-  room-kept {records} call given reply c free is answered kept = kept ∙ free-room old.left old.number free ∙ sym (free-room records stay.number (still-free call given reply c free is answered))
 
 -- the fixed part has the number of processes
 pub fixed-n : (n m : ℕ) (a b : Option Bounds) → fixed_of n a ≡ fixed_of m b → n ≡ m

@@ -1,13 +1,13 @@
 -- Closing the lowest descriptor again and again.
-use Rattle.std.proofs.Common.{◌≡◌, ◌≢◌, ℕ, zero, suc, ◌+◌, ◌<◌, ◌≤◌, ◌==◌, Bool, true, false, List, [], ◌∷◌, ◌++◌, map, Option, Some, None, is_some, refl, ap, sym, subst, ◌∙◌, arith, eqb, eqb-true, eq-eqb}
+use Rattle.std.proofs.Common.{◌≡◌, ◌≢◌, ℕ, zero, suc, ◌+◌, ◌<◌, ◌≤◌, ◌==◌, Bool, true, false, List, [], ◌∷◌, Option, Some, None, is_some, refl, ap, sym, subst, ◌∙◌, arith, eqb, eqb-true, eq-eqb}
 use Rattle.std.specs.List.{find, All}
 use Rattle.std.proofs.lemmas.List.Elements.{All-nil, All-cons}
 use Rattle.std.specs.Option.{option_eq}
 use Rattle.std.proofs.lemmas.Bool.{eqb-false}
-use Rattle.mq_model.specs.Record.{Record, Past}
+use Rattle.mq_model.specs.Record.{Past}
 use Rattle.mq_model.specs.Descriptors.{held, lowest_held, numbers_from, descriptor_numbers}
 use Rattle.mq_model.specs.Waits.{open_wait}
-use Rattle.mq_model.specs.Answer.{answer, Appends}
+use Rattle.mq_model.specs.Answer.{Appends}
 use Rattle.mq_model.proofs.Places.{split}
 use Rattle.mq_model.specs.declared.entries.Call.TheVariants.{MqClose}
 use Rattle.mq_model.specs.declared.entries.Reply.{Reply}
@@ -16,7 +16,7 @@ use Rattle.mq_model.specs.declared.faults.Fault.{Fault}
 use Rattle.mq_model.specs.declared.bounds.Bounds.{Bounds}
 use Rattle.mq_model.specs.Bounds.{has_entry, HeedsBounds}
 use Rattle.fast_mutex.specs.Items.{items_of}
-use Rattle.mq.specs.Calls.{owner, recorded, closes, AreLowest, Closing, Stops}
+use Rattle.mq.specs.Calls.{owner, recorded, closes, Closing, Stops}
 
 -- a process holds no descriptor below d
 abbrev pub IsFrom : Past → ℕ → ℕ → Type 0

@@ -1,5 +1,5 @@
 -- What a collect leaves, and what a call leaves that waited.
-use Rattle.std.proofs.Common.{◌≡◌, ◌≤◌, ◌<◌, ◌↔◌, ℕ, ◌==◌, Bool, true, false, List, [], ◌∷◌, ◌++◌, length, Option, Some, None, is_some, IsSome, IfSome, IfNone, Ok, Err, inr, refl, ap, sym, ◌∙◌, subst, eq-eqb}
+use Rattle.std.proofs.Common.{◌≡◌, ◌≤◌, ◌↔◌, ℕ, true, false, List, [], ◌∷◌, ◌++◌, Option, Some, None, IsSome, IfSome, IfNone, Ok, Err, refl, ap, sym, ◌∙◌, subst, eq-eqb}
 use Rattle.std.specs.List.{All}
 use Rattle.std.specs.Option.{option_map}
 use Rattle.std.proofs.lemmas.List.Elements.{All-nil, All-cons}
@@ -12,19 +12,18 @@ use Rattle.mq_model.specs.declared.entries.Deadline.{Deadline}
 use Rattle.mq_model.specs.declared.faults.Fault.TheVariants.{TimedOut}
 use Rattle.mq_model.specs.declared.entries.Call.{Call}
 use Rattle.mq_model.specs.declared.entries.Call.TheVariants.{Collect, Withdraw}
-use Rattle.mq_model.specs.declared.entries.Reply.{Reply}
 use Rattle.mq_model.specs.declared.entries.Reply.TheVariants.{Waits, Collected, Withdrawn}
 use Rattle.mq_state.specs.Kept.{Kept}
-use Rattle.mq_state.specs.Buffers.{waiting_call, waiting_room, room_of, collected, collected_by, collected_into, received_at, message_at, with_front}
+use Rattle.mq_state.specs.Buffers.{waiting_call, waiting_room, room_of, collected, collected_into, received_at, message_at, with_front}
 use Rattle.mq_state.specs.declared.collected.Collected.{Collected as Outcome}
-use Rattle.fast_mutex.specs.Items.{LockId, Ticket, Grows, GrowsBy}
+use Rattle.fast_mutex.specs.Items.{LockId, Ticket}
 use Rattle.mq_state.specs.declared.collected.Collected.TheVariants.{Got as GotMessage, Sent}
 use Rattle.mq.specs.Says.{start_send_says, start_receive_says}
 use Rattle.mq.specs.Calls.{owner, recorded, Calls, Came, Collects, StillWaits, WithdrawsAt, Withdraws, Expired, Begins, Waited, OneCall, ReceiveCall, WaitedSend, WaitedReceive}
 use Rattle.mq.proofs.Replies.{send-waits, receive-waits}
 use Rattle.mq.proofs.Messages.{message-kept, received-kept}
 use Rattle.mq.proofs.Growing.{own-recorded, calls-on}
-use Rattle.mq.proofs.Calling.{came-wait, came-room, came-call, came-calls, came-grows_by, same-number, free-room}
+use Rattle.mq.proofs.Calling.{came-wait, came-room, came-call, came-calls, same-number, free-room}
 
 pub room-waits : (past : Past) (p : ℕ) → IsSome (waiting_room past p) → IsSome (open_wait past p)
 room-waits past p some = by (open_wait past p) refl

@@ -1,19 +1,14 @@
 -- Journals that go on.
-use Rattle.std.proofs.Common.{◌≡◌, ◌≢◌, ℕ, ◌==◌, Bool, true, false, List, [], ◌∷◌, ◌++◌, map, length, Option, Some, None, is_some, refl, ap, sym, ◌∙◌, subst, arith, append_assoc, eq-eqb}
-use Rattle.std.specs.List.{All, filter}
+use Rattle.std.proofs.Common.{◌≡◌, ℕ, ◌==◌, List, [], ◌∷◌, ◌++◌, refl, ap, sym, ◌∙◌, subst, append_assoc, eq-eqb}
+use Rattle.std.specs.List.{All}
 use Rattle.std.proofs.lemmas.List.Elements.{filter-append, All-nil, All-cons}
 use Rattle.mq_model.specs.Record.{Record, Past}
-use Rattle.mq_model.specs.Waits.{open_wait, is_wait}
-use Rattle.mq_model.specs.Answer.{Legal}
 use Rattle.mq_model.specs.Bounds.{has_entry}
 use Rattle.mq_model.proofs.Places.{split}
 use Rattle.mq_model.specs.declared.entries.Call.{Call}
 use Rattle.mq_model.specs.declared.entries.Reply.{Reply}
-use Rattle.mq_model.specs.declared.entries.Reply.TheVariants.{Waits}
-use Rattle.mq_state.specs.Kept.{Kept}
-use Rattle.fast_mutex.specs.Items.{LockId, Ticket, Grows, GrowsBy, items_of}
-use Rattle.mq.specs.Calls.{owner, recorded, made, Calls, Came, ticket_of}
-use Rattle.mq.proofs.Others.{wait-grown}
+use Rattle.fast_mutex.specs.Items.{Ticket, Grows, items_of}
+use Rattle.mq.specs.Calls.{owner, recorded, made, Calls}
 
 -- one stay behind another
 pub grows-on : {A : Type 0} {own : A → ℕ} {p : ℕ} {xs ys zs first second : List A} → Grows own p xs ys first → Grows own p ys zs second → Grows own p xs zs (second ++ first)
@@ -22,10 +17,6 @@ grows-on {A} {own} {p} {xs} {ys} {zs} {first} {second} g h = record {
   is = h.is ∙ (ap (λ (l : List A). h.behind ++ l) g.is ∙ sym (append_assoc h.behind g.behind xs));
   mine = filter-append (λ x. own x == p) h.behind g.behind ∙ (ap (λ (l : List A). l ++ items_of own p g.behind) h.mine ∙ ap (λ (l : List A). second ++ l) g.mine);
 }
-
--- the seat that a process gave away has its ticket
-pub ticket-taken : {A : Type 0} (f : A → Ticket Record) {inside taken : Option A} {seat : A} {t : Ticket Record} → taken ≡ inside → taken ≡ Some seat → ticket_of f inside ≡ t → f seat ≡ t
-ticket-taken f is some view = ap (ticket_of f) (sym some ∙ is) ∙ view
 
 pub own-recorded : (p : ℕ) (call : Call) (given : List ℕ) (reply : Reply) → items_of owner p (recorded p call given reply ∷ []) ≡ recorded p call given reply ∷ []
 own-recorded p call given reply = rw (eq-eqb p p refl) refl

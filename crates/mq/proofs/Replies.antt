@@ -1,11 +1,11 @@
 -- What a call on the books leaves, and which replies it is given.
-use Rattle.std.proofs.Common.{◌≡◌, ◌≢◌, ℕ, Bool, true, false, List, [], ◌∷◌, ◌++◌, Option, Some, None, is_some, Result, Ok, Err, refl, ap, sym, ◌∙◌, subst}
-use Rattle.mq_model.specs.Record.{Record, Past}
+use Rattle.std.proofs.Common.{◌≡◌, ◌≢◌, ℕ, Bool, true, false, List, ◌++◌, Option, Some, None, Result, Ok, Err, refl, ap, sym, ◌∙◌}
+use Rattle.mq_model.specs.Record.{Past}
 use Rattle.mq_model.specs.Answer.{Appends, answer}
 use Rattle.mq_model.specs.Bounds.{has_entry}
 use Rattle.mq_model.specs.Waits.{is_wait}
 use Rattle.mq_model.proofs.Places.{split}
-use Rattle.mq_model.proofs.Cases.{Says, answer_says, OpenReply, DoneReply, AttrsReply, SendSays, ReceiveSays}
+use Rattle.mq_model.proofs.Cases.{answer_says, OpenReply, DoneReply, AttrsReply, SendSays, ReceiveSays}
 use Rattle.mq_model.specs.declared.entries.Description.{Description}
 use Rattle.mq_model.specs.declared.entries.Call.{Call}
 use Rattle.mq_model.specs.declared.entries.Call.TheVariants.{MqOpen, MqClose, MqUnlink, MqSend, MqReceive, MqGetattr, MqSetattr, MqNotify, NextNotice, Collect, MqTimedSend, MqTimedReceive, Withdraw}
@@ -15,8 +15,8 @@ use Rattle.mq_model.specs.declared.faults.Fault.{Fault}
 use Rattle.mq_model.specs.declared.entries.Received.{Received}
 use Rattle.mq_state.specs.Buffers.{received_at}
 use Rattle.mq.specs.Says.{start_send_says, start_receive_says}
-use Rattle.mq.specs.Calls.{recorded, made}
-use Rattle.mq.specs.Asked.{may_reply, is_opened, is_done, is_attributes, is_notice, is_sent, is_received, is_collected, is_plain, is_of_name}
+use Rattle.mq.specs.Calls.{made}
+use Rattle.mq.specs.Asked.{may_reply, is_opened, is_done, is_attributes, is_notice, is_sent, is_received, is_plain, is_of_name}
 
 opened : (reply : Reply) → OpenReply reply → is_opened reply ≡ true
 opened (Opened d c) says = refl

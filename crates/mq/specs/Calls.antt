@@ -14,13 +14,13 @@ use Rattle.mq_model.specs.declared.entries.Deadline.{Deadline}
 use Rattle.mq_model.specs.declared.entries.Call.{Call}
 use Rattle.mq_model.specs.declared.entries.Call.TheVariants.{MqClose, MqSend, MqReceive, MqTimedSend, MqTimedReceive, Collect, Withdraw}
 use Rattle.mq_model.specs.declared.entries.Reply.{Reply}
-use Rattle.mq_model.specs.declared.entries.Reply.TheVariants.{Opened, Queued, Handed, Waits, Got, Collected, Withdrawn, Attrs, Notice, Done, Refused}
+use Rattle.mq_model.specs.declared.entries.Reply.TheVariants.{Waits, Collected, Withdrawn, Done, Refused}
 use Rattle.mq_model.specs.declared.faults.Fault.{Fault}
 use Rattle.mq_model.specs.declared.faults.Fault.TheVariants.{TimedOut}
 use Rattle.mq_state.specs.Buffers.{filled, with_front, message_at, received_at, collected, collected_into, waiting_call, waiting_room, room_of}
 use Rattle.mq_state.specs.Kept.{Kept}
 use Rattle.mq_state.specs.declared.collected.Collected.{Collected as Outcome}
-use Rattle.mq.specs.Says.{send_says, receive_says, start_receive_says}
+use Rattle.mq.specs.Says.{send_says, receive_says}
 
 abbrev pub owner : Record → ℕ
 owner r = r.entry.process
@@ -242,3 +242,9 @@ pub record Came (old : Ticket Record) (system : LockId) (stay : Ticket Record) (
   pub found : stay.left ≡ books.records
   pub grows : Grows owner old.number old.left books.records []
   pub told : old.told ≡ true → is_answered books.records old.number ≡ true
+
+-- a process on its way in: its number, the room that its open wait needs, and that its lock is that of a system
+pub record UnderWay (t : Ticket Record) (number : ℕ) (waits : Option ℕ) : Type 0 where
+  pub number_is : number ≡ t.number
+  pub waits_is : waits ≡ waiting_room t.left t.number
+  pub fixed_is : t.lock.fixed ≡ fixed_of t.lock.count (bounds_in t.lock.fixed)

@@ -5,6 +5,8 @@
 //! that it has no open wait.
 #![tactic(auto)]
 
+mod approach;
+mod arrived;
 mod asking;
 mod guarded;
 mod monotonic;
@@ -13,6 +15,8 @@ mod process;
 mod stays;
 mod system;
 
+pub use approach::Approach;
+pub use arrived::Arrived;
 use fast_mutex::FastMutex;
 pub use fast_mutex::Missing;
 pub use guarded::{Guarded, LoggedRecord};
@@ -36,3 +40,9 @@ pub type FastMq = Mq<FastMutex<Guarded>>;
 
 /// A process of the system over Lamport's lock.
 pub type FastProcess = Process<FastMutex<Guarded>>;
+
+/// A process of that system on its way into the lock.
+pub type FastApproach = Approach<FastMutex<Guarded>>;
+
+/// A process of that system inside the lock.
+pub type FastArrived = Arrived<FastMutex<Guarded>>;

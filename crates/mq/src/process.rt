@@ -13,12 +13,11 @@ mod exits;
 mod messages;
 mod timed;
 
-use crate::asking::{ask, ask_by_name};
+use crate::arrived::Arrived;
 use crate::guarded::Guarded;
-use crate::stays::{come, depart};
 use crate::system::Mq;
 use fast_mutex::Look;
-use mq_model::entries::{Attr, Call, OpenFlags, Reply, Status};
+use mq_model::entries::{Attr, OpenFlags, Status};
 use mq_model::faults::Fault;
 use mq_model::names::Name;
 use std::marker::Model;
@@ -27,8 +26,8 @@ use std::sync::Wait;
 /// One process. Contracts see its lock, its number, and the journal that it last left.
 #[derive(Drop)]
 pub struct Process<L: Look<Guarded>> {
-    seat: Option<L::Seat>,
-    waits: Option<usize>,
+    pub(crate) seat: Option<L::Seat>,
+    pub(crate) waits: Option<usize>,
 }
 
 impl<L: Look<Guarded>> Model for Process<L> {
@@ -45,16 +44,18 @@ impl<L: Look<Guarded>> Model for Process<L> {
     ghost invariant = { λ p. IsSome p.seat × (p.waits ≡ waiting_room (ticket_of L.ticket p.seat).left (ticket_of L.ticket p.seat).number) };
 }
 
-pub(crate) fn process_of<L: Look<Guarded>>(seat: L::Seat) -> Process<L>
-    requires { (L.ticket seat).left ≡ [] }
+/// The process of a seat, with the room that its open wait needs.
+pub(crate) fn process_of<L: Look<Guarded>>(seat: L::Seat, waits: Option<usize>) -> Process<L>
+    requires { waits ≡ waiting_room (L.ticket seat).left (L.ticket seat).number }
     ensures { result ≡ L.ticket seat }
 {
     Process {
         seat: Some(seat),
-        waits: None,
+        waits,
     }
 }
 
+/// The seat of a process.
 pub(crate) fn seat_of<L: Look<Guarded>>(process: Process<L>) -> L::Seat
     ensures { L.ticket result ≡ process }
 {
@@ -90,38 +91,6 @@ impl<L: Look<Guarded>> Process<L> {
         self.waits
     }
 
-    // One call in one stay, of those that need no more than their numbers.
-    fn call<R: Wait>(&mut self, rt: &R, mq: &Mq<L>, call: Call) -> Reply
-        requires made { self.old.lock ≡ mq.now }
-        requires free { IsFree self.old }
-        requires plain { is_plain call ≡ true }
-        ensures calls { Calls self.old self.new (made self.old.number call [] result) }
-        ensures found { Found self.old self.new call [] result }
-        ensures replies { may_reply call result ≡ true }
-        ensures free { IsFree self.new }
-    {
-        let (process, inside, mut state) = come(rt, mq, &mut self.seat);
-        let reply = ask(&mut state.books, process, call);
-        depart(mq, &mut self.seat, inside, state);
-        reply
-    }
-
-    // One call in one stay, of those that have a name.
-    fn call_by_name<R: Wait>(&mut self, rt: &R, mq: &Mq<L>, call: Call, name: &Name) -> Reply
-        requires made { self.old.lock ≡ mq.now }
-        requires free { IsFree self.old }
-        requires by_name { is_of_name call ≡ true }
-        ensures calls { Calls self.old self.new (made self.old.number call name.now result) }
-        ensures found { Found self.old self.new call name.now result }
-        ensures replies { may_reply call result ≡ true }
-        ensures free { IsFree self.new }
-    {
-        let (process, inside, mut state) = come(rt, mq, &mut self.seat);
-        let reply = ask_by_name(&mut state.books, process, call, name);
-        depart(mq, &mut self.seat, inside, state);
-        reply
-    }
-
     /// Opens the queue of that name (`mq_open`) and gives the lowest free descriptor. Refused with `Exists`, `NoEntry`, `Invalid`,
     /// `TooManyOpen`, `NoSpace`, `NoMemory` or `JournalFull`.
     pub fn open<R: Wait>(
@@ -137,11 +106,10 @@ impl<L: Look<Guarded>> Process<L> {
         ensures call { OneCall open_says self.old self.new (Call.MqOpen flags attr) name.now result }
         ensures free { IsFree self.new }
     {
-        match self.call_by_name(rt, mq, Call::MqOpen { flags, attr }, name) {
-            Reply::Opened { d, .. } => Ok(d),
-            Reply::Refused(fault) => Err(fault),
-            _ => unreachable!(),
-        }
+        let arrived = arrive(rt, mq, &mut self.seat, self.waits);
+        let (process, opened) = arrived.open(mq, name, flags, attr);
+        *self = process;
+        opened
     }
 
     /// Closes descriptor d (`mq_close`). Refused with `BadDescriptor`, `NoMemory` or `JournalFull`.
@@ -151,7 +119,10 @@ impl<L: Look<Guarded>> Process<L> {
         ensures call { OneCall done_says self.old self.new (Call.MqClose d) [] result }
         ensures free { IsFree self.new }
     {
-        done(self.call(rt, mq, Call::MqClose { d }))
+        let arrived = arrive(rt, mq, &mut self.seat, self.waits);
+        let (process, closed) = arrived.close(mq, d);
+        *self = process;
+        closed
     }
 
     /// Unbinds a name from its queue (`mq_unlink`). Refused with `NoEntry`, `NoMemory` or `JournalFull`.
@@ -161,7 +132,10 @@ impl<L: Look<Guarded>> Process<L> {
         ensures call { OneCall done_says self.old self.new (Call.MqUnlink) name.now result }
         ensures free { IsFree self.new }
     {
-        done(self.call_by_name(rt, mq, Call::MqUnlink, name))
+        let arrived = arrive(rt, mq, &mut self.seat, self.waits);
+        let (process, unlinked) = arrived.unlink(mq, name);
+        *self = process;
+        unlinked
     }
 
     /// Registers on the queue of descriptor d with the value of the notice, or removes the registration (`mq_notify`). Refused
@@ -178,7 +152,10 @@ impl<L: Look<Guarded>> Process<L> {
         ensures call { OneCall done_says self.old self.new (Call.MqNotify d value) [] result }
         ensures free { IsFree self.new }
     {
-        done(self.call(rt, mq, Call::MqNotify { d, value }))
+        let arrived = arrive(rt, mq, &mut self.seat, self.waits);
+        let (process, notified) = arrived.notify(mq, d, value);
+        *self = process;
+        notified
     }
 
     /// The attributes of descriptor d (`mq_getattr`). Refused with `BadDescriptor`, `NoMemory` or `JournalFull`.
@@ -188,7 +165,10 @@ impl<L: Look<Guarded>> Process<L> {
         ensures call { OneCall attributes_says self.old self.new (Call.MqGetattr d) [] result }
         ensures free { IsFree self.new }
     {
-        attributes(self.call(rt, mq, Call::MqGetattr { d }))
+        let arrived = arrive(rt, mq, &mut self.seat, self.waits);
+        let (process, got) = arrived.getattr(mq, d);
+        *self = process;
+        got
     }
 
     /// Sets the flag of descriptor d and gives the attributes from before (`mq_setattr`): of `new` its `nonblock` alone is used.
@@ -205,8 +185,10 @@ impl<L: Look<Guarded>> Process<L> {
         ensures call { OneCall attributes_says self.old self.new (Call.MqSetattr d new.nonblock) [] result }
         ensures free { IsFree self.new }
     {
-        let nonblock = new.nonblock;
-        attributes(self.call(rt, mq, Call::MqSetattr { d, nonblock }))
+        let arrived = arrive(rt, mq, &mut self.seat, self.waits);
+        let (process, set) = arrived.setattr(mq, d, new);
+        *self = process;
+        set
     }
 
     /// The value of the oldest notice that the process has not yet taken. Refused with `NoMemory` or `JournalFull` alone.
@@ -216,32 +198,25 @@ impl<L: Look<Guarded>> Process<L> {
         ensures call { OneCall notice_says self.old self.new Call.NextNotice [] result }
         ensures free { IsFree self.new }
     {
-        match self.call(rt, mq, Call::NextNotice) {
-            Reply::Notice(value) => Ok(value),
-            Reply::Refused(fault) => Err(fault),
-            _ => unreachable!(),
-        }
+        let arrived = arrive(rt, mq, &mut self.seat, self.waits);
+        let (process, notice) = arrived.next_notice(mq);
+        *self = process;
+        notice
     }
 }
 
-fn done(reply: Reply) -> Result<(), Fault>
-    requires { is_done reply ≡ true }
-    ensures { done_says reply ≡ Some result }
+// Enters with the seat of a process, which waits until nobody else is inside.
+fn arrive<L: Look<Guarded>, R: Wait>(
+    rt: &R,
+    mq: &Mq<L>,
+    seat: &mut Option<L::Seat>,
+    waits: Option<usize>,
+) -> Arrived<L>
+    requires some { IsSome seat.old }
+    requires made { (ticket_of L.ticket seat.old).lock ≡ mq.now }
+    requires waits { waits ≡ waiting_room (ticket_of L.ticket seat.old).left (ticket_of L.ticket seat.old).number }
+    ensures { result ≡ ticket_of L.ticket seat.old }
 {
-    match reply {
-        Reply::Done => Ok(()),
-        Reply::Refused(fault) => Err(fault),
-        _ => unreachable!(),
-    }
-}
-
-fn attributes(reply: Reply) -> Result<Status, Fault>
-    requires { is_attributes reply ≡ true }
-    ensures { attributes_says reply ≡ Some result }
-{
-    match reply {
-        Reply::Attrs(status) => Ok(status),
-        Reply::Refused(fault) => Err(fault),
-        _ => unreachable!(),
-    }
+    let process = process_of(seat.take().unwrap(), waits);
+    process.approach(mq).come_in(rt, mq)
 }

@@ -163,7 +163,7 @@ fn processes_of<L: Look<Guarded>>(
     ensures len { vec_len result ≡ vec_len seats }
 {
     'seats: for seat in seats {
-        processes.push(process_of(seat)).unwrap();
+        processes.push(process_of(seat, None)).unwrap();
     }
     processes
 }

@@ -25,6 +25,7 @@ mod exits;
 mod memory;
 mod steps;
 mod threads;
+mod walks;
 
 /// Queues for two processes, and those.
 #[derive(Drop)]

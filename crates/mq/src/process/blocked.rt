@@ -3,14 +3,12 @@ ghost use Rattle.std.specs.Prelude.{◌≡◌};
 ghost use Rattle.std.specs.List.{list_all};
 ghost use Rattle.mq.specs.Blocked.{is_blocked};
 
-use super::Process;
+use super::{Process, arrive};
 use crate::guarded::Guarded;
-use crate::stays::{come, depart};
 use crate::system::Mq;
 use fast_mutex::Look;
-use mq_model::entries::{Call, Deadline, Received};
+use mq_model::entries::{Deadline, Received};
 use mq_model::faults::Fault;
-use mq_state::books::Books;
 use std::sync::Wait;
 
 impl<L: Look<Guarded>> Process<L> {
@@ -31,9 +29,9 @@ impl<L: Look<Guarded>> Process<L> {
         ensures calls { Calls self.old self.new [] }
         ensures wait { waiting_room self.new.left self.new.number ≡ waiting_room self.old.left self.old.number }
     {
-        let (_, inside, state) = come(rt, mq, &mut self.seat);
-        let blocked = all_blocked(&state.books, processes);
-        depart(mq, &mut self.seat, inside, state);
+        let arrived = arrive(rt, mq, &mut self.seat, self.waits);
+        let (process, blocked) = arrived.are_blocked(mq, processes);
+        *self = process;
         blocked
     }
 
@@ -55,15 +53,10 @@ impl<L: Look<Guarded>> Process<L> {
         ensures waits { result ≡ Ok false → WaitsIn self.new (Call.MqTimedSend d prio (length bytes.now) until now) }
         ensures free { result ≢ Ok false → IsFree self.new }
     {
-        let len = bytes.len() as u64;
-        let call = Call::MqTimedSend {
-            d,
-            prio,
-            len,
-            until,
-            now,
-        };
-        self.begin_send(rt, mq, call, bytes)
+        let arrived = arrive(rt, mq, &mut self.seat, self.waits);
+        let (process, sent) = arrived.start_timed_send(mq, d, bytes, prio, until, now);
+        *self = process;
+        sent
     }
 
     /// Begins a receive with a deadline at the moment `now`: `None` where the process now has an open wait, and else the message is
@@ -84,22 +77,9 @@ impl<L: Look<Guarded>> Process<L> {
         ensures waits { result ≡ Ok None → WaitsIn self.new (Call.MqTimedReceive d (length buf.old) until now) }
         ensures free { result ≢ Ok None → IsFree self.new }
     {
-        let room = buf.len() as u64;
-        let call = Call::MqTimedReceive {
-            d,
-            room,
-            until,
-            now,
-        };
-        self.begin_receive(rt, mq, call, buf)
+        let arrived = arrive(rt, mq, &mut self.seat, self.waits);
+        let (process, got) = arrived.start_timed_receive(mq, d, buf, until, now);
+        *self = process;
+        got
     }
-}
-
-// Whether each of these processes is blocked.
-fn all_blocked(books: &Books, processes: &[u32]) -> bool
-    ensures { result ≡ list_all (is_blocked books.now.records) processes.now }
-{
-    processes
-        .iter()
-        .all(|p| books.waiting(*p).is_some() && !books.answered(*p))
 }

@@ -1,59 +1,11 @@
 //! The end of a process.
-ghost use Rattle.std.specs.Prelude.{◌≡◌, ◌≤◌, ◌∷◌, [], Some, None, OnOk, IfOk, IfErr};
-ghost use Rattle.mq_model.specs.Waits.{open_wait};
-ghost use Rattle.mq_model.specs.Descriptors.{lowest_held};
-ghost use Rattle.mq_model.specs.declared.entries.Call.{Call};
-ghost use Rattle.mq_model.specs.declared.entries.Reply.{Reply};
-ghost use Rattle.mq.specs.Calls.{Closing, Stops, recorded};
 
-use super::Process;
+use super::{Process, arrive};
 use crate::guarded::Guarded;
-use crate::stays::{come, depart};
 use crate::system::Mq;
 use fast_mutex::Look;
-use mq_model::entries::Reply;
 use mq_model::faults::Fault;
-use mq_state::books::Books;
 use std::sync::Wait;
-
-// The number of descriptors that a process may hold.
-const DESCRIPTORS: u32 = 16;
-
-// Closes the lowest descriptor of process p.
-fn close_lowest(books: &mut Books, p: u32, d: u32) -> Result<(), Fault>
-    requires process { (1 ≤ p) × (p ≤ books.old.n) }
-    requires no_wait { open_wait books.old.records p ≡ None }
-    requires lowest { lowest_held books.old.records p ≡ Some d }
-    ensures ok { IfOk result (λ _. books.new.records ≡ recorded p (Call.MqClose d) [] Reply.Done ∷ books.old.records) }
-    ensures err { IfErr result (λ e. Stops books.old.bounds books.old.records p e × (books.new.records ≡ books.old.records)) }
-    ensures processes { books.new.n ≡ books.old.n }
-    ensures bounds { books.new.bounds ≡ books.old.bounds }
-{
-    match books.close(p, d) {
-        Reply::Done => Ok(()),
-        Reply::Refused(fault) => Err(fault),
-        _ => unreachable!(),
-    }
-}
-
-// Closes all descriptors of process p in rising order, until one is refused.
-fn close_all(books: &mut Books, p: u32) -> Result<(), Fault>
-    requires process { (1 ≤ p) × (p ≤ books.old.n) }
-    requires no_wait { open_wait books.old.records p ≡ None }
-    ensures closing { Closing books.old.records books.new.records p }
-    ensures ok { OnOk result (lowest_held books.new.records p ≡ None) }
-    ensures err { IfErr result (Stops books.old.bounds books.new.records p) }
-    ensures free { open_wait books.new.records p ≡ None }
-    ensures processes { books.new.n ≡ books.old.n }
-    ensures bounds { books.new.bounds ≡ books.old.bounds }
-{
-    'descriptors: for d in 0..DESCRIPTORS {
-        if books.lowest_open(p) == Some(d) {
-            close_lowest(books, p, d)?;
-        }
-    }
-    Ok(())
-}
 
 impl<L: Look<Guarded>> Process<L> {
     ghost use Rattle.std.specs.Prelude.{◌≡◌};
@@ -67,9 +19,9 @@ impl<L: Look<Guarded>> Process<L> {
         ensures call { Exits self.old self.new result }
         ensures free { IsFree self.new }
     {
-        let (process, inside, mut state) = come(rt, mq, &mut self.seat);
-        let done = close_all(&mut state.books, process);
-        depart(mq, &mut self.seat, inside, state);
-        done
+        let arrived = arrive(rt, mq, &mut self.seat, self.waits);
+        let (process, closed) = arrived.exit(mq);
+        *self = process;
+        closed
     }
 }

@@ -1,20 +1,14 @@
 //! Sending and receiving, which may wait.
 ghost use Rattle.std.specs.Prelude.{◌≡◌, true, Some};
-ghost use Rattle.mq.specs.Asked.{is_sent, is_received};
-ghost use Rattle.mq.specs.Says.{start_send_says, start_receive_says};
-ghost use Rattle.mq.specs.Calls.{wait_begun};
 
-use super::Process;
-use crate::asking::{ask_receive, ask_send};
+use super::{Process, arrive};
 use crate::guarded::Guarded;
 use crate::pause::Pause;
-use crate::stays::{come, depart};
 use crate::system::Mq;
 use fast_mutex::Look;
-use mq_model::entries::{Call, Received, Reply};
+use mq_model::entries::{Call, Received};
 use mq_model::faults::Fault;
-use mq_state::books::Books;
-use mq_state::collected::{Collected, received};
+use mq_state::collected::Collected;
 use std::sync::Wait;
 use std::time::Clock;
 
@@ -44,11 +38,10 @@ impl<L: Look<Guarded>> Process<L> {
         ensures waits { result ≡ Ok false → WaitsIn self.new call }
         ensures free { result ≢ Ok false → IsFree self.new }
     {
-        let (process, inside, mut state) = come(rt, mq, &mut self.seat);
-        let reply = ask_send(&mut state.books, process, call, bytes);
-        depart(mq, &mut self.seat, inside, state);
-        self.waits = wait_begun(reply, 0);
-        accepted(reply)
+        let arrived = arrive(rt, mq, &mut self.seat, self.waits);
+        let (process, sent) = arrived.begin_send(mq, call, bytes);
+        *self = process;
+        sent
     }
 
     // Receives without waiting, with or without a deadline.
@@ -68,12 +61,9 @@ impl<L: Look<Guarded>> Process<L> {
         ensures waits { result ≡ Ok None → WaitsIn self.new call }
         ensures free { result ≢ Ok None → IsFree self.new }
     {
-        let room = buf.len();
-        let (process, inside, mut state) = come(rt, mq, &mut self.seat);
-        let reply = ask_receive(&mut state.books, process, call, buf);
-        let got = message_got(&state.books, reply);
-        depart(mq, &mut self.seat, inside, state);
-        self.waits = wait_begun(reply, room);
+        let arrived = arrive(rt, mq, &mut self.seat, self.waits);
+        let (process, got) = arrived.begin_receive(mq, call, buf);
+        *self = process;
         got
     }
 
@@ -93,8 +83,10 @@ impl<L: Look<Guarded>> Process<L> {
         ensures waits { result ≡ Ok false → WaitsIn self.new (Call.MqSend d prio (length bytes.now)) }
         ensures free { result ≢ Ok false → IsFree self.new }
     {
-        let len = bytes.len() as u64;
-        self.begin_send(rt, mq, Call::MqSend { d, prio, len }, bytes)
+        let arrived = arrive(rt, mq, &mut self.seat, self.waits);
+        let (process, sent) = arrived.start_send(mq, d, bytes, prio);
+        *self = process;
+        sent
     }
 
     /// Receives the oldest message of the highest priority into the front of the buffer, or begins to wait for one: `None`, and
@@ -113,8 +105,10 @@ impl<L: Look<Guarded>> Process<L> {
         ensures waits { result ≡ Ok None → WaitsIn self.new (Call.MqReceive d (length buf.old)) }
         ensures free { result ≢ Ok None → IsFree self.new }
     {
-        let room = buf.len() as u64;
-        self.begin_receive(rt, mq, Call::MqReceive { d, room }, buf)
+        let arrived = arrive(rt, mq, &mut self.seat, self.waits);
+        let (process, got) = arrived.start_receive(mq, d, buf);
+        *self = process;
+        got
     }
 
     /// Ends the open wait, if it is answered, and gives what it came to: a message that was received lies in the front of the
@@ -130,16 +124,10 @@ impl<L: Look<Guarded>> Process<L> {
         ensures fits { IfSome result (λ outcome. FitsIn outcome (length buf.old)) }
         ensures told { self.old.told ≡ true → IsSome result }
     {
-        let (process, inside, mut state) = come(rt, mq, &mut self.seat);
-        let outcome = state.books.collect(process, buf);
-        depart(mq, &mut self.seat, inside, state);
-        match outcome {
-            Some(outcome) => {
-                self.waits = None;
-                Some(outcome)
-            }
-            None => None,
-        }
+        let arrived = arrive(rt, mq, &mut self.seat, self.waits);
+        let (process, outcome) = arrived.collect(mq, buf);
+        *self = process;
+        outcome
     }
 
     /// Whether the open wait is answered, by one look from outside the lock, which never waits. Where it is true, the next
@@ -229,42 +217,5 @@ impl<L: Look<Guarded>> Process<L> {
             },
             Err(fault) => Err(fault),
         }
-    }
-}
-
-// How long a buffer the wait needs that this reply begins.
-fn wait_begun(reply: Reply, room: usize) -> Option<usize>
-    ensures { result ≡ wait_begun reply room }
-{
-    match reply {
-        Reply::Waits => Some(room),
-        _ => None,
-    }
-}
-
-// What a send with this reply gives.
-fn accepted(reply: Reply) -> Result<bool, Fault>
-    requires { is_sent reply ≡ true }
-    ensures { start_send_says reply ≡ Some result }
-{
-    match reply {
-        Reply::Queued { .. } => Ok(true),
-        Reply::Handed { .. } => Ok(true),
-        Reply::Waits => Ok(false),
-        Reply::Refused(fault) => Err(fault),
-        _ => unreachable!(),
-    }
-}
-
-// What a receive with this reply gives.
-fn message_got(books: &Books, reply: Reply) -> Result<Option<Received>, Fault>
-    requires { is_received reply ≡ true }
-    ensures { start_receive_says books.now.records reply ≡ Some result }
-{
-    match reply {
-        Reply::Got { place, .. } => Ok(Some(received(books.journal(), place))),
-        Reply::Waits => Ok(None),
-        Reply::Refused(fault) => Err(fault),
-        _ => unreachable!(),
     }
 }

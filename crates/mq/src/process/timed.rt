@@ -1,11 +1,9 @@
 //! Sending and receiving with a deadline.
 ghost use Rattle.std.specs.Prelude.{◌≡◌, true};
 
-use super::Process;
-use crate::asking;
+use super::{Process, arrive};
 use crate::guarded::Guarded;
 use crate::pause::Pause;
-use crate::stays::{come, depart};
 use crate::system::Mq;
 use fast_mutex::Look;
 use mq_model::entries::{Call, Deadline, Received};
@@ -43,10 +41,9 @@ impl<L: Look<Guarded>> Process<L> {
         ensures fits { IfSome result (λ outcome. FitsIn outcome (length buf.old)) }
         ensures free { IsFree self.new }
     {
-        let (process, inside, mut state) = come(rt, mq, &mut self.seat);
-        let outcome = asking::end_wait(&mut state.books, process, buf, now);
-        depart(mq, &mut self.seat, inside, state);
-        self.waits = None;
+        let arrived = arrive(rt, mq, &mut self.seat, self.waits);
+        let (process, outcome) = arrived.end_wait(mq, buf, now);
+        *self = process;
         outcome
     }
 

@@ -1,5 +1,4 @@
 use Rattle.std.proofs.Common.{◌≡◌, [], arith}
-use Rattle.std.specs.List.{All}
 use Rattle.std.proofs.lemmas.List.Elements.{All-same}
 use Rattle.mq.proofs.Seats.{tickets-left, tickets-count, all-unmap}
 use Rattle.mq.proofs.system.Mq.over.Goals as goal

@@ -1,5 +1,5 @@
 use Rattle.std.proofs.Common.{◌≡◌}
-use Rattle.fast_mutex.proofs.enter.AnyEnter.enter.Given as goal
+use Rattle.fast_mutex.proofs.enter.wait_in.Given as goal
 
 -- the walk is that of the seat
 abbrev pub invariant-loop : goal.invariant-loop

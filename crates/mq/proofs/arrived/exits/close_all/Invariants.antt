@@ -2,7 +2,7 @@ use Rattle.std.proofs.Common.{◌≡◌, None}
 use Rattle.mq_model.specs.Waits.{open_wait}
 use Rattle.mq.specs.Calls.{Closing}
 use Rattle.mq.proofs.Closings.{IsFrom}
-use Rattle.mq.proofs.process.exits.close_all.Given as goal
+use Rattle.mq.proofs.arrived.exits.close_all.Given as goal
 
 abbrev pub invariant-descriptors : goal.invariant-descriptors
 invariant-descriptors l = record {

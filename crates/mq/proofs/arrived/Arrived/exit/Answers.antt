@@ -1,0 +1,23 @@
+use Rattle.mq.specs.Calls.{closes}
+use Rattle.mq.proofs.Calling.{came-in, came-free, came-calls, came-stops, came-grows_by, same-number}
+use Rattle.mq.proofs.Closings.{own-closes, all-closes}
+use Rattle.mq.proofs.arrived.Arrived.exit.Goals as goal
+
+pub close_all-done-requires-clause-no_wait : goal.close_all-done-requires-clause-no_wait
+close_all-done-requires-clause-no_wait g c = came-free (came-in c.begin-inside.ensures.came c.self.view_is c.requires.made) c.requires.free
+
+pub depart-requires-clause-grows : goal.depart-requires-clause-grows
+depart-requires-clause-grows g c =
+    came-grows_by (closes c.self.inside.number c.close_all-done.ensures.closing.ds) (came-in c.begin-inside.ensures.came c.self.view_is c.requires.made) c.close_all-done.ensures.closing.is (all-closes c.self.inside.number c.close_all-done.ensures.closing.ds)
+
+pub returns-clause-call : goal.returns-clause-call
+returns-clause-call g c =
+    let came = came-in c.begin-inside.ensures.came c.self.view_is c.requires.made in
+    let closing = c.close_all-done.ensures.closing in
+    rw (c.process_of.ensures, c.depart.ensures.left) (record {
+      found = c.begin-inside.result.1.books.records;
+      closing = record { ds = closing.ds; is = rw came.process at closing.is; lowest = rw came.process at closing.lowest };
+      calls = came-calls (λ q. closes q closing.ds) came c.requires.made closing.is (own-closes c.self.inside.number closing.ds) c.depart.ensures.legal;
+      ok = rw (same-number came) c.close_all-done.ensures.ok;
+      err = came-stops c.close_all-done.new.books.records c.close_all-done.result came c.requires.made c.close_all-done.ensures.err;
+    })

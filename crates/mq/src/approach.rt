@@ -1,0 +1,112 @@
+//! A process under way into the lock.
+ghost use Rattle.std.specs.Prelude.{◌≡◌};
+
+use crate::arrived::Arrived;
+use crate::guarded::Guarded;
+use crate::process::Process;
+use crate::system::Mq;
+use fast_mutex::{Enter, Look};
+use std::marker::Model;
+use std::sync::Wait;
+
+/// A process on its way into the lock, made by [`Process::approach`]. It goes on step by step, without waiting, until it is an
+/// [`Arrived`], which makes one call and is a [`Process`] again. So code that must not wait can make calls, and do other work
+/// between the steps. Contracts see the process that set out.
+///
+/// From its first step on it stands in the way of the others: one that is dropped, or is not taken on to its end, can keep
+/// them out for good.
+#[derive(Drop)]
+pub struct Approach<L: Look<Guarded>> {
+    number: u32,
+    walk: L::Walk,
+    waits: Option<usize>,
+}
+
+impl<L: Look<Guarded>> Model for Approach<L> {
+    ghost use Rattle.fast_mutex.specs.Items.{Ticket};
+    ghost use Rattle.mq_model.specs.Record.{Record};
+    ghost use Rattle.mq.specs.Calls.{UnderWay};
+
+    ghost Value = { Ticket Record };
+
+    ghost view = { λ a. L.walking a.walk };
+
+    ghost invariant = { λ a. UnderWay (L.walking a.walk) a.number a.waits };
+}
+
+impl<L: Look<Guarded>> Approach<L> {
+    ghost use Rattle.std.specs.Prelude.{◌≡◌, IfOk, IfErr};
+    ghost use Rattle.mq_state.specs.Buffers.{waiting_room};
+
+    /// As [`Process::waiting`], of the process that set out.
+    pub fn waiting(&self) -> Option<usize>
+        ensures { result ≡ waiting_room self.now.left self.now.number }
+    {
+        self.waits
+    }
+
+    /// Takes at most so many atomic steps, none of which waits, and stops once it is inside. No call promises that steps lead
+    /// inside; where nobody else is under way five do, and with others it is worth letting them run before the next try.
+    pub fn advance(self, mq: &Mq<L>, steps: u32) -> Result<Arrived<L>, Approach<L>>
+        requires made { self.lock ≡ mq.now }
+        ensures arrived { IfOk result (λ arrived. arrived ≡ self) }
+        ensures under_way { IfErr result (λ approach. approach ≡ self) }
+    {
+        let Approach {
+            number,
+            mut walk,
+            waits,
+        } = self;
+        'steps: for _ in 0..steps {
+            if L::is_admitted(&walk) {
+                break;
+            }
+            walk = mq.lock().step(walk).0;
+        }
+        if !L::is_admitted(&walk) {
+            return Err(Approach {
+                number,
+                walk,
+                waits,
+            });
+        }
+        Ok(Arrived {
+            number,
+            walk,
+            waits,
+        })
+    }
+
+    /// Takes the process inside, which waits until nobody else is there.
+    #[inline(always)]
+    pub(crate) fn come_in<R: Wait>(self, rt: &R, mq: &Mq<L>) -> Arrived<L>
+        requires made { self.lock ≡ mq.now }
+        ensures { result ≡ self }
+    {
+        Arrived {
+            number: self.number,
+            walk: mq.lock().come_in(rt, self.walk),
+            waits: self.waits,
+        }
+    }
+}
+
+impl<L: Look<Guarded>> Process<L> {
+    ghost use Rattle.std.specs.Prelude.{◌≡◌};
+
+    /// Sets out for the lock: the next call of the process is that of the [`Arrived`] that this leads to. Touches nothing that
+    /// others see.
+    #[inline(always)]
+    pub fn approach(self, mq: &Mq<L>) -> Approach<L>
+        requires made { self.lock ≡ mq.now }
+        ensures { result ≡ self }
+    {
+        let Process { seat, waits } = self;
+        let seat = seat.unwrap();
+        Approach {
+            number: L::number(&seat),
+            walk: mq.lock().begin(seat),
+            waits,
+        }
+    }
+}
