@@ -45,6 +45,7 @@ impl Owner {
 
 /// What process p holds under descriptor d.
 #[tactic(auto, unfolding(crate::specs::Owners::held_in))]
+#[inline(always)]
 pub fn held(owners: &[Owner], p: u32, d: u32) -> Option<Description>
     ensures { result ≡ held_in owners.now p d }
 {
@@ -117,6 +118,7 @@ fn set_flag(owners: &mut [Owner], p: u32, d: u32, nonblock: bool)
     set_slot(owners, p, d, slot);
 }
 
+#[inline(always)]
 fn is_wait_at(owner: &Owner, place: u64) -> bool
     ensures { result ≡ is_place place (option_map (λ w. w.place) owner.now.wait) }
 {
@@ -128,6 +130,7 @@ fn is_wait_at(owner: &Owner, place: u64) -> bool
 
 // The first process whose open wait stands at a place.
 #[tactic(auto, unfolding(crate::specs::Owners::waiter_in))]
+#[inline(always)]
 fn waiter(owners: &[Owner], place: u64) -> Option<usize>
     ensures value { result ≡ waiter_in owners.now place }
     ensures inside { IfSome result (λ p. p < length owners.now) }
@@ -214,6 +217,7 @@ pub fn is_held(owners: &[Owner], q: u64) -> bool
 }
 
 // The wait at this place, if a process has it, is answered by the entry at place `here`.
+#[inline(always)]
 fn answer_wait(owners: &mut [Owner], wait: u64, here: u64)
     ensures { owners.new ≡ with_answer_at owners.old (waiter_in owners.old wait) here }
 {
@@ -259,6 +263,7 @@ fn note_attributes(owners: &mut [Owner], p: u32, call: Call)
 
 /// Notes the entry at place `here`: `queue` is the queue that an open opened, or on whose descriptor another call was made. A table
 /// that says what the definitions say of a legal journal says so of the journal with the entry.
+#[inline(always)]
 pub fn note(owners: &mut [Owner], here: u64, entry: Entry, queue: u64)
     requires process { entry.process < length owners.old }
     requires numbers { FitsSlots entry.call entry.reply }
@@ -268,6 +273,7 @@ pub fn note(owners: &mut [Owner], here: u64, entry: Entry, queue: u64)
     note_reply(owners, here, entry, queue);
 }
 
+#[inline(always)]
 fn note_reply(owners: &mut [Owner], here: u64, entry: Entry, queue: u64)
     requires process { entry.process < length owners.old }
     requires numbers { FitsSlots entry.call entry.reply }

@@ -87,6 +87,7 @@ impl Queue {
         self.slots.best()
     }
 
+    #[inline(always)]
     fn push(&mut self, prio: u32, place: u64)
         requires room { length self.old.slots < self.old.cap }
         requires newest { IsNewest prio place self.old }
@@ -96,6 +97,7 @@ impl Queue {
     }
 
     // Takes out the message that is received next, if there is one.
+    #[inline(always)]
     fn pop(&mut self)
         ensures { (place : ℕ) → IsNextAt place self.old → self.new ≡ without_slot place self.old }
     {
@@ -126,6 +128,7 @@ impl Queue {
 
     /// Notes the entry at place `here`, which was made on this queue: what it lets in and takes out, and whether the queue is
     /// still named. A message that it admits has priority `prio`.
+    #[inline(always)]
     pub fn note(&mut self, here: u64, entry: Entry, prio: u32)
         requires room { HasRoom entry.reply self.old }
         requires order { IsInOrder here entry.call entry.reply prio self.old }
@@ -177,6 +180,7 @@ pub fn index_of(queues: &[Queue], q: u64) -> Option<usize>
 
 /// Queue q.
 #[tactic(auto, unfolding(crate::specs::Queues::queue_in))]
+#[inline(always)]
 pub fn find(queues: &[Queue], q: u64) -> Option<&Queue>
     ensures { option_map (λ x. x.now) result ≡ queue_in queues.now q }
 {
@@ -193,6 +197,7 @@ pub struct LineFacts {
 
 /// The line of queue q, found once.
 #[tactic(auto, unfolding(crate::specs::Queues::slots_in, crate::specs::Queues::registration_in))]
+#[inline(always)]
 pub fn line(queues: &[Queue], q: u64) -> LineFacts
     ensures count { result.count ≡ length (slots_in queues.now q) }
     ensures bound { result.count < 2 ^ 63 }
@@ -283,6 +288,7 @@ fn remove(queues: &mut Vec<Queue>, spares: &mut Vec<Slots>, q: u64)
 }
 
 // Notes an entry in the line of its queue.
+#[inline(always)]
 fn renew(queues: &mut [Queue], q: u64, here: u64, entry: Entry, prio: u32)
     requires room { (x : QueueShown) → queue_in queues.old q ≡ Some x → HasRoom entry.reply x }
     requires order { (x : QueueShown) → queue_in queues.old q ≡ Some x → IsInOrder here entry.call entry.reply prio x }
@@ -294,6 +300,7 @@ fn renew(queues: &mut [Queue], q: u64, here: u64, entry: Entry, prio: u32)
 }
 
 // Notes an entry made on queue q in the registration of each line.
+#[inline(always)]
 fn note_registrations(queues: &mut [Queue], q: u64, here: u64, entry: Entry)
     ensures { queues.new ≡ map (reregistered q here entry) queues.old }
 {
@@ -324,6 +331,7 @@ fn may_free(entry: Entry) -> bool
 }
 
 // Gives back the place of queue q, where an entry may have freed it and nobody needs it.
+#[inline(always)]
 fn release(owners: &[Owner], freed: bool, queues: &mut Vec<Queue>, spares: &mut Vec<Slots>, q: u64)
     ensures items { queues.new.items ≡ released owners.now freed queues.old.items q }
     ensures room { (vec_len queues.new ≤ vec_len queues.old) × (vec_capacity queues.new ≡ vec_capacity queues.old) }
@@ -335,6 +343,7 @@ fn release(owners: &[Owner], freed: bool, queues: &mut Vec<Queue>, spares: &mut 
 }
 
 // Notes an entry made on queue q in the lines: its registrations, and what its own queue lets in and gives out.
+#[inline(always)]
 fn note_lines(queues: &mut Vec<Queue>, here: u64, entry: Entry, q: u64, prio: u32)
     requires room { (x : QueueShown) → queue_in (map (reregistered q here entry) queues.old.items) q ≡ Some x → HasRoom entry.reply x }
     requires order { (x : QueueShown) → queue_in (map (reregistered q here entry) queues.old.items) q ≡ Some x → IsInOrder here entry.call entry.reply prio x }
@@ -347,6 +356,7 @@ fn note_lines(queues: &mut Vec<Queue>, here: u64, entry: Entry, q: u64, prio: u3
 
 /// Notes the entry at place `here`, made on queue q, where the table of processes has noted it. A message that it admits has
 /// priority `prio`. A queue that it creates is added apart. The order of a queue that exists no longer joins the spare ones.
+#[inline(always)]
 pub fn note(
     queues: &mut Vec<Queue>,
     spares: &mut Vec<Slots>,

@@ -78,6 +78,7 @@ impl Tables {
     }
 
     // The queue of the descriptor that a call names, or the place of its entry.
+    #[inline(always)]
     fn descriptor_queue(&self, journal: &Prefix<'_>, p: u32, d: u32) -> u64
         requires mirror { Mirrors journal.now self.now }
         ensures { result ≡ unwrap_or (option_map (λ h. h.queue) (held journal.now.records p d)) (length journal.now.records) }
@@ -100,6 +101,7 @@ impl Tables {
     }
 
     // The queue that an entry is made on.
+    #[inline(always)]
     fn entry_queue(&self, journal: &Prefix<'_>, p: u32, call: Call, name: &[u8]) -> u64
         requires mirror { Mirrors journal.now self.now }
         ensures { result ≡ entry_queue journal.now.records p call name.now }
@@ -129,6 +131,7 @@ impl Tables {
     ghost use Rattle.mq_state.specs.Tables.{BringsOrder, notices_brought, noted_values, notified_values, with_fresh};
 
     // Notes in the inboxes what an entry made on queue q brings and takes.
+    #[inline(always)]
     fn note_notices(&mut self, entry: Entry, q: u64)
         requires process { entry.process < length self.old.inboxes.items }
         requires room { (n : Registration) → registration_in self.old.queues.items q ≡ Some n → 0 < room_in self.old.inboxes.items n.process }
@@ -153,6 +156,7 @@ impl Tables {
     }
 
     // Notes an entry made on queue q, which brings the order of a queue that it creates.
+    #[inline(always)]
     fn note(&mut self, journal: &Prefix<'_>, entry: Entry, q: u64, fresh: Option<Slots>)
         requires process { (entry.process < length self.old.owners.items) × (entry.process < length self.old.inboxes.items) }
         requires numbers { FitsSlots entry.call entry.reply }
@@ -226,6 +230,7 @@ ghost use Rattle.mq_state.specs.Tables.{moves_waits};
 ghost use Rattle.mq_model.specs.OwnersNoted.{noted, FitsSlots};
 
 // Notes in the table of processes an entry made on queue q, and gives how many wait behind it, where so many waited before it.
+#[inline(always)]
 fn note_owners(owners: &mut [Owner], waits: usize, here: u64, entry: Entry, q: u64) -> usize
     requires process { entry.process < length owners.old }
     requires numbers { FitsSlots entry.call entry.reply }
@@ -241,6 +246,7 @@ fn note_owners(owners: &mut [Owner], waits: usize, here: u64, entry: Entry, q: u
 }
 
 // A wait begins or ends.
+#[inline(always)]
 fn moves_waits(reply: Reply) -> bool
     ensures { result ≡ moves_waits reply }
 {
@@ -250,6 +256,7 @@ fn moves_waits(reply: Reply) -> bool
     }
 }
 
+#[inline(always)]
 fn gives_notice(reply: Reply) -> bool
     ensures { result ≡ gives_notice reply }
 {
@@ -260,6 +267,7 @@ fn gives_notice(reply: Reply) -> bool
 }
 
 // The priority of the send that a reply admits.
+#[inline(always)]
 fn admitted_priority(journal: &Prefix<'_>, reply: Reply) -> u32
     ensures { result ≡ admitted_priority journal.now.records reply }
 {

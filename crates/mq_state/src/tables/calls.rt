@@ -27,6 +27,7 @@ use mq_slots::Slots;
 use std::alloc::{AllocError, Global};
 
 // The payload of a call that was given these bytes.
+#[inline(always)]
 fn payload_of(call: Call, reply: Reply, given: &[u8]) -> &[u8]
     ensures value { result.now ≡ payload_of call reply given.now }
     ensures bound { length result.now ≤ length given.now }
@@ -42,6 +43,7 @@ fn payload_of(call: Call, reply: Reply, given: &[u8]) -> &[u8]
 }
 
 // How many bytes of its message a send with this reply keeps.
+#[inline(always)]
 fn bytes_kept(reply: Reply, bytes: &[u8]) -> usize
     ensures { result ≡ (if is_refused reply then 0 else length bytes.now) }
 {
@@ -53,6 +55,7 @@ fn bytes_kept(reply: Reply, bytes: &[u8]) -> usize
 
 impl Tables {
     // With so many more entries and payload bytes, and the entries that end the open waits, there would be more than the bounds allow.
+    #[inline(always)]
     fn exceeds(&self, journal: &Journal, entries: usize, bytes: usize) -> bool
         requires kept { IsKeptBy journal.now self.now }
         requires few { entries ≤ 2 }
@@ -66,6 +69,7 @@ impl Tables {
 
     // Makes room for the entries and the payload bytes of a call that would keep `most` bytes if it were not refused, besides the entries
     // that end the open waits; or says what is wanting.
+    #[inline(always)]
     fn make_room(
         &self,
         journal: &mut Journal,
@@ -149,6 +153,7 @@ impl Tables {
     }
 
     // Appends the entry of a call that gets its answer, with its payload.
+    #[inline(always)]
     fn append(&mut self, journal: &mut Journal, entry: Entry, payload: &[u8], fresh: Option<Slots>)
         requires kept { IsKeptBy journal.old self.old }
         requires next { IsLegalNext journal.old.records (record { entry = entry; payload = payload.now }) }
@@ -170,6 +175,7 @@ impl Tables {
     }
 
     // Appends the entry of a call that was given these bytes, with its answer.
+    #[inline(always)]
     fn record(
         &mut self,
         journal: &mut Journal,
@@ -397,6 +403,7 @@ impl Tables {
 
     // Settles a send, which would keep `most` bytes if its deadline, where it has one, did not refuse it: makes room for its entry and,
     // where nothing refuses it, for the bytes of its message, and appends it.
+    #[inline(always)]
     fn settle_send(
         &mut self,
         journal: &mut Journal,
@@ -425,6 +432,7 @@ impl Tables {
     }
 
     /// A send of a message (`mq_send`).
+    #[inline(always)]
     pub fn send(&mut self, journal: &mut Journal, p: u32, d: u32, bytes: &[u8], prio: u32) -> Reply
         requires { MayCall journal.old self.old p }
         ensures called { IsCalled journal.old journal.new self.old self.new p (Call.MqSend d prio (length bytes.now)) bytes.now result }
@@ -472,6 +480,7 @@ impl Tables {
     }
 
     // Settles a receive: makes room for its entry, fills the front of the buffer where it gets a message, and appends it.
+    #[inline(always)]
     fn settle_receive(
         &mut self,
         journal: &mut Journal,
@@ -496,6 +505,7 @@ impl Tables {
     }
 
     /// A receive (`mq_receive`).
+    #[inline(always)]
     pub fn receive(&mut self, journal: &mut Journal, p: u32, d: u32, buf: &mut [u8]) -> Reply
         requires { MayCall journal.old self.old p }
         ensures called { IsCalled journal.old journal.new self.old self.new p (Call.MqReceive d (length buf.old)) [] result }

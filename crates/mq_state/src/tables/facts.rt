@@ -22,6 +22,7 @@ use mq_model::ladder::{
 use mq_model::{ladder, owners};
 
 // `maxmsg` and `msgsize` of queue q, as the journal has them.
+#[inline(always)]
 fn attributes(journal: &Prefix<'_>, q: u64) -> Attr
     ensures { result ≡ attributes journal.now.records q }
 {
@@ -53,6 +54,7 @@ fn registration_place(registration: Option<Registration>) -> Option<u64>
 
 impl Tables {
     // What process p holds under descriptor d: a queue that exists.
+    #[inline(always)]
     fn held(&self, journal: &Prefix<'_>, p: u32, d: u32) -> Option<Description>
         requires mirror { Mirrors journal.now self.now }
         requires legal { Legal journal.now.records }
@@ -87,6 +89,7 @@ impl Tables {
     }
 
     // What the table says of queue q: its messages, and the registration that stands.
+    #[inline(always)]
     fn line(&self, journal: &Prefix<'_>, q: u64) -> LineFacts
         requires mirror { Mirrors journal.now self.now }
         requires alive { IsTrue (is_in (alive journal.now.records) q) }
@@ -99,6 +102,7 @@ impl Tables {
     }
 
     // The place of the send, or receive, that waits the longest on queue q.
+    #[inline(always)]
     fn first_wait(&self, journal: &Prefix<'_>, q: u64, sends: bool) -> Option<u64>
         requires mirror { Mirrors journal.now self.now }
         requires legal { Legal journal.now.records }
@@ -214,6 +218,7 @@ impl Tables {
         Reply::Notice(notices::first(&self.inboxes, p))
     }
 
+    #[inline(always)]
     fn send_facts(&self, journal: &Prefix<'_>, h: Description) -> SendFacts
         requires mirror { Mirrors journal.now self.now }
         requires legal { Legal journal.now.records }
@@ -233,6 +238,7 @@ impl Tables {
     }
 
     // The reply to a send.
+    #[inline(always)]
     pub(crate) fn answer_send(
         &self,
         journal: &Prefix<'_>,
@@ -253,6 +259,7 @@ impl Tables {
         }
     }
 
+    #[inline(always)]
     fn receive_facts(&self, journal: &Prefix<'_>, h: Description) -> ReceiveFacts
         requires mirror { Mirrors journal.now self.now }
         requires legal { Legal journal.now.records }
@@ -273,6 +280,7 @@ impl Tables {
     }
 
     // The reply to a receive.
+    #[inline(always)]
     pub(crate) fn answer_receive(&self, journal: &Prefix<'_>, p: u32, d: u32, room: u64) -> Reply
         requires mirror { Mirrors journal.now self.now }
         requires legal { Legal journal.now.records }
