@@ -1,7 +1,7 @@
 /* Preloaded in front of a program's allocator: refuses growths, and says of each that it did.
  *
  * GROWTH=N      refuses the Nth growth, from 1
- * GROWTH=marked refuses every growth behind the first mark
+ * GROWTH=marked refuses every growth after the first mark
  * GROWTH_FD=F   writes a byte to file descriptor F for each growth that it refuses
  *
  * A growth is a call of malloc, calloc, realloc or of a function for aligned memory. One of 16,777,213 bytes is a mark, which is not

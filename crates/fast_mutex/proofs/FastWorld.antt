@@ -67,7 +67,7 @@ flag_loaded x y flags marks zero v some wide is = absurd (omega arith)
 flag_loaded x y flags marks (suc m) v some wide is = let place : suc m + 1 ≡ suc (suc m) = omega arith in
     let word : get_or flags m 0 ≡ v = sym (get_or_append_left flags marks 0 m (omega arith)) ∙ ap (λ i. get_or (x ∷ y ∷ flags ++ marks) i 0) (sym place) ∙ is in ap (λ w. eqb w 1) word
 
--- a store to the word s of process p, which is behind all flags
+-- a store to the word s of process p, which is after all flags
 set_mark_word : (x y n : ℕ) (flags marks : List ℕ) (p v : ℕ) → length flags ≡ n → 1 ≤ p → set (x ∷ y ∷ flags ++ marks) (n + 1 + p) v ≡ x ∷ y ∷ flags ++ set marks (p - 1) v
 set_mark_word x y n flags marks p v wide some =
     let e : n + 1 + p ≡ suc (suc (n + (p - 1))) = omega arith in

@@ -11,7 +11,7 @@ use std::alloc::{AllocError, Global};
 pub enum Path {
     /// By finding its own number in x, with no look at the flags of others.
     Fast,
-    /// By finding its own number in y, behind a wait for the flag of each other process.
+    /// By finding its own number in y, after a wait for the flag of each other process.
     Slow,
 }
 

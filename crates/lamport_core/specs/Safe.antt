@@ -37,7 +37,7 @@ IsAhead SlowB = Unit {0}
 IsAhead Fast = Unit {0}
 IsAhead _ = ⊥
 
--- at Scan k with k above i, at SlowY or at Slow: behind its test of b[i]
+-- at Scan k with k above i, at SlowY or at Slow: after its test of b[i]
 abbrev pub HasPassed : ℕ → At → Type 0
 HasPassed i (Scan k) = i < k
 HasPassed i SlowY = Unit {0}

@@ -46,7 +46,7 @@ pub fn count_of(most: u32, word: &[u8]) -> Option<u32>
     if 1 <= n && n <= most { Some(n) } else { None }
 }
 
-/// Decimal digits, behind a `-` or not, which fit an `i64`.
+/// Decimal digits, after a `-` or not, which fit an `i64`.
 pub fn integer(word: &[u8]) -> Option<i64>
     ensures { result ≡ integer_written word.now }
 {

@@ -138,7 +138,7 @@ module _ {old stay : Ticket Record} {system : LockId} {books : Kept} {p : ℕ} w
 pub collected-free : (found : Past) (p by : ℕ) → open_wait (recorded p Collect [] (Collected by) ∷ found) p ≡ None
 collected-free found p by = rw (eq-eqb p p refl) refl
 
--- behind the end of a wait its process has none
+-- after the end of a wait its process has none
 pub ended-free : (found new : Past) (p : ℕ) (now : Deadline) (result : Option Outcome) → (IsSome result ↔ IsSome (answered_by found p)) → IfSome (answered_by found p) (λ by. Appends found new p Collect [] (Collected by))
     → (result ≡ None → IfSome (open_wait found p) (λ wait. Appends found new p (Withdraw now) [] (Withdrawn wait))) → IsSome (open_wait found p) → open_wait new p ≡ None
 ended-free found new p now result some entry none waits = by result refl

@@ -61,7 +61,7 @@ abbrev pub wait_begun : Reply → ℕ → Option ℕ
 wait_begun Waits room = Some room
 wait_begun _ room = None
 
--- of one process and one lock: the journal now left is legal and begins with the one left before, and behind that the
+-- of one process and one lock: the journal now left is legal and begins with the one left before, and after that the
 -- process's own records are just these
 pub record Calls (old new : Ticket Record) (own : Past) : Type 0 where
   pub lock : new.lock ≡ old.lock
@@ -109,7 +109,7 @@ pub record StillWaits (old new : Ticket Record) : Type 0 where
   pub call : waiting_call new.left new.number ≡ waiting_call old.left old.number
   pub unanswered : is_answered new.left new.number ≡ false
 
--- a wait that a call began in its first stay, whose ticket behind it was `begun`
+-- a wait that a call began in its first stay, whose ticket after it was `begun`
 pub record Begins (old begun : Ticket Record) (call : Call) (given : List ℕ) : Type 0 where
   pub calls : Calls old begun (recorded old.number call given Waits ∷ [])
   pub found : Found old begun call given Waits

@@ -65,6 +65,7 @@ pub(crate) fn ask_by_name(books: &mut Books, p: u32, call: Call, name: &Name) ->
 }
 
 /// Makes a send, with or without a deadline.
+#[inline(always)]
 pub(crate) fn ask_send(books: &mut Books, p: u32, call: Call, bytes: &[u8]) -> Reply
     requires process { (1 ≤ p) × (p ≤ books.old.n) }
     requires no_wait { open_wait books.old.records p ≡ None }
@@ -90,6 +91,7 @@ pub(crate) fn ask_send(books: &mut Books, p: u32, call: Call, bytes: &[u8]) -> R
 }
 
 /// Makes a receive, with or without a deadline.
+#[inline(always)]
 pub(crate) fn ask_receive(books: &mut Books, p: u32, call: Call, buf: &mut [u8]) -> Reply
     requires process { (1 ≤ p) × (p ≤ books.old.n) }
     requires no_wait { open_wait books.old.records p ≡ None }

@@ -87,6 +87,7 @@ pub(crate) struct Visit {
 }
 
 impl Visit {
+    #[inline(always)]
     pub(crate) fn begin(state: Guarded, process: u32) -> Visit
         ensures books { result.books ≡ state.books }
         ensures process { result.process ≡ process }
@@ -107,6 +108,7 @@ impl Visit {
     }
 
     /// The state to give back. The answers are counted anew only where a record of this stay may have changed one.
+    #[inline(always)]
     pub(crate) fn end(self) -> Guarded
         requires places { self.places ≤ length self.books.records }
         requires answered { self.answered ≡ answered_bits (first self.places self.books.records) }
@@ -126,6 +128,7 @@ impl Visit {
 }
 
 // Which waits are answered, where `answered` has those of the first `places` records, and `own` that of the process.
+#[inline(always)]
 fn answered_now(books: &Books, process: u32, answered: u32, own: bool, places: u64) -> u32
     requires places { places ≤ length books.now.records }
     requires answered { answered ≡ answered_bits (first places books.now.records) }
@@ -146,6 +149,7 @@ fn answered_now(books: &Books, process: u32, answered: u32, own: bool, places: u
     answered
 }
 
+#[inline(always)]
 fn names_wait(reply: Reply) -> bool
     ensures { result ≡ is_some (named_wait reply) }
 {

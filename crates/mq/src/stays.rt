@@ -9,6 +9,7 @@ use crate::system::Mq;
 use fast_mutex::Look;
 
 /// The stay of a walk that has come in, of this process.
+#[inline(always)]
 pub(crate) fn begin<L: Look<Guarded>>(walk: L::Walk, process: u32) -> (L::Inside, Visit)
     requires inside { L.is_in walk ≡ true }
     requires process { process ≡ (L.walking walk).number }
@@ -21,6 +22,7 @@ pub(crate) fn begin<L: Look<Guarded>>(walk: L::Walk, process: u32) -> (L::Inside
 }
 
 /// Leaves, and gives the seat back.
+#[inline(always)]
 pub(crate) fn depart<L: Look<Guarded>>(mq: &Mq<L>, inside: L::Inside, visit: Visit) -> L::Seat
     requires lock { (L.stay inside).lock ≡ mq.now }
     requires n { visit.books.n ≡ mq.now.count }

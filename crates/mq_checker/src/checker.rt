@@ -35,7 +35,7 @@ fn all(process: bool, turn: bool, fits: bool, same: bool) -> bool
     process && turn && fits && same
 }
 
-// Whether the record at place `k` may stand behind those before it.
+// Whether the record at place `k` may stand after those before it.
 fn is_legal_at(journal: &Journal, k: u64, tables: &Tables) -> bool
     requires place { k < length journal.now.records }
     requires legal { Legal (first k journal.now.records) }

@@ -32,7 +32,7 @@ use Rattle.mq_model.specs.declared.entries.Reply.TheVariants.{Opened, Queued, Ha
 
 -- queues -----------------------------------------------------------------------------------------------------------------
 
--- a queue is needed behind a record only where it was needed before
+-- a queue is needed after a record only where it was needed before
 needed-before : (past : Past) (r : Record) → Legal (r ∷ past) → (q : ℕ) → q < length past → (is_named (r ∷ past) q || is_held (r ∷ past) q) ≡ true → (is_named past q || is_held past q) ≡ true
 needed-before past r legal q lt e = split (is_named (r ∷ past) q)
     (λ t. by-name (bound_queue-before (name_of (r ∷ past) q) (named-bound (r ∷ past) q t)))
@@ -73,7 +73,7 @@ needed-before past r legal q lt e = split (is_named (r ∷ past) q)
         let facts = opened-says past r.entry.process flags attr r.payload d false answered in
         rw (bound-named past r.payload q (some-is (bound_queue past r.payload) facts.new opened)) refl
 
--- a queue that does not exist does not exist behind one more record
+-- a queue that does not exist does not exist after one more record
 gone-next : (past : Past) (r : Record) → Legal (r ∷ past) → (q : ℕ) → is_in (created past) q ≡ true → is_in (alive past) q ≡ false → is_in (alive (r ∷ past)) q ≡ false
 gone-next past r legal q made gone = false_from_ne_true _ (λ h.
     let before = needed-before past r legal q (created-below past q made) (needed-alive (r ∷ past) q h) in

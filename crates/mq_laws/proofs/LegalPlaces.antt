@@ -25,7 +25,7 @@ pub record LegalAt (past : Past) (k : ℕ) (r : Record) : Type 0 where
   pub before : Legal (first k past)
   pub next : IsLegalNext (first k past) r
 
--- the record at a place is legal behind those before it
+-- the record at a place is legal after those before it
 pub legal-at : (past : Past) → Legal past → (k : ℕ) (r : Record) → record_at past k ≡ Some r → LegalAt past k r
 legal-at [] legal k r e = absurd (cc)
 legal-at (s ∷ past) legal k r e = split (k == length past)

@@ -102,7 +102,7 @@ not-both past legal q v w h g =
 accepted-below : (past : Past) (q n : ℕ) → is_accepted past q n ≡ true → n < length past
 accepted-below past q n h = let x = accepted-sent past q n h in record_at-below past n x.r x.at
 
--- what waits behind a send that blocked
+-- what waits after a send that blocked
 waits-more : (past : Past) (p : ℕ) (call : Call) (payload : List ℕ) (q w : ℕ) → is_in (waiting_sends (rec p call Waits payload ∷ past) q) w ≡ true → (length past ≡ w) ⊎ (is_in (waiting_sends past q) w ≡ true)
 waits-more past p call payload q w h =
     let parts = is_in-filter (λ v. not (is_in (ended_sends past) v)) (blocked_sends (rec p call Waits payload ∷ past) q) w h in
@@ -209,7 +209,7 @@ admitted-enters (r ∷ past) legal q m k h e = has-cases admits past r k m e
 abbrev IsKept : Past → ℕ → Type 0
 IsKept past m = (k : ℕ) → Has withdrawn_wait past k m → ⊥
 
--- what became of a send to queue q behind which a later one was accepted
+-- what became of a send to queue q after which a later one was accepted
 abbrev Entered : Past → ℕ → ℕ → Type 0
 Entered past q m = (is_in (admitted past q) m ≡ true) ⊎ (is_in (taken past) m ≡ true)
 

@@ -1,4 +1,4 @@
--- The sends behind the messages of a queue.
+-- The sends of the messages of a queue.
 use Rattle.std.proofs.Common.{◌≡◌, ℕ, ◌==◌, Bool, true, false, ◌&&◌, ◌||◌, [], ◌∷◌, length, Option, Some, None, refl, sym, ◌∙◌, ap, subst, arith, eqb-true, eq-eqb}
 use Rattle.std.proofs.lemmas.Bool.{and_parts}
 use Rattle.mq_model.specs.Record.{Record, Past, record_at, first}

@@ -107,7 +107,7 @@ waiting-created past legal q w h =
 same-full : (past : Past) (r : Record) (q : ℕ) → q < length past → length (present (r ∷ past) q) ≡ length (present past q) → is_full past q ≡ true → is_full (r ∷ past) q ≡ true
 same-full past r q lt same full = rw (attributes-older past r q lt, same) full
 
--- a record behind which the same sends wait and as many messages are present
+-- a record after which the same sends wait and as many messages are present
 full-same : (past : Past) → Legal past → (r : Record) (q : ℕ) → FullWhereWaiting past q → waiting_sends (r ∷ past) q ≡ waiting_sends past q → length (present (r ∷ past) q) ≡ length (present past q) → FullWhereWaiting (r ∷ past) q
 full-same past legal r q before waits same w h =
     let old : is_in (waiting_sends past q) w ≡ true = rw waits at h in
@@ -160,7 +160,7 @@ full-queued past legal p NextNotice n payload q says before w h = absurd (cc)
 full-queued past legal p Collect n payload q says before w h = absurd (cc)
 full-queued past legal p (Withdraw now) n payload q says before w h = absurd (cc)
 
--- the sends that wait behind a reply that ends one waited before it
+-- the sends that wait after a reply that ends one waited before it
 pub still-waits : (past : Past) (v q w : ℕ) → is_in (filter (λ k. not (is_in (v ∷ ended_sends past) k)) (blocked_sends past q)) w ≡ true → is_in (waiting_sends past q) w ≡ true
 still-waits past v q w h =
     let still : is_in (without v (waiting_sends past q)) w ≡ true = rw (← filter-both (λ k. v == k) (is_in (ended_sends past)) (blocked_sends past q)) h in

@@ -93,7 +93,7 @@ empty-queued past p NextNotice n payload q w says before h = absurd (cc)
 empty-queued past p Collect n payload q w says before h = absurd (cc)
 empty-queued past p (Withdraw now) n payload q w says before h = absurd (cc)
 
--- the waits that did not end, behind a reply that ends one
+-- the waits that did not end, after a reply that ends one
 empty-ended : (past : Past) (w0 q w : ℕ) → IsEmptyWhereWaiting past q w → is_in (filter (λ v. not (is_in (w0 ∷ ended_receives past) v)) (blocked_receives past q)) w ≡ true → present past q ≡ []
 empty-ended past w0 q w before h =
     let still : is_in (without w0 (waiting_receives past q)) w ≡ true = rw (← filter-both (λ k. w0 == k) (is_in (ended_receives past)) (blocked_receives past q)) h in

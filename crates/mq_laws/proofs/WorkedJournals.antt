@@ -616,7 +616,7 @@ removal_of_one_queue-legal = (
   record { process = refl; turn = refl; payload = refl; reply = refl },
 )
 
--- a name has up to 255 bytes behind its slash
+-- a name has up to 255 bytes after its slash
 abbrev longest_name : Past
 longest_name =
     made 1 MqUnlink Done (47 ∷ replicate 255 97) ∷

@@ -1,4 +1,4 @@
--- Worked refusals: each record may not stand behind these, by computation.
+-- Worked refusals: each record may not stand after these, by computation.
 use Rattle.std.proofs.Common.{[], ◌∷◌, true, false, Some, None}
 use Rattle.std.specs.Prelude.{pos, codes, replicate}
 use Rattle.mq_model.specs.Record.{Past}
@@ -121,7 +121,7 @@ pub malformed_unlink-refused : IsLegalNext malformed_unlink (made 1 MqUnlink (Re
 unfolding descriptor_numbers
 malformed_unlink-refused h = let wrong = h.payload in cc
 
--- a name with 256 bytes behind its slash
+-- a name with 256 bytes after its slash
 abbrev name_too_long : Past
 name_too_long =
     []

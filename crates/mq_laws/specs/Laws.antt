@@ -41,7 +41,7 @@ Has part past k m = option_and_then part (reply_at past k) ≡ Some m
 abbrev pub IsOnce : (Reply → Option ℕ) → Past → Type 0
 IsOnce part past = (j k m : ℕ) → Has part past j m → Has part past k m → j ≡ k
 
--- no message is given twice, none that was handed over is given, and each is given behind its send. No wait is ended twice, by an
+-- no message is given twice, none that was handed over is given, and each is given after its send. No wait is ended twice, by an
 -- entry that names it or by a withdrawal. So none is named twice, none is both named and withdrawn, no withdrawn send is accepted, and
 -- a withdrawn receive takes nothing. No registration is notified twice, and no two collects have one cause
 pub record GivesOnce (past : Past) : Type 0 where

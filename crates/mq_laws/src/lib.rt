@@ -9,7 +9,7 @@ ghost use Rattle.mq_model.specs.Waits.{OthersLeave};
 
 use mq_model::journals::Journal;
 
-/// No message is given twice, none that was handed to a waiting receive is given again, and each is given behind its send.
+/// No message is given twice, none that was handed to a waiting receive is given again, and each is given after its send.
 /// No wait is ended twice, by an entry that names it or by a withdrawal: none is named by two entries, none is both named and withdrawn,
 /// no withdrawn send is accepted, and a withdrawn receive takes nothing. No registration is notified by two entries, and no two collects
 /// have one cause.

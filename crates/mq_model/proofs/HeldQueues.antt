@@ -47,7 +47,7 @@ setattr-cases X (MqSetattr e nonblock) d before h is old = split (e == d)
     by (Some k) e g = let same : with_nonblock nonblock k ≡ h = cc in old k e (ap (λ (k : Description). k.queue) same)
 setattr-cases X call d before h is old = old h is refl
 
--- what is held behind an entry of its process: what an open made, or what was held before, on the same queue
+-- what is held after an entry of its process: what an open made, or what was held before, on the same queue
 pub after-cases : (X : Type 0) (past : Past) (call : Call) (name : List ℕ) (reply : Reply) (d : ℕ) (before : Option Description) (h : Description) → held_after past call name reply d before ≡ Some h →
     ((k : Description) → before ≡ Some k → k.queue ≡ h.queue → X) →
     ((flags : OpenFlags) (attr : Option Attr) (new : Bool) → call ≡ MqOpen flags attr → reply ≡ Opened d new → opened_queue past name new ≡ h.queue → X) → X

@@ -49,7 +49,7 @@ count-none f low (suc n) none =
     let both = count-cons f low (numbers_from (low + 1) n) in
     omega (arith, here, rest, both)
 
--- places behind the last of which f is true count for nothing
+-- places after the last of which f is true count for nothing
 count-more : (f : ℕ → Bool) (low n m : ℕ) → ((i : ℕ) → low + n ≤ i → f i ≡ false) → count_by f (numbers_from low (n + m)) ≡ count_by f (numbers_from low n)
 count-more f low zero m none = let same : 0 + m ≡ m = omega arith in ap (λ k. count_by f (numbers_from low k)) same ∙ count-none f low m (λ i le. none i (omega (arith, le)))
 count-more f low (suc n) m none =

@@ -111,14 +111,14 @@ may_call past p Collect = is_some (answered_by past p)
 may_call past p (Withdraw now) = is_none (answered_by past p) && is_over (wait_deadline past p) now
 may_call past p _ = is_none (open_wait past p)
 
--- the record may stand behind these
+-- the record may stand after these
 pub record IsLegalNext (past : Past) (r : Record) : Type 0 where
   pub process : IsTrue (nat_le 1 r.entry.process && nat_le r.entry.process most_processes)
   pub turn : IsTrue (may_call past r.entry.process r.entry.call)
   pub payload : IsTrue (is_payload r.entry.call r.entry.reply r.payload)
   pub reply : r.entry.reply ≡ answer past r.entry.process r.entry.call r.payload
 
--- each record may stand behind those before it
+-- each record may stand after those before it
 abbrev pub Legal : Past → Type 0
 Legal [] = Unit {0}
 Legal (r ∷ past) = Legal past × IsLegalNext past r

@@ -24,22 +24,22 @@ with_nonblock nonblock h = record { queue = h.queue; access = h.access; nonblock
 abbrev pub opened_queue : Past → List ℕ → Bool → Queue
 opened_queue past name created = if created then length past else unwrap_or (bound_queue past name) 0
 
--- what descriptor d is behind an open that answered e
+-- what descriptor d is after an open that answered e
 abbrev pub after_open : Past → Call → List ℕ → Descriptor → Bool → Descriptor → Option Description → Option Description
 after_open past (MqOpen flags attr) name e created d before = if e == d then Some (description (opened_queue past name created) flags) else before
 after_open past _ name e created d before = before
 
--- what descriptor d is behind a close
+-- what descriptor d is after a close
 abbrev pub after_close : Call → Descriptor → Option Description → Option Description
 after_close (MqClose e) d before = if e == d then None else before
 after_close _ d before = before
 
--- what descriptor d is behind a setattr
+-- what descriptor d is after a setattr
 abbrev pub after_setattr : Call → Descriptor → Option Description → Option Description
 after_setattr (MqSetattr e nonblock) d before = if e == d then option_map (with_nonblock nonblock) before else before
 after_setattr _ d before = before
 
--- what descriptor d of a process is behind an entry of that process, where it was before
+-- what descriptor d of a process is after an entry of that process, where it was before
 abbrev pub held_after : Past → Call → List ℕ → Reply → Descriptor → Option Description → Option Description
 held_after past call name (Opened e created) d before = after_open past call name e created d before
 held_after past call name Done d before = after_close call d before
@@ -47,7 +47,7 @@ held_after past call name (Attrs status) d before = after_setattr call d before
 held_after past call name _ d before = before
 
 -- the description that process p holds under descriptor d: that of the latest open that answered d, with the flag of the
--- latest setattr behind it, and none if d was closed since
+-- latest setattr after it, and none if d was closed since
 abbrev pub held : Past → Process → Descriptor → Option Description
 held [] p d = None
 held (r ∷ past) p d = if r.entry.process == p then held_after past r.entry.call r.payload r.entry.reply d (held past p d) else held past p d

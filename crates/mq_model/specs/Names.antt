@@ -28,7 +28,7 @@ abbrev pub unlinks : Call → Reply → Bool
 unlinks call Done = is_unlink call
 unlinks call _ = false
 
--- the queue that a name is bound to: its latest creating open, unless the name was unlinked behind it
+-- the queue that a name is bound to: its latest creating open, unless the name was unlinked after it
 abbrev pub bound_queue : Past → List ℕ → Option Queue
 bound_queue [] name = None
 bound_queue (r ∷ past) name =

@@ -62,7 +62,7 @@ abbrev pub or_else : Option Registration → Option Registration → Option Regi
 or_else None before = before
 or_else (Some n) before = Some n
 
--- the registration on a queue behind the entry at place `here`, where it was before and the entry's call is made on the
+-- the registration on a queue after the entry at place `here`, where it was before and the entry's call is made on the
 -- queue or not: the one that the entry makes there, else the one before unless the entry ended it
 abbrev pub registration_after : Bool → Place → Entry → Option Registration → Option Registration
 registration_after on here e before = or_else (only_if on (registration_of here e.process e.call e.reply)) (unless (ends on e) before)

@@ -1,4 +1,4 @@
--- What the table of processes becomes behind one more entry.
+-- What the table of processes becomes after one more entry.
 use Rattle.std.specs.Prelude.{ℕ, ◌≡◌, ◌<◌, List, [], ◌∷◌, length, replicate, Option, Some, None}
 use Rattle.std.specs.Option.{option_and_then}
 use Rattle.mq_model.specs.Limits.{most_descriptors}
@@ -31,7 +31,7 @@ abbrev pub noted_attributes : List Owner → ℕ → Call → List Owner
 noted_attributes owners p (MqSetattr d nonblock) = with_flag owners p d nonblock
 noted_attributes owners p _ = owners
 
--- the table behind the entry at place `here`, which an open made on queue q or a call on a descriptor of queue q
+-- the table after the entry at place `here`, which an open made on queue q or a call on a descriptor of queue q
 abbrev pub noted : List Owner → ℕ → ℕ → Call → Reply → ℕ → List Owner
 noted owners here p call (Opened d created) q = noted_open owners p call d q
 noted owners here p call Done q = noted_done owners p call

@@ -33,7 +33,7 @@ impl Model for Journal {
     ghost invariant = { IsStored };
 }
 
-// Adds bytes behind the others, in room that is there, which none at all leave as it was.
+// Adds bytes after the others, in room that is there, which none at all leave as it was.
 fn add_bytes(bytes: &mut Vec<u8>, more: &[u8])
     requires { vec_len bytes.old + length more.now ≤ vec_capacity bytes.old }
     ensures items { bytes.new.items ≡ bytes.old.items ++ more.now }
@@ -90,7 +90,7 @@ impl Journal {
         Ok(())
     }
 
-    /// Adds an entry with its payload behind all others, in room that was reserved. Takes no memory.
+    /// Adds an entry with its payload after all others, in room that was reserved. Takes no memory.
     pub fn push(&mut self, entry: Entry, payload: &[u8])
         requires entry_room { 0 < self.old.entry_room }
         requires byte_room { length payload.now ≤ self.old.byte_room }

@@ -28,7 +28,7 @@ impl Model for Name {
     ghost invariant = { λ n. IsTrue (is_name n.text.items) };
 }
 
-// A byte that may stand behind the slash.
+// A byte that may stand after the slash.
 fn is_name_byte(b: u8) -> bool
     ensures { result ≡ is_name_byte b }
 {
@@ -41,7 +41,7 @@ fn are_name_bytes(bytes: &[u8]) -> bool
     bytes.iter().all(|b| is_name_byte(*b))
 }
 
-// A slash, and behind it at least one byte, each of which may stand in a name.
+// A slash, and after it at least one byte, each of which may stand in a name.
 fn has_name_form(bytes: &[u8]) -> bool
     ensures { result ≡ has_name_form bytes.now }
 {
@@ -58,7 +58,7 @@ pub fn is_name(bytes: &[u8]) -> bool
 impl Name {
     ghost use Rattle.mq_model.specs.Name.{is_short};
 
-    /// Reads a name from its bytes. Refuses with `NameTooLong` where the only fault is more than 255 bytes behind the slash,
+    /// Reads a name from its bytes. Refuses with `NameTooLong` where the only fault is more than 255 bytes after the slash,
     /// else with `Invalid`. Takes no memory.
     pub fn read(bytes: &[u8]) -> Result<Name, Fault>
         ensures form { IsOk result ↔ IsTrue (is_name bytes.now) }

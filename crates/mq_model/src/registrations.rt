@@ -108,7 +108,7 @@ fn unless_ended(on: bool, entry: Entry, before: Option<Registration>) -> Option<
     }
 }
 
-/// The registration on a queue behind the entry at place `here`, where it was `before`, and the entry's call is made on the
+/// The registration on a queue after the entry at place `here`, where it was `before`, and the entry's call is made on the
 /// queue or not.
 pub fn registration_after(
     on: bool,

@@ -16,7 +16,7 @@ use Rattle.mq.proofs.Others.{call-grown, room-grown, wait-grown}
 use Rattle.mq.proofs.Replies.{receive-waits, send-waits}
 use Rattle.mq_runner.specs.Runs.{WaitsFor}
 
--- a collect behind other processes' calls
+-- a collect after other processes' calls
 pub collects-later : {old mid new : Ticket Record} {outcome : Outcome} {before after : List ℕ} → Calls old mid [] → Collects mid new outcome before after → Collects old new outcome before after
 collects-later {old} {mid} {new} first c = record {
   found = c.found;
@@ -29,7 +29,7 @@ collects-later {old} {mid} {new} first c = record {
   buffer = rw first.number at c.buffer;
 }
 
--- a wait behind other processes' calls
+-- a wait after other processes' calls
 waits-later : {old mid new : Ticket Record} {call : Call} {given : List ℕ} → Calls old mid (recorded old.number call given Waits ∷ []) → WaitsIn mid call → Calls mid new [] → WaitsFor old new call given
 waits-later {old} {mid} {new} {call} {given} first waits later =
     let some : IsSome (waiting_room mid.left mid.number) = rw waits.room refl in

@@ -1,4 +1,4 @@
--- The answers and shares of a phase, one more behind the others.
+-- The answers and shares of a phase, one more after the others.
 use Rattle.std.proofs.Common.{◌≡◌, ◌<◌, ◌+◌, ◌==◌, ◌++◌, ℕ, List, [], ◌∷◌, Bool, length, get_or, take, filter, ap, sym, ◌∙◌, append_assoc, append-nil, inl, inr, eq-eqb, eqb-true}
 use Rattle.std.proofs.lemmas.Bool.{cases_Bool}
 use Rattle.std.proofs.lemmas.List.{take_more, map-append}

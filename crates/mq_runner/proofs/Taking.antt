@@ -7,7 +7,7 @@ pub none-left : {X : Type 0} (xs : List X) → length xs ≡ 0 → xs ≡ []
 none-left [] none = refl
 none-left (x ∷ xs) none = absurd (omega arith)
 
--- what holds of all that is left holds of the first, and of those behind it
+-- what holds of all that is left holds of the first, and of those after it
 pub first-of : {X : Type 0} (P : X → Type 0) (xs ys : List X) (x : X) → xs ≡ x ∷ ys → All P xs → P x
 first-of P xs ys x is all = All-head P x ys (rw is at all)
 

@@ -1,4 +1,4 @@
--- Calls, shares and phases, one more behind the others.
+-- Calls, shares and phases, one more after the others.
 use Rattle.std.proofs.Common.{◌≡◌, ◌<◌, ◌+◌, ◌++◌, ℕ, List, [], ◌∷◌, length, get_or, take, map, refl, ap, arith, sym, ◌∙◌, subst, append_assoc, append-nil, All, Vec, Global, zero, suc}
 use Rattle.std.proofs.lemmas.List.{length-map, take_more, map-append}
 use Rattle.std.proofs.lemmas.List.Elements.{All-from_recursion, recursion_from_All}
@@ -18,7 +18,7 @@ use Rattle.mq_runner.specs.declared.turns.Turn.{Turn}
 use Rattle.mq_runner.specs.declared.turns.Worked.{Worked}
 use denote.Ref.{Bor}
 
--- one more call behind the others
+-- one more call after the others
 pub RunsCalls-push : (calls : List WrittenCall) (call : WrittenCall) (answers : List Answer) (answer : Answer) (old mid new : Ticket Record) → RunsCalls calls answers old mid → Performs call.moment call.command (buffer_given call.command) answer.buffer.items mid new answer.outcome → RunsCalls (calls ++ call ∷ []) (answers ++ answer ∷ []) old new
 RunsCalls-push [] call [] answer old mid new ran last =
     let P : Ticket Record → Type 0 = λ m. Performs call.moment call.command (buffer_given call.command) answer.buffer.items m new answer.outcome in
@@ -33,7 +33,7 @@ pub nothing-ran : (turns : List Turn) (answers : List Answer) (process : Ticket 
 nothing-ran [] answers process few none = rw none refl
 nothing-ran (turn ∷ turns) answers process few none = absurd (omega arith)
 
--- one more behind the others
+-- one more after the others
 pub zip-push : {A B : Type 0} (R : A → B → Type 0) (xs : List A) (ys : List B) (x : A) (y : B) → AllZip R xs ys → R x y → AllZip R (xs ++ x ∷ []) (ys ++ y ∷ [])
 zip-push R [] [] x y all has = (has, tt)
 zip-push R [] (b ∷ ys) x y all has = absurd all
@@ -80,7 +80,7 @@ phase-done calls shares workers before after text off dealt processes back is =
     rw (sym processes, back, is)
     (phase-ran calls shares workers off (recursion_from_All (λ (share : Share (Ticket Record)). calls_in share.turns.items ≡ calls_of share.process.number calls) shares dealt))
 
--- one more phase behind the others
+-- one more phase after the others
 RunsPhases-push : (phases : List (List WrittenCall)) (calls : List WrittenCall) (before mid after : List (Ticket Record)) (text more : List ℕ) → RunsPhases phases before mid text → RunsPhase calls mid after more → RunsPhases (phases ++ calls ∷ []) before after (text ++ more)
 RunsPhases-push [] calls before mid after text more ran last =
     let P : List (Ticket Record) → Type 0 = λ m. RunsPhase calls m after more in

@@ -27,7 +27,7 @@ text_in (worked ∷ others) = reply_lines worked.process.number worked.answers.i
 pub record AreReady (mq : LockId) (shares : List (Share (Ticket Record))) : Type 0 where
   pub all : All (λ share. IsReady mq share.process) shares
 
--- the calls of a share ended so: the process made them all, one behind the other, and has no open wait, or it waits in one of them
+-- the calls of a share ended so: the process made them all, one after the other, and has no open wait, or it waits in one of them
 pub record Ends (share : Share (Ticket Record)) (worked : Worked (Ticket Record)) : Type 0 where
   pub same : IsSameProcess share.process worked.process
   pub free : worked.blocked ≡ None → IsFree worked.process
@@ -36,7 +36,7 @@ pub record Ends (share : Share (Ticket Record)) (worked : Worked (Ticket Record)
 abbrev pub AllEnd : List (Share (Ticket Record)) → List (Worked (Ticket Record)) → Type 0
 AllEnd shares workers = AllZip Ends shares workers
 
--- a process made the calls of its share, one behind the other, and has no open wait
+-- a process made the calls of its share, one after the other, and has no open wait
 pub record WorksOff (share : Share (Ticket Record)) (worked : Worked (Ticket Record)) : Type 0 where
   pub same : IsSameProcess share.process worked.process
   pub free : IsFree worked.process

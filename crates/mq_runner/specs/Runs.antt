@@ -69,7 +69,7 @@ Performs moment (command.Notify d value) before behind old new came = Shows (λ 
 Performs moment command.Notice before behind old new came = Shows outcomes.Notice (OneCall notice_says old new NextNotice []) came
 Performs moment command.Exit before behind old new came = Shows (λ _. outcomes.Done) (Exits old new) came
 
--- the process made this call of the queues, and waits in it: behind the journal that it left before, the wait is its only record
+-- the process made this call of the queues, and waits in it: after the journal that it left before, the wait is its only record
 pub record WaitsFor (old new : Ticket Record) (call : Call) (given : List ℕ) : Type 0 where
   pub calls : Calls old new (recorded old.number call given Waits ∷ [])
   pub still : IsSome (open_wait new.left new.number)
@@ -83,7 +83,7 @@ Blocks moment (command.TimedSend d prio until message) before old new = WaitsFor
 Blocks moment (command.TimedReceive d room until) before old new = WaitsFor old new (MqTimedReceive d (length before) until moment) []
 Blocks moment other before old new = ⊥
 
--- a process made these calls one behind the other, and this is what they came to
+-- a process made these calls one after the other, and this is what they came to
 abbrev pub RunsCalls : List WrittenCall → List Answer → Ticket Record → Ticket Record → Type 0
 RunsCalls [] [] old new = new ≡ old
 RunsCalls [] (answer ∷ answers) old new = ⊥
@@ -110,7 +110,7 @@ RunsPhase calls (old ∷ before) (new ∷ after) text =
     × RunsPhase calls before after rest
     × (text ≡ reply_lines old.number answers ++ rest)
 
--- phases were run one behind the other
+-- phases were run one after the other
 abbrev pub RunsPhases : List (List WrittenCall) → List (Ticket Record) → List (Ticket Record) → List ℕ → Type 0
 RunsPhases [] before after text = (after ≡ before) × (text ≡ [])
 RunsPhases (calls ∷ phases) before after text =

@@ -82,7 +82,7 @@ where
     run_phases::<L, S, W, G>(rt, alloc, &script, output, gate)
 }
 
-// Makes the calls of a script, and writes the replies of each phase behind it.
+// Makes the calls of a script, and writes the replies of each phase after it.
 fn run_phases<L, S, W, G>(
     rt: &S,
     alloc: Global,
@@ -117,7 +117,7 @@ where
     Ok(())
 }
 
-// Runs phases one behind the other and writes the replies of each.
+// Runs phases one after the other and writes the replies of each.
 fn run_written_phases<'s, L, S, W, G>(
     rt: &'s S,
     alloc: Global,

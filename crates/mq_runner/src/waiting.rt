@@ -194,7 +194,7 @@ fn await_answer<L: Look<Guarded>, R: Wait + Clock>(
 }
 
 // Looks until the open wait is answered, or no process that may still call goes on: then it is false. It asks for that only once it
-// has waited long enough to sleep, and then behind each sleep.
+// has waited long enough to sleep, and then after each sleep.
 fn look_for_answer<L: Look<Guarded>, R: Wait + Clock>(
     rt: &R,
     mq: &Mq<L>,

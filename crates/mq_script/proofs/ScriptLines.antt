@@ -1,4 +1,4 @@
--- One line of a script, and what is behind it.
+-- One line of a script, and what is after it.
 use Rattle.std.proofs.Common.{◌≡◌, ◌+◌, ℕ, List, ◌∷◌, refl, ap, sym, ◌∙◌, Option, Some, None, Result, Ok, Err}
 use Rattle.mq_script.specs.ScriptFault.{Fails}
 use Rattle.mq_script.specs.declared.fault.ScriptFault.{ScriptFault}

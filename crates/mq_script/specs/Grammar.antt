@@ -71,7 +71,7 @@ attr_written (maxmsg ∷ msgsize ∷ []) = do
   Some (Some (record { maxmsg = maxmsg; msgsize = msgsize }))
 attr_written words = None
 
--- what the words behind each verb write
+-- what the words after each verb write
 abbrev pub open_written : List Word → Option (Command Word)
 open_written (name ∷ flags ∷ limits) = do
   flags ← flags_written flags
@@ -192,7 +192,7 @@ verbs = verb.Open ∷ verb.Close ∷ verb.Unlink ∷ verb.Send ∷ verb.Receive 
 abbrev pub verb_written : Word → Option Verb
 verb_written word = find (λ verb. bytes_eq word (verb_text verb)) verbs
 
--- the call that a verb and the words behind it write
+-- the call that a verb and the words after it write
 abbrev pub call_written : Verb → List Word → Option (Command Word)
 call_written verb.Open = open_written
 call_written verb.Close = close_written
@@ -207,7 +207,7 @@ call_written verb.Notify = notify_written
 call_written verb.Notice = notice_written
 call_written verb.Exit = exit_written
 
--- the call that the words behind the process write
+-- the call that the words after the process write
 abbrev pub command_written : List Word → Option (Command Word)
 command_written [] = None
 command_written (word ∷ arguments) = do

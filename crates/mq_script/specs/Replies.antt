@@ -9,7 +9,7 @@ use Rattle.mq_script.specs.declared.reply.Outcome.TheVariants.{Opened, Done, Got
 abbrev pub flag_text : Bool → List ℕ
 flag_text nonblock = decimal (if nonblock then 1 else 0)
 
--- the words behind the process, without a received message
+-- the words after the process, without a received message
 abbrev pub outcome_text : Outcome → List ℕ
 outcome_text (Opened d) = codes "fd " ++ decimal d
 outcome_text Done = codes "ok"

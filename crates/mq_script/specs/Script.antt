@@ -63,7 +63,7 @@ call_line_written processes number moment (process ∷ words) = do
   command ← command_written words
   Some (record { process = process; line = number; command = command; moment = moment })
 
--- what the words of a line write: what is not skipped gives the number of processes first. No clock is set behind a call of its phase
+-- what the words of a line write: what is not skipped gives the number of processes first. No clock is set after a call of its phase
 abbrev pub line_written : Option ℕ → ℕ → PhaseTime → List Word → Option (Line WrittenCall)
 line_written None number time words = if is_skipped words then Some Skipped else option_map Processes (processes_written words)
 line_written (Some processes) number time words =
@@ -72,7 +72,7 @@ line_written (Some processes) number time words =
     else (if is_clock words then (if time.begun then None else option_map Clock (clock_written words))
     else option_map Call (call_line_written processes number time.moment words)))
 
--- the number of processes, as far as it is known behind a line
+-- the number of processes, as far as it is known after a line
 abbrev pub processes_behind : Line WrittenCall → Option ℕ → Option ℕ
 processes_behind (Processes count) before = Some count
 processes_behind line before = before
@@ -81,14 +81,14 @@ abbrev pub calls_of : Line WrittenCall → ℕ
 calls_of (Call call) = 1
 calls_of line = 0
 
--- the moment of the phase behind a line: a clock line sets it, and it stays in later phases
+-- the moment of the phase after a line: a clock line sets it, and it stays in later phases
 abbrev pub time_behind : Line WrittenCall → PhaseTime → PhaseTime
 time_behind (Clock moment) time = record { moment = moment; begun = time.begun }
 time_behind (Call call) time = record { moment = time.moment; begun = true }
 time_behind PhaseEnd time = record { moment = time.moment; begun = false }
 time_behind line time = time
 
--- how many lines, bytes and call lines were read, and the moment of the phase, behind a line
+-- how many lines, bytes and call lines were read, and the moment of the phase, after a line
 abbrev pub place_behind : Place → List ℕ → Line WrittenCall → Place
 place_behind at bytes line = record { lines = at.lines + 1; bytes = at.bytes + length bytes; calls = at.calls + calls_of line; time = time_behind line at.time }
 
@@ -96,7 +96,7 @@ place_behind at bytes line = record { lines = at.lines + 1; bytes = at.bytes + l
 abbrev pub is_within_limits : Place → Bool
 is_within_limits at = nat_le at.bytes 1048576 && nat_le at.calls 1000
 
--- what the bytes of a line write, with the place behind it, which is within the limits
+-- what the bytes of a line write, with the place after it, which is within the limits
 abbrev pub line_read : Option ℕ → Place → List ℕ → Option (Line WrittenCall × Place)
 line_read processes at bytes = do
   line ← line_written processes (at.lines + 1) at.time (words_of bytes)
@@ -108,7 +108,7 @@ pub record Written : Type 0 where
   pub first : List WrittenCall
   pub later : List (List WrittenCall)
 
--- the script that a line writes, where the lines behind it write this one
+-- the script that a line writes, where the lines after it write this one
 abbrev pub with_line : Line WrittenCall → Written → Written
 with_line Skipped script = script
 with_line (Processes count) script = script
@@ -126,7 +126,7 @@ or_fault None line f = Err line
 or_fault (Some x) line f = f x
 
 -- the script that lines write, or the first line at fault. Where no line says how many processes there are, that is the one
--- behind the last
+-- after the last
 abbrev pub script_read : Option ℕ → Place → List (List ℕ) → Result Written ℕ
 script_read processes at [] = or_fault processes (at.lines + 1) (λ count. Ok (record { processes = count; first = []; later = [] }))
 script_read processes at (bytes ∷ rest) =

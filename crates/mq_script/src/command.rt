@@ -134,7 +134,7 @@ fn access_of(letter: u8) -> Option<Access>
 /// The letters for create, excl and nonblock.
 const OPTION_LETTERS: [u8; 3] = *b"cxn";
 
-// The letters of an open behind its access: each at most once.
+// The letters of an open after its access: each at most once.
 fn are_options(letters: &[u8]) -> bool
     ensures { result ≡ are_options letters.now }
 {
@@ -209,7 +209,7 @@ fn room_of(word: &[u8]) -> Option<usize>
     Some(room as usize)
 }
 
-/// The call that the words behind the process write.
+/// The call that the words after the process write.
 pub fn command_of<'s>(words: &[&'s [u8]]) -> Option<Command<&'s [u8]>>
     ensures { option_map said result ≡ command_written (map (λ word. word.now) words.now) }
 {
@@ -232,7 +232,7 @@ pub fn command_of<'s>(words: &[&'s [u8]]) -> Option<Command<&'s [u8]>>
     }
 }
 
-// The words behind `open`.
+// The words after `open`.
 fn open_of<'s>(words: &[&'s [u8]]) -> Option<Command<&'s [u8]>>
     ensures { option_map said result ≡ open_written (map (λ word. word.now) words.now) }
 {
@@ -260,7 +260,7 @@ fn attr_of(words: &[&[u8]]) -> Option<Option<Attr>>
     }
 }
 
-// The words behind `close`.
+// The words after `close`.
 fn close_of<'s>(words: &[&'s [u8]]) -> Option<Command<&'s [u8]>>
     ensures { option_map said result ≡ close_written (map (λ word. word.now) words.now) }
 {
@@ -272,7 +272,7 @@ fn close_of<'s>(words: &[&'s [u8]]) -> Option<Command<&'s [u8]>>
     }
 }
 
-// The words behind `unlink`.
+// The words after `unlink`.
 fn unlink_of<'s>(words: &[&'s [u8]]) -> Option<Command<&'s [u8]>>
     ensures { option_map said result ≡ unlink_written (map (λ word. word.now) words.now) }
 {
@@ -282,7 +282,7 @@ fn unlink_of<'s>(words: &[&'s [u8]]) -> Option<Command<&'s [u8]>>
     }
 }
 
-// The words behind `send`.
+// The words after `send`.
 fn send_of<'s>(words: &[&'s [u8]]) -> Option<Command<&'s [u8]>>
     ensures { option_map said result ≡ send_written (map (λ word. word.now) words.now) }
 {
@@ -301,7 +301,7 @@ fn send_of<'s>(words: &[&'s [u8]]) -> Option<Command<&'s [u8]>>
     }
 }
 
-// The words behind `receive`.
+// The words after `receive`.
 fn receive_of<'s>(words: &[&'s [u8]]) -> Option<Command<&'s [u8]>>
     ensures { option_map said result ≡ receive_written (map (λ word. word.now) words.now) }
 {
@@ -314,7 +314,7 @@ fn receive_of<'s>(words: &[&'s [u8]]) -> Option<Command<&'s [u8]>>
     }
 }
 
-// The words behind `tsend`.
+// The words after `tsend`.
 fn timed_send_of<'s>(words: &[&'s [u8]]) -> Option<Command<&'s [u8]>>
     ensures { option_map said result ≡ timed_send_written (map (λ word. word.now) words.now) }
 {
@@ -340,7 +340,7 @@ fn text_of<'s>(words: &[&'s [u8]]) -> Option<&'s [u8]>
     }
 }
 
-// The words behind `trecv`.
+// The words after `trecv`.
 fn timed_receive_of<'s>(words: &[&'s [u8]]) -> Option<Command<&'s [u8]>>
     ensures { option_map said result ≡ timed_receive_written (map (λ word. word.now) words.now) }
 {
@@ -374,7 +374,7 @@ pub fn deadline_of(sec: &[u8], nsec: &[u8]) -> Option<Deadline>
     })
 }
 
-// The words behind `getattr`.
+// The words after `getattr`.
 fn getattr_of<'s>(words: &[&'s [u8]]) -> Option<Command<&'s [u8]>>
     ensures { option_map said result ≡ getattr_written (map (λ word. word.now) words.now) }
 {
@@ -386,7 +386,7 @@ fn getattr_of<'s>(words: &[&'s [u8]]) -> Option<Command<&'s [u8]>>
     }
 }
 
-// The words behind `setattr`.
+// The words after `setattr`.
 fn setattr_of<'s>(words: &[&'s [u8]]) -> Option<Command<&'s [u8]>>
     ensures { option_map said result ≡ setattr_written (map (λ word. word.now) words.now) }
 {
@@ -399,7 +399,7 @@ fn setattr_of<'s>(words: &[&'s [u8]]) -> Option<Command<&'s [u8]>>
     }
 }
 
-// The words behind `notify`.
+// The words after `notify`.
 fn notify_of<'s>(words: &[&'s [u8]]) -> Option<Command<&'s [u8]>>
     ensures { option_map said result ≡ notify_written (map (λ word. word.now) words.now) }
 {
@@ -412,7 +412,7 @@ fn notify_of<'s>(words: &[&'s [u8]]) -> Option<Command<&'s [u8]>>
     }
 }
 
-// The words behind `notice`.
+// The words after `notice`.
 fn notice_of<'s>(words: &[&'s [u8]]) -> Option<Command<&'s [u8]>>
     ensures { option_map said result ≡ notice_written (map (λ word. word.now) words.now) }
 {
@@ -422,7 +422,7 @@ fn notice_of<'s>(words: &[&'s [u8]]) -> Option<Command<&'s [u8]>>
     }
 }
 
-// The words behind `exit`.
+// The words after `exit`.
 fn exit_of<'s>(words: &[&'s [u8]]) -> Option<Command<&'s [u8]>>
     ensures { option_map said result ≡ exit_written (map (λ word. word.now) words.now) }
 {

@@ -48,7 +48,7 @@ pub enum Line<C> {
 }
 
 impl PhaseTime {
-    /// The time behind a line.
+    /// The time after a line.
     pub fn behind(self, line: &Line<ScriptCall<&[u8]>>) -> PhaseTime
         ensures { result ≡ time_behind (said_line line.now) self }
     {
@@ -70,7 +70,7 @@ impl PhaseTime {
     }
 }
 
-/// The first line, with the feed that ends it, and the bytes behind it.
+/// The first line, with the feed that ends it, and the bytes after it.
 pub fn first_line(text: &[u8]) -> (&[u8], &[u8])
     requires { 0 < length text.now }
     ensures lines { lines_of text.now ≡ result.0.now ∷ lines_of result.1.now }

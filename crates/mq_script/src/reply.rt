@@ -48,7 +48,7 @@ pub fn push_reply(
     Ok(())
 }
 
-// The words behind the process without a received message.
+// The words after the process without a received message.
 fn outcome_words(alloc: Global, outcome: &Outcome) -> Result<String, AllocError>
     ensures { IfOk result (λ words. string_bytes words ≡ outcome_text outcome.now) }
 {

@@ -26,7 +26,7 @@ pub struct Script<'s> {
 }
 
 /// The script in its bytes. `ScriptFault::BadCall`: the first line at fault, which may be the one that passes a limit, or, where
-/// the number of processes is missing, the one behind the last.
+/// the number of processes is missing, the one after the last.
 pub fn read_script<'s>(alloc: Global, text: &'s [u8]) -> Result<Script<'s>, ScriptFault>
     ensures written { Gives said_script result (script_written text.now) }
     ensures count { IfOk result (λ script. (1 ≤ script.processes) × (script.processes ≤ 32)) }
@@ -67,7 +67,7 @@ pub struct Place {
 }
 
 impl Place {
-    // The place behind a line, if it is within the limits of a script.
+    // The place after a line, if it is within the limits of a script.
     fn behind(self, bytes: &[u8], line: &Line<ScriptCall<&[u8]>>) -> Option<Place>
         requires { self.lines + 1 < 2 ^ 64 }
         ensures next { result ≡ (let next = place_behind self bytes.now (said_line line.now) in if is_within_limits next then Some next else None) }
@@ -92,7 +92,7 @@ impl Place {
     }
 }
 
-// What the bytes of the next line write, and the place behind it.
+// What the bytes of the next line write, and the place after it.
 fn next_line<'s>(
     alloc: Global,
     processes: Option<u32>,
@@ -117,7 +117,7 @@ fn next_line<'s>(
     Ok((line, place))
 }
 
-// The number of processes, as far as it is known behind a line.
+// The number of processes, as far as it is known after a line.
 fn processes_behind(line: &Line<ScriptCall<&[u8]>>, before: Option<u32>) -> Option<u32>
     ensures { result ≡ processes_behind (said_line line.now) before }
 {

@@ -86,7 +86,7 @@ left-there place (x ∷ xs) m there = split (x.1 == place)
     (λ t. contains-later x xs m (left-there place xs m (rw t at there)))
     (λ n. elim (contains-cons x (without place xs) m (rw n at there)) [ inl e ↦ rw e (contains-here x xs) | inr rest ↦ contains-later x xs m (left-there place xs m rest) ])
 
--- the send that a receive admits is the newest behind it too
+-- the send that a receive admits is the newest after it too
 pub newest-left : (here : ℕ) (call : Call) (reply : Reply) (prio : ℕ) (x y : QueueShown) (place w : ℕ) (n : Option ℕ) → reply ≡ Got place (Some w) n → IsInOrder here call reply prio x → ((k : ℕ) → IsNextAt k x → y ≡ without_slot k x) → IsNewest prio w y
 newest-left here call reply prio x y place w n is ordered left =
     let order : IsInOrder here call (Got place (Some w) n) prio x = subst (λ z. IsInOrder here call z prio x) is ordered in

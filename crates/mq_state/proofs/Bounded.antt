@@ -57,7 +57,7 @@ pub unbounded : (o : Option Bounds) (j : Shown) (w k m : ℕ) → HasRoomWithin 
 unbounded None j w k m has within none = refl
 unbounded (Some b) j w k m has within none = let room = room-there b j w k m has within in absurd (none room.0 room.1)
 
--- the room that the bounds allow is there behind one more record
+-- the room that the bounds allow is there after one more record
 pub room-keeps : (o : Option Bounds) (j j' : Shown) (r : Record) → HasRoomWithin o j → j'.records ≡ r ∷ j.records → j.entry_room ≤ j'.entry_room + 1 → j.byte_room ≤ j'.byte_room + length r.payload → HasRoomWithin o j'
 room-keeps None j j' r has is entries bytes = tt
 room-keeps (Some b) j j' r has is entries bytes =
@@ -178,7 +178,7 @@ called-refused j j' t p call given k m fault result needs room is same kept pool
       bounds = refl;
     }
 
--- one that memory is wanting for, behind its making room
+-- one that memory is wanting for, after its making room
 pub called-wanting : (j j' : Shown) (t t' : Tables) (p : ℕ) (call : Call) (given : List ℕ) → t'.bounds ≡ None → j'.records ≡ j.records → IsKeptBy j' t' → t'.n ≡ t.n → t'.bounds ≡ t.bounds → IsCalled j j' t t' p call given (Refused NoMemory)
 called-wanting j j' t t' p call given none same kept n bounds =
     let x = wants-memory t.bounds j.records p call given (sym bounds ∙ none) in

@@ -95,7 +95,7 @@ pub on-err : {E : Type 0} (r : Result (Unit {0}) E) (P Q : Type 0) → (P → Q)
 on-err (Ok x) P Q f p = p
 on-err (Err e) P Q f p = f p
 
--- one more line with that room, behind those that have it
+-- one more line with that room, after those that have it
 pub room-push : (xs : List InboxShown) (y : InboxShown) (room : ℕ) → ((k : ℕ) → k < length xs → room ≤ room_in xs k) → room ≤ y.room → (k : ℕ) → k < length xs + 1 → room ≤ room_in (xs ++ y ∷ []) k
 unfolding room_in
 room-push [] y room has le zero lt = le

@@ -1,4 +1,4 @@
--- Behind each entry there is room for the notice of each registration.
+-- After each entry there is room for the notice of each registration.
 use Rattle.std.proofs.Common.{◌≡◌, ◌≢◌, ℕ, ◌+◌, ◌<◌, ◌≤◌, ◌==◌, Bool, true, false, ◌&&◌, not, List, [], ◌∷◌, length, map, cond, Option, Some, None, is_some, if◌then◌else◌, refl, sym, ◌∙◌, ap, subst, arith, eqb-true, eq-eqb, ne_eqb, ◌||◌}
 use Rattle.std.proofs.lemmas.List.{length-map}
 use Rattle.std.specs.List.{filter}
@@ -54,7 +54,7 @@ registered-counts (x ∷ queues) q n e = split (x.place == q)
     let c = registrations-cons x queues n.process in omega (arith, c, mine))
     (λ f. let rest = registered-counts queues q n (rw f at e) in let c = registrations-cons x queues n.process in omega (arith, c, rest))
 
--- one registration behind an entry -----------------------------------------------------------------------------------------
+-- one registration after an entry -----------------------------------------------------------------------------------------
 
 unless-fewer : (ended : Registration → Bool) (o : Option Registration) (p : ℕ) → one_if (is_of p (unless ended o)) ≤ one_if (is_of p o)
 unless-fewer ended None p = omega arith
@@ -73,7 +73,7 @@ after-fewer on here e before p none = by (registration_of here e.process e.call 
         (λ t. rw t (let other : (n.process == p) ≡ false = ne_eqb n.process p (none n refl) in rw other (omega arith)))
         (λ f. rw f (unless-fewer (ends false e) before p))
 
--- all registrations behind an entry ----------------------------------------------------------------------------------------
+-- all registrations after an entry ----------------------------------------------------------------------------------------
 
 map-fewer : (q here : ℕ) (e : Entry) (queues : List QueueShown) (p : ℕ) → MakesNone here e p → registrations_in (map (reregistered q here e) queues) p ≤ registrations_in queues p
 map-fewer q here e [] p none = let z = registrations-none p in omega arith
@@ -141,7 +141,7 @@ noted-fewer brought owners here e q prio queues p =
     let c = registrations-changed (renewed here e.call e.reply prio) lines q p (λ x. renewed-registration here e.call e.reply prio x) in
     omega (arith, a, b, c)
 
--- there is room behind each entry ------------------------------------------------------------------------------------------
+-- there is room after each entry ------------------------------------------------------------------------------------------
 
 brings-none : (o : Option Registration) (reply : Reply) (p : ℕ) → notified reply ≡ None → notices_brought o reply p ≡ 0
 brings-none None reply p e = refl
@@ -154,7 +154,7 @@ brings-one n reply p j e = rw e refl
 abbrev KeepsRoom : List QueueShown → List InboxShown → List InboxShown → ℕ → Reply → Type 0
 KeepsRoom queues inboxes after q reply = (p : ℕ) → room_in inboxes p ≤ room_in after p + notices_brought (registration_in queues q) reply p
 
--- behind an entry that notifies nobody, and makes no registration of process p
+-- after an entry that notifies nobody, and makes no registration of process p
 quiet-room : (here : ℕ) (e : Entry) (queues : List QueueShown) (inboxes after : List InboxShown) (q : ℕ) → HasNoticeRoom queues inboxes → KeepsRoom queues inboxes after q e.reply → notified e.reply ≡ None → (p : ℕ) → MakesNone here e p →
     registrations_in (map (reregistered q here e) queues) p ≤ room_in after p
 quiet-room here e queues inboxes after q has kept is p none =
@@ -244,7 +244,7 @@ lines-room past legal queues m p call reply payload next inboxes after has kept 
     by (Notice v) next kept room = quiet (Notice v) kept refl (λ n e. cc)
     by (Refused f) next kept room = quiet (Refused f) kept refl (λ n e. cc)
 
--- the tables behind an entry have room for the notice of each registration, where there was room for the one that it makes
+-- the tables after an entry have room for the notice of each registration, where there was room for the one that it makes
 pub notice-room-keeps : (past : Past) → Legal past → (queues : List QueueShown) → QueuesMirror past queues → (p : ℕ) (call : Call) (reply : Reply) (payload : List ℕ) → IsLegalNext past (rec p call reply payload) → (inboxes after : List InboxShown) →
     HasNoticeRoom queues inboxes → KeepsRoom queues inboxes after (entry_queue past p call payload) reply → HasRoomToRegister queues inboxes p call reply →
     (brought : Option Held) (owners : List Owner) (prio : ℕ) →

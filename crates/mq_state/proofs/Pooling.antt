@@ -1,4 +1,4 @@
--- The orders of the queues: none is lost or made behind an entry.
+-- The orders of the queues: none is lost or made after an entry.
 use Rattle.std.proofs.Common.{◌≡◌, ℕ, zero, suc, ◌+◌, ◌<◌, ◌≤◌, ◌==◌, Bool, true, false, not, List, [], ◌∷◌, ◌++◌, length, map, get_or, Option, Some, None, refl, sym, ◌∙◌, ap, subst, arith, length-append, vec_len, vec_capacity, if◌then◌else◌}
 use Rattle.std.specs.List.{All, filter, position, remove}
 use Rattle.std.proofs.lemmas.List.{length-map}
@@ -62,7 +62,7 @@ filter-removed t [] i d lt out = absurd (omega arith)
 filter-removed t (x ∷ queues) zero d lt out = rw out refl
 filter-removed t (x ∷ queues) (suc i) d lt out = let rest = filter-removed t queues i d (omega arith) out in split (t x) (λ y. rw y (ap (λ xs. x ∷ xs) rest)) (λ n. rw n rest)
 
--- what is left without queue q is the same behind the removal of one of its lines
+-- what is left without queue q is the same after the removal of one of its lines
 pub without-removed : (queues : List QueueShown) (q i : ℕ) (d : QueueShown) → position (λ x. x.place == q) queues ≡ Some i → without_queue (remove queues i) q ≡ without_queue queues q
 unfolding without_queue
 without-removed queues q i d at = let is = position-here queues q i d at in filter-removed (λ x. not (x.place == q)) queues i d is.0 (rw is.1 refl)

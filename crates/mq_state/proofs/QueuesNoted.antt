@@ -1,4 +1,4 @@
--- The table of queues is that of the journal behind each entry.
+-- The table of queues is that of the journal after each entry.
 use Rattle.std.proofs.Common.{◌≡◌, ◌≢◌, ℕ, ◌<◌, ◌≤◌, ◌==◌, Bool, true, false, ◌&&◌, ◌||◌, not, List, [], ◌∷◌, ◌++◌, length, map, reverse, Option, Some, None, is_some, if◌then◌else◌, refl, sym, ◌∙◌, ap, subst, arith, eqb-true, eq-eqb, ne_eqb, ◌⊎◌, inl, inr}
 use Rattle.std.specs.Prelude.{int_le, pos}
 use Rattle.std.specs.List.{filter}
@@ -55,7 +55,7 @@ named-quiet past p call reply payload q prio k lt x is c u =
     let now : is_named (rec p call reply payload ∷ past) k ≡ is_named past k = named-same past (rec p call reply payload) k c u lt in
     split (q == k) (λ t. rw (t, now) (renewed-named (length past) call reply prio x u ∙ is)) (λ n. rw (n, now) is)
 
--- whether the line's queue is named behind the entry
+-- whether the line's queue is named after the entry
 named-keeps : (past : Past) (p : ℕ) (call : Call) (reply : Reply) (payload : List ℕ) (q prio : ℕ) → IsLegalNext past (rec p call reply payload) → EntryOn past p call payload reply q prio → (k : ℕ) → k < length past →
     (x : QueueShown) → x.named ≡ is_named past k → (if q == k then (renewed (length past) call reply prio x).named else x.named) ≡ is_named (rec p call reply payload ∷ past) k
 named-keeps past p MqUnlink Done payload q prio next on k lt x is =
@@ -80,7 +80,7 @@ named-keeps past p call (Notice v) payload q prio next on k lt x is = named-quie
 named-keeps past p call Done payload q prio next on k lt x is = named-quiet past p call Done payload q prio k lt x is refl refl
 named-keeps past p call (Refused f) payload q prio next on k lt x is = named-quiet past p call (Refused f) payload q prio k lt x is refl refl
 
--- the registration of the line behind the entry
+-- the registration of the line after the entry
 registered-keeps : (past : Past) (p : ℕ) (call : Call) (reply : Reply) (payload : List ℕ) (q prio k : ℕ) → EntryOn past p call payload reply q prio → (before : Option Registration) → before ≡ registered past k →
     registration_after (q == k) (length past) (record { process = p; call = call; reply = reply }) before ≡ registered (rec p call reply payload ∷ past) k
 registered-keeps past p call reply payload q prio k on before is =
@@ -216,7 +216,7 @@ setattr-queue (MqSetattr e nonblock) d before = split (e == d) (λ t. rw t (inne
     inner (Some h) = refl
 setattr-queue call d before = refl
 
--- the queues that exist behind an entry that creates none: those before, or all but one that is needed no longer
+-- the queues that exist after an entry that creates none: those before, or all but one that is needed no longer
 pub alive-noted : (past : Past) → Legal past → (p : ℕ) (call : Call) (reply : Reply) (payload : List ℕ) (q prio : ℕ) → IsLegalNext past (rec p call reply payload) → EntryOn past p call payload reply q prio → creates call reply ≡ false →
     alive (rec p call reply payload ∷ past) ≡ (if may_free call reply && not (is_needed (rec p call reply payload ∷ past) q) then filter (λ k. not (k == q)) (alive past) else alive past)
 alive-noted past legal p (MqClose d) Done payload q prio next on c = by (held past p d) refl on

@@ -11,7 +11,7 @@ use Rattle.mq_state.specs.Replays.{IsCause, IsDeparture}
 not-both : (b : Bool) → b ≡ false → b ≡ true → ⊥
 not-both b f t = let bad : false ≡ true = sym f ∙ t in cc
 
--- with a cause the record may not stand behind these
+-- with a cause the record may not stand after these
 not-next : (past : Past) (r : Record) (cause : Cause) → IsCause past r cause → IsLegalNext past r → ⊥
 not-next past r Process is next = not-both _ is next.process
 not-next past r Turn is next = not-both _ is.1 next.turn

@@ -297,7 +297,7 @@ notifies-alive past legal p call (Refused f) payload next e = absurd (cc)
 
 -- all tables -------------------------------------------------------------------------------------------------------------
 
--- the tables behind an entry, as the code leaves them
+-- the tables after an entry, as the code leaves them
 pub record IsNotedBy (past : Past) (e : Entry) (q : ℕ) (brought : Option Held) (owners after_owners : List Owner) (queues after_queues : List QueueShown) (inboxes after_inboxes : List InboxShown) : Type 0 where
   pub owners_are : after_owners ≡ noted owners (length past) e.process e.call e.reply q
   pub queues_are : after_queues ≡ with_fresh brought (length past) (noted_queues after_owners (length past) e q (admitted_priority past e.reply) queues)
@@ -343,7 +343,7 @@ creates-open past legal owners queues m p call (Notice v) payload q prio len cap
 creates-open past legal owners queues m p call Done payload q prio len capacity o next on c f = absurd (let bad : false ≡ true = c in cc)
 creates-open past legal owners queues m p call (Refused x) payload q prio len capacity o next on c f = absurd (let bad : false ≡ true = c in cc)
 
--- the tables behind an entry are those of the journal with it
+-- the tables after an entry are those of the journal with it
 pub tables-keep : (past : Past) → Legal past → (n : ℕ) (owners after_owners : List Owner) (queues after_queues : List QueueShown) (inboxes after_inboxes : List InboxShown) → TablesMirror past n owners queues inboxes →
     (p : ℕ) (call : Call) (reply : Reply) (payload : List ℕ) (len capacity : ℕ) (brought : Option Held) → IsLegalNext past (rec p call reply payload) → p ≤ n → BringsOrder call reply len capacity brought →
     HasRoomIn queues (entry_queue past p call payload) (length past) (record { process = p; call = call; reply = reply }) →

@@ -1,4 +1,4 @@
--- How many processes wait behind an entry, and that the tables keep their sizes.
+-- How many processes wait after an entry, and that the tables keep their sizes.
 use Rattle.std.proofs.Common.{◌≡◌, ℕ, ◌+◌, ◌<◌, ◌≤◌, Bool, true, false, List, length, Option, Some, None, refl, sym, ◌∙◌, ap, arith}
 use Rattle.std.specs.Prelude.{IsTrue}
 use Rattle.std.specs.Option.{option_map, option_and_then}
@@ -115,7 +115,7 @@ answered-waits past p by e = cases (open_wait past p) refl
     cases None is = absurd (let bad : None ≡ Some by = sym (answered_by-none past p is) ∙ e in cc)
     cases (Some w) is = (w, is)
 
--- there is room for the collect entries behind the entry
+-- there is room for the collect entries after the entry
 pub waits-noted : (past : Past) (owners : List Owner) → OwnersMirror past owners → (p : ℕ) (call : Call) (reply : Reply) (q room : ℕ) → Says past p call reply → IsTrue (may_call past p call) → p < length owners → HasEntryRoom reply (waits_count owners) room →
     waits_count (noted owners (length past) p call reply q) + 1 ≤ room
 waits-noted past owners m p call (Opened d created) q room says turn lt has = let e = open-waits owners p call d q in omega (arith, e)

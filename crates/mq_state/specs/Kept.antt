@@ -52,7 +52,7 @@ abbrev pub notice_room : Option Bounds → ℕ
 notice_room None = 0
 notice_room (Some b) = b.entries + 64
 
--- that room, behind so many entries, each of which brings a process one notice at most
+-- that room, after so many entries, each of which brings a process one notice at most
 abbrev pub HasNotices : Option Bounds → ℕ → ℕ → List InboxShown → Type 0
 HasNotices bounds entries n inboxes = (p : ℕ) → p ≤ n → notice_room bounds ≤ entries + room_in inboxes p
 

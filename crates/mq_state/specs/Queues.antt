@@ -1,4 +1,4 @@
--- What the table of queues says of each, and what it becomes behind one more entry. It defines nothing new: where a table
+-- What the table of queues says of each, and what it becomes after one more entry. It defines nothing new: where a table
 -- mirrors a journal, each word here is the definition of the same name over the journal.
 use Rattle.std.specs.Prelude.{ℕ, ◌≡◌, ◌<◌, ◌≤◌, Bool, true, false, ◌&&◌, ◌||◌, not, ◌==◌, List, [], ◌∷◌, length, Option, Some, None, if◌then◌else◌, map, int_le, pos, reverse}
 use Rattle.std.specs.List.{find, filter, count_by, Contains}
@@ -50,7 +50,7 @@ changed f (x ∷ queues) q = if x.place == q then f x ∷ queues else x ∷ chan
 unfoldable pub without_queue : List QueueShown → ℕ → List QueueShown
 without_queue queues q = filter (λ x. not (x.place == q)) queues
 
--- one line behind an entry -------------------------------------------------------------------------------------------------
+-- one line after an entry -------------------------------------------------------------------------------------------------
 
 abbrev pub with_slot : ℕ × ℕ → QueueShown → QueueShown
 with_slot s x = record { place = x.place; named = x.named; registration = x.registration; slots = s ∷ x.slots; cap = x.cap }
@@ -114,7 +114,7 @@ frees (MqClose d) = true
 frees MqUnlink = true
 frees _ = false
 
--- an entry behind which its queue may be needed no longer
+-- an entry after which its queue may be needed no longer
 abbrev pub may_free : Call → Reply → Bool
 may_free call Done = frees call
 may_free call _ = false
@@ -122,7 +122,7 @@ may_free call _ = false
 abbrev pub released : List Owner → Bool → List QueueShown → ℕ → List QueueShown
 released owners freed queues q = if freed && not (is_named_in queues q || is_held_in owners q) then without_queue queues q else queues
 
--- the table behind the entry at place `here`, made on queue q; the table of processes is the one behind it
+-- the table after the entry at place `here`, made on queue q; the table of processes is the one after it
 abbrev pub noted_queues : List Owner → ℕ → Entry → ℕ → ℕ → List QueueShown → List QueueShown
 noted_queues owners here e q prio queues =
     released owners (may_free e.call e.reply) (changed (renewed here e.call e.reply prio) (map (reregistered q here e) queues) q) q

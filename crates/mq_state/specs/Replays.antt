@@ -16,14 +16,14 @@ is_in_turn past r = may_call past r.entry.process r.entry.call
 abbrev pub has_payload : Record → Bool
 has_payload r = is_payload r.entry.call r.entry.reply r.payload
 
--- why the record may not stand behind these: the first of the four that is so. A wrong reply has the right one beside it
+-- why the record may not stand after these: the first of the four that is so. A wrong reply has the right one beside it
 abbrev pub IsCause : Past → Record → Cause → Type 0
 IsCause past r Process = has_process r ≡ false
 IsCause past r Turn = (has_process r ≡ true) × (is_in_turn past r ≡ false)
 IsCause past r Payload = (has_process r ≡ true) × (is_in_turn past r ≡ true) × (has_payload r ≡ false)
 IsCause past r (Reply expected) = (has_process r ≡ true) × (is_in_turn past r ≡ true) × (has_payload r ≡ true) × (expected ≡ answer past r.entry.process r.entry.call r.payload) × (r.entry.reply ≢ expected)
 
--- the records before the place are legal, the record at the place may not stand behind them, and this is why
+-- the records before the place are legal, the record at the place may not stand after them, and this is why
 pub record IsDeparture (past : Past) (d : Departure) : Type 0 where
   pub first_illegal : IsFirstIllegal past d.place
   pub cause : IfSome (record_at past d.place) (λ r. IsCause (first d.place past) r d.cause)

@@ -80,7 +80,7 @@ abbrev pub notices_brought : Option Registration → Reply → ℕ → ℕ
 notices_brought None reply p = 0
 notices_brought (Some n) reply p = if is_some (notified reply) && n.process == p then 1 else 0
 
--- the notices of process p behind an entry: the registration of the entry's queue brings one, where the entry notifies it
+-- the notices of process p after an entry: the registration of the entry's queue brings one, where the entry notifies it
 abbrev pub notified_values : Option Registration → Reply → ℕ → List ℕ → List ℕ
 notified_values None reply p values = values
 notified_values (Some n) reply p values = if is_some (notified reply) && n.process == p then values ++ n.value ∷ [] else values

@@ -188,6 +188,7 @@ impl Books {
 
     /// A send of a message to the queue of descriptor d (`mq_send`). Replies `Queued`, `Handed` or `Waits`, or refuses with
     /// `BadDescriptor`, `Invalid`, `MessageSize` or `Again`. A send that is refused takes no room for the bytes of its message.
+    #[inline(always)]
     pub fn send(&mut self, p: u32, d: u32, bytes: &[u8], prio: u32) -> Reply
         requires process { (1 ≤ p) × (p ≤ self.old.n) }
         requires no_wait { open_wait self.old.records p ≡ None }
@@ -204,6 +205,7 @@ impl Books {
 
     /// A receive from the queue of descriptor d (`mq_receive`). Replies `Got`, and then the front of the buffer holds the
     /// message, or `Waits`; or refuses with `BadDescriptor`, `MessageSize` or `Again`.
+    #[inline(always)]
     pub fn receive(&mut self, p: u32, d: u32, buf: &mut [u8]) -> Reply
         requires process { (1 ≤ p) × (p ≤ self.old.n) }
         requires no_wait { open_wait self.old.records p ≡ None }

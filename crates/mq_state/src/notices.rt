@@ -43,7 +43,7 @@ impl Inbox {
         self.values.reserve(more)
     }
 
-    /// Adds a notice behind the others, in room that is there.
+    /// Adds a notice after the others, in room that is there.
     pub fn push(&mut self, value: u64)
         requires { 0 < self.old.room }
         ensures values { self.new.values ≡ self.old.values ++ value ∷ [] }

@@ -13,7 +13,7 @@ use mq_model::limits::PROCESSES;
 use mq_model::replies::is_same;
 use std::alloc::{AllocError, Global};
 
-/// Why an entry may not stand behind those before it: of these the first that is so.
+/// Why an entry may not stand after those before it: of these the first that is so.
 #[derive(Clone, Copy, Debug, PartialEq, Eq)]
 pub enum Cause {
     /// The process is none of 1 to 32.
@@ -36,7 +36,7 @@ pub struct Departure {
 
 ghost use Rattle.mq_state.specs.Replays.{IsCause, IsDeparture};
 
-// Why an entry may not stand behind those that the tables are those of, if it may not.
+// Why an entry may not stand after those that the tables are those of, if it may not.
 fn cause_at(past: &Prefix<'_>, tables: &Tables, entry: Entry, payload: &[u8]) -> Option<Cause>
     requires { AreThoseOf past.now.records tables.now }
     ensures legal { result ≡ None → IsLegalNext past.now.records (record { entry = entry; payload = payload.now }) }

@@ -229,7 +229,7 @@ fn free_owners(alloc: Global, count: usize) -> Result<Vec<Owner>, AllocError>
 ghost use Rattle.mq_state.specs.Tables.{moves_waits};
 ghost use Rattle.mq_model.specs.OwnersNoted.{noted, FitsSlots};
 
-// Notes in the table of processes an entry made on queue q, and gives how many wait behind it, where so many waited before it.
+// Notes in the table of processes an entry made on queue q, and gives how many wait after it, where so many waited before it.
 #[inline(always)]
 fn note_owners(owners: &mut [Owner], waits: usize, here: u64, entry: Entry, q: u64) -> usize
     requires process { entry.process < length owners.old }

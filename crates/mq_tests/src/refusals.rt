@@ -10,7 +10,7 @@ pub fn say_refused<R: Print>(rt: &R, place: &str) {
     let _ = println!(rt; "refused: {place}");
 }
 
-// A growth of so many bytes is the mark behind which a tool from outside may refuse every further one, also a second mark.
+// A growth of so many bytes is the mark after which a tool from outside may refuse every further one, also a second mark.
 const MARK: usize = 16_777_213;
 
 /// From here on a tool from outside may refuse every growth. Says so where it does.

@@ -14,7 +14,7 @@ use Rattle.mq_workloads.specs.declared.workload.Name.TheVariants as name
 abbrev pub rounds_written : Word → Option ℕ
 rounds_written word = count_written 10000000 word
 
--- what the words behind each name write
+-- what the words after each name write
 abbrev pub pair_written : List Word → Option Workload
 pair_written (rounds ∷ []) = do
   rounds ← rounds_written rounds
@@ -89,7 +89,7 @@ names = name.Pair ∷ name.Deep ∷ name.PingPong ∷ name.Stream ∷ name.Check
 abbrev pub name_written : Word → Option Name
 name_written word = find (λ name. bytes_eq word (name_text name)) names
 
--- the workload that a name and the words behind it write
+-- the workload that a name and the words after it write
 abbrev pub workload_written : Name → List Word → Option Workload
 workload_written name.Pair = pair_written
 workload_written name.Deep = deep_written

@@ -38,7 +38,7 @@ pub enum Besides {
     },
 }
 
-/// The most entries of a journal that is checked behind a storm: the check of more takes minutes.
+/// The most entries of a journal that is checked after a storm: the check of more takes minutes.
 const MOST_CHECKED: u64 = 8_000;
 
 /// The bytes that the journal keeps of an entry: the call with its reply, and where its payload begins and ends.

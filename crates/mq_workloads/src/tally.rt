@@ -89,7 +89,7 @@ fn kind_of(call: Call) -> usize {
     }
 }
 
-/// The counts as text, each behind its name.
+/// The counts as text, each after its name.
 pub fn text_of(alloc: Global, tally: Tally) -> Result<String, AllocError> {
     let mut text = String::new(alloc);
     for (kind, calls) in KINDS.iter().zip(tally.calls) {

@@ -1,4 +1,4 @@
-//! Queues whose journal has bounds. All their memory is taken at the making, so these tests pass, too, where each growth behind it is
+//! Queues whose journal has bounds. All their memory is taken at the making, so these tests pass, too, where each growth after it is
 //! refused.
 use super::Ask::{
     Close, Collect, Entries, Getattr, NextNotice, Notify, Open, Receive, ReplyAt, Send, Setattr,
@@ -20,7 +20,7 @@ use std::io::Print;
 use std::process::Abort;
 use std::test::Fail;
 
-// The queues of five processes with these bounds. One growth may be refused from outside, and behind the making every one.
+// The queues of five processes with these bounds. One growth may be refused from outside, and after the making every one.
 fn make_bounded<P: Print>(
     rt: &P,
     alloc: Global,

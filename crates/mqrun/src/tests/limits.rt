@@ -5,7 +5,7 @@ use mq_runner::RunFault;
 use std::alloc::{AllocError, Global};
 use std::test::Fail;
 
-// Each text with so many letters behind it.
+// Each text with so many letters after it.
 fn with_letters(alloc: Global, parts: &[(&str, usize)]) -> Result<Vec<u8>, AllocError> {
     let mut script = Vec::new(alloc);
     for (text, letters) in parts {

@@ -4,7 +4,7 @@ use Rattle.mq_script.specs.Phases.{whole_behind}
 use Rattle.mq_script.specs.Script.{lines_of, result_map, script_read, script_written}
 use Rattle.mq_script.proofs.script.read_script.Given as goal
 
--- the script that the lines left write, behind what was read, is the whole
+-- the script that the lines left write, after what was read, is the whole
 abbrev pub invariant-loop-rest : goal.invariant-loop-rest
 invariant-loop-rest l = record {
   whole : result_map (whole_behind l.phases) (script_read l.processes l.at (lines_of l.rest)) ≡ script_written l.text;
