@@ -20,6 +20,7 @@ use mq_model::entries::{Attr, Call, Description, OpenFlags, Reply};
 use mq_model::journals::Journal;
 use mq_model::ladder;
 use mq_model::ladder::{NotifyFacts, OpenFacts, ReceiveFacts, SendFacts, StatusFacts};
+use mq_model::owners::WaitKind;
 
 // How many queues exist, which counts where the name of an open is not bound.
 fn queues_unless(journal: &Journal, k: u64, tables: &Tables, bound: bool) -> u64
@@ -105,7 +106,7 @@ fn send_facts(journal: &Journal, k: u64, tables: &Tables, h: Description) -> Sen
         description: h,
         attributes: attributes(journal, k, h.queue),
         count,
-        waiting: tables::first_wait(journal, k, tables, h.queue, false),
+        waiting: tables::first_wait(journal, k, tables, h.queue, WaitKind::Receive),
         registered: registered_if(journal, k, h.queue, count == 0),
     }
 }
@@ -156,7 +157,7 @@ fn receive_facts(journal: &Journal, k: u64, tables: &Tables, h: Description) -> 
     ensures waiting { result.waiting ≡ least (waiting_sends (first k journal.now.records) h.queue) }
     ensures registered { result.registered ≡ (if is_some result.waiting && result.count == 1 then registered_place (first k journal.now.records) h.queue else None) }
 {
-    let waiting = tables::first_wait(journal, k, tables, h.queue, true);
+    let waiting = tables::first_wait(journal, k, tables, h.queue, WaitKind::Send);
     let waits = waiting.is_some();
     let count = count_if(journal, k, tables, h.queue, waits);
     ReceiveFacts {

@@ -17,7 +17,7 @@ use mq_model::entries::{Call, Deadline, Description, Entry, Reply};
 use mq_model::journals::Journal;
 use mq_model::limits::PROCESSES;
 use mq_model::owners;
-use mq_model::owners::Owner;
+use mq_model::owners::{Owner, WaitKind};
 
 // How many lines the table of processes has: process p's is at index p.
 const OWNERS: usize = PROCESSES as usize + 1;
@@ -113,13 +113,13 @@ pub(crate) fn first_wait(
     k: u64,
     tables: &Tables,
     q: u64,
-    sends: bool,
+    kind: WaitKind,
 ) -> Option<u64>
     requires mirror { TablesMirror (first k journal.now.records) tables.now }
     requires legal { Legal (first k journal.now.records) }
-    ensures { result ≡ least (waiting (first k journal.now.records) sends q) }
+    ensures { result ≡ least (waiting (first k journal.now.records) kind q) }
 {
-    match owners::first_wait(&tables.owners, q, sends) {
+    match owners::first_wait(&tables.owners, q, kind) {
         None => None,
         Some((_, place)) => Some(place),
     }

@@ -6,7 +6,7 @@ use crate::entries::{Access, Attr, Call, Deadline, Entry, OpenFlags, Reply};
 use crate::faults::Fault;
 use crate::journals::Journal;
 use crate::names::Name;
-use crate::owners::{self, Owner};
+use crate::owners::{self, Owner, WaitKind};
 use crate::registrations::{notified, registration_after, touches_registrations};
 use std::test::Fail;
 
@@ -193,13 +193,13 @@ fn the_longest_wait_comes_first_until_it_is_answered(rt: HostRuntime) -> Result<
     note(&mut table, 4, SENDER_WAITS, 0);
     note(&mut table, 5, SECOND_SENDER_WAITS, 0);
     assert_eq!(rt; owners::open_waits(&table), 2);
-    assert_eq!(rt; owners::first_wait(&table, 0, true), Some((3, 4)));
-    assert_eq!(rt; owners::first_wait(&table, 0, false), None);
-    assert_eq!(rt; owners::first_wait(&table, 1, true), None);
+    assert_eq!(rt; owners::first_wait(&table, 0, WaitKind::Send), Some((3, 4)));
+    assert_eq!(rt; owners::first_wait(&table, 0, WaitKind::Receive), None);
+    assert_eq!(rt; owners::first_wait(&table, 1, WaitKind::Send), None);
     note(&mut table, 6, RECEIVE_ADMITS, 0);
     assert_eq!(rt; owners::answer(&table, 3), Some(6));
     assert_eq!(rt; owners::wait(&table, 3).map(|w| w.place), Some(4));
-    assert_eq!(rt; owners::first_wait(&table, 0, true), Some((1, 5)));
+    assert_eq!(rt; owners::first_wait(&table, 0, WaitKind::Send), Some((1, 5)));
     note(&mut table, 7, COLLECT, 0);
     assert_eq!(rt; owners::wait(&table, 3), None);
     assert_eq!(rt; owners::answer(&table, 3), None);
@@ -233,11 +233,11 @@ fn a_wait_has_its_deadline_until_it_is_withdrawn(rt: HostRuntime) -> Result<(), 
     note(&mut table, 5, TIMED_RECEIVER_WAITS, 0);
     assert_eq!(rt; owners::wait(&table, 3).map(|w| w.until), Some(None));
     assert_eq!(rt; owners::wait(&table, 2).map(|w| w.until), Some(Some(UNTIL)));
-    assert_eq!(rt; owners::first_wait(&table, 0, false), Some((2, 5)));
+    assert_eq!(rt; owners::first_wait(&table, 0, WaitKind::Receive), Some((2, 5)));
     note(&mut table, 6, WITHDRAW, 0);
     assert_eq!(rt; owners::wait(&table, 2), None);
     assert_eq!(rt; owners::answer(&table, 2), None);
-    assert_eq!(rt; owners::first_wait(&table, 0, false), None);
+    assert_eq!(rt; owners::first_wait(&table, 0, WaitKind::Receive), None);
     assert_eq!(rt; owners::open_waits(&table), 1);
     Ok(())
 }

@@ -23,6 +23,8 @@ use Rattle.mq_laws.proofs.LegalPlaces.{has-record, has-here, has-cases, record-o
 use Rattle.mq_model.specs.declared.entries.Call.{Call}
 use Rattle.mq_model.specs.declared.entries.Reply.{Reply}
 use Rattle.mq_model.specs.declared.entries.Reply.TheVariants.{Opened, Queued, Handed, Waits, Got, Collected, Attrs, Notice, Done, Refused, Withdrawn}
+use Rattle.mq_model.specs.declared.owners.WaitKind.{WaitKind}
+use Rattle.mq_model.specs.declared.owners.WaitKind.TheVariants.{Send, Receive}
 
 pub with-first : (k : ℕ) (xs : List ℕ) → is_in (with_place (Some k) xs) k ≡ true
 with-first k xs = rw (eq-eqb k k refl) refl
@@ -73,11 +75,11 @@ ended-open past r legal next w e = by r.entry.reply (legal_says past r next) e
     by (Handed k) says e =
         let same : k ≡ w = cc in
         let x = hands-least past r.entry.process r.entry.call k says in
-        let y = waiter past legal false x.0 w (least-in (waiting_receives past x.0) w (x.1 ∙ ap Some same)) in
+        let y = waiter past legal Receive x.0 w (least-in (waiting_receives past x.0) w (x.1 ∙ ap Some same)) in
         record { p = y.0; opened = y.1; free = y.2 }
     by (Got m a n) says e =
         let x = admits-least past r.entry.process r.entry.call m a n says in
-        let y = waiter past legal true x.0 w (least-in (waiting_sends past x.0) w (sym x.1 ∙ e)) in
+        let y = waiter past legal Send x.0 w (least-in (waiting_sends past x.0) w (sym x.1 ∙ e)) in
         record { p = y.0; opened = y.1; free = y.2 }
     by (Withdrawn k) says e =
         let same : k ≡ w = cc in
@@ -99,20 +101,20 @@ ended-below (r ∷ past) legal k w e = has-cases ended_wait past r k w e
     (λ old lt. let le = ended-below past legal.0 k w old in omega (arith, le))
 
 -- a wait that ended is listed among the sends or the receives that did
-ended-listed : (past : Past) (k w : ℕ) → Has ended_wait past k w → (s : Bool) × (is_in (ended_waits past s) w ≡ true)
+ended-listed : (past : Past) (k w : ℕ) → Has ended_wait past k w → (s : WaitKind) × (is_in (ended_waits past s) w ≡ true)
 ended-listed [] k w e = absurd (cc)
 ended-listed (r ∷ past) k w e = has-cases ended_wait past r k w e
     (λ here is. by r.entry.reply is)
     (λ old lt. let x = ended-listed past k w old in (x.0, more x.0 x.1))
   where
-    more : (s : Bool) → is_in (ended_waits past s) w ≡ true → is_in (ended_waits (r ∷ past) s) w ≡ true
-    more true h = with-more (ends_send r.entry.reply) (ended_sends past) w h
-    more false h = with-more (ends_receive r.entry.reply) (ended_receives past) w h
+    more : (s : WaitKind) → is_in (ended_waits past s) w ≡ true → is_in (ended_waits (r ∷ past) s) w ≡ true
+    more Send h = with-more (ends_send r.entry.reply) (ended_sends past) w h
+    more Receive h = with-more (ends_receive r.entry.reply) (ended_receives past) w h
 
-    by : (reply : Reply) → ended_wait reply ≡ Some w → (s : Bool) × (is_in (ended_waits (record { entry = record { process = r.entry.process; call = r.entry.call; reply = reply }; payload = r.payload } ∷ past) s) w ≡ true)
-    by (Handed v) is = let same : v ≡ w = cc in (false, rw same (with-first w (ended_receives past)))
-    by (Got m a n) is = (true, rw is (with-first w (ended_sends past)))
-    by (Withdrawn v) is = let same : v ≡ w = cc in (true, rw same (with-first w (ended_sends past)))
+    by : (reply : Reply) → ended_wait reply ≡ Some w → (s : WaitKind) × (is_in (ended_waits (record { entry = record { process = r.entry.process; call = r.entry.call; reply = reply }; payload = r.payload } ∷ past) s) w ≡ true)
+    by (Handed v) is = let same : v ≡ w = cc in (Receive, rw same (with-first w (ended_receives past)))
+    by (Got m a n) is = (Send, rw is (with-first w (ended_sends past)))
+    by (Withdrawn v) is = let same : v ≡ w = cc in (Send, rw same (with-first w (ended_sends past)))
     by (Opened d created) is = absurd (cc)
     by (Queued n) is = absurd (cc)
     by Waits is = absurd (cc)

@@ -32,6 +32,7 @@ use Rattle.mq_model.specs.declared.entries.Call.{Call}
 use Rattle.mq_model.specs.declared.entries.Call.TheVariants.{MqOpen, MqClose, MqUnlink, MqSend, MqReceive, MqGetattr, MqSetattr, MqNotify, NextNotice, Collect, MqTimedSend, MqTimedReceive, Withdraw}
 use Rattle.mq_model.specs.declared.entries.Reply.{Reply}
 use Rattle.mq_model.specs.declared.entries.Reply.TheVariants.{Opened, Queued, Handed, Waits, Got, Collected, Attrs, Notice, Done, Refused, Withdrawn}
+use Rattle.mq_model.specs.declared.owners.WaitKind.TheVariants.{Send}
 
 abbrev rec : ℕ → Call → Reply → List ℕ → Record
 rec p call reply payload = record { entry = record { process = p; call = call; reply = reply }; payload = payload }
@@ -150,7 +151,7 @@ older-got past legal p call m (Some v) k payload q says before n w h g =
     (λ e. let first = admits-least past p call m (Some v) k says in
     let waits = least-in (waiting_sends past first.0) v (sym first.1) in
     let there = (is_in-filter (λ j. not (is_in (ended_sends past) j)) (blocked_sends past first.0) v waits).0 in
-    let same : first.0 ≡ q = (blocked-once past true true first.0 q v there t).1 in
+    let same : first.0 ≡ q = (blocked-once past Send Send first.0 q v there t).1 in
     let P : ℕ → Type 0 = λ j. least (waiting_sends past j) ≡ Some v in
     let le = least-le (waiting_sends past q) v w (subst P same (sym first.1)) parts.0 in
     let ne : v ≢ w = λ x. clash (v == w) (eq-eqb v w x) (not-true _ parts.1) in

@@ -15,6 +15,8 @@ use Rattle.mq_model.specs.declared.entries.Call.TheVariants.{MqOpen, MqClose, Mq
 use Rattle.mq_model.specs.declared.entries.Reply.{Reply}
 use Rattle.mq_model.specs.declared.entries.Reply.TheVariants.{Refused}
 use Rattle.mq_model.specs.Owners.{blocked}
+use Rattle.mq_model.specs.declared.owners.WaitKind.{WaitKind}
+use Rattle.mq_model.specs.declared.owners.WaitKind.TheVariants.{Send, Receive}
 
 -- a record that changes neither names nor descriptors
 pub record KeepsNames (past : Past) (call : Call) (reply : Reply) (payload : List ℕ) : Type 0 where
@@ -91,10 +93,10 @@ answered_by-step past r none k = split (r.entry.process == k)
     (λ e. rw e refl)
 
 -- a call that blocked stays in the list of its queue
-pub blocked-older : (past : Past) (r : Record) (sends : Bool) (q w : ℕ) → is_in (blocked past sends q) w ≡ true → is_in (blocked (r ∷ past) sends q) w ≡ true
-blocked-older past r true q w h = split (blocks_send r.entry.call r.entry.reply && is_on past r.entry q)
+pub blocked-older : (past : Past) (r : Record) (kind : WaitKind) (q w : ℕ) → is_in (blocked past kind q) w ≡ true → is_in (blocked (r ∷ past) kind q) w ≡ true
+blocked-older past r Send q w h = split (blocks_send r.entry.call r.entry.reply && is_on past r.entry q)
     (λ t. rw t (split (length past == w) (λ e. rw e refl) (λ n. rw (n, h) refl))) (λ f. rw f h)
-blocked-older past r false q w h = split (blocks_receive r.entry.call r.entry.reply && is_on past r.entry q)
+blocked-older past r Receive q w h = split (blocks_receive r.entry.call r.entry.reply && is_on past r.entry q)
     (λ t. rw t (split (length past == w) (λ e. rw e refl) (λ n. rw (n, h) refl))) (λ f. rw f h)
 
 -- a refusal changes no name and no descriptor

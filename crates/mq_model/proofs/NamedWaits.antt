@@ -18,40 +18,42 @@ use Rattle.mq_model.specs.declared.entries.Call.TheVariants.{MqOpen, MqClose, Mq
 use Rattle.mq_model.specs.declared.entries.Reply.{Reply}
 use Rattle.mq_model.specs.declared.entries.Reply.TheVariants.{Opened, Queued, Handed, Waits, Got, Collected, Attrs, Notice, Done, Refused, Withdrawn}
 use Rattle.mq_model.specs.Owners.{blocked}
+use Rattle.mq_model.specs.declared.owners.WaitKind.{WaitKind}
+use Rattle.mq_model.specs.declared.owners.WaitKind.TheVariants.{Send, Receive}
 
-abbrev pub blocks : Bool → Call → Reply → Bool
-blocks true call reply = blocks_send call reply
-blocks false call reply = blocks_receive call reply
+abbrev pub blocks : WaitKind → Call → Reply → Bool
+blocks Send call reply = blocks_send call reply
+blocks Receive call reply = blocks_receive call reply
 
 -- a blocked call is the newest record, or one of the older ones
-pub blocked-cases : (past : Past) (r : Record) (s : Bool) (q w : ℕ) → is_in (blocked (r ∷ past) s q) w ≡ true → (length past ≡ w → (blocks s r.entry.call r.entry.reply && is_on past r.entry q) ≡ false → is_in (blocked past s q) w ≡ true) × ((length past ≡ w → ⊥) → is_in (blocked past s q) w ≡ true)
-blocked-cases past r true q w h = split (blocks_send r.entry.call r.entry.reply && is_on past r.entry q)
+pub blocked-cases : (past : Past) (r : Record) (s : WaitKind) (q w : ℕ) → is_in (blocked (r ∷ past) s q) w ≡ true → (length past ≡ w → (blocks s r.entry.call r.entry.reply && is_on past r.entry q) ≡ false → is_in (blocked past s q) w ≡ true) × ((length past ≡ w → ⊥) → is_in (blocked past s q) w ≡ true)
+blocked-cases past r Send q w h = split (blocks_send r.entry.call r.entry.reply && is_on past r.entry q)
     (λ t. let new : (length past == w || is_in (blocked_sends past q) w) ≡ true = rw t at h in
     (λ e f. clash (blocks_send r.entry.call r.entry.reply && is_on past r.entry q) t f, λ ne. rw (ne_eqb (length past) w ne) at new))
     (λ f. let old : is_in (blocked_sends past q) w ≡ true = rw f at h in (λ e g. old, λ ne. old))
-blocked-cases past r false q w h = split (blocks_receive r.entry.call r.entry.reply && is_on past r.entry q)
+blocked-cases past r Receive q w h = split (blocks_receive r.entry.call r.entry.reply && is_on past r.entry q)
     (λ t. let new : (length past == w || is_in (blocked_receives past q) w) ≡ true = rw t at h in
     (λ e f. clash (blocks_receive r.entry.call r.entry.reply && is_on past r.entry q) t f, λ ne. rw (ne_eqb (length past) w ne) at new))
     (λ f. let old : is_in (blocked_receives past q) w ≡ true = rw f at h in (λ e g. old, λ ne. old))
 
-pub blocked-below : (past : Past) (s : Bool) (q w : ℕ) → is_in (blocked past s q) w ≡ true → w < length past
-blocked-below [] true q w h = absurd (cc)
-blocked-below [] false q w h = absurd (cc)
+pub blocked-below : (past : Past) (s : WaitKind) (q w : ℕ) → is_in (blocked past s q) w ≡ true → w < length past
+blocked-below [] Send q w h = absurd (cc)
+blocked-below [] Receive q w h = absurd (cc)
 blocked-below (r ∷ past) s q w h = split (length past == w)
     (λ e. let same : length past ≡ w = eqb-true _ _ e in omega arith)
     (λ n. let lt = blocked-below past s q w ((blocked-cases past r s q w h).1 (eqb-false _ _ n)) in omega (arith, lt))
 
 -- the newest record is the blocked call
-newest-is : (past : Past) (r : Record) (s : Bool) (q : ℕ) → is_in (blocked (r ∷ past) s q) (length past) ≡ true → (blocks s r.entry.call r.entry.reply && is_on past r.entry q) ≡ true
+newest-is : (past : Past) (r : Record) (s : WaitKind) (q : ℕ) → is_in (blocked (r ∷ past) s q) (length past) ≡ true → (blocks s r.entry.call r.entry.reply && is_on past r.entry q) ≡ true
 newest-is past r s q h = split (blocks s r.entry.call r.entry.reply && is_on past r.entry q)
     (λ t. t)
     (λ f. let old = (blocked-cases past r s q (length past) h).0 refl f in let lt = blocked-below past s q (length past) old in absurd (omega arith))
 
 pub newest-receive : (past : Past) (r : Record) (q : ℕ) → is_in (blocked_receives (r ∷ past) q) (length past) ≡ true → (blocks_receive r.entry.call r.entry.reply && is_on past r.entry q) ≡ true
-newest-receive past r q h = newest-is past r false q h
+newest-receive past r q h = newest-is past r Receive q h
 
 pub newest-send : (past : Past) (r : Record) (q : ℕ) → is_in (blocked_sends (r ∷ past) q) (length past) ≡ true → (blocks_send r.entry.call r.entry.reply && is_on past r.entry q) ≡ true
-newest-send past r q h = newest-is past r true q h
+newest-send past r q h = newest-is past r Send q h
 
 not-both : (call : Call) → is_send call ≡ true → is_receive call ≡ true → ⊥
 not-both (MqOpen flags attr) h g = cc
@@ -81,20 +83,20 @@ not-both-blocked call (Notice v) h g = cc
 not-both-blocked call Done h g = cc
 not-both-blocked call (Refused x) h g = cc
 
-kind-of : (s t : Bool) (call : Call) (reply : Reply) → blocks s call reply ≡ true → blocks t call reply ≡ true → s ≡ t
-kind-of true true call reply h g = refl
-kind-of false false call reply h g = refl
-kind-of true false call reply h g = absurd (not-both-blocked call reply h g)
-kind-of false true call reply h g = absurd (not-both-blocked call reply g h)
+kind-of : (s t : WaitKind) (call : Call) (reply : Reply) → blocks s call reply ≡ true → blocks t call reply ≡ true → s ≡ t
+kind-of Send Send call reply h g = refl
+kind-of Receive Receive call reply h g = refl
+kind-of Send Receive call reply h g = absurd (not-both-blocked call reply h g)
+kind-of Receive Send call reply h g = absurd (not-both-blocked call reply g h)
 
 same_queue : (o : Option ℕ) (q k : ℕ) → is_place q o ≡ true → is_place k o ≡ true → q ≡ k
 same_queue None q k h g = absurd (cc)
 same_queue (Some j) q k h g = let a : j ≡ q = eqb-true _ _ h in let b : j ≡ k = eqb-true _ _ g in cc
 
 -- a call blocked on one queue, as a send or as a receive
-pub blocked-once : (past : Past) (s t : Bool) (q k w : ℕ) → is_in (blocked past s q) w ≡ true → is_in (blocked past t k) w ≡ true → (s ≡ t) × (q ≡ k)
-blocked-once [] true t q k w h g = absurd (cc)
-blocked-once [] false t q k w h g = absurd (cc)
+pub blocked-once : (past : Past) (s t : WaitKind) (q k w : ℕ) → is_in (blocked past s q) w ≡ true → is_in (blocked past t k) w ≡ true → (s ≡ t) × (q ≡ k)
+blocked-once [] Send t q k w h g = absurd (cc)
+blocked-once [] Receive t q k w h g = absurd (cc)
 blocked-once (r ∷ past) s t q k w h g = split (length past == w)
     (λ e. let same : length past ≡ w = eqb-true _ _ e in
     let mine = newest-is past r s q (rw (← same) at h) in let its = newest-is past r t k (rw (← same) at g) in
@@ -117,7 +119,7 @@ ends_receive-below : (past : Past) (r : Record) (k : ℕ) → IsLegalNext past r
 ends_receive-below past r k legal e = by r.entry.call r.entry.reply (legal_says past r legal) legal.turn e
   where
     waits : (q : ℕ) → least (waiting_receives past q) ≡ Some k → k < length past
-    waits q e = blocked-below past false q k (is_in-filter _ (blocked_receives past q) k (least-in (waiting_receives past q) k e)).0
+    waits q e = blocked-below past Receive q k (is_in-filter _ (blocked_receives past q) k (least-in (waiting_receives past q) k e)).0
 
     by : (call : Call) (reply : Reply) → Says past r.entry.process call reply → may_call past r.entry.process call ≡ true → ends_receive reply ≡ Some k → k < length past
     by (MqSend d prio len) (Handed w) says turn e = let same : w ≡ k = cc in waits says.0.queue (says.3 ∙ ap Some same)

@@ -12,6 +12,7 @@ use Rattle.mq_model.proofs.Places.{split}
 use Rattle.mq_model.specs.declared.owners.OpenWait.{OpenWait}
 use Rattle.mq_model.specs.declared.owners.Owner.{Owner}
 use Rattle.mq_model.specs.Owners.{held_in, wait_in, answer_in, pending_in, waits_count, IsFirstWait, changed, slot_of, with_wait, with_answer, with_slot}
+use Rattle.mq_model.specs.declared.owners.WaitKind.{WaitKind}
 
 pub changed-set : (f : Owner → Owner) (owners : List Owner) (p : ℕ) (d : Owner) → p < length owners → set owners p (f (get_or owners p d)) ≡ changed f owners p
 changed-set f [] p d lt = absurd (omega arith)
@@ -223,36 +224,36 @@ unfolding answer_in with_answer
 answer_in-with_answer owners p by k lt = read-set (λ o. o.answer) _ owners p k (Some by) lt (λ o. refl)
 
 -- what a pass over the first i processes finds
-abbrev pub IsFirstBelow : List Owner → ℕ → Bool → ℕ → Option (ℕ × ℕ) → Type 0
-IsFirstBelow owners q sends i None = (k : ℕ) → k < i → pending_in owners k q sends ≡ None
-IsFirstBelow owners q sends i (Some x) = (pending_in owners x.0 q sends ≡ Some x.1) × ((k w : ℕ) → k < i → pending_in owners k q sends ≡ Some w → x.1 ≤ w)
+abbrev pub IsFirstBelow : List Owner → ℕ → WaitKind → ℕ → Option (ℕ × ℕ) → Type 0
+IsFirstBelow owners q kind i None = (k : ℕ) → k < i → pending_in owners k q kind ≡ None
+IsFirstBelow owners q kind i (Some x) = (pending_in owners x.0 q kind ≡ Some x.1) × ((k w : ℕ) → k < i → pending_in owners k q kind ≡ Some w → x.1 ≤ w)
 
 -- there is no process past the end
-pub pending_in-past : (owners : List Owner) (k q : ℕ) (sends : Bool) → length owners ≤ k → pending_in owners k q sends ≡ None
+pub pending_in-past : (owners : List Owner) (k q : ℕ) (kind : WaitKind) → length owners ≤ k → pending_in owners k q kind ≡ None
 unfolding pending_in wait_in
-pending_in-past owners k q sends past = rw (slice_get_past owners k past) refl
+pending_in-past owners k q kind past = rw (slice_get_past owners k past) refl
 
-pub first-none : (owners : List Owner) (q : ℕ) (sends : Bool) (i : ℕ) (o : Option (ℕ × ℕ)) → IsFirstBelow owners q sends i o → length owners ≤ i → o ≡ None → (p : ℕ) → pending_in owners p q sends ≡ None
-first-none owners q sends i None first all e = λ p. below p (below-or p i)
+pub first-none : (owners : List Owner) (q : ℕ) (kind : WaitKind) (i : ℕ) (o : Option (ℕ × ℕ)) → IsFirstBelow owners q kind i o → length owners ≤ i → o ≡ None → (p : ℕ) → pending_in owners p q kind ≡ None
+first-none owners q kind i None first all e = λ p. below p (below-or p i)
   where
     below-or : (k i : ℕ) → (k < i) ⊎ (i ≤ k)
     below-or k i = grind arith
 
-    below : (p : ℕ) → ((p < i) ⊎ (i ≤ p)) → pending_in owners p q sends ≡ None
+    below : (p : ℕ) → ((p < i) ⊎ (i ≤ p)) → pending_in owners p q kind ≡ None
     below p (inl lt) = first p lt
-    below p (inr ge) = pending_in-past owners p q sends (omega arith)
-first-none owners q sends i (Some x) first all e = absurd (cc)
+    below p (inr ge) = pending_in-past owners p q kind (omega arith)
+first-none owners q kind i (Some x) first all e = absurd (cc)
 
-pub first-some : (owners : List Owner) (q : ℕ) (sends : Bool) (i : ℕ) (o : Option (ℕ × ℕ)) → IsFirstBelow owners q sends i o → length owners ≤ i → IfSome o (λ x. IsFirstWait owners q sends x.0 x.1)
-first-some owners q sends i None first all = tt
-first-some owners q sends i (Some x) first all = record { waits = first.0; least = λ k w e. below k w e (below-or k i) }
+pub first-some : (owners : List Owner) (q : ℕ) (kind : WaitKind) (i : ℕ) (o : Option (ℕ × ℕ)) → IsFirstBelow owners q kind i o → length owners ≤ i → IfSome o (λ x. IsFirstWait owners q kind x.0 x.1)
+first-some owners q kind i None first all = tt
+first-some owners q kind i (Some x) first all = record { waits = first.0; least = λ k w e. below k w e (below-or k i) }
   where
     below-or : (k i : ℕ) → (k < i) ⊎ (i ≤ k)
     below-or k i = grind arith
 
-    below : (k w : ℕ) → pending_in owners k q sends ≡ Some w → ((k < i) ⊎ (i ≤ k)) → x.1 ≤ w
+    below : (k w : ℕ) → pending_in owners k q kind ≡ Some w → ((k < i) ⊎ (i ≤ k)) → x.1 ≤ w
     below k w e (inl lt) = first.1 k w lt e
-    below k w e (inr ge) = absurd (let none : pending_in owners k q sends ≡ None = pending_in-past owners k q sends (omega arith) in cc)
+    below k w e (inr ge) = absurd (let none : pending_in owners k q kind ≡ None = pending_in-past owners k q kind (omega arith) in cc)
 
 pub no-wait : (o : Option OpenWait) → option_map (λ w. w.place) o ≡ None → o ≡ None
 no-wait None e = refl

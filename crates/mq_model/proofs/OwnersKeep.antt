@@ -13,7 +13,7 @@ use Rattle.mq_model.specs.Messages.{is_in, is_send, is_receive, least}
 use Rattle.mq_model.specs.Deadlines.{deadline_of}
 use Rattle.mq_model.specs.Waits.{is_wait, named_wait, names_wait, open_wait, answered_by}
 use Rattle.mq_model.specs.Answer.{Legal, IsLegalNext, may_call, answer}
-use Rattle.mq_model.specs.Owners.{held_in, wait_in, with_wait, with_answer, with_slot, waiter_in, OwnersMirror, blocked, waiting}
+use Rattle.mq_model.specs.Owners.{held_in, wait_in, with_wait, with_answer, with_slot, waiter_in, OwnersMirror, wait_kind, blocked, waiting}
 use Rattle.mq_model.specs.OwnersNoted.{EntryQueue, FitsSlots, noted, noted_done, noted_attributes, with_answer_at}
 use Rattle.mq_model.specs.declared.owners.OpenWait.{OpenWait}
 use Rattle.mq_model.specs.declared.owners.Owner.{Owner}
@@ -36,6 +36,8 @@ use Rattle.mq_model.proofs.Waiters.{waiter, admits-least, hands-least}
 use Rattle.mq_model.proofs.OpenWaits.{same-waiter, wait_deadline-same}
 use Rattle.mq_model.proofs.OpenReplies.{opened-says, lowest_free-is}
 use Rattle.mq_model.proofs.NamedWaits.{least-in}
+use Rattle.mq_model.specs.declared.owners.WaitKind.{WaitKind}
+use Rattle.mq_model.specs.declared.owners.WaitKind.TheVariants.{Send, Receive}
 
 abbrev rec : ℕ → Call → Reply → List ℕ → Record
 rec p call reply payload = record { entry = record { process = p; call = call; reply = reply }; payload = payload }
@@ -94,7 +96,7 @@ keep-quiet past owners m p call reply payload quiet =
       slots = m.slots;
       held = λ k d. m.held k d ∙ sym (held-quiet past r quiet.descriptors k d);
       waits = λ k. m.waits k ∙ sym (open_wait-same past r quiet.free quiet.goes k);
-      blocked = λ k w e. blocked-older past r w.sends w.queue w.place (m.blocked k w e);
+      blocked = λ k w e. blocked-older past r w.kind w.queue w.place (m.blocked k w e);
       deadlines = λ k. m.deadlines k ∙ sym (wait_deadline-same past r quiet.free quiet.goes k);
       answers = λ k. m.answers k ∙ sym (answered-same past r quiet.free quiet.unnamed k);
     }
@@ -119,7 +121,7 @@ keep-slot past owners m p call reply payload d v lt changes =
           rw t (subst P same at))
           (λ f. rw f (m.held k e));
       waits = λ k. ap (option_map (λ (w : OpenWait). w.place)) (wait_in-with_slot owners p d k v) ∙ m.waits k ∙ sym (open_wait-same past r changes.free changes.goes k);
-      blocked = λ k w e. blocked-older past r w.sends w.queue w.place (m.blocked k w (sym (wait_in-with_slot owners p d k v) ∙ e));
+      blocked = λ k w e. blocked-older past r w.kind w.queue w.place (m.blocked k w (sym (wait_in-with_slot owners p d k v) ∙ e));
       deadlines = λ k. ap until_of (wait_in-with_slot owners p d k v) ∙ m.deadlines k ∙ sym (wait_deadline-same past r changes.free changes.goes k);
       answers = λ k. answer_in-with_slot owners p d k v ∙ m.answers k ∙ sym (answered-same past r changes.free changes.unnamed k);
     }
@@ -134,7 +136,7 @@ keep-answer past owners m p call reply payload receiver w free goes named same o
       slots = slots-with_answer owners receiver (length past) m.slots;
       held = λ k d. held_in-with_answer owners receiver (length past) k d ∙ m.held k d ∙ sym (held-quiet past r same k d);
       waits = λ k. ap (option_map (λ (w : OpenWait). w.place)) (wait_in-with_answer owners receiver (length past) k) ∙ m.waits k ∙ sym (open_wait-same past r free goes k);
-      blocked = λ k x e. blocked-older past r x.sends x.queue x.place (m.blocked k x (sym (wait_in-with_answer owners receiver (length past) k) ∙ e));
+      blocked = λ k x e. blocked-older past r x.kind x.queue x.place (m.blocked k x (sym (wait_in-with_answer owners receiver (length past) k) ∙ e));
       deadlines = λ k. ap until_of (wait_in-with_answer owners receiver (length past) k) ∙ m.deadlines k ∙ sym (wait_deadline-same past r free goes k);
       answers = λ k. answer_in-with_answer owners receiver (length past) k lt ∙ sym (answered_by-step past r free k ∙ rw (names-one past reply receiver w named open_at k) (ap (λ o. if receiver == k then Some (length past) else o) (sym (m.answers k))));
     }
@@ -148,7 +150,7 @@ keep-ended past owners m p call reply payload goes none same lt =
       slots = slots-with_wait owners p None m.slots;
       held = λ k d. held_in-with_wait owners p None k d ∙ m.held k d ∙ sym (held-quiet past r (λ d. same d (held past p d)) k d);
       waits = λ k. ap (option_map (λ (w : OpenWait). w.place)) (wait_in-with_wait owners p None k lt) ∙ split (p == k) (λ t. rw (t, goes) refl) (λ f. rw f (m.waits k));
-      blocked = λ k w e. blocked-older past r w.sends w.queue w.place (m.blocked k w (still k w e));
+      blocked = λ k w e. blocked-older past r w.kind w.queue w.place (m.blocked k w (still k w e));
       deadlines = λ k. ap until_of (wait_in-with_wait owners p None k lt) ∙ split (p == k) (λ t. rw (t, goes) refl) (λ f. rw f (m.deadlines k));
       answers = λ k. answer_in-with_wait owners p None k lt ∙ split (p == k) (λ t. rw t refl) (λ f. rw f (m.answers k ∙ unnamed k));
     }
@@ -160,7 +162,7 @@ keep-ended past owners m p call reply payload goes none same lt =
     unnamed : (k : ℕ) → answered_by past k ≡ (if names_wait reply (open_wait past k) then Some (length past) else answered_by past k)
     unnamed k = rw (names-nothing reply none (open_wait past k)) refl
 
-blocked-newest : (past : Past) (p : ℕ) (call : Call) (payload : List ℕ) (q : ℕ) → called_queue past p call ≡ Some q → ((is_send call ≡ true) ⊎ (is_receive call ≡ true)) → is_in (blocked (rec p call Waits payload ∷ past) (is_send call) q) (length past) ≡ true
+blocked-newest : (past : Past) (p : ℕ) (call : Call) (payload : List ℕ) (q : ℕ) → called_queue past p call ≡ Some q → ((is_send call ≡ true) ⊎ (is_receive call ≡ true)) → is_in (blocked (rec p call Waits payload ∷ past) (wait_kind call) q) (length past) ≡ true
 blocked-newest past p (MqSend d prio len) payload q on kind = rw (on, eq-eqb q q refl, eq-eqb (length past) (length past) refl) refl
 blocked-newest past p (MqTimedSend d prio len until now) payload q on kind = rw (on, eq-eqb q q refl, eq-eqb (length past) (length past) refl) refl
 blocked-newest past p (MqReceive d room) payload q on kind = rw (on, eq-eqb q q refl, eq-eqb (length past) (length past) refl) refl
@@ -184,10 +186,10 @@ waits-kind past p Collect says = absurd (cc)
 waits-kind past p (Withdraw now) says = absurd (cc)
 
 keep-waits : (past : Past) (owners : List Owner) → OwnersMirror past owners → (p : ℕ) (call : Call) (payload : List ℕ) (q : ℕ) → Says past p call Waits → open_wait past p ≡ None → called_queue past p call ≡ Some q → p < length owners →
-    OwnersMirror (rec p call Waits payload ∷ past) (with_wait owners p (Some (record { place = length past; queue = q; sends = is_send call; until = deadline_of call })))
+    OwnersMirror (rec p call Waits payload ∷ past) (with_wait owners p (Some (record { place = length past; queue = q; kind = wait_kind call; until = deadline_of call })))
 keep-waits past owners m p call payload q says free on lt =
     let r : Record = rec p call Waits payload in
-    let wait : OpenWait = record { place = length past; queue = q; sends = is_send call; until = deadline_of call } in
+    let wait : OpenWait = record { place = length past; queue = q; kind = wait_kind call; until = deadline_of call } in
     record {
       slots = slots-with_wait owners p (Some wait) m.slots;
       held = λ k d. held_in-with_wait owners p (Some wait) k d ∙ m.held k d ∙ sym (held-quiet past r (λ d. refl) k d);
@@ -200,13 +202,13 @@ keep-waits past owners m p call payload q says free on lt =
     unnamed : (k : ℕ) → answered_by past k ≡ (if names_wait Waits (open_wait past k) then Some (length past) else answered_by past k)
     unnamed k = rw (names-nothing Waits refl (open_wait past k)) refl
 
-    stands : (k : ℕ) (w : OpenWait) → (if p == k then Some (record { place = length past; queue = q; sends = is_send call; until = deadline_of call }) else wait_in owners k) ≡ Some w → is_in (blocked (rec p call Waits payload ∷ past) w.sends w.queue) w.place ≡ true
+    stands : (k : ℕ) (w : OpenWait) → (if p == k then Some (record { place = length past; queue = q; kind = wait_kind call; until = deadline_of call }) else wait_in owners k) ≡ Some w → is_in (blocked (rec p call Waits payload ∷ past) w.kind w.queue) w.place ≡ true
     stands k w e = split (p == k)
-        (λ t. let it : Some (record { place = length past; queue = q; sends = is_send call; until = deadline_of call }) ≡ Some w = rw t at e in
-        let same : record { place = length past; queue = q; sends = is_send call; until = deadline_of call } ≡ w = cc in
-        let P : OpenWait → Type 0 = λ w. is_in (blocked (rec p call Waits payload ∷ past) w.sends w.queue) w.place ≡ true in
+        (λ t. let it : Some (record { place = length past; queue = q; kind = wait_kind call; until = deadline_of call }) ≡ Some w = rw t at e in
+        let same : record { place = length past; queue = q; kind = wait_kind call; until = deadline_of call } ≡ w = cc in
+        let P : OpenWait → Type 0 = λ w. is_in (blocked (rec p call Waits payload ∷ past) w.kind w.queue) w.place ≡ true in
         subst P same (blocked-newest past p call payload q on (waits-kind past p call says)))
-        (λ f. let old : wait_in owners k ≡ Some w = rw f at e in blocked-older past (rec p call Waits payload) w.sends w.queue w.place (m.blocked k w old))
+        (λ f. let old : wait_in owners k ≡ Some w = rw f at e in blocked-older past (rec p call Waits payload) w.kind w.queue w.place (m.blocked k w old))
 
 -- the process found is the one that waits since this place
 none-passes : (t : Owner → Bool) (owners : List Owner) (i : ℕ) → position_from t i owners ≡ None → (k : ℕ) (o : Owner) → slice_get owners k ≡ Some o → t o ≡ false
@@ -282,10 +284,10 @@ wait-inside past owners m p w e = by (cases p)
 
 -- the entry answers the wait that its reply names, the oldest of a kind on a queue
 answers-waiter : (past : Past) (owners : List Owner) → OwnersMirror past owners → Legal past → (p : ℕ) (call : Call) (reply : Reply) (payload : List ℕ) (w : ℕ) → open_wait past p ≡ None → is_wait reply ≡ false → named_wait reply ≡ Some w →
-    ((d : ℕ) → held_after past call payload reply d (held past p d) ≡ held past p d) → (sends : Bool) (q : ℕ) → least (waiting past sends q) ≡ Some w →
+    ((d : ℕ) → held_after past call payload reply d (held past p d) ≡ held past p d) → (kind : WaitKind) (q : ℕ) → least (waiting past kind q) ≡ Some w →
     OwnersMirror (rec p call reply payload ∷ past) (with_answer_at owners (waiter_in owners w) (length past))
-answers-waiter past owners m legal p call reply payload w free goes named same sends q first =
-    let x = waiter past legal sends q w (least-in (waiting past sends q) w first) in
+answers-waiter past owners m legal p call reply payload w free goes named same kind q first =
+    let x = waiter past legal kind q w (least-in (waiting past kind q) w first) in
     let found = waiter-found past owners m w x.0 x.1 (wait-inside past owners m x.0 w x.1) in
     let P : Option ℕ → Type 0 = λ o. OwnersMirror (rec p call reply payload ∷ past) (with_answer_at owners o (length past)) in
     subst P (sym found.is) (keep-answer past owners m p call reply payload x.0 w free goes named same found.open_at found.inside)
@@ -346,13 +348,13 @@ keep-got : (past : Past) (owners : List Owner) → OwnersMirror past owners → 
 keep-got past owners m legal p call place None n payload says free = keep-quiet past owners m p call (Got place None n) payload (quiet past p call (Got place None n) payload free refl refl (λ d. refl))
 keep-got past owners m legal p call place (Some w) n payload says free =
     let x = admits-least past p call place (Some w) n says in
-    answers-waiter past owners m legal p call (Got place (Some w) n) payload w free refl refl (λ d. refl) true x.0 (sym x.1)
+    answers-waiter past owners m legal p call (Got place (Some w) n) payload w free refl refl (λ d. refl) Send x.0 (sym x.1)
 
 keep-by : (past : Past) (owners : List Owner) → OwnersMirror past owners → Legal past → (p : ℕ) (call : Call) (reply : Reply) (payload : List ℕ) (q : ℕ) → Says past p call reply → reply ≡ answer past p call payload →
     (ends_wait reply ≡ false → open_wait past p ≡ None) → p < length owners → EntryQueue past p call payload reply q → OwnersMirror (rec p call reply payload ∷ past) (noted owners (length past) p call reply q)
 keep-by past owners m legal p call (Opened d created) payload q says is free lt at = keep-opened past owners m p call payload d created q is (free refl) lt at
 keep-by past owners m legal p call (Queued n) payload q says is free lt at = keep-quiet past owners m p call (Queued n) payload (quiet past p call (Queued n) payload (free refl) refl refl (λ d. refl))
-keep-by past owners m legal p call (Handed w) payload q says is free lt at = let x = hands-least past p call w says in answers-waiter past owners m legal p call (Handed w) payload w (free refl) refl refl (λ d. refl) false x.0 x.1
+keep-by past owners m legal p call (Handed w) payload q says is free lt at = let x = hands-least past p call w says in answers-waiter past owners m legal p call (Handed w) payload w (free refl) refl refl (λ d. refl) Receive x.0 x.1
 keep-by past owners m legal p call Waits payload q says is free lt at = keep-waits past owners m p call payload q says (free refl) at lt
 keep-by past owners m legal p call (Got place admitted notified) payload q says is free lt at = keep-got past owners m legal p call place admitted notified payload says (free refl)
 keep-by past owners m legal p call (Collected by) payload q says is free lt at = keep-ended past owners m p call (Collected by) payload refl refl (λ d before. refl) lt

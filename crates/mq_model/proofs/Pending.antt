@@ -14,91 +14,93 @@ use Rattle.mq_model.proofs.Places.{split, is_in-filter}
 use Rattle.mq_model.proofs.OwnerLines.{pending_in-past}
 use Rattle.mq_model.proofs.NamedWaits.{blocked-once}
 use Rattle.mq_model.proofs.Waiters.{ended_waits, waiting-filter, in-filter, waiter, unnamed, least-none, least-some}
+use Rattle.mq_model.specs.declared.owners.WaitKind.{WaitKind}
+use Rattle.mq_model.specs.declared.owners.WaitKind.TheVariants.{Send, Receive}
 
 -- what a pending wait is
-record IsPending (owners : List Owner) (p q : ℕ) (sends : Bool) (w : ℕ) : Type 0 where
+record IsPending (owners : List Owner) (p q : ℕ) (kind : WaitKind) (w : ℕ) : Type 0 where
   wait : OpenWait
   is : wait_in owners p ≡ Some wait
   open_still : answer_in owners p ≡ None
   place : wait.place ≡ w
   queue : wait.queue ≡ q
-  kind : wait.sends ≡ sends
+  of_kind : wait.kind ≡ kind
 
-is_kind-same : (s t : Bool) → is_kind s t ≡ true → t ≡ s
-is_kind-same true true e = refl
-is_kind-same true false e = absurd (cc)
-is_kind-same false true e = absurd (cc)
-is_kind-same false false e = refl
+is_kind-same : (s t : WaitKind) → is_kind s t ≡ true → t ≡ s
+is_kind-same Send Send e = refl
+is_kind-same Send Receive e = absurd (cc)
+is_kind-same Receive Send e = absurd (cc)
+is_kind-same Receive Receive e = refl
 
-is_pending : (owners : List Owner) (p q : ℕ) (sends : Bool) (w : ℕ) → pending_in owners p q sends ≡ Some w → IsPending owners p q sends w
+is_pending : (owners : List Owner) (p q : ℕ) (kind : WaitKind) (w : ℕ) → pending_in owners p q kind ≡ Some w → IsPending owners p q kind w
 unfolding pending_in
-is_pending owners p q sends w e = by (wait_in owners p) refl (answer_in owners p) refl e
+is_pending owners p q kind w e = by (wait_in owners p) refl (answer_in owners p) refl e
   where
-    by : (o : Option OpenWait) → wait_in owners p ≡ o → (a : Option ℕ) → answer_in owners p ≡ a → pending o a q sends ≡ Some w → IsPending owners p q sends w
+    by : (o : Option OpenWait) → wait_in owners p ≡ o → (a : Option ℕ) → answer_in owners p ≡ a → pending o a q kind ≡ Some w → IsPending owners p q kind w
     by None is a none e = absurd (cc)
     by (Some x) is (Some b) none e = absurd (cc)
-    by (Some x) is None none e = split (x.queue == q && is_kind sends x.sends)
-        (λ t. let parts = and_parts (x.queue == q) (is_kind sends x.sends) t in let same : Some x.place ≡ Some w = rw t at e in
-        record { wait = x; is = is; open_still = none; place = cc; queue = eqb-true _ _ parts.0; kind = is_kind-same sends x.sends parts.1 })
+    by (Some x) is None none e = split (x.queue == q && is_kind kind x.kind)
+        (λ t. let parts = and_parts (x.queue == q) (is_kind kind x.kind) t in let same : Some x.place ≡ Some w = rw t at e in
+        record { wait = x; is = is; open_still = none; place = cc; queue = eqb-true _ _ parts.0; of_kind = is_kind-same kind x.kind parts.1 })
         (λ f. let same : None ≡ Some w = rw f at e in absurd (cc))
 
-is_kind-self : (s : Bool) → is_kind s s ≡ true
-is_kind-self true = refl
-is_kind-self false = refl
+is_kind-self : (s : WaitKind) → is_kind s s ≡ true
+is_kind-self Send = refl
+is_kind-self Receive = refl
 
-pending-is : (owners : List Owner) (p q : ℕ) (sends : Bool) (w : ℕ) (y : OpenWait) → wait_in owners p ≡ Some y → answer_in owners p ≡ None → y.place ≡ w → y.queue ≡ q → y.sends ≡ sends → pending_in owners p q sends ≡ Some w
+pending-is : (owners : List Owner) (p q : ℕ) (kind : WaitKind) (w : ℕ) (y : OpenWait) → wait_in owners p ≡ Some y → answer_in owners p ≡ None → y.place ≡ w → y.queue ≡ q → y.kind ≡ kind → pending_in owners p q kind ≡ Some w
 unfolding pending_in
-pending-is owners p q sends w y is none place queue kind = rw (is, none, queue, kind, eq-eqb q q refl, is_kind-self sends) (ap Some place)
+pending-is owners p q kind w y is none place queue of_kind = rw (is, none, queue, of_kind, eq-eqb q q refl, is_kind-self kind) (ap Some place)
 
-pub pending-inside : (owners : List Owner) (p q : ℕ) (sends : Bool) (w : ℕ) → pending_in owners p q sends ≡ Some w → p < length owners
-pending-inside owners p q sends w e = by (cases p)
+pub pending-inside : (owners : List Owner) (p q : ℕ) (kind : WaitKind) (w : ℕ) → pending_in owners p q kind ≡ Some w → p < length owners
+pending-inside owners p q kind w e = by (cases p)
   where
     cases : (p : ℕ) → (p < length owners) ⊎ (length owners ≤ p)
     cases p = grind arith
 
     by : ((p < length owners) ⊎ (length owners ≤ p)) → p < length owners
     by (inl lt) = lt
-    by (inr ge) = absurd (let none : pending_in owners p q sends ≡ None = pending_in-past owners p q sends ge in cc)
+    by (inr ge) = absurd (let none : pending_in owners p q kind ≡ None = pending_in-past owners p q kind ge in cc)
 
-pub pending-waits : (past : Past) (owners : List Owner) → OwnersMirror past owners → Legal past → (p q : ℕ) (sends : Bool) (w : ℕ) → pending_in owners p q sends ≡ Some w → is_in (waiting past sends q) w ≡ true
-pending-waits past owners m legal p q sends w e =
-    let x = is_pending owners p q sends w e in
+pub pending-waits : (past : Past) (owners : List Owner) → OwnersMirror past owners → Legal past → (p q : ℕ) (kind : WaitKind) (w : ℕ) → pending_in owners p q kind ≡ Some w → is_in (waiting past kind q) w ≡ true
+pending-waits past owners m legal p q kind w e =
+    let x = is_pending owners p q kind w e in
     let P : ℕ → Type 0 = λ k. open_wait past p ≡ Some k in
     let open_at : open_wait past p ≡ Some x.wait.place = sym (m.waits p) ∙ ap (option_map (λ (y : OpenWait). y.place)) x.is in
     let unanswered : answered_by past p ≡ None = sym (m.answers p) ∙ x.open_still in
-    let free : is_in (ended_waits past sends) x.wait.place ≡ false = unnamed past legal p x.wait.place open_at unanswered sends in
-    let stands : is_in (blocked past x.wait.sends x.wait.queue) x.wait.place ≡ true = m.blocked p x.wait x.is in
-    let stands' : is_in (blocked past sends q) x.wait.place ≡ true = rw (x.kind, x.queue) at stands in
-    rw (waiting-filter past sends q, ← x.place) (in-filter _ (blocked past sends q) x.wait.place stands' (rw free refl))
+    let free : is_in (ended_waits past kind) x.wait.place ≡ false = unnamed past legal p x.wait.place open_at unanswered kind in
+    let stands : is_in (blocked past x.wait.kind x.wait.queue) x.wait.place ≡ true = m.blocked p x.wait x.is in
+    let stands' : is_in (blocked past kind q) x.wait.place ≡ true = rw (x.of_kind, x.queue) at stands in
+    rw (waiting-filter past kind q, ← x.place) (in-filter _ (blocked past kind q) x.wait.place stands' (rw free refl))
 
-pub waits-pending : (past : Past) (owners : List Owner) → OwnersMirror past owners → Legal past → (q : ℕ) (sends : Bool) (w : ℕ) → is_in (waiting past sends q) w ≡ true → (p : ℕ) × (pending_in owners p q sends ≡ Some w)
-waits-pending past owners m legal q sends w h =
-    let x = waiter past legal sends q w h in
-    let h' : is_in (filter (λ w. not (is_in (ended_waits past sends) w)) (blocked past sends q)) w ≡ true = rw (waiting-filter past sends q) at h in
-    let inside = is_in-filter _ (blocked past sends q) w h' in
+pub waits-pending : (past : Past) (owners : List Owner) → OwnersMirror past owners → Legal past → (q : ℕ) (kind : WaitKind) (w : ℕ) → is_in (waiting past kind q) w ≡ true → (p : ℕ) × (pending_in owners p q kind ≡ Some w)
+waits-pending past owners m legal q kind w h =
+    let x = waiter past legal kind q w h in
+    let h' : is_in (filter (λ w. not (is_in (ended_waits past kind) w)) (blocked past kind q)) w ≡ true = rw (waiting-filter past kind q) at h in
+    let inside = is_in-filter _ (blocked past kind q) w h' in
     (x.0, by x.0 (wait_in owners x.0) refl (answer_in owners x.0) refl (m.waits x.0 ∙ x.1) (m.answers x.0 ∙ x.2) inside.0)
   where
-    by : (p : ℕ) (o : Option OpenWait) → wait_in owners p ≡ o → (a : Option ℕ) → answer_in owners p ≡ a → option_map (λ y. y.place) (wait_in owners p) ≡ Some w → answer_in owners p ≡ None → is_in (blocked past sends q) w ≡ true → pending_in owners p q sends ≡ Some w
+    by : (p : ℕ) (o : Option OpenWait) → wait_in owners p ≡ o → (a : Option ℕ) → answer_in owners p ≡ a → option_map (λ y. y.place) (wait_in owners p) ≡ Some w → answer_in owners p ≡ None → is_in (blocked past kind q) w ≡ true → pending_in owners p q kind ≡ Some w
     by p None is a none at free stands = absurd (let e : None ≡ Some w = rw is at at in cc)
     by p (Some y) is (Some b) none at free stands = absurd (let e : Some b ≡ None = sym none ∙ free in cc)
     by p (Some y) is None none at free stands =
         let e : Some y.place ≡ Some w = rw is at at in
         let place : y.place ≡ w = cc in
-        let stands' : is_in (blocked past y.sends y.queue) w ≡ true = rw place at (m.blocked p y is) in
-        let same = blocked-once past y.sends sends y.queue q w stands' stands in
-        pending-is owners p q sends w y is none place same.1 same.0
+        let stands' : is_in (blocked past y.kind y.queue) w ≡ true = rw place at (m.blocked p y is) in
+        let same = blocked-once past y.kind kind y.queue q w stands' stands in
+        pending-is owners p q kind w y is none place same.1 same.0
 
-pub least-pending : (past : Past) (owners : List Owner) → OwnersMirror past owners → Legal past → (q : ℕ) (sends : Bool) (p w : ℕ) → IsFirstWait owners q sends p w → least (waiting past sends q) ≡ Some w
-least-pending past owners m legal q sends p w first =
-    least-some (waiting past sends q) w (pending-waits past owners m legal p q sends w first.waits)
-    (λ k h. let x = waits-pending past owners m legal q sends k h in first.least x.0 k x.1)
+pub least-pending : (past : Past) (owners : List Owner) → OwnersMirror past owners → Legal past → (q : ℕ) (kind : WaitKind) (p w : ℕ) → IsFirstWait owners q kind p w → least (waiting past kind q) ≡ Some w
+least-pending past owners m legal q kind p w first =
+    least-some (waiting past kind q) w (pending-waits past owners m legal p q kind w first.waits)
+    (λ k h. let x = waits-pending past owners m legal q kind k h in first.least x.0 k x.1)
 
-pub no-pending : (past : Past) (owners : List Owner) → OwnersMirror past owners → Legal past → (q : ℕ) (sends : Bool) → ((p : ℕ) → pending_in owners p q sends ≡ None) → least (waiting past sends q) ≡ None
-no-pending past owners m legal q sends none =
-    least-none (waiting past sends q) (λ k h. let x = waits-pending past owners m legal q sends k h in let a : Some k ≡ None = sym x.1 ∙ none x.0 in cc)
+pub no-pending : (past : Past) (owners : List Owner) → OwnersMirror past owners → Legal past → (q : ℕ) (kind : WaitKind) → ((p : ℕ) → pending_in owners p q kind ≡ None) → least (waiting past kind q) ≡ None
+no-pending past owners m legal q kind none =
+    least-none (waiting past kind q) (λ k h. let x = waits-pending past owners m legal q kind k h in let a : Some k ≡ None = sym x.1 ∙ none x.0 in cc)
 
 -- the process of a pending wait, and its open wait
-pub pending-open : (past : Past) (owners : List Owner) → OwnersMirror past owners → (p q : ℕ) (sends : Bool) (w : ℕ) → pending_in owners p q sends ≡ Some w → open_wait past p ≡ Some w
-pending-open past owners m p q sends w e =
-    let x = is_pending owners p q sends w e in
+pub pending-open : (past : Past) (owners : List Owner) → OwnersMirror past owners → (p q : ℕ) (kind : WaitKind) (w : ℕ) → pending_in owners p q kind ≡ Some w → open_wait past p ≡ Some w
+pending-open past owners m p q kind w e =
+    let x = is_pending owners p q kind w e in
     sym (m.waits p) ∙ ap (option_map (λ (y : OpenWait). y.place)) x.is ∙ ap Some x.place

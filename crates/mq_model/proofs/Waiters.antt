@@ -20,15 +20,17 @@ use Rattle.mq_model.specs.declared.entries.Call.{Call}
 use Rattle.mq_model.specs.declared.entries.Call.TheVariants.{MqOpen, MqClose, MqUnlink, MqSend, MqReceive, MqGetattr, MqSetattr, MqNotify, NextNotice, Collect, MqTimedSend, MqTimedReceive, Withdraw}
 use Rattle.mq_model.specs.declared.entries.Reply.{Reply}
 use Rattle.mq_model.specs.declared.entries.Reply.TheVariants.{Opened, Queued, Handed, Waits, Got, Collected, Attrs, Notice, Done, Refused, Withdrawn}
+use Rattle.mq_model.specs.declared.owners.WaitKind.{WaitKind}
+use Rattle.mq_model.specs.declared.owners.WaitKind.TheVariants.{Send, Receive}
 
 -- the waits of a kind that ended
-abbrev pub ended_waits : Past → Bool → List ℕ
-ended_waits past true = ended_sends past
-ended_waits past false = ended_receives past
+abbrev pub ended_waits : Past → WaitKind → List ℕ
+ended_waits past Send = ended_sends past
+ended_waits past Receive = ended_receives past
 
-pub waiting-filter : (past : Past) (sends : Bool) (q : ℕ) → waiting past sends q ≡ filter (λ w. not (is_in (ended_waits past sends) w)) (blocked past sends q)
-waiting-filter past true q = refl
-waiting-filter past false q = refl
+pub waiting-filter : (past : Past) (kind : WaitKind) (q : ℕ) → waiting past kind q ≡ filter (λ w. not (is_in (ended_waits past kind) w)) (blocked past kind q)
+waiting-filter past Send q = refl
+waiting-filter past Receive q = refl
 
 pub in-filter : (t : ℕ → Bool) (xs : List ℕ) (m : ℕ) → is_in xs m ≡ true → t m ≡ true → is_in (filter t xs) m ≡ true
 in-filter t [] m h passes = absurd (cc)
@@ -90,8 +92,8 @@ not-named past p q w call (Got m (Some v) n) says stands free = split (v == w)
     let got = admits-least past p call m (Some v) n says in
     let inside = is_in-filter _ (blocked_sends past got.0) v (least-in (waiting_sends past got.0) v (sym got.1)) in
     let P : ℕ → Type 0 = λ k. is_in (blocked_sends past got.0) k ≡ true in
-    let both = blocked-once past true false got.0 q w (subst P same inside.0) stands in
-    let bad : true ≡ false = both.0 in absurd (cc))
+    let both = blocked-once past Send Receive got.0 q w (subst P same inside.0) stands in
+    let bad : Send ≡ Receive = both.0 in absurd (cc))
     (λ f. f)
 not-named past p q w call (Opened d created) says stands free = refl
 not-named past p q w call (Queued n) says stands free = refl
@@ -118,7 +120,7 @@ waiter-receive (r ∷ past) legal q w h =
     let waits : is_wait r.entry.reply ≡ true = blocks-wait r.entry.call r.entry.reply (and_parts (blocks_receive r.entry.call r.entry.reply) (is_on past r.entry q) mine).0 in
     let self : (r.entry.process == r.entry.process) ≡ true = eq-eqb r.entry.process r.entry.process refl in
     (r.entry.process, rw (self, waits) (ap Some same), rw self refl))
-    (λ n. let old : is_in (blocked_receives past q) w ≡ true = (blocked-cases past r false q w parts.0).1 (eqb-false _ _ n) in
+    (λ n. let old : is_in (blocked_receives past q) w ≡ true = (blocked-cases past r Receive q w parts.0).1 (eqb-false _ _ n) in
     let free : is_in (ended_receives past) w ≡ false = split (is_in (ended_receives past) w) (λ t. let more : is_in (with_place (ends_receive r.entry.reply) (ended_receives past)) w ≡ true = is_in-with_place (ends_receive r.entry.reply) (ended_receives past) w t in let bad : false ≡ true = rw more at parts.1 in absurd (cc)) (λ f. f) in
     let x = waiter-receive past legal.0 q w (in-filter _ (blocked_receives past q) w old (rw free refl)) in
     split (r.entry.process == x.0)
@@ -152,8 +154,8 @@ not-named-send past p q w call (Handed v) says stands free = split (v == w)
     let least_one = hands-least past p call v says in
     let inside = is_in-filter _ (blocked_receives past least_one.0) v (least-in (waiting_receives past least_one.0) v least_one.1) in
     let P : ℕ → Type 0 = λ k. is_in (blocked_receives past least_one.0) k ≡ true in
-    let both = blocked-once past false true least_one.0 q w (subst P same inside.0) stands in
-    let bad : false ≡ true = both.0 in absurd (cc))
+    let both = blocked-once past Receive Send least_one.0 q w (subst P same inside.0) stands in
+    let bad : Receive ≡ Send = both.0 in absurd (cc))
     (λ f. f)
 not-named-send past p q w call (Opened d created) says stands free = refl
 not-named-send past p q w call (Queued n) says stands free = refl
@@ -188,7 +190,7 @@ waiter-send (r ∷ past) legal q w h =
     let waits : is_wait r.entry.reply ≡ true = blocks-wait-send r.entry.call r.entry.reply (and_parts (blocks_send r.entry.call r.entry.reply) (is_on past r.entry q) mine).0 in
     let self : (r.entry.process == r.entry.process) ≡ true = eq-eqb r.entry.process r.entry.process refl in
     (r.entry.process, rw (self, waits) (ap Some same), rw self refl))
-    (λ n. let old : is_in (blocked_sends past q) w ≡ true = (blocked-cases past r true q w parts.0).1 (eqb-false _ _ n) in
+    (λ n. let old : is_in (blocked_sends past q) w ≡ true = (blocked-cases past r Send q w parts.0).1 (eqb-false _ _ n) in
     let free : is_in (ended_sends past) w ≡ false = split (is_in (ended_sends past) w) (λ t. let more : is_in (with_place (ends_send r.entry.reply) (ended_sends past)) w ≡ true = is_in-with_place (ends_send r.entry.reply) (ended_sends past) w t in let bad : false ≡ true = rw more at parts.1 in absurd (cc)) (λ f. f) in
     let x = waiter-send past legal.0 q w (in-filter _ (blocked_sends past q) w old (rw free refl)) in
     split (r.entry.process == x.0)
@@ -203,7 +205,7 @@ ends_send-below past r k legal e = by r.entry.reply (legal_says past r legal) e
     by : (reply : Reply) → Says past r.entry.process r.entry.call reply → ends_send reply ≡ Some k → k < length past
     by (Got m a n) says e =
         let least_one = admits-least past r.entry.process r.entry.call m a n says in
-        blocked-below past true least_one.0 k (is_in-filter _ (blocked_sends past least_one.0) k (least-in (waiting_sends past least_one.0) k (sym least_one.1 ∙ e))).0
+        blocked-below past Send least_one.0 k (is_in-filter _ (blocked_sends past least_one.0) k (least-in (waiting_sends past least_one.0) k (sym least_one.1 ∙ e))).0
     by (Handed w) says e = absurd (cc)
     by (Opened d created) says e = absurd (cc)
     by (Queued n) says e = absurd (cc)
@@ -269,14 +271,14 @@ unended-send (r ∷ past) legal p w e a = split (r.entry.process == p)
     unlisted (Refused x) gone f g = g
 
 -- a wait that no entry names is the open wait of its process, which no entry answers
-pub waiter : (past : Past) → Legal past → (sends : Bool) (q w : ℕ) → is_in (waiting past sends q) w ≡ true → (p : ℕ) × (open_wait past p ≡ Some w) × (answered_by past p ≡ None)
-waiter past legal false q w h = waiter-receive past legal q w h
-waiter past legal true q w h = waiter-send past legal q w h
+pub waiter : (past : Past) → Legal past → (kind : WaitKind) (q w : ℕ) → is_in (waiting past kind q) w ≡ true → (p : ℕ) × (open_wait past p ≡ Some w) × (answered_by past p ≡ None)
+waiter past legal Receive q w h = waiter-receive past legal q w h
+waiter past legal Send q w h = waiter-send past legal q w h
 
 -- no entry names an open wait that is not answered
-pub unnamed : (past : Past) → Legal past → (p w : ℕ) → open_wait past p ≡ Some w → answered_by past p ≡ None → (sends : Bool) → is_in (ended_waits past sends) w ≡ false
-unnamed past legal p w e a false = unended-receive past legal p w e a
-unnamed past legal p w e a true = unended-send past legal p w e a
+pub unnamed : (past : Past) → Legal past → (p w : ℕ) → open_wait past p ≡ Some w → answered_by past p ≡ None → (kind : WaitKind) → is_in (ended_waits past kind) w ≡ false
+unnamed past legal p w e a Receive = unended-receive past legal p w e a
+unnamed past legal p w e a Send = unended-send past legal p w e a
 
 pub least-none : (xs : List ℕ) → ((k : ℕ) → is_in xs k ≡ true → ⊥) → least xs ≡ None
 least-none [] none = refl

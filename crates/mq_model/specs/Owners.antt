@@ -1,14 +1,17 @@
 -- What a table of processes says of each, process p's line being at index p. It defines nothing new: where a table mirrors a
 -- journal, each word here is the definition of the same name over the journal.
-use Rattle.std.specs.Prelude.{ℕ, zero, suc, ◌≡◌, ◌≤◌, Bool, true, false, ◌&&◌, not, ◌==◌, List, [], ◌∷◌, length, Option, Some, None, is_some, is_none, slice_get, replicate, set, if◌then◌else◌}
+use Rattle.std.specs.Prelude.{ℕ, zero, suc, ◌≡◌, ◌≤◌, Bool, true, false, ◌&&◌, ◌==◌, List, [], ◌∷◌, length, Option, Some, None, is_some, is_none, slice_get, replicate, set, if◌then◌else◌}
 use Rattle.std.specs.List.{count_by, list_any, position, find}
 use Rattle.std.specs.Option.{option_map, option_and_then, unwrap_or}
 use Rattle.mq_model.specs.Limits.{most_descriptors}
 use Rattle.mq_model.specs.Record.{Past}
 use Rattle.mq_model.specs.Descriptors.{held, is_place, with_nonblock, descriptor_numbers}
-use Rattle.mq_model.specs.Messages.{is_in, blocked_sends, blocked_receives, waiting_sends, waiting_receives}
+use Rattle.mq_model.specs.Messages.{is_in, is_send, blocked_sends, blocked_receives, waiting_sends, waiting_receives}
 use Rattle.mq_model.specs.Waits.{open_wait, wait_deadline, answered_by}
 use Rattle.mq_model.specs.declared.entries.Description.{Description}
+use Rattle.mq_model.specs.declared.entries.Call.{Call}
+use Rattle.mq_model.specs.declared.owners.WaitKind.{WaitKind}
+use Rattle.mq_model.specs.declared.owners.WaitKind.TheVariants.{Send, Receive}
 use Rattle.mq_model.specs.declared.owners.OpenWait.{OpenWait}
 use Rattle.mq_model.specs.declared.owners.Owner.{Owner}
 
@@ -32,24 +35,29 @@ free_number_in owners p = find (λ d. is_none (held_in owners p d)) descriptor_n
 abbrev pub lowest_held_in : List Owner → ℕ → Option ℕ
 lowest_held_in owners p = find (λ d. is_some (held_in owners p d)) descriptor_numbers
 
--- a wait is of the kind looked for: a send, or a receive
-abbrev pub is_kind : Bool → Bool → Bool
-is_kind true sends = sends
-is_kind false sends = not sends
+-- a wait is of the kind looked for
+abbrev pub is_kind : WaitKind → WaitKind → Bool
+is_kind Send Send = true
+is_kind Receive Receive = true
+is_kind wanted kind = false
+
+-- the kind of wait that a call begins: that of a send, or else of a receive
+abbrev pub wait_kind : Call → WaitKind
+wait_kind call = if is_send call then Send else Receive
 
 -- the place of an unanswered wait, if it is of this kind on queue q
-abbrev pub pending : Option OpenWait → Option ℕ → ℕ → Bool → Option ℕ
-pending None answer q sends = None
-pending (Some w) (Some by) q sends = None
-pending (Some w) None q sends = if w.queue == q && is_kind sends w.sends then Some w.place else None
+abbrev pub pending : Option OpenWait → Option ℕ → ℕ → WaitKind → Option ℕ
+pending None answer q kind = None
+pending (Some w) (Some by) q kind = None
+pending (Some w) None q kind = if w.queue == q && is_kind kind w.kind then Some w.place else None
 
-unfoldable pub pending_in : List Owner → ℕ → ℕ → Bool → Option ℕ
-pending_in owners p q sends = pending (wait_in owners p) (answer_in owners p) q sends
+unfoldable pub pending_in : List Owner → ℕ → ℕ → WaitKind → Option ℕ
+pending_in owners p q kind = pending (wait_in owners p) (answer_in owners p) q kind
 
 -- process p waits on queue q since that place, and no process since an earlier one
-pub record IsFirstWait (owners : List Owner) (q : ℕ) (sends : Bool) (p place : ℕ) : Type 0 where
-  pub waits : pending_in owners p q sends ≡ Some place
-  pub least : (k w : ℕ) → pending_in owners k q sends ≡ Some w → place ≤ w
+pub record IsFirstWait (owners : List Owner) (q : ℕ) (kind : WaitKind) (p place : ℕ) : Type 0 where
+  pub waits : pending_in owners p q kind ≡ Some place
+  pub least : (k w : ℕ) → pending_in owners k q kind ≡ Some w → place ≤ w
 
 -- the table with process p's line changed
 abbrev pub changed : (Owner → Owner) → List Owner → ℕ → List Owner
@@ -89,21 +97,21 @@ is_held_in owners q = list_any (holds q) owners
 abbrev pub free_owner : Owner
 free_owner = record { descriptors = replicate most_descriptors None; wait = None; answer = None }
 
--- the blocked sends to a queue, or the blocked receives
-abbrev pub blocked : Past → Bool → ℕ → List ℕ
-blocked past true q = blocked_sends past q
-blocked past false q = blocked_receives past q
+-- the blocked kind to a queue, or the blocked receives
+abbrev pub blocked : Past → WaitKind → ℕ → List ℕ
+blocked past Send q = blocked_sends past q
+blocked past Receive q = blocked_receives past q
 
--- the sends, or receives, that wait on a queue
-abbrev pub waiting : Past → Bool → ℕ → List ℕ
-waiting past true q = waiting_sends past q
-waiting past false q = waiting_receives past q
+-- the kind, or receives, that wait on a queue
+abbrev pub waiting : Past → WaitKind → ℕ → List ℕ
+waiting past Send q = waiting_sends past q
+waiting past Receive q = waiting_receives past q
 
 -- the table says what the definitions say of the journal
 pub record OwnersMirror (past : Past) (owners : List Owner) : Type 0 where
   pub slots : (p : ℕ) (o : Owner) → slice_get owners p ≡ Some o → length o.descriptors ≡ most_descriptors
   pub held : (p d : ℕ) → held_in owners p d ≡ held past p d
   pub waits : (p : ℕ) → option_map (λ w. w.place) (wait_in owners p) ≡ open_wait past p
-  pub blocked : (p : ℕ) (w : OpenWait) → wait_in owners p ≡ Some w → is_in (blocked past w.sends w.queue) w.place ≡ true
+  pub blocked : (p : ℕ) (w : OpenWait) → wait_in owners p ≡ Some w → is_in (blocked past w.kind w.queue) w.place ≡ true
   pub deadlines : (p : ℕ) → option_and_then (λ w. w.until) (wait_in owners p) ≡ wait_deadline past p
   pub answers : (p : ℕ) → answer_in owners p ≡ answered_by past p

@@ -6,9 +6,8 @@ use Rattle.mq_model.specs.Record.{Past}
 use Rattle.mq_model.specs.Descriptors.{description, opened_queue, called_queue}
 use Rattle.mq_model.specs.Answer.{Legal, IsLegalNext}
 use Rattle.mq_model.specs.declared.entries.Entry.{Entry}
-use Rattle.mq_model.specs.Messages.{is_send}
 use Rattle.mq_model.specs.Deadlines.{deadline_of}
-use Rattle.mq_model.specs.Owners.{with_wait, with_answer, with_slot, with_flag, waiter_in, OwnersMirror}
+use Rattle.mq_model.specs.Owners.{with_wait, with_answer, with_slot, with_flag, waiter_in, wait_kind, OwnersMirror}
 use Rattle.mq_model.specs.declared.entries.Call.{Call}
 use Rattle.mq_model.specs.declared.entries.Call.TheVariants.{MqOpen, MqClose, MqSetattr}
 use Rattle.mq_model.specs.declared.entries.Reply.{Reply}
@@ -36,7 +35,7 @@ abbrev pub noted : List Owner → ℕ → ℕ → Call → Reply → ℕ → Lis
 noted owners here p call (Opened d created) q = noted_open owners p call d q
 noted owners here p call Done q = noted_done owners p call
 noted owners here p call (Attrs status) q = noted_attributes owners p call
-noted owners here p call Waits q = with_wait owners p (Some (record { place = here; queue = q; sends = is_send call; until = deadline_of call }))
+noted owners here p call Waits q = with_wait owners p (Some (record { place = here; queue = q; kind = wait_kind call; until = deadline_of call }))
 noted owners here p call (Collected by) q = with_wait owners p None
 noted owners here p call (Withdrawn wait) q = with_wait owners p None
 noted owners here p call (Handed wait) q = with_answer_at owners (waiter_in owners wait) here

@@ -8,12 +8,21 @@ ghost use Rattle.mq_model.specs.Descriptors.{is_place};
 use crate::entries::{Call, Deadline, Description, Entry, Reply};
 use crate::limits::DESCRIPTORS;
 
-/// A call that blocked: its place, its queue, whether it is a send, and the moment until which it waits.
+/// What a call that blocked waits for.
+#[derive(Clone, Copy, Debug, PartialEq, Eq)]
+pub enum WaitKind {
+    /// A send, for room in its queue.
+    Send,
+    /// A receive, for a message.
+    Receive,
+}
+
+/// A call that blocked: its place, its queue, its kind, and the moment until which it waits.
 #[derive(Clone, Copy, Debug, PartialEq, Eq)]
 pub struct OpenWait {
     pub place: u64,
     pub queue: u64,
-    pub sends: bool,
+    pub kind: WaitKind,
     pub until: Option<Deadline>,
 }
 
@@ -26,7 +35,7 @@ pub struct Owner {
     pub answer: Option<u64>,
 }
 
-ghost use Rattle.mq_model.specs.Owners.{free_owner, holds, is_kind, held_in, wait_in, answer_in, pending_in, free_number_in, lowest_held_in, with_wait, with_answer, with_slot, with_flag, waiter_in, waits_count, is_held_in, IsFirstWait};
+ghost use Rattle.mq_model.specs.Owners.{free_owner, holds, is_kind, wait_kind, held_in, wait_in, answer_in, pending_in, free_number_in, lowest_held_in, with_wait, with_answer, with_slot, with_flag, waiter_in, waits_count, is_held_in, IsFirstWait};
 ghost use Rattle.mq_model.specs.OwnersNoted.{noted, noted_open, noted_done, noted_attributes, with_answer_at, FitsSlots, FitsDone, FitsAttributes, KeepsMirror, StartsMirror};
 
 impl Owner {
@@ -138,22 +147,37 @@ fn waiter(owners: &[Owner], place: u64) -> Option<usize>
     owners.iter().position(|owner| is_wait_at(owner, place))
 }
 
-fn is_kind(wanted: bool, sends: bool) -> bool
-    ensures { result ≡ is_kind wanted sends }
+fn is_kind(wanted: WaitKind, kind: WaitKind) -> bool
+    ensures { result ≡ is_kind wanted kind }
 {
-    if wanted { sends } else { !sends }
+    match (wanted, kind) {
+        (WaitKind::Send, WaitKind::Send) => true,
+        (WaitKind::Receive, WaitKind::Receive) => true,
+        _ => false,
+    }
+}
+
+// The kind of wait that a call begins.
+fn wait_kind(call: Call) -> WaitKind
+    ensures { result ≡ wait_kind call }
+{
+    if call.is_send() {
+        WaitKind::Send
+    } else {
+        WaitKind::Receive
+    }
 }
 
 #[tactic(auto, unfolding(crate::specs::Owners::pending_in))]
-fn pending(owners: &[Owner], p: u32, q: u64, sends: bool) -> Option<u64>
-    ensures { result ≡ pending_in owners.now p q sends }
+fn pending(owners: &[Owner], p: u32, q: u64, kind: WaitKind) -> Option<u64>
+    ensures { result ≡ pending_in owners.now p q kind }
 {
     match wait(owners, p) {
         None => None,
         Some(w) => match answer(owners, p) {
             Some(_) => None,
             None => {
-                if w.queue == q && is_kind(sends, w.sends) {
+                if w.queue == q && is_kind(kind, w.kind) {
                     Some(w.place)
                 } else {
                     None
@@ -164,15 +188,15 @@ fn pending(owners: &[Owner], p: u32, q: u64, sends: bool) -> Option<u64>
 }
 
 /// The unanswered send, or receive, that waits on queue q since the least place, with its process.
-pub fn first_wait(owners: &[Owner], q: u64, sends: bool) -> Option<(u32, u64)>
+pub fn first_wait(owners: &[Owner], q: u64, kind: WaitKind) -> Option<(u32, u64)>
     requires { length owners.now ≤ 33 }
-    ensures none { result ≡ None → (p : ℕ) → pending_in owners.now p q sends ≡ None }
-    ensures some { IfSome result (λ x. IsFirstWait owners.now q sends x.0 x.1) }
+    ensures none { result ≡ None → (p : ℕ) → pending_in owners.now p q kind ≡ None }
+    ensures some { IfSome result (λ x. IsFirstWait owners.now q kind x.0 x.1) }
 {
     let mut first: Option<(u32, u64)> = None;
     for i in 0..owners.len() {
         let p = i as u32;
-        if let Some(place) = pending(owners, p, q, sends) {
+        if let Some(place) = pending(owners, p, q, kind) {
             let earlier = match first {
                 None => true,
                 Some((_, best)) => place < best,
@@ -288,7 +312,7 @@ fn note_reply(owners: &mut [Owner], here: u64, entry: Entry, queue: u64)
             let wait = OpenWait {
                 place: here,
                 queue,
-                sends: entry.call.is_send(),
+                kind: wait_kind(entry.call),
                 until: entry.call.deadline(),
             };
             set_wait(owners, p, Some(wait));

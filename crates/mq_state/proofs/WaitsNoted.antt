@@ -23,6 +23,7 @@ use Rattle.mq_model.proofs.OwnersKeep.{turn-none}
 use Rattle.mq_model.proofs.OwnerLines.{length-with_slot, length-with_wait, length-with_answer, waits_count-with_slot, waits_count-with_wait, waits_count-with_answer, waits_count-no_wait, no-wait}
 use Rattle.mq_state.specs.Kept.{HasEntryRoom}
 use Rattle.mq_state.specs.Tables.{moves_waits}
+use Rattle.mq_model.specs.declared.owners.WaitKind.{WaitKind}
 
 answer-at-length : (owners : List Owner) (o : Option ℕ) (here : ℕ) → length (with_answer_at owners o here) ≡ length owners
 answer-at-length owners None here = refl
@@ -87,16 +88,16 @@ pub waits-few : (owners : List Owner) → waits_count owners ≤ length owners
 unfolding waits_count
 waits-few owners = count_by-le-length _ owners
 
-not-pending : (owners : List Owner) (k q : ℕ) (sends : Bool) → wait_in owners k ≡ None → pending_in owners k q sends ≡ None
+not-pending : (owners : List Owner) (k q : ℕ) (kind : WaitKind) → wait_in owners k ≡ None → pending_in owners k q kind ≡ None
 unfolding pending_in
-not-pending owners k q sends is = rw is refl
+not-pending owners k q kind is = rw is refl
 
 -- where nobody waits nobody is found waiting
-pub none-pending : (owners : List Owner) → waits_count owners ≡ 0 → (k q : ℕ) (sends : Bool) → pending_in owners k q sends ≡ None
-none-pending owners none k q sends = by (wait_in owners k) refl
+pub none-pending : (owners : List Owner) → waits_count owners ≡ 0 → (k q : ℕ) (kind : WaitKind) → pending_in owners k q kind ≡ None
+none-pending owners none k q kind = by (wait_in owners k) refl
   where
-    by : (o : Option OpenWait) → wait_in owners k ≡ o → pending_in owners k q sends ≡ None
-    by None is = not-pending owners k q sends is
+    by : (o : Option OpenWait) → wait_in owners k ≡ o → pending_in owners k q kind ≡ None
+    by None is = not-pending owners k q kind is
     by (Some w) is = absurd (let e = waits_count-no_wait owners k w is in omega (arith, e, none))
 
 -- the open wait of a process that the table has
@@ -124,7 +125,7 @@ waits-noted past owners m p call (Attrs s) q room says turn lt has = let e = att
 waits-noted past owners m p call Waits q room says turn lt has =
     let free : open_wait past p ≡ None = turn-none past p call Waits says turn refl in
     let none : wait_in owners p ≡ None = no-wait (wait_in owners p) (m.waits p ∙ free) in
-    let e = waits_count-with_wait owners p (record { place = length past; queue = q; sends = is_send call; until = deadline_of call }) lt none in omega (arith, e)
+    let e = waits_count-with_wait owners p (record { place = length past; queue = q; kind = wait_kind call; until = deadline_of call }) lt none in omega (arith, e)
 waits-noted past owners m p call (Collected b) q room says turn lt has = by call says turn
   where
     by : (call : Call) → Says past p call (Collected b) → IsTrue (may_call past p call) → waits_count (with_wait owners p None) + 1 ≤ room

@@ -19,6 +19,7 @@ use mq_model::ladder::{
     DEFAULT_ATTRIBUTES, NotifyFacts, OpenFacts, ReceiveFacts, SendFacts, StatusFacts,
     attributes_given,
 };
+use mq_model::owners::WaitKind;
 use mq_model::{ladder, owners};
 
 // `maxmsg` and `msgsize` of queue q, as the journal has them.
@@ -103,17 +104,17 @@ impl Tables {
 
     // The place of the send, or receive, that waits the longest on queue q.
     #[inline(always)]
-    fn first_wait(&self, journal: &Prefix<'_>, q: u64, sends: bool) -> Option<u64>
+    fn first_wait(&self, journal: &Prefix<'_>, q: u64, kind: WaitKind) -> Option<u64>
         requires mirror { Mirrors journal.now self.now }
         requires legal { Legal journal.now.records }
         requires few { self.now.n ≤ 32 }
         requires waits { self.now.waits ≡ waits_count self.now.owners.items }
-        ensures { result ≡ least (waiting journal.now.records sends q) }
+        ensures { result ≡ least (waiting journal.now.records kind q) }
     {
         if self.waits == 0 {
             return None;
         }
-        match owners::first_wait(&self.owners, q, sends) {
+        match owners::first_wait(&self.owners, q, kind) {
             None => None,
             Some((_, place)) => Some(place),
         }
@@ -232,7 +233,7 @@ impl Tables {
             description: h,
             attributes: attributes(journal, h.queue),
             count: line.count as u64,
-            waiting: self.first_wait(journal, h.queue, false),
+            waiting: self.first_wait(journal, h.queue, WaitKind::Receive),
             registered: registration_place(line.registration),
         }
     }
@@ -274,7 +275,7 @@ impl Tables {
             attributes: attributes(journal, h.queue),
             count: line.count as u64,
             best: message_place(line.best),
-            waiting: self.first_wait(journal, h.queue, true),
+            waiting: self.first_wait(journal, h.queue, WaitKind::Send),
             registered: registration_place(line.registration),
         }
     }
