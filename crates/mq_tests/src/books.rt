@@ -19,6 +19,7 @@ use std::test::Fail;
 mod bounded;
 mod deadlines;
 mod memory;
+mod replays;
 
 // What a process asks of the queues.
 #[derive(Clone, Copy)]

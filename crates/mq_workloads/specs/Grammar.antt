@@ -47,6 +47,17 @@ check_written (entries ∷ []) = do
   Some (workload.Check entries)
 check_written words = None
 
+-- one process where none is named
+abbrev pub replay_written : List Word → Option Workload
+replay_written (entries ∷ []) = do
+  entries ← rounds_written entries
+  Some (workload.Replay entries 1)
+replay_written (entries ∷ processes ∷ []) = do
+  entries ← rounds_written entries
+  processes ← count_written 32 processes
+  Some (workload.Replay entries processes)
+replay_written words = None
+
 -- an even number of processes, up to 32, and at most ten million messages sent and received
 abbrev pub crowd_written : List Word → Option Workload
 crowd_written (processes ∷ rounds ∷ []) = do
@@ -78,12 +89,13 @@ name_text name.Deep = codes "deep"
 name_text name.PingPong = codes "pingpong"
 name_text name.Stream = codes "stream"
 name_text name.Check = codes "check"
+name_text name.Replay = codes "replay"
 name_text name.Crowd = codes "crowd"
 name_text name.Idle = codes "idle"
 name_text name.Storm = codes "storm"
 
 abbrev pub names : List Name
-names = name.Pair ∷ name.Deep ∷ name.PingPong ∷ name.Stream ∷ name.Check ∷ name.Crowd ∷ name.Idle ∷ name.Storm ∷ []
+names = name.Pair ∷ name.Deep ∷ name.PingPong ∷ name.Stream ∷ name.Check ∷ name.Replay ∷ name.Crowd ∷ name.Idle ∷ name.Storm ∷ []
 
 -- the workload that a word names
 abbrev pub name_written : Word → Option Name
@@ -96,6 +108,7 @@ workload_written name.Deep = deep_written
 workload_written name.PingPong = ping_pong_written
 workload_written name.Stream = stream_written
 workload_written name.Check = check_written
+workload_written name.Replay = replay_written
 workload_written name.Crowd = crowd_written
 workload_written name.Idle = idle_written
 workload_written name.Storm = storm_written

@@ -14,7 +14,8 @@ use std::time::Clock;
 /// How many bytes each message has.
 pub const MESSAGE_SIZE: usize = 16;
 
-const MESSAGE: [u8; MESSAGE_SIZE] = *b"sixteen bytes ..";
+/// A message.
+pub const MESSAGE: [u8; MESSAGE_SIZE] = *b"sixteen bytes ..";
 
 /// Opens a queue for sends and receives that may wait, which it creates with this depth where there is none.
 pub fn open<L: Look<Guarded>, R: Wait>(

@@ -11,6 +11,7 @@ mod gusts;
 mod idle;
 mod made;
 mod members;
+mod replays;
 mod report;
 mod run;
 mod storm;

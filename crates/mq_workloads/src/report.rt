@@ -1,9 +1,6 @@
 //! The line of a result.
-ghost use Rattle.mq_model.specs.Answer.{Legal};
-
 use crate::tally::{Tally, tally_of, text_of};
 use crate::workload::Workload;
-use mq_checker::checker::check_history;
 use mq_model::entries::Entry;
 use mq_model::journals::Journal;
 use std::alloc::{AllocError, Global};
@@ -22,24 +19,12 @@ pub struct Measured {
 pub enum Besides {
     Nothing,
     /// The entries of the journal, and the bytes of their payloads.
-    Journal {
-        entries: u64,
-        payload: u64,
-    },
+    Journal { entries: u64, payload: u64 },
     /// The processor time of the whole program.
-    Processor {
-        nanoseconds: u128,
-    },
-    /// The seed, the calls and refusals of the journal, and whether the journal was checked.
-    Storm {
-        seed: u32,
-        tally: Tally,
-        checked: bool,
-    },
+    Processor { nanoseconds: u128 },
+    /// The seed, and the calls and refusals of the journal, which was replayed.
+    Storm { seed: u32, tally: Tally },
 }
-
-/// The most entries of a journal that is checked after a storm: the check of more takes minutes.
-const MOST_CHECKED: u64 = 8_000;
 
 /// The bytes that the journal keeps of an entry: the call with its reply, and where its payload begins and ends.
 const ENTRY_SIZE: u128 = (size_of::<Entry>() + 2 * size_of::<usize>()) as u128;
@@ -68,21 +53,14 @@ pub fn result_of(operations: u64, time: Duration, journal: &Journal) -> Measured
     }
 }
 
-/// What a storm left, whose journal is legal. Where it is not too long, that is checked.
-pub fn stormed(seed: u32, time: Duration, journal: &Journal) -> Measured
-    requires legal { Legal journal.now.records }
-{
-    let checked = journal.len() <= MOST_CHECKED;
-    if checked && check_history(journal).is_err() {
-        unreachable!()
-    }
+/// What a storm left, whose journal is legal.
+pub fn stormed(seed: u32, time: Duration, journal: &Journal) -> Measured {
     Measured {
         operations: journal.len(),
         nanoseconds: time.as_nanos(),
         besides: Besides::Storm {
             seed,
             tally: tally_of(journal),
-            checked,
         },
     }
 }
@@ -116,18 +94,9 @@ fn besides_of(alloc: Global, m: Measured) -> Result<String, AllocError> {
             let bytes = per_operation(alloc, bytes, m.operations)?;
             format!(in alloc; "; {entries} entries, {payload} payload bytes, {bytes} bytes each")
         }
-        Besides::Storm {
-            seed,
-            tally,
-            checked,
-        } => {
+        Besides::Storm { seed, tally } => {
             let counts = text_of(alloc, tally)?;
-            let history = if checked {
-                "history ok"
-            } else {
-                "history not checked"
-            };
-            format!(in alloc; "; seed {seed}{counts}; {history}")
+            format!(in alloc; "; seed {seed}{counts}; history ok")
         }
         Besides::Processor { nanoseconds } => {
             let processor = nanoseconds / MILLISECOND;
@@ -155,6 +124,7 @@ pub fn title_of(workload: Workload) -> &'static str {
         Workload::PingPong { rounds: _ } => "pingpong",
         Workload::Stream { rounds: _ } => "stream",
         Workload::Check { entries: _ } => "check",
+        Workload::Replay { .. } => "replay",
         Workload::Crowd { .. } => "crowd",
         Workload::Idle { .. } => "idle",
         Workload::Storm { .. } => "storm",

@@ -14,6 +14,7 @@ use crate::crowd::crowd;
 use crate::fault::{BenchFault, WorkFault};
 use crate::idle::idle;
 use crate::members::Part;
+use crate::replays::{expect_legal, journal_of};
 use crate::report::{Besides, Measured, line_of, result_of, stormed, timed, title_of};
 use crate::storm::storm;
 use crate::workload::{Request, Workload, request_of};
@@ -44,12 +45,13 @@ usage: one line on the standard input, of a workload and its sizes
   pingpong N  two processes in two threads: a message to and fro, N times
   stream N    two processes in two threads: one sends N messages, one receives them
   check K     checks a journal of K entries
+  replay K P  replays a journal of K entries: P processes, 1 where none is named, send and receive in turn, each on two queues
   crowd P N   P processes in P threads on one queue: half of them send N messages each, half receive N each
   idle P T    P processes in P threads: one works alone for T milliseconds, on a queue of its own, while the others are blocked in a receive
-  storm S N   32 processes in 32 threads: N calls of every kind at random from the seed S, and a journal that is checked up to 8000 entries
+  storm S N   32 processes in 32 threads: N calls of every kind at random from the seed S, and their journal is replayed
   bounded E B and one of these lines: the same in a system whose journal has at most E entries and B payload bytes, E and B up to 1000000000
 N, K and S from 1 to 10000000, D from 1 to 4096, D times N at most 10000000
-P from 2 to 32, even for a crowd, P times N at most 10000000 there, T from 1 to 60000
+P from 2 to 32, from 1 for a replay, even for a crowd, P times N at most 10000000 there, T from 1 to 60000
 ";
 
 /// Reads the line of an input, measures the workload that it names, and writes a line with the result, or the usage where the
@@ -157,6 +159,13 @@ fn measure<S: Wait + Threads + Clock + CpuClock + Sync>(
             let time = start.elapsed(rt)?;
             Ok(result_of(u64::from(entries), time, &journal))
         }
+        Workload::Replay { entries, processes } => {
+            let journal = journal_of(alloc, bounds, entries, processes)?;
+            let start = Instant::now(rt)?;
+            expect_legal(alloc, &journal)?;
+            let time = start.elapsed(rt)?;
+            Ok(result_of(u64::from(entries), time, &journal))
+        }
         Workload::Crowd { processes, rounds } => {
             let parts = (Part::Sends, Part::Receives);
             let time = crowd::<Lamport, S>(rt, alloc, bounds, processes, parts, rounds)?;
@@ -164,6 +173,7 @@ fn measure<S: Wait + Threads + Clock + CpuClock + Sync>(
         }
         Workload::Storm { seed, calls } => {
             let (time, journal) = storm::<Lamport, S>(rt, alloc, bounds, seed, calls)?;
+            expect_legal(alloc, &journal)?;
             Ok(stormed(seed, time, &journal))
         }
         Workload::Idle {

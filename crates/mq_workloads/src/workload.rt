@@ -1,7 +1,7 @@
 //! What a run is asked for, and the words that write it.
 ghost use Rattle.std.specs.Prelude.{◌≡◌, ◌≤◌, ◌*◌, map, IfSome};
 ghost use Rattle.lines.specs.Words.{count_written};
-ghost use Rattle.mq_workloads.specs.Grammar.{request_written, bounded_written, workload_written, pair_written, deep_written, ping_pong_written, stream_written, check_written, crowd_written, idle_written, storm_written, name_written};
+ghost use Rattle.mq_workloads.specs.Grammar.{request_written, bounded_written, workload_written, pair_written, deep_written, ping_pong_written, stream_written, check_written, replay_written, crowd_written, idle_written, storm_written, name_written};
 
 use lines::words::count_of;
 use mq_model::bounds::Bounds;
@@ -19,6 +19,8 @@ pub enum Workload {
     Stream { rounds: u32 },
     /// A journal of so many entries is checked.
     Check { entries: u32 },
+    /// A journal of so many entries of so many processes, each of which sends and receives in turn on two queues, is replayed.
+    Replay { entries: u32, processes: u32 },
     /// Half of the processes send so many messages each, and half receive them, each process in a thread of its own.
     Crowd { processes: u32, rounds: u32 },
     /// One process works alone for so many milliseconds, while the others are blocked.
@@ -43,6 +45,7 @@ pub enum Name {
     PingPong,
     Stream,
     Check,
+    Replay,
     Crowd,
     Idle,
     Storm,
@@ -60,12 +63,13 @@ const MOST_BOUND: u32 = 1_000_000_000;
 /// The longest time of a workload, in milliseconds.
 const MOST_MILLISECONDS: u32 = 60_000;
 
-const NAMES: [Name; 8] = [
+const NAMES: [Name; 9] = [
     Name::Pair,
     Name::Deep,
     Name::PingPong,
     Name::Stream,
     Name::Check,
+    Name::Replay,
     Name::Crowd,
     Name::Idle,
     Name::Storm,
@@ -84,6 +88,7 @@ impl Name {
             Name::PingPong => b"pingpong",
             Name::Stream => b"stream",
             Name::Check => b"check",
+            Name::Replay => b"replay",
             Name::Crowd => b"crowd",
             Name::Idle => b"idle",
             Name::Storm => b"storm",
@@ -139,6 +144,7 @@ fn workload_of(name: Name, arguments: &[&[u8]]) -> Option<Workload>
         Name::PingPong => ping_pong_of(arguments),
         Name::Stream => stream_of(arguments),
         Name::Check => check_of(arguments),
+        Name::Replay => replay_of(arguments),
         Name::Crowd => crowd_of(arguments),
         Name::Idle => idle_of(arguments),
         Name::Storm => storm_of(arguments),
@@ -201,6 +207,23 @@ fn check_of(arguments: &[&[u8]]) -> Option<Workload>
         [entries] => Some(Workload::Check {
             entries: count_of(MOST_ROUNDS, entries)?,
         }),
+        _ => None,
+    }
+}
+
+fn replay_of(arguments: &[&[u8]]) -> Option<Workload>
+    ensures { result ≡ replay_written (map (λ word. word.now) arguments.now) }
+{
+    match arguments {
+        [entries] => Some(Workload::Replay {
+            entries: count_of(MOST_ROUNDS, entries)?,
+            processes: 1,
+        }),
+        [entries, processes] => {
+            let entries = count_of(MOST_ROUNDS, entries)?;
+            let processes = count_of(MOST_PROCESSES, processes)?;
+            Some(Workload::Replay { entries, processes })
+        }
         _ => None,
     }
 }

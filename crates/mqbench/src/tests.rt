@@ -17,13 +17,15 @@ fn output_of<S: Wait + Threads + Clock + CpuClock + Sync>(
 }
 
 // Lines, and how their results begin.
-const RESULTS: [(&str, &str); 10] = [
+const RESULTS: [(&str, &str); 12] = [
     ("pair 3\n", "pair: 6 operations, "),
     (" deep  4 2 \n", "deep: 16 operations, "),
     ("deep 1 002", "deep: 4 operations, "),
     ("pingpong 20\n", "pingpong: 80 operations, "),
     ("stream 50\n", "stream: 100 operations, "),
     ("check 5\n", "check: 5 operations, "),
+    ("replay 5\n", "replay: 5 operations, "),
+    ("replay 300 32\n", "replay: 300 operations, "),
     ("crowd 2 30\n", "crowd: 60 operations, "),
     ("crowd 8 20\n", "crowd: 160 operations, "),
     ("bounded 8 54 pair 3\n", "pair: 6 operations, "),
@@ -50,7 +52,7 @@ fn an_idle_run_prints_its_processor_time(rt: HostRuntime) {
 }
 
 #[test]
-fn a_storm_prints_its_seed_its_counts_and_a_checked_history(rt: HostRuntime) {
+fn a_storm_prints_its_seed_its_counts_and_a_replayed_history(rt: HostRuntime) {
     let output = output_of(&rt, rt.alloc(), "storm 7 640\n").expect(&rt, "a result");
     let text = output.as_slice();
     assert!(rt; text.starts_with(b"storm: "));
@@ -66,7 +68,7 @@ fn a_storm_prints_its_seed_its_counts_and_a_checked_history(rt: HostRuntime) {
     assert!(rt; text.ends_with(b"; history ok\n"));
 }
 
-const REFUSED: [&str; 37] = [
+const REFUSED: [&str; 40] = [
     "word\n",
     "Pair 1\n",
     "pair\n",
@@ -80,6 +82,9 @@ const REFUSED: [&str; 37] = [
     "pingpong 1 1\n",
     "stream -1\n",
     "check 18446744073709551617\n",
+    "replay\n",
+    "replay 1 33\n",
+    "replay 1 0\n",
     "crowd 4\n",
     "crowd 1 1\n",
     "crowd 3 1\n",
