@@ -1,0 +1,4 @@
+pub mod Text
+pub mod Fitting
+pub mod Reading
+pub mod JournalFault

@@ -1,0 +1,78 @@
+//! The text of a journal.
+ghost use Rattle.std.specs.Prelude.{◌≡◌, ◌++◌, ◌∷◌, ℕ, IfOk, IsErrOf, MatchResult, OnOk};
+ghost use Rattle.mq_model.specs.Record.{Past};
+ghost use Rattle.mq_journal.specs.Fitting.{AllFit, Fits};
+ghost use Rattle.mq_journal.specs.JournalFault.{StopsAt};
+ghost use Rattle.mq_journal.specs.Text.{journal_text, line_text};
+ghost use Rattle.mq_journal.specs.declared.fault.JournalFault.TheVariants.{BadLine, NoMemory};
+
+use crate::fault::JournalFault;
+use crate::fitting::fits;
+use crate::line::{line_of, read_line};
+use mq_model::entries::Entry;
+use mq_model::journals::Journal;
+use mq_script::line::first_line;
+use std::alloc::{AllocError, Global};
+
+/// The text of a journal. Its numbers fit their types, so `read_journal` gives the journal back.
+pub fn write_journal(alloc: Global, journal: &Journal) -> Result<Vec<u8>, AllocError>
+    ensures text { IfOk result (λ text. text.items ≡ journal_text journal.now.records) }
+    ensures fits { OnOk result (AllFit journal.now.records) }
+{
+    let mut text = Vec::new(alloc);
+    for place in 0..journal.len() {
+        let (entry, payload) = journal.record(place);
+        push_line(alloc, &mut text, place, entry, payload)?;
+    }
+    Ok(text)
+}
+
+// Adds the line of an entry with its payload.
+fn push_line(
+    alloc: Global,
+    text: &mut Vec<u8>,
+    place: u64,
+    entry: Entry,
+    payload: &[u8],
+) -> Result<(), AllocError>
+    ensures line { OnOk result (text.new.items ≡ text.old.items ++ line_text place (record { entry = entry; payload = payload.now })) }
+    ensures fits { Fits (record { entry = entry; payload = payload.now }) }
+{
+    fits(entry, payload);
+    let line = line_of(alloc, place, entry, payload)?;
+    text.extend_from_slice(line.as_bytes())
+}
+
+/// The journal whose text this is. `JournalFault::BadLine`: this line, counted from 1, is the first that is not the line of an entry at
+/// its place; a last line that lacks its feed is none.
+pub fn read_journal(alloc: Global, text: &[u8]) -> Result<Journal, JournalFault>
+    // What is read is written as it was.
+    ensures found { IfOk result (λ journal. AllFit journal.records × (text.now ≡ journal_text journal.records)) }
+    // What was written is read as it was, unless memory runs out.
+    ensures only { (past : Past) → AllFit past → text.now ≡ journal_text past → MatchResult result (λ journal. journal.records ≡ past) (λ fault. fault ≡ NoMemory) }
+    // A line that is named is the first one.
+    ensures bad_line { (line : ℕ) → IsErrOf result (BadLine line) → StopsAt line text.now }
+{
+    let mut journal = Journal::new(alloc);
+    let mut rest = text;
+    while !rest.is_empty() {
+        let (line, others) = first_line(rest);
+        let Some((entry, payload)) = read_line(alloc, journal.len(), line)? else {
+            return Err(JournalFault::BadLine(journal.len() + 1));
+        };
+        add_entry(&mut journal, entry, payload.as_slice())?;
+        rest = others;
+    }
+    Ok(journal)
+}
+
+// Adds an entry with its payload behind all others.
+fn add_entry(journal: &mut Journal, entry: Entry, payload: &[u8]) -> Result<(), AllocError>
+    ensures records { OnOk result (journal.new.records ≡ record { entry = entry; payload = payload.now } ∷ journal.old.records) }
+    ensures fits { Fits (record { entry = entry; payload = payload.now }) }
+{
+    fits(entry, payload);
+    journal.reserve(1, payload.len())?;
+    journal.push(entry, payload);
+    Ok(())
+}

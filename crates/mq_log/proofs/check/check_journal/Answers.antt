@@ -1,0 +1,32 @@
+use Rattle.std.proofs.Common.{◌≡◌, ◌∙◌, sym, take}
+use Rattle.mq_log.specs.Verdict.{verdict_text}
+use Rattle.mq_log.proofs.check.check_journal.Goals as goal
+
+pub returns-clause-done : goal.returns-clause-done
+returns-clause-done g c = λ all known.
+    let past = c.in_ok-journal.journal.records in
+    let read : c.in_ok-text.text.items ≡ take 1099511627777 all = rw known at c.in_ok-text.ensures.bytes in
+    let found = c.in_ok-journal.ensures.found in
+    let line : c.as_bytes.result.now ≡ verdict_text past c.verdict_of-verdict.result = c.as_bytes.ensures.value ∙ c.in_ok-line.ensures in
+    record {
+      past = past;
+      fits = found.0;
+      text = sym read ∙ sym c.as_slice.ensures.value ∙ found.1;
+      judges = c.verdict_of-verdict.ensures;
+      written = rw line at c.in_ok-write_all.ensures.whole;
+    }
+
+pub returns-in_err-write_all-clause-output : goal.returns-in_err-write_all-clause-output
+returns-in_err-write_all-clause-output g c = λ all known failed.
+    let past = c.in_ok-journal.journal.records in
+    let read : c.in_ok-text.text.items ≡ take 1099511627777 all = rw known at c.in_ok-text.ensures.bytes in
+    let found = c.in_ok-journal.ensures.found in
+    let line : c.as_bytes.result.now ≡ verdict_text past c.verdict_of-verdict.result = c.as_bytes.ensures.value ∙ c.in_ok-line.ensures in
+    record {
+      verdict = c.verdict_of-verdict.result;
+      past = past;
+      fits = found.0;
+      text = sym read ∙ sym c.as_slice.ensures.value ∙ found.1;
+      judges = c.verdict_of-verdict.ensures;
+      written = rw line at c.in_err-write_all.ensures.failed;
+    }

@@ -1,0 +1,3 @@
+pub mod LogFault
+pub mod Task
+pub mod Verdict

@@ -1,0 +1,43 @@
+//! A journal, from its bytes to the verdict on it.
+ghost use Rattle.std.specs.Prelude.{◌≡◌, ◌+◌, ℕ, List, IfOk, IsErrOf, Some, take};
+ghost use Rattle.lines.specs.Output.{AppendsTooLittle};
+ghost use Rattle.mq_journal.specs.JournalFault.{StopsAt};
+ghost use Rattle.mq_log.specs.Verdict.{Checks, StopsInVerdict};
+ghost use Rattle.mq_log.specs.declared.fault.LogFault.TheVariants.{BadLine, Input, NoMemory, Output};
+
+use crate::fault::LogFault;
+use crate::verdict::{Verdict, verdict_of, verdict_text};
+use lines::input::read_all;
+use lines::output::write_all;
+use mq_journal::text::read_journal;
+use std::alloc::Global;
+use std::io::{Read, Write};
+
+/// The most bytes of a journal.
+pub const MOST_BYTES: usize = 1 << 40;
+
+/// Reads a journal, checks it, and writes a line with what stands in it, or the first entry that is not legal.
+/// `LogFault::BadLine`: a line is not that of an entry, and this is the first one. `LogFault::Input`: a read failed.
+/// `LogFault::Output`: a write failed, and a front part of the verdict is written. Of the others nothing is written.
+pub fn check_journal<R: Read, W: Write>(
+    alloc: Global,
+    input: &mut R,
+    output: &mut W,
+) -> Result<Verdict, LogFault>
+    ensures done { (all : List ℕ) → R.remaining input.old ≡ Some all →
+        IfOk result (λ verdict. Checks (take (MOST_BYTES + 1) all) verdict (W.contents output.old) (W.contents output.new)) }
+    ensures bad_line { (all : List ℕ) (line : ℕ) → R.remaining input.old ≡ Some all →
+        IsErrOf result (BadLine line) → StopsAt line (take (MOST_BYTES + 1) all) }
+    ensures input { IsErrOf result Input → W.contents output.new ≡ W.contents output.old }
+    ensures no_memory { IsErrOf result NoMemory → W.contents output.new ≡ W.contents output.old }
+    ensures unwritten { (line : ℕ) → IsErrOf result (BadLine line) → W.contents output.new ≡ W.contents output.old }
+    ensures output { (all : List ℕ) → R.remaining input.old ≡ Some all →
+        IsErrOf result Output → StopsInVerdict (take (MOST_BYTES + 1) all) (W.contents output.old) (W.contents output.new) }
+{
+    let text = read_all(alloc, input, MOST_BYTES)?;
+    let journal = read_journal(alloc, text.as_slice())?;
+    let verdict = verdict_of(&journal);
+    let line = verdict_text(alloc, &journal, verdict)?;
+    write_all(output, line.as_bytes())?;
+    Ok(verdict)
+}
