@@ -72,7 +72,7 @@ concat-lines (b ∷ text) = elim (cases_Bool (b == 10)) [
   | inr other ↦ rw (other, concat-onto b (lines_of text), concat-lines text) refl
 ]
 
--- a text is its first line, and what is behind it
+-- a text is its first line, and what is after it
 pub first-whole : (text line others : List ℕ) → lines_of text ≡ line ∷ lines_of others → text ≡ line ++ others
 first-whole text line others lines = sym (concat-lines text) ∙ ap concat lines ∙ ap (λ t. line ++ t) (concat-lines others)
 
@@ -168,7 +168,7 @@ allfit-last : (later : List Record) (r : Record) → AllFit later → Fits r →
 allfit-last [] r all fits = (fits, tt)
 allfit-last (s ∷ later) r all fits = (all.0, allfit-last later r all.1 fits)
 
--- what a text goes on with behind a journal
+-- what a text goes on with after a journal
 pub record GoesOn (a b : Past) (rest : List ℕ) : Type 0 where
   pub later : List Record
   pub fits : AllFit later
@@ -226,7 +226,7 @@ stops_none line text a stops small fits is =
     let on = goes_on a stops.past stops.rest fits stops.fits low (sym is ∙ stops.whole) in
     stopped a stops.past stops.rest on.later stops.some on.fits on.text stops.none
 
--- behind a journal the line of a record comes first
+-- after a journal the line of a record comes first
 pub no_first : (place : ℕ) (rest line others : List ℕ) → place < 2 ^ 64 → lines_of rest ≡ line ∷ lines_of others → ((r : Record) → Fits r → line ≢ line_text place r) → (r : Record) (behind : List ℕ) → Fits r → rest ≢ line_text place r ++ behind
 no_first place rest line others small lines none r behind fits is =
     let first : lines_of rest ≡ line_text place r ∷ lines_of behind = ap lines_of is ∙ line-first place r behind small fits in

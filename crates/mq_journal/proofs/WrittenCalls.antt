@@ -97,7 +97,7 @@ flags-word flags = (flags_parts flags.access flags.create flags.excl flags.nonbl
 
 -- ---- calls
 
--- the words behind a call are no label of limits
+-- the words after a call are no label of limits
 abbrev pub IsNoLimit : List Word → Type 0
 IsNoLimit ws = limits_at ws ≡ Some (None, ws)
 

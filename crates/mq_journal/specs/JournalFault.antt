@@ -16,7 +16,7 @@ journal_fault_text NoMemory = codes "no memory"
 abbrev pub IsNoLine : ℕ → List ℕ → Type 0
 IsNoLine place line = (r : Record) → Fits r → line ≢ line_text place r
 
--- The text ends to be a journal's in this line: those before it are the text of a journal, there is something behind them, and it
+-- The text ends to be a journal's in this line: those before it are the text of a journal, there is something after them, and it
 -- does not begin with the line of a record at the next place.
 pub record StopsAt (line : ℕ) (text : List ℕ) : Type 0 where
   pub past : Past

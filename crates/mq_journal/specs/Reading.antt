@@ -23,7 +23,7 @@ use Rattle.mq_journal.specs.declared.reply.Kind.TheVariants as kind
 abbrev pub words_at : List (Bor Word) → List Word
 words_at words = map (λ word. word.now) words
 
--- what was read, and the words behind it
+-- what was read, and the words after it
 abbrev pub read_off : {X : Type 0} → X × Bor (List (Bor Word)) → X × List Word
 read_off read = (read.0, words_at read.1.now)
 
@@ -54,7 +54,7 @@ integer_at words = do
   n ← integer_written word.0
   Some (n, word.1)
 
--- a moment behind its label
+-- a moment after its label
 unfoldable pub moment_at : List Word → Option (Deadline × List Word)
 moment_at words = do
   label ← word_at words
@@ -72,7 +72,7 @@ limits_at (word ∷ words) = if bytes_eq word (codes "limits")
       Some (Some (record { maxmsg = maxmsg.0; msgsize = msgsize.0 }), msgsize.1))
     else Some (None, word ∷ words)
 
--- a place behind this label, or none where the next word is another
+-- a place after this label, or none where the next word is another
 unfoldable pub place_at : Word → List Word → Option (Option ℕ × List Word)
 place_at label [] = Some (None, [])
 place_at label (word ∷ words) = if bytes_eq word label
@@ -117,7 +117,7 @@ verbs = verb.Open ∷ verb.Close ∷ verb.Unlink ∷ verb.Send ∷ verb.Receive 
 unfoldable pub verb_written : Word → Option Verb
 verb_written word = find (λ verb. bytes_eq word (verb_text verb)) verbs
 
--- what the words behind each verb read as
+-- what the words after each verb read as
 unfoldable pub open_at : List Word → Option (Call × List Word)
 open_at words = do
   word ← word_at words
@@ -229,7 +229,7 @@ faults = fault.Again ∷ fault.BadDescriptor ∷ fault.Busy ∷ fault.Exists ∷
 unfoldable pub fault_written : Word → Option Fault
 fault_written word = find (λ fault. bytes_eq word (text_of fault)) faults
 
--- what the words behind each kind of reply read as; what stands behind them is left out
+-- what the words after each kind of reply read as; what stands after them is left out
 abbrev pub is_created : List Word → Bool
 is_created [] = false
 is_created (word ∷ words) = bytes_eq word (codes "created")

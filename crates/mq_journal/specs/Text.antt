@@ -48,11 +48,11 @@ abbrev pub number_or : Word → Option ℕ → Word
 number_or none None = none
 number_or none (Some n) = decimal n
 
--- a moment behind its label: seconds and nanoseconds
+-- a moment after its label: seconds and nanoseconds
 abbrev pub moment_words : Word → Deadline → List Word
 moment_words label moment = label ∷ signed_decimal moment.sec ∷ signed_decimal moment.nsec ∷ []
 
--- a place behind its label, where there is one
+-- a place after its label, where there is one
 abbrev pub place_words : Word → Option ℕ → List Word
 place_words label None = []
 place_words label (Some place) = label ∷ decimal place ∷ []
@@ -97,7 +97,7 @@ abbrev pub payload_words : List ℕ → List Word
 payload_words [] = []
 payload_words (b ∷ bytes) = (34 ∷ escaped (b ∷ bytes) ++ 34 ∷ []) ∷ []
 
--- the same behind a space
+-- the same after a space
 abbrev pub payload_text : List ℕ → List ℕ
 payload_text [] = []
 payload_text (b ∷ bytes) = 32 ∷ 34 ∷ escaped (b ∷ bytes) ++ 34 ∷ []

@@ -193,7 +193,7 @@ pub fn call_of<'w, 's>(words: &'w [&'s [u8]]) -> Option<(Call, &'w [&'s [u8]])>
     call_behind(verb, words)
 }
 
-// The call that the words behind its verb read as.
+// The call that the words after its verb read as.
 fn call_behind<'w, 's>(verb: Verb, words: &'w [&'s [u8]]) -> Option<(Call, &'w [&'s [u8]])>
     ensures { option_map read_off result ≡ call_behind verb (words_at words.now) }
 {
@@ -214,7 +214,7 @@ fn call_behind<'w, 's>(verb: Verb, words: &'w [&'s [u8]]) -> Option<(Call, &'w [
     }
 }
 
-// The words behind `open`.
+// The words after `open`.
 #[tactic(auto, unfolding(crate::specs::Reading::open_at))]
 fn open_of<'w, 's>(words: &'w [&'s [u8]]) -> Option<(Call, &'w [&'s [u8]])>
     ensures { option_map read_off result ≡ open_at (words_at words.now) }
@@ -225,7 +225,7 @@ fn open_of<'w, 's>(words: &'w [&'s [u8]]) -> Option<(Call, &'w [&'s [u8]])>
     Some((Call::MqOpen { flags, attr }, words))
 }
 
-// The words behind `close`.
+// The words after `close`.
 #[tactic(auto, unfolding(crate::specs::Reading::close_at))]
 fn close_of<'w, 's>(words: &'w [&'s [u8]]) -> Option<(Call, &'w [&'s [u8]])>
     ensures { option_map read_off result ≡ close_at (words_at words.now) }
@@ -234,7 +234,7 @@ fn close_of<'w, 's>(words: &'w [&'s [u8]]) -> Option<(Call, &'w [&'s [u8]])>
     Some((Call::MqClose { d }, words))
 }
 
-// The words behind `send`.
+// The words after `send`.
 #[tactic(auto, unfolding(crate::specs::Reading::send_at))]
 fn send_of<'w, 's>(words: &'w [&'s [u8]]) -> Option<(Call, &'w [&'s [u8]])>
     ensures { option_map read_off result ≡ send_at (words_at words.now) }
@@ -245,7 +245,7 @@ fn send_of<'w, 's>(words: &'w [&'s [u8]]) -> Option<(Call, &'w [&'s [u8]])>
     Some((Call::MqSend { d, prio, len }, words))
 }
 
-// The words behind `recv`.
+// The words after `recv`.
 #[tactic(auto, unfolding(crate::specs::Reading::receive_at))]
 fn receive_of<'w, 's>(words: &'w [&'s [u8]]) -> Option<(Call, &'w [&'s [u8]])>
     ensures { option_map read_off result ≡ receive_at (words_at words.now) }
@@ -255,7 +255,7 @@ fn receive_of<'w, 's>(words: &'w [&'s [u8]]) -> Option<(Call, &'w [&'s [u8]])>
     Some((Call::MqReceive { d, room }, words))
 }
 
-// The words behind `tsend`.
+// The words after `tsend`.
 #[tactic(auto, unfolding(crate::specs::Reading::timed_send_at))]
 fn timed_send_of<'w, 's>(words: &'w [&'s [u8]]) -> Option<(Call, &'w [&'s [u8]])>
     ensures { option_map read_off result ≡ timed_send_at (words_at words.now) }
@@ -275,7 +275,7 @@ fn timed_send_of<'w, 's>(words: &'w [&'s [u8]]) -> Option<(Call, &'w [&'s [u8]])
     Some((call, words))
 }
 
-// The words behind `trecv`.
+// The words after `trecv`.
 #[tactic(auto, unfolding(crate::specs::Reading::timed_receive_at))]
 fn timed_receive_of<'w, 's>(words: &'w [&'s [u8]]) -> Option<(Call, &'w [&'s [u8]])>
     ensures { option_map read_off result ≡ timed_receive_at (words_at words.now) }
@@ -293,7 +293,7 @@ fn timed_receive_of<'w, 's>(words: &'w [&'s [u8]]) -> Option<(Call, &'w [&'s [u8
     Some((call, words))
 }
 
-// The words behind `getattr`.
+// The words after `getattr`.
 #[tactic(auto, unfolding(crate::specs::Reading::getattr_at))]
 fn getattr_of<'w, 's>(words: &'w [&'s [u8]]) -> Option<(Call, &'w [&'s [u8]])>
     ensures { option_map read_off result ≡ getattr_at (words_at words.now) }
@@ -302,7 +302,7 @@ fn getattr_of<'w, 's>(words: &'w [&'s [u8]]) -> Option<(Call, &'w [&'s [u8]])>
     Some((Call::MqGetattr { d }, words))
 }
 
-// The words behind `setattr`.
+// The words after `setattr`.
 #[tactic(auto, unfolding(crate::specs::Reading::setattr_at))]
 fn setattr_of<'w, 's>(words: &'w [&'s [u8]]) -> Option<(Call, &'w [&'s [u8]])>
     ensures { option_map read_off result ≡ setattr_at (words_at words.now) }
@@ -312,7 +312,7 @@ fn setattr_of<'w, 's>(words: &'w [&'s [u8]]) -> Option<(Call, &'w [&'s [u8]])>
     Some((Call::MqSetattr { d, nonblock }, words))
 }
 
-// The words behind `notify`.
+// The words after `notify`.
 #[tactic(auto, unfolding(crate::specs::Reading::notify_at))]
 fn notify_of<'w, 's>(words: &'w [&'s [u8]]) -> Option<(Call, &'w [&'s [u8]])>
     ensures { option_map read_off result ≡ notify_at (words_at words.now) }
@@ -322,7 +322,7 @@ fn notify_of<'w, 's>(words: &'w [&'s [u8]]) -> Option<(Call, &'w [&'s [u8]])>
     Some((Call::MqNotify { d, value }, words))
 }
 
-// The words behind `withdraw`.
+// The words after `withdraw`.
 #[tactic(auto, unfolding(crate::specs::Reading::withdraw_at))]
 fn withdraw_of<'w, 's>(words: &'w [&'s [u8]]) -> Option<(Call, &'w [&'s [u8]])>
     ensures { option_map read_off result ≡ withdraw_at (words_at words.now) }

@@ -8,7 +8,7 @@ use std::alloc::{AllocError, Global};
 /// The ASCII bytes that are escaped: the controls, a space and `%`.
 pub const ESCAPED: AsciiSet = ascii_set!(CONTROLS.add(b' ').add(b'%'));
 
-/// A name or a message in quotes behind a space, or nothing where it has no bytes.
+/// A name or a message in quotes after a space, or nothing where it has no bytes.
 pub fn payload_text(alloc: Global, payload: &[u8]) -> Result<String, AllocError>
     ensures { IfOk result (λ text. string_bytes text ≡ payload_text payload.now) }
 {

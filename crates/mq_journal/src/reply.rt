@@ -148,7 +148,7 @@ fn fault_of(word: &[u8]) -> Option<Fault>
         .find(|fault| word == fault.name().as_bytes())
 }
 
-/// The reply that the next words read as. What stands behind them is left out.
+/// The reply that the next words read as. What stands after them is left out.
 #[tactic(auto, unfolding(crate::specs::Reading::reply_at))]
 pub fn reply_of(words: &[&[u8]]) -> Option<Reply>
     ensures { result ≡ reply_at (words_at words.now) }
@@ -160,7 +160,7 @@ pub fn reply_of(words: &[&[u8]]) -> Option<Reply>
     }
 }
 
-// The reply that the words behind its kind read as.
+// The reply that the words after its kind read as.
 fn reply_behind(kind: Kind, words: &[&[u8]]) -> Option<Reply>
     ensures { result ≡ reply_behind kind (words_at words.now) }
 {
@@ -187,7 +187,7 @@ fn is_created(words: &[&[u8]]) -> bool
     }
 }
 
-// The words behind `fd`.
+// The words after `fd`.
 #[tactic(auto, unfolding(crate::specs::Reading::opened_at))]
 fn opened_of(words: &[&[u8]]) -> Option<Reply>
     ensures { result ≡ opened_at (words_at words.now) }
@@ -197,7 +197,7 @@ fn opened_of(words: &[&[u8]]) -> Option<Reply>
     Some(Reply::Opened { d, created })
 }
 
-// The words behind `queued`.
+// The words after `queued`.
 #[tactic(auto, unfolding(crate::specs::Reading::queued_at))]
 fn queued_of(words: &[&[u8]]) -> Option<Reply>
     ensures { result ≡ queued_at (words_at words.now) }
@@ -206,7 +206,7 @@ fn queued_of(words: &[&[u8]]) -> Option<Reply>
     Some(Reply::Queued { notified })
 }
 
-// The words behind `handed`.
+// The words after `handed`.
 #[tactic(auto, unfolding(crate::specs::Reading::handed_at))]
 fn handed_of(words: &[&[u8]]) -> Option<Reply>
     ensures { result ≡ handed_at (words_at words.now) }
@@ -215,7 +215,7 @@ fn handed_of(words: &[&[u8]]) -> Option<Reply>
     Some(Reply::Handed { wait })
 }
 
-// The words behind `got`.
+// The words after `got`.
 #[tactic(auto, unfolding(crate::specs::Reading::got_at))]
 fn got_of(words: &[&[u8]]) -> Option<Reply>
     ensures { result ≡ got_at (words_at words.now) }
@@ -230,7 +230,7 @@ fn got_of(words: &[&[u8]]) -> Option<Reply>
     })
 }
 
-// The words behind `collected`.
+// The words after `collected`.
 #[tactic(auto, unfolding(crate::specs::Reading::collected_at))]
 fn collected_of(words: &[&[u8]]) -> Option<Reply>
     ensures { result ≡ collected_at (words_at words.now) }
@@ -239,7 +239,7 @@ fn collected_of(words: &[&[u8]]) -> Option<Reply>
     Some(Reply::Collected { by })
 }
 
-// The words behind `withdrawn`.
+// The words after `withdrawn`.
 #[tactic(auto, unfolding(crate::specs::Reading::withdrawn_at))]
 fn withdrawn_of(words: &[&[u8]]) -> Option<Reply>
     ensures { result ≡ withdrawn_at (words_at words.now) }
@@ -248,7 +248,7 @@ fn withdrawn_of(words: &[&[u8]]) -> Option<Reply>
     Some(Reply::Withdrawn { wait })
 }
 
-// The words behind `attr`.
+// The words after `attr`.
 #[tactic(auto, unfolding(crate::specs::Reading::attrs_at))]
 fn attrs_of(words: &[&[u8]]) -> Option<Reply>
     ensures { result ≡ attrs_at (words_at words.now) }
@@ -265,7 +265,7 @@ fn attrs_of(words: &[&[u8]]) -> Option<Reply>
     }))
 }
 
-// The words behind `notice`.
+// The words after `notice`.
 #[tactic(auto, unfolding(crate::specs::Reading::notice_at))]
 fn notice_of(words: &[&[u8]]) -> Option<Reply>
     ensures { result ≡ notice_at (words_at words.now) }

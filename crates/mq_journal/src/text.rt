@@ -66,7 +66,7 @@ pub fn read_journal(alloc: Global, text: &[u8]) -> Result<Journal, JournalFault>
     Ok(journal)
 }
 
-// Adds an entry with its payload behind all others.
+// Adds an entry with its payload after all others.
 fn add_entry(journal: &mut Journal, entry: Entry, payload: &[u8]) -> Result<(), AllocError>
     ensures records { OnOk result (journal.new.records ≡ record { entry = entry; payload = payload.now } ∷ journal.old.records) }
     ensures fits { Fits (record { entry = entry; payload = payload.now }) }

@@ -1,4 +1,4 @@
-//! The words of a line, one after the other. Each function gives what the next words read as, and the words behind them.
+//! The words of a line, one after the other. Each function gives what the next words read as, and the words after them.
 ghost use Rattle.std.specs.Prelude.{◌≡◌};
 ghost use Rattle.std.specs.Option.{option_map};
 ghost use Rattle.mq_journal.specs.Reading.{flag_at, integer_at, limits_at, moment_at, number_at, number_or_at, place_at, quoted_at, read_off, read_word, word_at, words_at};
@@ -44,7 +44,7 @@ pub fn integer_of<'w, 's>(words: &'w [&'s [u8]]) -> Option<(i64, &'w [&'s [u8]])
     Some((integer(word)?, words))
 }
 
-/// A moment behind its label.
+/// A moment after its label.
 #[tactic(auto, unfolding(crate::specs::Reading::moment_at))]
 pub fn moment_of<'w, 's>(words: &'w [&'s [u8]]) -> Option<(Deadline, &'w [&'s [u8]])>
     ensures { option_map read_off result ≡ moment_at (words_at words.now) }
@@ -70,7 +70,7 @@ pub fn limits_of<'w, 's>(words: &'w [&'s [u8]]) -> Option<(Option<Attr>, &'w [&'
     }
 }
 
-/// A place behind this label, or none where the next word is another.
+/// A place after this label, or none where the next word is another.
 #[tactic(auto, unfolding(crate::specs::Reading::place_at))]
 pub fn place_of<'w, 's>(
     label: &'static [u8],
