@@ -1,5 +1,5 @@
-//! Journals that are made to be replayed, and the replay of a journal that is known to be legal.
-ghost use Rattle.std.specs.Prelude.{◌≡◌, ◌≤◌, ◌+◌, IfOk};
+//! Journals that are made to be replayed, and their replay.
+ghost use Rattle.std.specs.Prelude.{◌≡◌, ◌≤◌, ◌↔◌, IfOk, IsTrue};
 ghost use Rattle.mq_model.specs.Answer.{Legal};
 
 use crate::alone::DEPTH;
@@ -26,14 +26,11 @@ const LIMITS: Attr = Attr {
     msgsize: MESSAGE_SIZE as i64,
 };
 
-/// Replays a legal journal.
-pub fn expect_legal(alloc: Global, journal: &Journal) -> Result<(), AllocError>
-    requires { Legal journal.now.records }
+/// Whether a journal is legal, by a replay.
+pub fn is_legal(alloc: Global, journal: &Journal) -> Result<bool, AllocError>
+    ensures { IfOk result (λ legal. IsTrue legal ↔ Legal journal.now.records) }
 {
-    if replay(alloc, journal)?.is_some() {
-        unreachable!()
-    }
-    Ok(())
+    Ok(replay(alloc, journal)?.is_none())
 }
 
 /// A journal of so many entries: each process opens two queues, and then the processes call in turn, each of which sends to a queue of

@@ -19,11 +19,24 @@ pub struct Measured {
 pub enum Besides {
     Nothing,
     /// The entries of the journal, and the bytes of their payloads.
-    Journal { entries: u64, payload: u64 },
+    Journal {
+        entries: u64,
+        payload: u64,
+    },
     /// The processor time of the whole program.
-    Processor { nanoseconds: u128 },
-    /// The seed, and the calls and refusals of the journal, which was replayed.
-    Storm { seed: u32, tally: Tally },
+    Processor {
+        nanoseconds: u128,
+    },
+    /// Whether the journal is legal.
+    History {
+        legal: bool,
+    },
+    /// The seed, the calls and refusals of the journal, and whether it is legal.
+    Storm {
+        seed: u32,
+        tally: Tally,
+        legal: bool,
+    },
 }
 
 /// The bytes that the journal keeps of an entry: the call with its reply, and where its payload begins and ends.
@@ -53,14 +66,24 @@ pub fn result_of(operations: u64, time: Duration, journal: &Journal) -> Measured
     }
 }
 
-/// What a storm left, whose journal is legal.
-pub fn stormed(seed: u32, time: Duration, journal: &Journal) -> Measured {
+/// What a replay took of a journal, which is legal or not.
+pub fn replayed(time: Duration, journal: &Journal, legal: bool) -> Measured {
+    Measured {
+        operations: journal.len(),
+        nanoseconds: time.as_nanos(),
+        besides: Besides::History { legal },
+    }
+}
+
+/// What a storm left, whose journal is legal or not.
+pub fn stormed(seed: u32, time: Duration, journal: &Journal, legal: bool) -> Measured {
     Measured {
         operations: journal.len(),
         nanoseconds: time.as_nanos(),
         besides: Besides::Storm {
             seed,
             tally: tally_of(journal),
+            legal,
         },
     }
 }
@@ -94,15 +117,29 @@ fn besides_of(alloc: Global, m: Measured) -> Result<String, AllocError> {
             let bytes = per_operation(alloc, bytes, m.operations)?;
             format!(in alloc; "; {entries} entries, {payload} payload bytes, {bytes} bytes each")
         }
-        Besides::Storm { seed, tally } => {
+        Besides::History { legal } => {
+            let history = history_of(legal);
+            format!(in alloc; "; {history}")
+        }
+        Besides::Storm { seed, tally, legal } => {
             let counts = text_of(alloc, tally)?;
-            format!(in alloc; "; seed {seed}{counts}; history ok")
+            let history = history_of(legal);
+            format!(in alloc; "; seed {seed}{counts}; {history}")
         }
         Besides::Processor { nanoseconds } => {
             let processor = nanoseconds / MILLISECOND;
             let time = m.nanoseconds / MILLISECOND;
             format!(in alloc; "; {processor} ms of processor time in {time} ms")
         }
+    }
+}
+
+// What is said of a journal that is legal or not.
+fn history_of(legal: bool) -> &'static str {
+    if legal {
+        "history ok"
+    } else {
+        "history not legal"
     }
 }
 

@@ -14,8 +14,8 @@ use crate::crowd::crowd;
 use crate::fault::{BenchFault, WorkFault};
 use crate::idle::idle;
 use crate::members::Part;
-use crate::replays::{expect_legal, journal_of};
-use crate::report::{Besides, Measured, line_of, result_of, stormed, timed, title_of};
+use crate::replays::{is_legal, journal_of};
+use crate::report::{Besides, Measured, line_of, replayed, result_of, stormed, timed, title_of};
 use crate::storm::storm;
 use crate::workload::{Request, Workload, request_of};
 use fast_mutex::FastMutex;
@@ -162,9 +162,9 @@ fn measure<S: Wait + Threads + Clock + CpuClock + Sync>(
         Workload::Replay { entries, processes } => {
             let journal = journal_of(alloc, bounds, entries, processes)?;
             let start = Instant::now(rt)?;
-            expect_legal(alloc, &journal)?;
+            let legal = is_legal(alloc, &journal)?;
             let time = start.elapsed(rt)?;
-            Ok(result_of(u64::from(entries), time, &journal))
+            Ok(replayed(time, &journal, legal))
         }
         Workload::Crowd { processes, rounds } => {
             let parts = (Part::Sends, Part::Receives);
@@ -173,8 +173,8 @@ fn measure<S: Wait + Threads + Clock + CpuClock + Sync>(
         }
         Workload::Storm { seed, calls } => {
             let (time, journal) = storm::<Lamport, S>(rt, alloc, bounds, seed, calls)?;
-            expect_legal(alloc, &journal)?;
-            Ok(stormed(seed, time, &journal))
+            let legal = is_legal(alloc, &journal)?;
+            Ok(stormed(seed, time, &journal, legal))
         }
         Workload::Idle {
             processes,

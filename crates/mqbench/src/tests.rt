@@ -52,7 +52,7 @@ fn an_idle_run_prints_its_processor_time(rt: HostRuntime) {
 }
 
 #[test]
-fn a_storm_prints_its_seed_its_counts_and_a_replayed_history(rt: HostRuntime) {
+fn a_storm_prints_its_seed_its_counts_and_its_history(rt: HostRuntime) {
     let output = output_of(&rt, rt.alloc(), "storm 7 640\n").expect(&rt, "a result");
     let text = output.as_slice();
     assert!(rt; text.starts_with(b"storm: "));
@@ -66,6 +66,17 @@ fn a_storm_prints_its_seed_its_counts_and_a_replayed_history(rt: HostRuntime) {
         assert!(rt; text.windows(part.len()).any(|found| found == part));
     }
     assert!(rt; text.ends_with(b"; history ok\n"));
+}
+
+#[test]
+fn a_replay_prints_its_history(rt: HostRuntime) {
+    for line in ["replay 5\n", "replay 300 32\n"] {
+        let output = output_of(&rt, rt.alloc(), line).expect(&rt, "a result");
+        assert!(rt;
+            output.as_slice().ends_with(b" ns each; history ok\n"),
+            "{line}"
+        );
+    }
 }
 
 const REFUSED: [&str; 40] = [
