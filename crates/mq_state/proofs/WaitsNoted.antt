@@ -8,7 +8,7 @@ use Rattle.mq_model.specs.Messages.{is_send}
 use Rattle.mq_model.specs.Deadlines.{deadline_of}
 use Rattle.mq_model.specs.Waits.{open_wait, answered_by}
 use Rattle.mq_model.specs.Answer.{may_call}
-use Rattle.mq_model.specs.Owners.{wait_in, with_wait, waiter_in, waits_count, pending_in, OwnersMirror}
+use Rattle.mq_model.specs.Owners.{wait_in, wait_kind, with_wait, waiter_in, waits_count, pending_in, OwnersMirror}
 use Rattle.mq_model.specs.OwnersNoted.{noted, noted_open, noted_done, noted_attributes, with_answer_at}
 use Rattle.mq_model.specs.declared.owners.OpenWait.{OpenWait}
 use Rattle.mq_model.specs.declared.owners.Owner.{Owner}
