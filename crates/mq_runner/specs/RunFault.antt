@@ -53,7 +53,7 @@ IsLate NoMemory = Unit {0}
 IsLate (Deadlock lines) = Unit {0}
 
 -- a run of a script that is at fault in this line: it says so, unless a read failed or memory ran out before
-abbrev pub StopsAt : ℕ → Result (Unit {0}) RunFault → Type 0
+abbrev pub StopsAt : {A : Type 0} → ℕ → Result A RunFault → Type 0
 StopsAt line (Err (BadCall k)) = k ≡ line
 StopsAt line (Err Input) = Unit {0}
 StopsAt line (Err NoMemory) = Unit {0}

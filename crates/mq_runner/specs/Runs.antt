@@ -123,6 +123,18 @@ RunsPhases (calls ∷ phases) before after text =
 abbrev pub last_line : List ℕ
 last_line = codes "history ok" ++ 10 ∷ []
 
+-- A script was run whole, with these replies and this journal, which is legal. Its processes are those of one system, which has as many
+-- as the script says. They began with the empty journal and ran the phases. The journal begins with what each process last left and has
+-- no further record of it: so of each process it has just the records that its calls left, and of no other one any
+pub record RunsWhole (script : Whole) (replies : List ℕ) (journal : Past) : Type 0 where
+  pub system : LockId
+  pub count : system.count ≡ script.processes
+  pub processes : List (Ticket Record)
+  pub ran : RunsPhases script.phases (tickets_from system 1 script.processes) processes replies
+  pub legal : Legal journal
+  pub owners : All (λ r. (1 ≤ owner r) × (owner r ≤ script.processes)) journal
+  pub grows : All (λ process. Grows owner process.number process.left journal []) processes
+
 -- A script was run whole. Its processes are those of one system, which has as many as the script says. They began with the empty
 -- journal and ran the phases, and known bytes have grown by the replies and the last line. There is one legal journal, which begins
 -- with what each process last left and has no further record of it: so of each process it has just the records that its calls left,

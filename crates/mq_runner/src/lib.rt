@@ -5,6 +5,7 @@ mod calls;
 mod deal;
 mod fault;
 mod gate;
+mod journal;
 mod peers;
 mod phase;
 mod run;
@@ -15,4 +16,5 @@ mod waiting;
 
 pub use fault::RunFault;
 pub use gate::{Gate, Plain};
+pub use journal::script_journal;
 pub use run::run_script;

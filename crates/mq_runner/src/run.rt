@@ -7,7 +7,7 @@ ghost use Rattle.mq_runner.specs.RunFault.{IsLate, StopsAt};
 ghost use Rattle.fast_mutex.specs.Items.{Ticket};
 ghost use Rattle.lines.specs.Output.{AppendsTooLittle};
 ghost use Rattle.mq_model.specs.Record.{Record};
-ghost use Rattle.mq_runner.specs.Runs.{IsReady, RunsPhase, RunsPhases, RunsScript, last_line};
+ghost use Rattle.mq_runner.specs.Runs.{IsReady, RunsPhase, RunsPhases, RunsScript, RunsWhole, last_line};
 ghost use Rattle.mq_runner.specs.Stops.{RunsFront, StopsBehindPhase, StopsBlocked, StopsInDeadlock, StopsInPhase, StopsInWrite};
 ghost use Rattle.mq_runner.specs.Stands.{ComesToAStand};
 ghost use Rattle.mq_script.specs.Script.{Whole, said_calls, said_phases, said_script, script_written};
@@ -104,6 +104,35 @@ where
     ensures deadlock { (lines : Vec ℕ Global) → IsErrOf result (Deadlock lines) → StopsInDeadlock (said_script script.now) lines.items (W.contents output.old) (W.contents output.new) }
     ensures done { OnOk result (RunsScript (said_script script.now) (W.contents output.old) (W.contents output.new)) }
 {
+    let journal = run_whole::<L, S, W, G>(rt, alloc, script, output, gate)?;
+    // The journal of the queues is legal, so the checker accepts it.
+    write_last_line(output, &journal)?.unwrap();
+    Ok(())
+}
+
+// Makes the calls of a script, writes the replies of each phase after it, and gives the journal.
+pub(crate) fn run_whole<L, S, W, G>(
+    rt: &S,
+    alloc: Global,
+    script: &Script<'_>,
+    output: &mut W,
+    gate: &G,
+) -> Result<Journal, RunFault>
+where
+    L: Look<Guarded> + Sync,
+    L::Seat: Send,
+    L::Walk: Send,
+    S: Threads + Wait + Clock + Sync,
+    W: Write,
+    G: Gate + Sync,
+    requires { (1 ≤ script.now.processes) × (script.now.processes ≤ 32) }
+    ensures fault { IfErr result IsLate }
+    ensures no_memory { IsErrOf result NoMemory → StopsBehindPhase (said_script script.now) (W.contents output.old) (W.contents output.new) }
+    ensures output { IsErrOf result Output → StopsInWrite (said_script script.now) (W.contents output.old) (W.contents output.new) }
+    ensures deadlock { (lines : Vec ℕ Global) → IsErrOf result (Deadlock lines) → StopsInDeadlock (said_script script.now) lines.items (W.contents output.old) (W.contents output.new) }
+    ensures legal { IfOk result (λ journal. Legal journal.records) }
+    ensures done { IfOk result (λ journal. (replies : List ℕ) × RunsWhole (said_script script.now) replies journal.records × Appends (W.contents output.old) (W.contents output.new) replies) }
+{
     let Ok((mq, processes)) = Mq::<L>::new(alloc, script.processes) else {
         return Err(RunFault::NoMemory);
     };
@@ -112,9 +141,13 @@ where
     let Ok(journal) = mq.finish(processes) else {
         unreachable!()
     };
+<<<<<<< HEAD
     // The journal of the queues is legal.
     write_last_line(output, alloc, &journal)?.unwrap();
     Ok(())
+=======
+    Ok(journal)
+>>>>>>> d5d7e2f065eb6989073e87fb9061467e340eb2ad
 }
 
 // Runs phases one after the other and writes the replies of each.
