@@ -105,8 +105,8 @@ where
     ensures done { OnOk result (RunsScript (said_script script.now) (W.contents output.old) (W.contents output.new)) }
 {
     let journal = run_whole::<L, S, W, G>(rt, alloc, script, output, gate)?;
-    // The journal of the queues is legal, so the checker accepts it.
-    write_last_line(output, &journal)?.unwrap();
+    // The journal of the queues is legal.
+    write_last_line(output, alloc, &journal)?.unwrap();
     Ok(())
 }
 
@@ -141,13 +141,7 @@ where
     let Ok(journal) = mq.finish(processes) else {
         unreachable!()
     };
-<<<<<<< HEAD
-    // The journal of the queues is legal.
-    write_last_line(output, alloc, &journal)?.unwrap();
-    Ok(())
-=======
     Ok(journal)
->>>>>>> d5d7e2f065eb6989073e87fb9061467e340eb2ad
 }
 
 // Runs phases one after the other and writes the replies of each.
