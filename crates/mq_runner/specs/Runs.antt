@@ -135,18 +135,9 @@ pub record RunsWhole (script : Whole) (replies : List ℕ) (journal : Past) : Ty
   pub owners : All (λ r. (1 ≤ owner r) × (owner r ≤ script.processes)) journal
   pub grows : All (λ process. Grows owner process.number process.left journal []) processes
 
--- A script was run whole. Its processes are those of one system, which has as many as the script says. They began with the empty
--- journal and ran the phases, and known bytes have grown by the replies and the last line. There is one legal journal, which begins
--- with what each process last left and has no further record of it: so of each process it has just the records that its calls left,
--- and of no other one any
+-- A script was run whole, and known bytes have grown by its replies and the last line
 pub record RunsScript (script : Whole) (old new : Option (List ℕ)) : Type 0 where
-  pub system : LockId
-  pub count : system.count ≡ script.processes
-  pub processes : List (Ticket Record)
   pub replies : List ℕ
-  pub ran : RunsPhases script.phases (tickets_from system 1 script.processes) processes replies
   pub journal : Past
-  pub legal : Legal journal
-  pub owners : All (λ r. (1 ≤ owner r) × (owner r ≤ script.processes)) journal
-  pub grows : All (λ process. Grows owner process.number process.left journal []) processes
+  pub whole : RunsWhole script replies journal
   pub written : known.Appends old new (replies ++ last_line)

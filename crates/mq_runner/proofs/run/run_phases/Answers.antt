@@ -6,18 +6,12 @@ use Rattle.mq_runner.proofs.run.run_phases.Goals as goal
 
 pub returns-clause-done : goal.returns-clause-done
 returns-clause-done g c =
-    let ran = c.in_ok-journal.ensures.done in let whole = ran.1 in
+    let ran = c.in_ok-journal.ensures.done in
     let last = rw c.unwrap.ensures at c.in_ok-write_last_line.ensures.written in
     record {
-      system = whole.system;
-      count = whole.count;
-      processes = whole.processes;
       replies = ran.0;
-      ran = whole.ran;
       journal = c.in_ok-journal.journal.records;
-      legal = whole.legal;
-      owners = whole.owners;
-      grows = whole.grows;
+      whole = ran.1;
       written = Appends-then _ _ _ ran.0 last_line ran.2 last;
     }
 
