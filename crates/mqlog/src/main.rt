@@ -1,25 +1,79 @@
-// Journals of message queue calls, as text.
+// Journals of message queue calls as text: of a script that is run, and checked.
 #![tactic(auto)]
 
-use mq_log::{LogFault, Task, USAGE, check_journal, task_of};
-use std::alloc::Global;
+
+use fast_mutex::FastMutex;
+use mq::Guarded;
+use mq_log::{LogFault, Task, USAGE, check_journal, record_script, task_of};
+use mq_runner::Plain;
+use std::alloc::{Alloc, Global};
+use std::env;
 use std::io;
+use std::io::{Eprint, Input, Print};
 use std::process::ExitCode;
 use std::rt::Env;
-use std::{env, fmt};
+use std::sync::Wait;
+use std::thread::Threads;
+use std::time::Clock;
 
 fn main(rt: HostRuntime) -> ExitCode {
-    match asked(&rt, rt.alloc()) {
-        Some(Task::Run) => ExitCode::from(2),
-        Some(Task::Check) => checked(&rt, rt.alloc()),
-        Some(Task::Help) => match print!(rt; "{USAGE}") {
-            Ok(()) => ExitCode::SUCCESS,
-            Err(_) => failed(&rt, LogFault::Output),
-        },
+    match asked(&rt) {
+        Some(Task::Run) => run(&rt, rt.alloc()),
+        Some(Task::Check) => check(&rt, rt.alloc()),
+        Some(Task::Help) => help(&rt),
         None => {
             // Nothing is left to do where this cannot be written.
             let _ = eprint!(rt; "{USAGE}");
             ExitCode::from(2)
+        }
+    }
+}
+
+// The task that the command line asks for. One that cannot be read asks for nothing.
+fn asked(rt: &(impl Env + Alloc<A = Global>)) -> Option<Task> {
+    let words: Vec<String> = env::args(rt).ok()?.collect(rt.alloc()).ok()?;
+    task_of(words.as_slice())
+}
+
+fn help(rt: &(impl Print + Eprint)) -> ExitCode {
+    match print!(rt; "{USAGE}") {
+        Ok(()) => ExitCode::SUCCESS,
+        Err(_) => {
+            let fault = LogFault::Output;
+            let _ = eprintln!(rt; "{fault}");
+            ExitCode::from(fault.status())
+        }
+    }
+}
+
+fn check(rt: &(impl Print + Eprint + Input), alloc: Global) -> ExitCode {
+    let (mut input, mut output) = (rt.reader(), io::writer(rt));
+    match check_journal(alloc, &mut input, &mut output) {
+        Ok(verdict) => ExitCode::from(verdict.status()),
+        Err(fault) => {
+            let _ = eprintln!(rt; "{fault}");
+            ExitCode::from(fault.status())
+        }
+    }
+}
+
+fn run(
+    rt: &(impl Print + Eprint + Input + Threads + Wait + Clock + Sync),
+    alloc: Global,
+) -> ExitCode {
+    let (mut input, mut output) = (rt.reader(), io::writer(rt));
+    let outcome = record_script::<FastMutex<Guarded>, _, _, _, _>(
+        rt,
+        alloc,
+        &mut input,
+        &mut output,
+        &Plain,
+    );
+    match outcome {
+        Ok(()) => ExitCode::SUCCESS,
+        Err(fault) => {
+            let _ = eprintln!(rt; "{fault}");
+            ExitCode::from(fault.status())
         }
     }
 }

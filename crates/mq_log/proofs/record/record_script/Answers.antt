@@ -1,0 +1,20 @@
+use Rattle.std.proofs.Common.{◌≡◌, ◌∙◌}
+use Rattle.mq_journal.specs.Text.{journal_text}
+use Rattle.mq_log.proofs.record.record_script.Goals as goal
+
+pub returns-in_err-write_all-clause-bad_call : goal.returns-in_err-write_all-clause-bad_call
+returns-in_err-write_all-clause-bad_call g c = λ all line known written. absurd (c.in_ok-journal.ensures.bad_call all line known written)
+
+pub returns-clause-bad_call : goal.returns-clause-bad_call
+returns-clause-bad_call g c = λ all line known written. absurd (c.in_ok-journal.ensures.bad_call all line known written)
+
+pub returns-clause-done : goal.returns-clause-done
+returns-clause-done g c = λ all script known written.
+    let ran = c.in_ok-journal.ensures.done all script known written in
+    let text : c.as_slice.result.now ≡ journal_text c.in_ok-journal.journal.records = c.as_slice.ensures.value ∙ c.in_ok-text.ensures.text in
+    record {
+      journal = c.in_ok-journal.journal.records;
+      replies = ran.0;
+      ran = ran.1;
+      written = rw text at c.in_ok-write_all.ensures.whole;
+    }

@@ -1,0 +1,23 @@
+-- What is written of a script that is run for its journal.
+use Rattle.std.specs.Prelude.{ℕ, List, Option}
+use Rattle.std.specs.Io.KnownBytes as known
+use Rattle.mq_model.specs.Answer.{Legal}
+use Rattle.mq_model.specs.Record.{Past}
+use Rattle.mq_script.specs.Script.{Whole}
+use Rattle.mq_runner.specs.Runs.{RunsWhole}
+use Rattle.mq_journal.specs.Fitting.{AllFit}
+use Rattle.mq_journal.specs.Text.{journal_text}
+
+-- known bytes have grown by the text of a legal journal
+pub record IsLogged (old new : Option (List ℕ)) : Type 0 where
+  pub journal : Past
+  pub legal : Legal journal
+  pub fits : AllFit journal
+  pub written : known.Appends old new (journal_text journal)
+
+-- the script was run whole, and known bytes have grown by the text of its journal
+pub record Records (script : Whole) (old new : Option (List ℕ)) : Type 0 where
+  pub journal : Past
+  pub replies : List ℕ
+  pub ran : RunsWhole script replies journal
+  pub written : known.Appends old new (journal_text journal)
