@@ -4,7 +4,7 @@ use Rattle.std.specs.Prelude.{ℕ, ◌++◌, ◌∷◌, [], List, codes}
 abbrev pub line : List ℕ → List ℕ
 line text = text ++ 10 ∷ []
 
-abbrev pub usage_text : List ℕ
+unfoldable pub usage_text : List ℕ
 usage_text =
     line (codes "usage: one line on the standard input, of a workload and its sizes")
     ++ line (codes "  pair N      one process: a send and a receive in turn, N times each")

@@ -75,7 +75,7 @@ pub fn run_line<S: Wait + Threads + Clock + CpuClock + Sync, R: Read, W: Write>(
 {
     let text = read_all(alloc, input, MOST_BYTES)?;
     match request_in(alloc, text.as_slice())? {
-        Request::Usage => write_all(output, USAGE)?,
+        Request::Usage => write_all(output, usage())?,
         Request::Measure(workload, bounds) => {
             let result = measure(rt, alloc, workload, bounds)?;
             let line = line_of(alloc, title_of(workload), result)?;
@@ -83,6 +83,13 @@ pub fn run_line<S: Wait + Threads + Clock + CpuClock + Sync, R: Read, W: Write>(
         }
     }
     Ok(())
+}
+
+#[tactic(auto, unfolding(crate::specs::Usage::usage_text))]
+fn usage() -> &'static [u8]
+    ensures { result.now ≡ usage_text }
+{
+    USAGE
 }
 
 // What an input asks for.
