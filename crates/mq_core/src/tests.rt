@@ -233,7 +233,10 @@ fn a_wait_has_its_deadline_until_it_is_withdrawn(rt: HostRuntime) -> Result<(), 
     note(&mut table, 5, TIMED_RECEIVER_WAITS, 0);
     assert_eq!(rt; owners::wait(&table, 3).map(|w| w.until), Some(None));
     assert_eq!(rt; owners::wait(&table, 2).map(|w| w.until), Some(Some(UNTIL)));
-    assert_eq!(rt; owners::first_wait(&table, 0, WaitKind::Receive), Some((2, 5)));
+    assert_eq!(rt;
+        owners::first_wait(&table, 0, WaitKind::Receive),
+        Some((2, 5))
+    );
     note(&mut table, 6, WITHDRAW, 0);
     assert_eq!(rt; owners::wait(&table, 2), None);
     assert_eq!(rt; owners::answer(&table, 2), None);
