@@ -1,20 +1,21 @@
 // Journals of message queue calls as text: of a script that is run, and checked.
 #![tactic(auto)]
 
+#[cfg(test)]
+mod tests;
 
 use fast_mutex::FastMutex;
 use mq::Guarded;
 use mq_log::{LogFault, Task, USAGE, check_journal, record_script, task_of};
 use mq_runner::Plain;
 use std::alloc::{Alloc, Global};
-use std::env;
-use std::io;
 use std::io::{Eprint, Input, Print};
 use std::process::ExitCode;
 use std::rt::Env;
 use std::sync::Wait;
 use std::thread::Threads;
 use std::time::Clock;
+use std::{env, io};
 
 fn main(rt: HostRuntime) -> ExitCode {
     match asked(&rt) {
