@@ -1,14 +1,13 @@
 -- Numbers that were written are read again.
-use Rattle.std.proofs.Common.{◌≡◌, ◌<◌, ◌≤◌, ◌^◌, ◌∙◌, ℕ, ℤ, pos, negsuc, neg_ℤ, Bool, true, false, not, List, [], ◌∷◌, length, get_or, drop, arith, refl, ap, sym, rules, leb, eqb, cond, suc, Option, Some, None}
+use Rattle.std.proofs.Common.{◌≡◌, ◌<◌, ◌^◌, ◌∙◌, ℕ, ℤ, pos, negsuc, true, false, get_or, arith, refl, ap, leb, suc, Some}
 use Rattle.std.proofs.lemmas.Fmt.{decimal_is_IsNumeral}
 use Rattle.std.proofs.lemmas.Str.Parse.{digit_at}
 use Rattle.std.proofs.lemmas.Bool.Decides.{nat_tests}
 use Rattle.std.specs.Fmt.{decimal, signed_decimal}
 use Rattle.std.specs.Int.{IsInRange}
-use Rattle.std.specs.List.{list_all}
-use Rattle.std.specs.Str.Parse.{AllDigits, IsNumeral, digits_value, starts_with_minus}
-use Rattle.lines.specs.Words.{number_written, integer_written, is_separator}
-use Rattle.lines.proofs.Numbers.{IsNumber, written_some}
+use Rattle.std.specs.Str.Parse.{digits_value, starts_with_minus}
+use Rattle.lines.specs.Words.{number_written, integer_written}
+use Rattle.lines.proofs.Numbers.{written_some}
 use Rattle.mq_journal.specs.Fitting.{IsLong}
 
 pub number_again : (k n : ℕ) → n < 2 ^ k → n < 2 ^ 64 → number_written k (decimal n) ≡ Some n

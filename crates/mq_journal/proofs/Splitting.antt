@@ -1,8 +1,8 @@
 -- How a text is cut into the lines of records: in one way only.
-use Rattle.std.proofs.Common.{◌≡◌, ◌≢◌, ◌<◌, ◌≤◌, ◌+◌, ◌^◌, ◌∙◌, ◌++◌, ℕ, suc, Bool, true, false, not, ◌==◌, List, [], ◌∷◌, length, arith, refl, ap, sym, Option, Some, None, append_assoc, append-nil, inl, inr}
+use Rattle.std.proofs.Common.{◌≡◌, ◌≢◌, ◌<◌, ◌+◌, ◌^◌, ◌∙◌, ◌++◌, ℕ, suc, Bool, true, false, not, ◌==◌, List, [], ◌∷◌, length, arith, refl, ap, sym, Option, Some, None, append_assoc, append-nil, inl, inr}
 use Rattle.std.proofs.lemmas.Bool.{and_from, cases_Bool}
 use Rattle.std.proofs.lemmas.Bool.Decides.{nat_tests}
-use Rattle.std.proofs.lemmas.List.{append_cancel_left, length-append}
+use Rattle.std.proofs.lemmas.List.{length-append}
 use Rattle.std.specs.List.{list_all, join_with_byte, concat}
 use Rattle.lines.specs.Words.{Word, words_of}
 use Rattle.mq_model.specs.Record.{Record, Past}

@@ -1,6 +1,6 @@
 -- What lines are made of are words: each has a byte, and none that parts words.
-use Rattle.std.proofs.Common.{◌≡◌, ◌<◌, ◌≤◌, ◌^◌, ◌∙◌, ◌++◌, ℕ, ℤ, pos, negsuc, suc, Bool, true, false, not, ◌&&◌, List, [], ◌∷◌, length, take, arith, refl, ap, sym, rules, ltb, All, append_assoc, inl, inr}
-use Rattle.std.proofs.lemmas.Bool.{and_from, cases_Bool, lt-ltb, cond-true}
+use Rattle.std.proofs.Common.{◌≡◌, ◌<◌, ◌^◌, ◌∙◌, ◌++◌, ℕ, ℤ, pos, negsuc, suc, Bool, true, false, not, ◌&&◌, List, [], ◌∷◌, length, arith, refl, ap, ltb, All, append_assoc}
+use Rattle.std.proofs.lemmas.Bool.{and_from, lt-ltb}
 use Rattle.std.proofs.lemmas.Bool.Decides.{nat_tests}
 use Rattle.std.proofs.lemmas.Fmt.{decimal_is_IsNumeral}
 use Rattle.std.proofs.lemmas.List.Elements.{All-nil, All-cons}
@@ -8,7 +8,7 @@ use Rattle.std.proofs.lemmas.List.Splits.{slice_split_at}
 use Rattle.std.proofs.lemmas.Str.Parse.{digit_from_value}
 use Rattle.std.specs.Fmt.{decimal, signed_decimal}
 use Rattle.std.specs.Int.{IsInRange}
-use Rattle.std.specs.List.{list_all, join_with_byte, slice_split, AllByRecursion}
+use Rattle.std.specs.List.{list_all, join_with_byte, AllByRecursion}
 use Rattle.std.specs.Str.Parse.{AllDigits}
 use Rattle.lines.specs.Words.{Word, is_separator, words_of}
 use Rattle.mq_journal.specs.Fitting.{IsLong}

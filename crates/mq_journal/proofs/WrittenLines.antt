@@ -1,5 +1,5 @@
 -- A line reads as the record that it was written from.
-use Rattle.std.proofs.Common.{◌≡◌, ◌≢◌, ◌<◌, ◌≤◌, ◌^◌, ◌+◌, ◌-◌, ◌∙◌, ◌++◌, ℕ, Bool, true, false, not, List, [], ◌∷◌, length, take, drop, arith, refl, ap, sym, codes, All, Option, Some, None, append_assoc, inl, inr, ltb}
+use Rattle.std.proofs.Common.{◌≡◌, ◌≢◌, ◌<◌, ◌^◌, ◌-◌, ◌∙◌, ◌++◌, ℕ, true, false, List, [], ◌∷◌, length, take, arith, refl, ap, codes, All, Some, None, append_assoc, ltb}
 use Rattle.std.proofs.lemmas.Bool.{and_from, both_ways, lt-ltb}
 use Rattle.std.proofs.lemmas.Bool.Decides.{nat_tests}
 use Rattle.std.proofs.lemmas.List.{length-append}
@@ -8,10 +8,10 @@ use Rattle.std.proofs.Math.Seq.{take-append_seam}
 use Rattle.std.specs.Fmt.{decimal}
 use Rattle.std.specs.List.{list_all, join_with_byte}
 use Rattle.percent_encoding.specs.AsciiSet.{should_percent_encode}
-use Rattle.percent_encoding.specs.Percent.{percent_encode, percent_decode}
+use Rattle.percent_encoding.specs.Percent.{percent_decode}
 use Rattle.percent_encoding.proofs.AsciiSetLemmas.{escaped_from_inside}
-use Rattle.percent_encoding.proofs.PercentLemmas.{IsByte, IsEscapeByte, All-percent_encode, percent_encode-nil, round_trip}
-use Rattle.lines.specs.Words.{Word, is_separator, words_of}
+use Rattle.percent_encoding.proofs.PercentLemmas.{IsEscapeByte, All-percent_encode, percent_encode-nil, round_trip}
+use Rattle.lines.specs.Words.{Word, words_of}
 use Rattle.mq_model.specs.Record.{Record}
 use Rattle.mq_model.specs.declared.entries.Entry.{Entry}
 use Rattle.mq_model.specs.declared.entries.Call.{Call}
@@ -21,8 +21,8 @@ use Rattle.mq_model.specs.declared.entries.Reply.TheVariants as reply
 use Rattle.mq_journal.specs.declared.payload.TheConstants.{ESCAPED}
 use Rattle.mq_journal.specs.Fitting.{Fits}
 use Rattle.mq_journal.specs.Text.{call_words, escaped, line_text, payload_text, payload_words, record_words, reply_words}
-use Rattle.mq_journal.specs.Reading.{call_at, entry_at, limits_at, number_at, quoted_at, reply_at, word_at}
-use Rattle.mq_journal.proofs.WholeWords.{IsWord, AreWords, is_word, parts_none, word-decimal, words-append, words_of-line}
+use Rattle.mq_journal.specs.Reading.{entry_at, limits_at, quoted_at, word_at}
+use Rattle.mq_journal.proofs.WholeWords.{AreWords, parts_none, word-decimal, words-append, words_of-line}
 use Rattle.mq_journal.proofs.WrittenCalls.{call_again, call-words, small_at_again}
 use Rattle.mq_journal.proofs.WrittenReplies.{reply_again, reply-words}
 

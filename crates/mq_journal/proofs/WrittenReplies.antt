@@ -10,8 +10,8 @@ use Rattle.mq_model.specs.declared.entries.Status.{Status}
 use Rattle.mq_model.specs.declared.entries.Reply.{Reply}
 use Rattle.mq_model.specs.declared.entries.Reply.TheVariants as reply
 use Rattle.mq_journal.specs.Fitting.{IsPlace, ReplyFits, StatusFits}
-use Rattle.mq_journal.specs.Text.{flag_word, number_or, place_words, reply_words}
-use Rattle.mq_journal.specs.Reading.{word_at, place_at, flag_at, kind_written, fault_written, opened_at, queued_at, handed_at, got_at, collected_at, withdrawn_at, attrs_at, notice_at, reply_at}
+use Rattle.mq_journal.specs.Text.{place_words, reply_words}
+use Rattle.mq_journal.specs.Reading.{word_at, place_at, kind_written, fault_written, opened_at, queued_at, handed_at, got_at, collected_at, withdrawn_at, attrs_at, notice_at, reply_at}
 use Rattle.mq_journal.proofs.WholeWords.{IsWord, AreWords, word-decimal, word-signed}
 use Rattle.mq_journal.proofs.WrittenCalls.{small_at_again, place_at_again, integer_at_again, flag_at_again, number_or_at_again, flag-word, number_or-word}
 

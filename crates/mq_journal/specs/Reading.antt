@@ -1,5 +1,5 @@
 -- What the words of a line read as. Words that no record writes may read as one too: the line that it writes is then another.
-use Rattle.std.specs.Prelude.{ℕ, ℤ, ◌-◌, Bool, true, false, ◌==◌, List, [], ◌∷◌, length, take, map, find, Option, None, Some, if◌then◌else◌, codes}
+use Rattle.std.specs.Prelude.{ℕ, ℤ, ◌-◌, Bool, false, ◌==◌, List, [], ◌∷◌, length, take, map, find, Option, None, Some, if◌then◌else◌, codes}
 use Rattle.std.specs.Str.{bytes_eq}
 use denote.Ref.{Bor}
 use Rattle.lines.specs.Words.{◌>>=◌, Word, integer_written, number_written}

@@ -1,11 +1,11 @@
 //! The journal as text: one line an entry.
 #![tactic(auto)]
 
-pub mod call;
+mod call;
 pub mod fault;
 mod fitting;
 pub mod line;
-pub mod payload;
-pub mod reply;
+mod payload;
+mod reply;
 pub mod text;
-pub mod words;
+mod words;

@@ -1,6 +1,9 @@
 // Journals of message queue calls as text: of a script that is run, and checked.
 #![tactic(auto)]
 
+#[cfg(test)]
+mod tests;
+
 use fast_mutex::FastMutex;
 use mq::Guarded;
 use mq_log::{LogFault, Task, USAGE, check_journal, record_script, task_of};

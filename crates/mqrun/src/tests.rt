@@ -13,6 +13,7 @@ use std::time::Clock;
 mod deadlines;
 mod deadlocks;
 mod gates;
+mod journals;
 mod limits;
 mod scripts;
 mod streams;

@@ -1,8 +1,8 @@
-use Rattle.std.proofs.Common.{◌≡◌, ◌≢◌, ◌<◌, ◌+◌, ◌∙◌, ◌++◌, ◌∷◌, ◌^◌, List, ℕ, [], Bool, true, length, arith, rules, ap, sym, append-nil, Some, None, Err}
+use Rattle.std.proofs.Common.{◌≡◌, ◌<◌, ◌+◌, ◌∙◌, ◌++◌, ◌∷◌, ◌^◌, List, ℕ, [], length, arith, rules, ap, sym, append-nil}
 use Rattle.std.proofs.lemmas.Bool.Decides.{nat_tests}
 use Rattle.std.proofs.lemmas.List.{nil_from_length}
 use Rattle.mq_model.specs.Record.{Record, Past}
-use Rattle.mq_journal.specs.Fitting.{AllFit, Fits}
+use Rattle.mq_journal.specs.Fitting.{Fits}
 use Rattle.mq_journal.specs.JournalFault.{IsNoLine, StopsAt}
 use Rattle.mq_journal.specs.Text.{journal_text, line_text}
 use Rattle.mq_journal.proofs.Splitting.{allfit_next, next_line, one_journal, stops_here, stops_none}
