@@ -6,6 +6,6 @@ pub mod fault;
 mod fitting;
 pub mod line;
 mod payload;
-mod reply;
+pub mod reply;
 pub mod text;
 mod words;

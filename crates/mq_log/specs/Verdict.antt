@@ -1,7 +1,7 @@
 -- What a journal comes to.
 use Rattle.std.specs.Prelude.{ℕ, zero, suc, ◌≡◌, ◌+◌, ◌++◌, ◌==◌, Bool, false, List, [], ◌∷◌, length, count_by, codes, if◌then◌else◌, Option}
 use Rattle.std.specs.Fmt.{decimal}
-use Rattle.std.specs.List.{list_any}
+use Rattle.std.specs.List.{join_with_byte, list_any}
 use Rattle.std.specs.Io.KnownBytes as known
 use Rattle.lines.specs.Output.{AppendsTooLittle}
 use Rattle.mq_model.specs.Answer as answer
@@ -9,7 +9,11 @@ use Rattle.mq_model.specs.Record.{Past, Record, first}
 use Rattle.mq_model.specs.declared.entries.Reply.{Reply}
 use Rattle.mq_model.specs.declared.entries.Reply.TheVariants as reply
 use Rattle.mq_journal.specs.Fitting.{AllFit}
-use Rattle.mq_journal.specs.Text.{journal_text, line_text}
+use Rattle.mq_journal.specs.Text.{journal_text, line_text, reply_words}
+use Rattle.mq_state.specs.Replays.{IsDeparture}
+use Rattle.mq_state.specs.declared.replay.Cause.{Cause}
+use Rattle.mq_state.specs.declared.replay.Cause.TheVariants as cause
+use Rattle.mq_state.specs.declared.replay.Departure.{Departure}
 use Rattle.mq_log.specs.declared.counts.Counts.{Counts}
 use Rattle.mq_log.specs.declared.verdict.Verdict.{Verdict}
 use Rattle.mq_log.specs.declared.verdict.Verdict.TheVariants.{Legal, Illegal}
@@ -43,18 +47,25 @@ abbrev pub last_line : Past → List ℕ
 last_line [] = []
 last_line (r ∷ past) = line_text (length past) r
 
--- what is printed of a journal whose entry at this place is not legal: the place, and the line of that entry
-abbrev pub illegal_text : Past → ℕ → List ℕ
-illegal_text past place = codes "entry " ++ (decimal place ++ (codes ": not legal\n" ++ last_line (first (place + 1) past)))
+-- why an entry is not legal: its process, its turn, its payload, or its reply, with the one that the definitions give
+abbrev pub cause_text : Cause → List ℕ
+cause_text cause.Process = codes "no process from 1 to 32"
+cause_text cause.Turn = codes "out of turn"
+cause_text cause.Payload = codes "another payload expected"
+cause_text (cause.Reply expected) = codes "expected " ++ join_with_byte 32 (reply_words expected)
+
+-- what is printed of a journal that is not legal: the place of its first entry at fault, why it is at fault, and its line
+abbrev pub illegal_text : Past → Departure → List ℕ
+illegal_text past d = codes "entry " ++ (decimal d.place ++ (codes ": " ++ (cause_text d.cause ++ 10 ∷ last_line (first (d.place + 1) past))))
 
 abbrev pub verdict_text : Past → Verdict → List ℕ
 verdict_text past (Legal counts) = legal_text counts
-verdict_text past (Illegal place) = illegal_text past place
+verdict_text past (Illegal departure) = illegal_text past departure
 
--- the verdict is right: the journal is legal, and has these counts, or this is the first place that is not legal
+-- the verdict is right: the journal is legal, and has these counts, or this is the first place that is not legal, and why
 abbrev pub Judges : Past → Verdict → Type 0
 Judges past (Legal counts) = answer.Legal past × (counts ≡ counts_of past)
-Judges past (Illegal place) = answer.IsFirstIllegal past place
+Judges past (Illegal departure) = IsDeparture past departure
 
 -- the verdict on bytes that are the text of a journal; known bytes have grown by its text
 pub record Checks (bytes : List ℕ) (verdict : Verdict) (old new : Option (List ℕ)) : Type 0 where
@@ -67,7 +78,7 @@ pub record Checks (bytes : List ℕ) (verdict : Verdict) (old new : Option (List
 -- the exit status of the program
 abbrev pub verdict_status : Verdict → ℕ
 verdict_status (Legal counts) = 0
-verdict_status (Illegal place) = 1
+verdict_status (Illegal departure) = 1
 
 -- bytes are the text of a journal; of the text of the verdict on it a front part was written that lacks a byte or more
 pub record StopsInVerdict (bytes : List ℕ) (old new : Option (List ℕ)) : Type 0 where

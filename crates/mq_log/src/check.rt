@@ -16,7 +16,7 @@ use std::io::{Read, Write};
 /// The most bytes of a journal.
 pub const MOST_BYTES: usize = 1 << 40;
 
-/// Reads a journal, checks it, and writes a line with what stands in it, or the first entry that is not legal.
+/// Reads a journal, checks it, and writes a line with what stands in it, or the first entry that is not legal and why.
 /// `LogFault::BadLine`: a line is not that of an entry, and this is the first one. `LogFault::Input`: a read failed.
 /// `LogFault::Output`: a write failed, and a front part of the verdict is written. Of the others nothing is written.
 pub fn check_journal<R: Read, W: Write>(
@@ -36,7 +36,7 @@ pub fn check_journal<R: Read, W: Write>(
 {
     let text = read_all(alloc, input, MOST_BYTES)?;
     let journal = read_journal(alloc, text.as_slice())?;
-    let verdict = verdict_of(&journal);
+    let verdict = verdict_of(alloc, &journal)?;
     let line = verdict_text(alloc, &journal, verdict)?;
     write_all(output, line.as_bytes())?;
     Ok(verdict)

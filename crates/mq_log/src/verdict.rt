@@ -1,12 +1,13 @@
 //! What a journal comes to.
 ghost use Rattle.std.specs.Prelude.{◌≡◌, ◌<◌, ◌+◌, IfOk, length, string_bytes};
 ghost use Rattle.mq_model.specs.Record.{first};
-ghost use Rattle.mq_log.specs.Verdict.{Judges, last_line, verdict_text};
+ghost use Rattle.mq_log.specs.Verdict.{Judges, cause_text, last_line, verdict_text};
 
 use crate::counts::{Counts, counts_of};
-use mq_checker::checker::check_history;
 use mq_journal::line::line_of;
+use mq_journal::reply::reply_text;
 use mq_model::journals::Journal;
+use mq_state::replay::{Cause, Departure, replay};
 use std::alloc::{AllocError, Global};
 
 /// What a journal comes to.
@@ -14,8 +15,8 @@ use std::alloc::{AllocError, Global};
 pub enum Verdict {
     /// The journal is legal, and this stands in it.
     Legal(Counts),
-    /// The place of the first entry that is not legal.
-    Illegal(u64),
+    /// The first entry that is not legal, and why.
+    Illegal(Departure),
 }
 
 impl Verdict {
@@ -32,14 +33,15 @@ impl Verdict {
     }
 }
 
-/// The verdict on a journal.
-pub fn verdict_of(journal: &Journal) -> Verdict
-    ensures { Judges journal.now.records result }
+/// The verdict on a journal. The error is that memory was refused.
+pub fn verdict_of(alloc: Global, journal: &Journal) -> Result<Verdict, AllocError>
+    ensures { IfOk result (Judges journal.now.records) }
 {
-    match check_history(journal) {
-        Ok(()) => Verdict::Legal(counts_of(journal)),
-        Err(place) => Verdict::Illegal(place),
-    }
+    let verdict = match replay(alloc, journal)? {
+        None => Verdict::Legal(counts_of(journal)),
+        Some(departure) => Verdict::Illegal(departure),
+    };
+    Ok(verdict)
 }
 
 /// What is printed of a verdict on a journal.
@@ -56,9 +58,25 @@ pub fn verdict_text(
             let (entries, processes, queues) = (counts.entries, counts.processes, counts.queues);
             format!(in alloc; "legal: {entries} entries, {processes} processes, {queues} queues\n")
         }
-        Verdict::Illegal(place) => {
+        Verdict::Illegal(Departure { place, cause }) => {
+            let cause = cause_text(alloc, cause)?;
             let line = line_at(alloc, journal, place)?;
-            format!(in alloc; "entry {place}: not legal\n{line}")
+            format!(in alloc; "entry {place}: {cause}\n{line}")
+        }
+    }
+}
+
+// Why an entry is not legal.
+fn cause_text(alloc: Global, cause: Cause) -> Result<String, AllocError>
+    ensures { IfOk result (λ text. string_bytes text ≡ cause_text cause) }
+{
+    match cause {
+        Cause::Process => format!(in alloc; "no process from 1 to 32"),
+        Cause::Turn => format!(in alloc; "out of turn"),
+        Cause::Payload => format!(in alloc; "another payload expected"),
+        Cause::Reply(expected) => {
+            let reply = reply_text(alloc, &expected)?;
+            format!(in alloc; "expected {reply}")
         }
     }
 }
