@@ -1,4 +1,5 @@
 // Journals as text: what is printed of them, and texts that are none.
+use mq::{Cause, Departure, Fault, Reply};
 use mq_journal::fault::JournalFault;
 use mq_journal::text::{read_journal, write_journal};
 use mq_log::{Counts, LogFault, Task, Verdict, check_journal, task_of};
@@ -44,7 +45,7 @@ const RUN_COUNTS: Counts = Counts {
 };
 
 // Texts of journals, with the verdict and what is printed.
-const VERDICTS: [(&str, Verdict, &str); 4] = [
+const VERDICTS: [(&str, Verdict, &str); 6] = [
     (
         "",
         Verdict::Legal(Counts {
@@ -61,13 +62,35 @@ const VERDICTS: [(&str, Verdict, &str); 4] = [
     ),
     (
         "0 32 close 0 -> EBADF\n1 33 close 0 -> EBADF\n",
-        Verdict::Illegal(1),
-        "entry 1: not legal\n1 33 close 0 -> EBADF\n",
+        Verdict::Illegal(Departure {
+            place: 1,
+            cause: Cause::Process,
+        }),
+        "entry 1: no process from 1 to 32\n1 33 close 0 -> EBADF\n",
     ),
     (
         "0 1 close 0 -> ok\n1 0 close 0 -> ok\n",
-        Verdict::Illegal(0),
-        "entry 0: not legal\n0 1 close 0 -> ok\n",
+        Verdict::Illegal(Departure {
+            place: 0,
+            cause: Cause::Reply(Reply::Refused(Fault::BadDescriptor)),
+        }),
+        "entry 0: expected EBADF\n0 1 close 0 -> ok\n",
+    ),
+    (
+        "0 1 open bc \"/q\" -> fd 0 created\n1 1 recv 0 8192 -> waits\n2 1 close 0 -> ok\n",
+        Verdict::Illegal(Departure {
+            place: 2,
+            cause: Cause::Turn,
+        }),
+        "entry 2: out of turn\n2 1 close 0 -> ok\n",
+    ),
+    (
+        "0 1 open bc -> fd 0 created\n",
+        Verdict::Illegal(Departure {
+            place: 0,
+            cause: Cause::Payload,
+        }),
+        "entry 0: another payload expected\n0 1 open bc -> fd 0 created\n",
     ),
 ];
 
@@ -79,7 +102,7 @@ fn verdicts_have_their_texts(rt: HostRuntime) {
         assert!(rt; output.as_slice() == printed.as_bytes(), "{text}");
     }
     assert_eq!(rt; Verdict::Legal(RUN_COUNTS).status(), 0);
-    assert_eq!(rt; Verdict::Illegal(3).status(), 1);
+    assert_eq!(rt; VERDICTS[2].1.status(), 1);
 }
 
 // Replies that no entry of that journal may have.
@@ -110,17 +133,21 @@ fn turned(alloc: Global, text: &str, place: usize, reply: &str) -> Result<Vec<u8
     Ok(all)
 }
 
+// The place at which a journal was found not legal.
+fn place_of(outcome: Result<Verdict, LogFault>) -> Option<u64> {
+    match outcome {
+        Ok(Verdict::Illegal(departure)) => Some(departure.place),
+        _ => None,
+    }
+}
+
 #[test]
 fn an_entry_that_is_turned_is_refused_at_its_place(rt: HostRuntime) -> Result<(), Fail> {
     for place in 0..20 {
         for reply in TURNED {
             let text = turned(rt.alloc(), RUN, place, reply)?;
             let (outcome, _) = output_of(rt.alloc(), text.as_slice());
-            assert_eq!(rt;
-                outcome,
-                Ok(Verdict::Illegal(place as u64)),
-                "{place}: {reply}"
-            );
+            assert_eq!(rt; place_of(outcome), Some(place as u64), "{place}: {reply}");
         }
     }
     Ok(())
