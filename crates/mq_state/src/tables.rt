@@ -153,6 +153,7 @@ impl Tables {
     }
 
     // Notes an entry made on queue q, which brings the order of a queue that it creates.
+    #[inline(always)]
     fn note(&mut self, journal: &Prefix<'_>, entry: Entry, q: u64, fresh: Option<Slots>)
         requires process { (entry.process < length self.old.owners.items) × (entry.process < length self.old.inboxes.items) }
         requires numbers { FitsSlots entry.call entry.reply }
