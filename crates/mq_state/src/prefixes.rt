@@ -7,7 +7,7 @@ use mq_model::entries::Entry;
 use mq_model::journals::Journal;
 use std::marker::Model;
 
-/// The first entries of a journal, all or some. It shows what the journal showed when it had no more.
+/// The first entries of a journal, all or some. It shows their records, and the room that the journal has.
 #[derive(Drop)]
 pub struct Prefix<'a> {
     journal: &'a Journal,

@@ -107,6 +107,7 @@ impl Tables {
     }
 
     // Notes the next entry of a journal, with its payload.
+    #[inline(always)]
     pub(crate) fn note_next(
         &mut self,
         journal: &Prefix<'_>,
