@@ -1,0 +1,5 @@
+pub mod Owning
+pub mod Standings
+pub mod Tries
+pub mod Handles
+pub mod Codes
