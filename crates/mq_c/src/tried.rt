@@ -1,4 +1,5 @@
 //! What a try of a call came to.
+use mq::Collected;
 
 /// What a try came to of a call that needs a process without an open wait.
 #[derive(Drop)]
@@ -9,4 +10,23 @@ pub enum Tried<R> {
     Retry,
     /// The call was made, and gave this.
     Made(R),
+}
+
+/// What a try came to of a call that ends an open wait.
+#[derive(Drop)]
+pub enum Ending {
+    /// The process has no open wait. Nothing has changed.
+    NotWaiting,
+    /// The buffer is shorter than that of the receive that waits. Nothing has changed.
+    Short,
+    /// The wait has no deadline, or one that has not passed at that moment. Nothing has changed.
+    TooEarly,
+    /// The process is not inside yet. It is nearer, and nothing else has changed.
+    Retry,
+    /// The wait is not answered, and goes on.
+    Unanswered,
+    /// The deadline has passed, and the wait was withdrawn.
+    Withdrawn,
+    /// The wait was answered, and came to this.
+    Came(Collected),
 }
