@@ -1,11 +1,13 @@
 -- What a member keeps.
-use Rattle.std.proofs.Common.{◌≡◌, ◌≢◌, ℕ, ◌==◌, Bool, true, false, List, [], ◌∷◌, Option, Some, None, Result, Ok, Err, is_some, refl, ◌∙◌, sym}
+use Rattle.std.proofs.Common.{◌≡◌, ◌≢◌, ℕ, ◌==◌, Bool, true, false, List, [], ◌∷◌, Option, Some, None, Result, Ok, Err, is_some, refl, ap, ◌∙◌, sym}
 use Rattle.fast_mutex.specs.Items.{Ticket}
 use Rattle.mq_model.specs.Deadlines.{deadline_of}
 use Rattle.mq_model.specs.declared.entries.Call.{Call}
 use Rattle.mq_model.specs.declared.entries.Received.{Received}
 use Rattle.mq_model.specs.declared.faults.Fault.{Fault}
-use Rattle.mq.specs.Calls.{IsFree, WaitsIn}
+use Rattle.mq_model.specs.declared.entries.Deadline.{Deadline}
+use Rattle.mq.specs.Calls.{IsFree, WaitsIn, StillWaits}
+use Rattle.mq.proofs.Others.{deadline-grown}
 use Rattle.mq_c.specs.Tries.{until_sent, until_received}
 use Rattle.mq_model.specs.Record.{Record, Past}
 use Rattle.mq_model.specs.Waits.{open_wait, wait_deadline, is_wait}
@@ -46,3 +48,8 @@ pub received_none : (result : Result (Option Received) Fault) → until_received
 received_none (Ok None) = refl
 received_none (Ok (Some got)) = refl
 received_none (Err fault) = refl
+
+-- a collect that found the wait not answered leaves its deadline
+pub still_deadline : (old new t : Ticket Record) (until : Option Deadline) → StillWaits old new → old ≡ t → until ≡ wait_deadline t.left t.number → until ≡ wait_deadline new.left new.number
+still_deadline old new t until s same is =
+    is ∙ (sym (ap (λ (x : Ticket Record). wait_deadline x.left x.number) same) ∙ (sym (deadline-grown s.calls.grows) ∙ ap (λ (n : ℕ). wait_deadline new.left n) (sym s.calls.number)))

@@ -3,3 +3,5 @@ pub mod Standings
 pub mod Tries
 pub mod Handles
 pub mod Codes
+pub mod Endings
+pub mod Openings

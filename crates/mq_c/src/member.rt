@@ -6,8 +6,9 @@ ghost use Rattle.mq_model.specs.Waits.{wait_deadline};
 ghost use Rattle.mq_c.specs.Standings.{ticket_of};
 
 use crate::standing::{Standing, arrive, settle, waiting};
-use crate::tried::Tried;
+use crate::tried::{Ending, Tried};
 use mq::{Attr, Deadline, FastMq, Fault, Name, OpenFlags, Received, Status};
+use mq_model::ladder;
 use std::alloc::Global;
 use std::sync::Arc;
 
@@ -229,6 +230,62 @@ impl Member {
         settle(&mut self.standing, process);
         self.until = until_of_receive(&got, until);
         Tried::Made(got)
+    }
+}
+
+impl Member {
+    ghost use Rattle.std.specs.Prelude.{◌≡◌, None, Some};
+    ghost use Rattle.mq_c.specs.Standings.{ticket_of};
+    ghost use Rattle.mq_c.specs.Endings.{Ends};
+
+    /// Tries to end the open wait, if it is answered.
+    pub(crate) fn collect(&mut self, buf: &mut [u8]) -> Ending
+        ensures { Ends None (ticket_of self.old.standing) (ticket_of self.new.standing) buf.old buf.new result }
+    {
+        let Some(room) = waiting(&self.standing) else {
+            return Ending::NotWaiting;
+        };
+        if buf.len() < room {
+            return Ending::Short;
+        }
+        let Some(arrived) = arrive(&self.mq, &mut self.standing) else {
+            return Ending::Retry;
+        };
+        let (process, outcome) = arrived.collect(&self.mq, buf);
+        settle(&mut self.standing, process);
+        match outcome {
+            None => Ending::Unanswered,
+            Some(outcome) => {
+                self.until = None;
+                Ending::Came(outcome)
+            }
+        }
+    }
+
+    /// Tries to end the open wait, whose deadline has passed at the moment `now`.
+    #[tactic(auto, using(crate::proofs::Members::no_deadline))]
+    pub(crate) fn end_wait(&mut self, buf: &mut [u8], now: Deadline) -> Ending
+        ensures { Ends (Some now) (ticket_of self.old.standing) (ticket_of self.new.standing) buf.old buf.new result }
+    {
+        let Some(room) = waiting(&self.standing) else {
+            return Ending::NotWaiting;
+        };
+        if buf.len() < room {
+            return Ending::Short;
+        }
+        if !ladder::is_over(self.until, now) {
+            return Ending::TooEarly;
+        }
+        let Some(arrived) = arrive(&self.mq, &mut self.standing) else {
+            return Ending::Retry;
+        };
+        let (process, outcome) = arrived.end_wait(&self.mq, buf, now);
+        settle(&mut self.standing, process);
+        self.until = None;
+        match outcome {
+            None => Ending::Withdrawn,
+            Some(outcome) => Ending::Came(outcome),
+        }
     }
 }
 
