@@ -5,3 +5,4 @@ pub mod Handles
 pub mod Codes
 pub mod Endings
 pub mod Openings
+pub mod Systems

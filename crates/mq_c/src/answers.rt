@@ -7,7 +7,7 @@ use crate::tried::{Ending, Tried};
 use mq::{Collected, Fault, Received, Status};
 
 /// The call was made and is done. The numbers 1 to 13 are those of faults.
-const DONE: u32 = 0;
+pub(crate) const DONE: u32 = 0;
 
 /// The process is not inside yet: it is worth another try, and yielding the processor before it.
 const RETRY: u32 = 16;
@@ -32,6 +32,9 @@ const EARLY: u32 = 22;
 
 /// There is no notice.
 const NO_NOTICE: u32 = 23;
+
+/// A handle is not empty that should be.
+pub(crate) const FULL: u32 = 24;
 
 /// The number of what a call gave that is done or refused.
 pub(crate) fn done(tried: Tried<Result<(), Fault>>) -> u32

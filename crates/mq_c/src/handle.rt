@@ -16,6 +16,14 @@ pub struct Handle {
 
 impl Handle {
     ghost use Rattle.std.specs.Prelude.{◌≡◌, Some, None, IfSome, IfNone};
+    ghost use Rattle.mq_c.specs.Systems.{is_empty};
+
+    /// Whether it has no process.
+    pub(crate) fn is_empty(&self) -> bool
+        ensures { result ≡ is_empty self.now }
+    {
+        !self.full
+    }
 
     /// Takes the member out, where there is one.
     pub(crate) fn take(&mut self, alloc: Global) -> Option<Box<Member>>

@@ -12,4 +12,5 @@ mod member;
 mod requests;
 mod seal;
 mod standing;
+mod system;
 mod tried;

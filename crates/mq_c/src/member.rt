@@ -7,7 +7,7 @@ ghost use Rattle.mq_c.specs.Standings.{ticket_of};
 
 use crate::standing::{Standing, arrive, settle, waiting};
 use crate::tried::{Ending, Tried};
-use mq::{Attr, Deadline, FastMq, Fault, Name, OpenFlags, Received, Status};
+use mq::{Attr, Deadline, FastMq, FastProcess, Fault, Name, OpenFlags, Received, Status};
 use mq_model::ladder;
 use std::alloc::Global;
 use std::sync::Arc;
@@ -26,11 +26,25 @@ pub struct Member {
 
 impl Member {
     ghost use Rattle.std.specs.Prelude.{◌≡◌, true, Some, None, [], length};
+    ghost use Rattle.std.specs.Arc.{arc_value};
     ghost use Rattle.mq_model.specs.declared.entries.Call.{Call};
     ghost use Rattle.mq.specs.Calls.{OneCall, ReceiveCall, Exits};
     ghost use Rattle.mq.specs.Says.{open_says, done_says, attributes_says, notice_says, start_send_says, start_receive_says};
     ghost use Rattle.mq_c.specs.Standings.{ticket_of};
     ghost use Rattle.mq_c.specs.Tries.{Tries, TriesWith};
+
+    /// A new process with its queues.
+    pub(crate) fn new(mq: Arc<FastMq, Global>, process: FastProcess) -> Member
+        requires made { process.lock ≡ arc_value mq }
+        requires new { process.left ≡ [] }
+        ensures { ticket_of result.standing ≡ process }
+    {
+        Member {
+            mq,
+            standing: Some(Standing::AtRest(process)),
+            until: None,
+        }
+    }
 
     /// Tries to open a queue.
     #[tactic(auto, using(crate::proofs::Members::no_deadline))]
