@@ -1,9 +1,10 @@
 //! The numbers that exports answer, and what they write.
 ghost use Rattle.std.specs.Prelude.{◌≡◌, Some, None};
 ghost use Rattle.mq_c.specs.Codes.{code_of, written, given_code, given, notice_code, notice_given, sent_code, got_code, message_of, message_got, attributes_of, attributes_got, end_code, end_message};
+ghost use Rattle.mq_c.specs.Endings.{look_code};
 
 use crate::requests::{Attributes, Message};
-use crate::tried::{Ending, Tried};
+use crate::tried::{Ending, Looked, Tried};
 use mq::{Collected, Fault, Received, Status};
 
 /// The call was made and is done. The numbers 1 to 13 are those of faults.
@@ -149,6 +150,18 @@ pub(crate) fn ended(ending: Ending, message: &mut Message) -> u32
             *message = message_of(received);
             DONE
         }
+    }
+}
+
+/// That of a look.
+pub(crate) fn looked(looked: Looked) -> u32
+    ensures { result ≡ look_code (Some looked) }
+{
+    match looked {
+        Looked::Answered => DONE,
+        Looked::UnderWay => RETRY,
+        Looked::Unanswered => WAITS,
+        Looked::NotWaiting => NOT_WAITING,
     }
 }
 

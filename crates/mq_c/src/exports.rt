@@ -7,7 +7,7 @@ ghost use Rattle.mq_c.specs.Openings.{open_fault, name_fault, flags_of, attr_of,
 ghost use Rattle.mq.specs.Calls.{OneCall, ReceiveCall, Exits};
 ghost use Rattle.mq.specs.Says.{open_says, done_says, attributes_says, notice_says, start_send_says, start_receive_says};
 ghost use Rattle.mq_c.specs.Tries.{Answers, AnswersWith};
-ghost use Rattle.mq_c.specs.Endings.{AnswersEnd};
+ghost use Rattle.mq_c.specs.Endings.{AnswersEnd, AnswersLook};
 ghost use Rattle.mq_c.specs.Handles.{process_in};
 ghost use Rattle.mq_c.specs.Codes.{told, code_of, written, given_code, given, notice_code, notice_given, sent_code, got_code, message_got, attributes_got, end_code, end_message};
 
@@ -287,4 +287,17 @@ pub extern "C" fn yak_end_wait(
     let tried = member.end_wait(buf, now.deadline());
     process.put(member);
     answers::ended(tried, message)
+}
+
+/// Looks from outside the lock whether the open wait is answered, which takes one load.
+#[unsafe(no_mangle)]
+pub extern "C" fn yak_answered(alloc: Global, process: &mut Handle) -> u32
+    ensures { AnswersLook (process_in process.old) (process_in process.new) result }
+{
+    let Some(mut member) = process.take(alloc) else {
+        return EMPTY;
+    };
+    let looked = member.answered();
+    process.put(member);
+    answers::looked(looked)
 }

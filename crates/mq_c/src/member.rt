@@ -5,8 +5,8 @@ ghost use Rattle.std.specs.Arc.{arc_value};
 ghost use Rattle.mq_model.specs.Waits.{wait_deadline};
 ghost use Rattle.mq_c.specs.Standings.{ticket_of};
 
-use crate::standing::{Standing, arrive, settle, waiting};
-use crate::tried::{Ending, Tried};
+use crate::standing::{Standing, arrive, look, settle, waiting};
+use crate::tried::{Ending, Looked, Tried};
 use mq::{Attr, Deadline, FastMq, FastProcess, Fault, Name, OpenFlags, Received, Status};
 use mq_model::ladder;
 use std::alloc::Global;
@@ -250,7 +250,21 @@ impl Member {
 impl Member {
     ghost use Rattle.std.specs.Prelude.{◌≡◌, None, Some};
     ghost use Rattle.mq_c.specs.Standings.{ticket_of};
-    ghost use Rattle.mq_c.specs.Endings.{Ends};
+    ghost use Rattle.mq_c.specs.Endings.{Ends, Looks};
+
+    /// Looks from outside whether the open wait is answered.
+    pub(crate) fn answered(&mut self) -> Looked
+        ensures { Looks (ticket_of self.old.standing) (ticket_of self.new.standing) result }
+    {
+        if waiting(&self.standing).is_none() {
+            return Looked::NotWaiting;
+        }
+        match look(&self.mq, &mut self.standing) {
+            None => Looked::UnderWay,
+            Some(true) => Looked::Answered,
+            Some(false) => Looked::Unanswered,
+        }
+    }
 
     /// Tries to end the open wait, if it is answered.
     pub(crate) fn collect(&mut self, buf: &mut [u8]) -> Ending

@@ -1,5 +1,5 @@
 //! Where a process stands between two tries.
-ghost use Rattle.std.specs.Prelude.{◌≡◌, true, is_some, IfSome, IfNone};
+ghost use Rattle.std.specs.Prelude.{◌≡◌, true, is_some, Some, IfSome, IfNone};
 ghost use Rattle.mq_state.specs.Buffers.{waiting_room};
 ghost use Rattle.mq_c.specs.Standings.{ticket_of};
 
@@ -55,4 +55,19 @@ pub(crate) fn settle(standing: &mut Option<Standing>, process: FastProcess)
     ensures some { is_some standing.new ≡ true }
 {
     *standing = Some(Standing::AtRest(process));
+}
+
+/// What one look from outside tells of the open wait of a process: nothing of one that is under way.
+pub(crate) fn look(mq: &FastMq, standing: &mut Option<Standing>) -> Option<bool>
+    requires some { is_some standing.old ≡ true }
+    requires made { (ticket_of standing.old).lock ≡ mq.now }
+    ensures same { ticket_of standing.new ≡ record (ticket_of standing.old) { told = (ticket_of standing.new).told } }
+    ensures told { result ≡ Some true → (ticket_of standing.new).told ≡ true }
+    ensures some { is_some standing.new ≡ true }
+{
+    match standing {
+        Some(Standing::AtRest(process)) => Some(process.answered(mq)),
+        Some(Standing::UnderWay(_)) => None,
+        None => unreachable!(),
+    }
 }

@@ -30,3 +30,16 @@ pub enum Ending {
     /// The wait was answered, and came to this.
     Came(Collected),
 }
+
+/// What a look from outside tells of an open wait.
+#[derive(Clone, Copy)]
+pub enum Looked {
+    /// The process has no open wait.
+    NotWaiting,
+    /// The process is under way, and the next try of its call may tell.
+    UnderWay,
+    /// The wait is answered: the next collect that comes inside ends it.
+    Answered,
+    /// The wait was not answered.
+    Unanswered,
+}
