@@ -14,8 +14,9 @@
  *   YAK_SHORT         the buffer is shorter than that of the receive that waits;
  *   YAK_EARLY         the wait has no deadline, or one that has not passed;
  *   YAK_NO_NOTICE     there is no notice;
- *   YAK_FULL          a handle is not empty that should be.
- * With YAK_RETRY, and from YAK_EMPTY on but for YAK_NO_NOTICE, no call was made and nothing is written. A fault but YAK_NOMEMORY and
+ *   YAK_FULL          a handle is not empty that should be;
+ *   YAK_NO_ENTRY      the journal has no entry at that place.
+ * With YAK_RETRY, and from YAK_EMPTY on but for YAK_NO_NOTICE and YAK_NO_ENTRY, no call was made and nothing is written. A fault but YAK_NOMEMORY and
  * YAK_JOURNALFULL stands in the journal as a call that was refused. Where a call is not YAK_DONE, what it would write is as it was.
  *
  * A handle that a call left with YAK_RETRY is on its way into the lock, and keeps others out until a call on it is through: go on
@@ -76,7 +77,8 @@ enum yak_answer {
     YAK_SHORT = 21,
     YAK_EARLY = 22,
     YAK_NO_NOTICE = 23,
-    YAK_FULL = 24
+    YAK_FULL = 24,
+    YAK_NO_ENTRY = 25
 };
 
 /* What an open asks for. `access` is 0 to receive, 1 to send, 2 for both; the limits count where `limited`. */
@@ -170,6 +172,14 @@ uint32_t yak_collect(yak_process *process, uint8_t *buf, size_t len, yak_message
 /* Ends the open wait, whose deadline has passed at the moment `now`: as yak_collect where it is answered, and else the wait is withdrawn,
  * and the answer is YAK_TIMEDOUT. */
 uint32_t yak_end_wait(yak_process *process, uint8_t *buf, size_t len, yak_message *message, const yak_moment *now);
+
+/* Checks the journal of the system from its first entry on, inside the lock: YAK_DONE, since it is the history of one thread's queues.
+ * The longer the journal, the longer it takes. The process may have an open wait, and keeps it. */
+uint32_t yak_check(yak_process *process);
+
+/* Writes the entry of the journal at a place, from 0, into the front of a buffer as a line of text without its end, and its length: its
+ * process, its call, its reply. YAK_NO_ENTRY at the journal's length and beyond, YAK_SHORT where the buffer has the front of the line. */
+uint32_t yak_entry(yak_process *process, uint64_t place, uint8_t *text, size_t size, size_t *len);
 
 /* ---- what waits ---------------------------------------------------------------------------------------------------------- */
 

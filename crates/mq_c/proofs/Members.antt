@@ -1,12 +1,12 @@
 -- What a member keeps.
-use Rattle.std.proofs.Common.{◌≡◌, ◌≢◌, ℕ, ◌==◌, Bool, true, false, List, [], ◌∷◌, Option, Some, None, Result, Ok, Err, is_some, refl, ap, ◌∙◌, sym}
+use Rattle.std.proofs.Common.{◌≡◌, ◌≢◌, ℕ, ◌==◌, Bool, true, false, [], ◌∷◌, Option, Some, None, Result, Ok, Err, is_some, refl, ap, ◌∙◌, sym}
 use Rattle.fast_mutex.specs.Items.{Ticket}
 use Rattle.mq_model.specs.Deadlines.{deadline_of}
 use Rattle.mq_model.specs.declared.entries.Call.{Call}
 use Rattle.mq_model.specs.declared.entries.Received.{Received}
 use Rattle.mq_model.specs.declared.faults.Fault.{Fault}
 use Rattle.mq_model.specs.declared.entries.Deadline.{Deadline}
-use Rattle.mq.specs.Calls.{IsFree, WaitsIn, StillWaits}
+use Rattle.mq.specs.Calls.{IsFree, WaitsIn, Calls}
 use Rattle.mq.proofs.Others.{deadline-grown}
 use Rattle.mq_c.specs.Tries.{until_sent, until_received}
 use Rattle.mq_model.specs.Record.{Record, Past}
@@ -22,8 +22,8 @@ pub no_deadline : (past : Past) (p : ℕ) → open_wait past p ≡ None → wait
 no_deadline [] p e = refl
 no_deadline (r ∷ past) p e = split (r.entry.process == p)
     (λ own. split (is_wait r.entry.reply)
-      (λ waits. absurd (let bad = rw (own, waits) at e in cc))
-      (λ other. rw (own, other) refl))
+    (λ waits. absurd (let bad = rw (own, waits) at e in cc))
+    (λ other. rw (own, other) refl))
     (λ others. let rest : open_wait past p ≡ None = rw others at e in rw others (no_deadline past p rest))
 
 -- until when a process waits behind a send
@@ -49,7 +49,7 @@ received_none (Ok None) = refl
 received_none (Ok (Some got)) = refl
 received_none (Err fault) = refl
 
--- a collect that found the wait not answered leaves its deadline
-pub still_deadline : (old new t : Ticket Record) (until : Option Deadline) → StillWaits old new → old ≡ t → until ≡ wait_deadline t.left t.number → until ≡ wait_deadline new.left new.number
-still_deadline old new t until s same is =
-    is ∙ (sym (ap (λ (x : Ticket Record). wait_deadline x.left x.number) same) ∙ (sym (deadline-grown s.calls.grows) ∙ ap (λ (n : ℕ). wait_deadline new.left n) (sym s.calls.number)))
+-- what leaves no record of the process leaves its deadline
+pub same_deadline : (old new t : Ticket Record) (until : Option Deadline) → Calls old new [] → old ≡ t → until ≡ wait_deadline t.left t.number → until ≡ wait_deadline new.left new.number
+same_deadline old new t until s same is =
+    is ∙ (sym (ap (λ (x : Ticket Record). wait_deadline x.left x.number) same) ∙ (sym (deadline-grown s.grows) ∙ ap (λ (n : ℕ). wait_deadline new.left n) (sym s.number)))

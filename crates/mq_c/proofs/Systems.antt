@@ -9,7 +9,7 @@ use Rattle.mq.specs.Calls.{bounds_in}
 use Rattle.mq.proofs.Seats.{tickets-count}
 use Rattle.mq_c.specs.declared.handle.Handle.{Handle}
 use Rattle.mq_c.specs.Handles.{process_in}
-use Rattle.mq_c.specs.Systems.{Made, Makes, is_empty}
+use Rattle.mq_c.specs.Systems.{Makes, is_empty}
 
 -- new tickets are of their lock
 pub tickets_lock : {A : Type 0} (lock : LockId) (k n : ℕ) → All (λ (t : Ticket A). t.lock ≡ lock) (tickets_from lock k n)
@@ -25,9 +25,14 @@ pub made : {B : Type 0} (f : B → Ticket Record) (lock : LockId) (items : List 
 made f lock items old new count tickets filled empty =
     let many : length items ≡ length old = tickets-count f lock 1 (length old) items tickets in
     let same : length new ≡ length old = sym (length-map new process_in) ∙ (ap length filled ∙ (length-map items (λ b. Some (f b)) ∙ many)) in
-    inl (refl, record {
-      lock = lock;
-      count = count ∙ sym same;
-      bounds_are = refl;
-      processes = filled ∙ (map-some f items ∙ (ap (λ (ts : List (Ticket Record)). map (λ (t : Ticket Record). Some t) ts) tickets ∙ ap (λ (n : ℕ). map (λ (t : Ticket Record). Some t) (tickets_from lock 1 n)) (sym same)));
-    }, same, empty)
+    inl (
+      refl,
+      record {
+        lock = lock;
+        count = count ∙ sym same;
+        bounds_are = refl;
+        processes = filled ∙ (map-some f items ∙ (ap (λ (ts : List (Ticket Record)). map (λ (t : Ticket Record). Some t) ts) tickets ∙ ap (λ (n : ℕ). map (λ (t : Ticket Record). Some t) (tickets_from lock 1 n)) (sym same)));
+      },
+      same,
+      empty,
+    )

@@ -5,7 +5,6 @@ use Rattle.mq_model.specs.declared.faults.Fault.{Fault}
 use Rattle.mq_model.specs.declared.faults.Fault.TheVariants.{TimedOut}
 use Rattle.mq_model.specs.declared.entries.Status.{Status}
 use Rattle.mq_model.specs.declared.entries.Received.{Received}
-use Rattle.mq_state.specs.declared.collected.Collected.{Collected as Outcome}
 use Rattle.mq_state.specs.declared.collected.Collected.TheVariants.{Got, Sent}
 use Rattle.mq_c.specs.declared.requests.Attributes.{Attributes}
 use Rattle.mq_c.specs.declared.requests.Message.{Message}

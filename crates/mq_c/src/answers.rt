@@ -11,7 +11,7 @@ use mq::{Collected, Fault, Received, Status};
 pub(crate) const DONE: u32 = 0;
 
 /// The process is not inside yet: it is worth another try, and yielding the processor before it.
-const RETRY: u32 = 16;
+pub(crate) const RETRY: u32 = 16;
 
 /// The process has an open wait now, or still.
 const WAITS: u32 = 17;
@@ -26,7 +26,7 @@ const WAITING: u32 = 19;
 const NOT_WAITING: u32 = 20;
 
 /// The buffer is shorter than that of the receive that waits.
-const SHORT: u32 = 21;
+pub(crate) const SHORT: u32 = 21;
 
 /// The wait has no deadline, or one that has not passed.
 const EARLY: u32 = 22;
@@ -36,6 +36,9 @@ const NO_NOTICE: u32 = 23;
 
 /// A handle is not empty that should be.
 pub(crate) const FULL: u32 = 24;
+
+/// There is no entry at that place.
+pub(crate) const NO_ENTRY: u32 = 25;
 
 /// The number of what a call gave that is done or refused.
 pub(crate) fn done(tried: Tried<Result<(), Fault>>) -> u32

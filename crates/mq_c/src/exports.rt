@@ -61,11 +61,7 @@ pub extern "C" fn yak_unlink(alloc: Global, process: &mut Handle, name: &[u8]) -
 
 /// Closes a descriptor (`mq_close`).
 #[unsafe(no_mangle)]
-pub extern "C" fn yak_close(
-    alloc: Global,
-    process: &mut Handle,
-    d: u32,
-) -> u32
+pub extern "C" fn yak_close(alloc: Global, process: &mut Handle, d: u32) -> u32
     ensures { Answers (λ old new result. OneCall done_says old new (Call.MqClose d) [] result) (code_of given_code) (process_in process.old) (process_in process.new) result }
 {
     let Some(mut member) = process.take(alloc) else {
@@ -141,11 +137,7 @@ pub extern "C" fn yak_setattr(
 
 /// Writes the value of the oldest notice that the process has not taken.
 #[unsafe(no_mangle)]
-pub extern "C" fn yak_next_notice(
-    alloc: Global,
-    process: &mut Handle,
-    value: &mut u64,
-) -> u32
+pub extern "C" fn yak_next_notice(alloc: Global, process: &mut Handle, value: &mut u64) -> u32
     ensures { Answers (λ old new result. OneCall notice_says old new Call.NextNotice [] result) (λ t. told (code_of notice_code t) (written (notice_given value.old) value.old t)) (process_in process.old) (process_in process.new) (told result value.new) }
 {
     let Some(mut member) = process.take(alloc) else {
@@ -158,10 +150,7 @@ pub extern "C" fn yak_next_notice(
 
 /// Closes all descriptors of the process, as the end of a process does.
 #[unsafe(no_mangle)]
-pub extern "C" fn yak_exit(
-    alloc: Global,
-    process: &mut Handle,
-) -> u32
+pub extern "C" fn yak_exit(alloc: Global, process: &mut Handle) -> u32
     ensures { Answers (λ old new result. Exits old new result) (code_of given_code) (process_in process.old) (process_in process.new) result }
 {
     let Some(mut member) = process.take(alloc) else {

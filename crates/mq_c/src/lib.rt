@@ -9,6 +9,7 @@ mod answers;
 mod exports;
 mod handle;
 mod member;
+mod reading;
 mod requests;
 mod seal;
 mod standing;

@@ -7,7 +7,7 @@ ghost use Rattle.mq_c.specs.Standings.{ticket_of};
 
 use crate::standing::{Standing, arrive, look, settle, waiting};
 use crate::tried::{Ending, Looked, Tried};
-use mq::{Attr, Deadline, FastMq, FastProcess, Fault, Name, OpenFlags, Received, Status};
+use mq::{Attr, Deadline, Entry, FastMq, FastProcess, Fault, Name, OpenFlags, Received, Status};
 use mq_model::ladder;
 use std::alloc::Global;
 use std::sync::Arc;
@@ -48,7 +48,12 @@ impl Member {
 
     /// Tries to open a queue.
     #[tactic(auto, using(crate::proofs::Members::no_deadline))]
-    pub(crate) fn open(&mut self, name: &Name, flags: OpenFlags, attr: Option<Attr>) -> Tried<Result<u32, Fault>>
+    pub(crate) fn open(
+        &mut self,
+        name: &Name,
+        flags: OpenFlags,
+        attr: Option<Attr>,
+    ) -> Tried<Result<u32, Fault>>
         ensures { Tries (λ old new result. OneCall open_says old new (Call.MqOpen flags attr) name.now result) (ticket_of self.old.standing) (ticket_of self.new.standing) result }
     {
         if waiting(&self.standing).is_some() {
@@ -183,7 +188,12 @@ impl Member {
     }
 
     /// Tries to send, or to begin to wait.
-    pub(crate) fn start_send(&mut self, d: u32, bytes: &[u8], prio: u32) -> Tried<Result<bool, Fault>>
+    pub(crate) fn start_send(
+        &mut self,
+        d: u32,
+        bytes: &[u8],
+        prio: u32,
+    ) -> Tried<Result<bool, Fault>>
         ensures { Tries (λ old new result. OneCall start_send_says old new (Call.MqSend d prio (length bytes.now)) bytes.now result) (ticket_of self.old.standing) (ticket_of self.new.standing) result }
     {
         if waiting(&self.standing).is_some() {
@@ -199,7 +209,11 @@ impl Member {
     }
 
     /// Tries to receive, or to begin to wait.
-    pub(crate) fn start_receive(&mut self, d: u32, buf: &mut [u8]) -> Tried<Result<Option<Received>, Fault>>
+    pub(crate) fn start_receive(
+        &mut self,
+        d: u32,
+        buf: &mut [u8],
+    ) -> Tried<Result<Option<Received>, Fault>>
         ensures { TriesWith (buf.new ≡ buf.old) (λ old new result. ReceiveCall start_receive_says old new (Call.MqReceive d (length buf.old)) buf.old buf.new result) (ticket_of self.old.standing) (ticket_of self.new.standing) result }
     {
         if waiting(&self.standing).is_some() {
@@ -215,7 +229,14 @@ impl Member {
     }
 
     /// Tries to send at the moment `now`, or to begin to wait until a deadline.
-    pub(crate) fn start_timed_send(&mut self, d: u32, bytes: &[u8], prio: u32, until: Deadline, now: Deadline) -> Tried<Result<bool, Fault>>
+    pub(crate) fn start_timed_send(
+        &mut self,
+        d: u32,
+        bytes: &[u8],
+        prio: u32,
+        until: Deadline,
+        now: Deadline,
+    ) -> Tried<Result<bool, Fault>>
         ensures { Tries (λ old new result. OneCall start_send_says old new (Call.MqTimedSend d prio (length bytes.now) until now) bytes.now result) (ticket_of self.old.standing) (ticket_of self.new.standing) result }
     {
         if waiting(&self.standing).is_some() {
@@ -231,7 +252,13 @@ impl Member {
     }
 
     /// Tries to receive at the moment `now`, or to begin to wait until a deadline.
-    pub(crate) fn start_timed_receive(&mut self, d: u32, buf: &mut [u8], until: Deadline, now: Deadline) -> Tried<Result<Option<Received>, Fault>>
+    pub(crate) fn start_timed_receive(
+        &mut self,
+        d: u32,
+        buf: &mut [u8],
+        until: Deadline,
+        now: Deadline,
+    ) -> Tried<Result<Option<Received>, Fault>>
         ensures { TriesWith (buf.new ≡ buf.old) (λ old new result. ReceiveCall start_receive_says old new (Call.MqTimedReceive d (length buf.old) until now) buf.old buf.new result) (ticket_of self.old.standing) (ticket_of self.new.standing) result }
     {
         if waiting(&self.standing).is_some() {
@@ -248,9 +275,34 @@ impl Member {
 }
 
 impl Member {
-    ghost use Rattle.std.specs.Prelude.{◌≡◌, None, Some};
+    ghost use Rattle.std.specs.Prelude.{◌≡◌, None, Some, IfNone, IfSome, IsOk, []};
+    ghost use Rattle.std.specs.Option.{option_map};
+    ghost use Rattle.mq_model.specs.Record.{record_at};
+    ghost use Rattle.mq.specs.Calls.{Calls};
     ghost use Rattle.mq_c.specs.Standings.{ticket_of};
     ghost use Rattle.mq_c.specs.Endings.{Ends, Looks};
+
+    /// Tries to check the journal: `None` where the process has not come inside yet.
+    pub(crate) fn check(&mut self) -> Option<Result<(), u64>>
+        ensures none { IfNone result (ticket_of self.new.standing ≡ ticket_of self.old.standing) }
+        ensures legal { IfSome result (λ checked. IsOk checked × Calls (ticket_of self.old.standing) (ticket_of self.new.standing) []) }
+    {
+        let arrived = arrive(&self.mq, &mut self.standing)?;
+        let (process, checked) = arrived.check(&self.mq);
+        settle(&mut self.standing, process);
+        Some(checked)
+    }
+
+    /// Tries to read the entry at a place: `None` where the process has not come inside yet.
+    pub(crate) fn entry(&mut self, place: u64) -> Option<Option<Entry>>
+        ensures none { IfNone result (ticket_of self.new.standing ≡ ticket_of self.old.standing) }
+        ensures entry { IfSome result (λ entry. (entry ≡ option_map (λ r. r.entry) (record_at (ticket_of self.new.standing).left place)) × Calls (ticket_of self.old.standing) (ticket_of self.new.standing) []) }
+    {
+        let arrived = arrive(&self.mq, &mut self.standing)?;
+        let (process, entry) = arrived.entry(&self.mq, place);
+        settle(&mut self.standing, process);
+        Some(entry)
+    }
 
     /// Looks from outside whether the open wait is answered.
     pub(crate) fn answered(&mut self) -> Looked

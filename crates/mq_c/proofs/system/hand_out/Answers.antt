@@ -1,6 +1,4 @@
-use Rattle.std.proofs.Common.{◌≡◌, ◌∙◌, [], length, sym}
-use Rattle.std.specs.Arc.{arc_value}
-use Rattle.std.specs.List.{All}
+use Rattle.std.proofs.Common.{◌≡◌, ◌∙◌, [], length}
 use Rattle.std.proofs.lemmas.List.Elements.{All-same}
 use Rattle.mq.proofs.Seats.{tickets-left, tickets-count}
 use Rattle.mq_c.specs.Standings.{ticket_of}

@@ -21,7 +21,7 @@ use types.ByLocal.{alloc_all, pass_all, free_all, look_at, get, sets}
 use denote.Exit.{yes}
 use denote.RattleType.{Valss}
 use denote.RawPtr.{RawPtr, null_ptr}
-use denote.Signature.{type_at, plain}
+use denote.Signature.{plain}
 use denote.Steps.{nothing}
 use denote.Struct.Struct.{within}
 use denote.Struct.Owning.{shape}

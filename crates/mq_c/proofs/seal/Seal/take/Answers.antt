@@ -1,5 +1,4 @@
-use Rattle.std.proofs.Common.{rules, ◌≡◌, Option, Some, None, ap, ◌∙◌}
-use Rattle.mq_c.specs.declared.member.Member.{Member}
+use Rattle.std.proofs.Common.{ap, ◌∙◌}
 use Rattle.mq_c.specs.declared.seal.Seal.{Seal}
 use Rattle.mq_c.proofs.seal.Seal.take.Goals as goal
 
