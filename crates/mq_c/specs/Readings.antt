@@ -1,6 +1,5 @@
 -- What reading the journal leaves and answers.
 use Rattle.std.specs.Prelude.{ℕ, ◌≡◌, ◌⊎◌, [], Option, Some, None}
-use Rattle.std.specs.Option.{option_map}
 use Rattle.fast_mutex.specs.Items.{Ticket}
 use Rattle.mq_model.specs.Record.{Record, record_at}
 use Rattle.mq.specs.Calls.{Calls}

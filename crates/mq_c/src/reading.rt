@@ -76,17 +76,8 @@ impl<'a> Write for Line<'a> {
 fn write_entry(entry: Entry, text: &mut [u8], len: &mut usize) -> u32
     ensures { (result ≡ 0) ⊎ (result ≡ 21) }
 {
-    let mut line = Line {
-        text,
-        len: 0,
-    };
-    let written = write!(
-        line,
-        "{} {:?} {:?}",
-        entry.process,
-        entry.call,
-        entry.reply
-    );
+    let mut line = Line { text, len: 0 };
+    let written = write!(line, "{} {:?} {:?}", entry.process, entry.call, entry.reply);
     *len = line.len;
     if written.is_err() { SHORT } else { DONE }
 }
