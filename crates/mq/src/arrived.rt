@@ -7,6 +7,7 @@ ghost use Rattle.std.specs.List.{list_all};
 
 mod exits;
 mod messages;
+mod reading;
 
 use crate::asking::{ask, ask_by_name};
 use crate::guarded::Guarded;

@@ -1,0 +1,3 @@
+mod AsBox
+pub mod Members
+pub mod Systems
