@@ -26,13 +26,13 @@ no_deadline (r ∷ past) p e = split (r.entry.process == p)
     (λ other. rw (own, other) refl))
     (λ others. let rest : open_wait past p ≡ None = rw others at e in rw others (no_deadline past p rest))
 
--- until when a process waits behind a send
+-- until when a process waits after a send
 pub sent_deadline : (t : Ticket Record) (call : Call) (result : Result Bool Fault) → (result ≡ Ok false → WaitsIn t call) → (result ≢ Ok false → IsFree t) → until_sent result (deadline_of call) ≡ wait_deadline t.left t.number
 sent_deadline t call (Ok false) waits free = sym (waits refl).deadline
 sent_deadline t call (Ok true) waits free = sym (no_deadline t.left t.number (free (λ e. cc)))
 sent_deadline t call (Err fault) waits free = sym (no_deadline t.left t.number (free (λ e. cc)))
 
--- and behind a receive
+-- and after a receive
 pub received_deadline : (t : Ticket Record) (call : Call) (result : Result (Option Received) Fault) → (result ≡ Ok None → WaitsIn t call) → (result ≢ Ok None → IsFree t) → until_received result (deadline_of call) ≡ wait_deadline t.left t.number
 received_deadline t call (Ok None) waits free = sym (waits refl).deadline
 received_deadline t call (Ok (Some got)) waits free = sym (no_deadline t.left t.number (free (λ e. cc)))

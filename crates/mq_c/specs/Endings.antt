@@ -26,7 +26,7 @@ Ends at old new before after Retry = (new ≡ old) × (after ≡ before)
 Ends at old new before after Short = (new ≡ old) × (after ≡ before) × IfSome (waiting_room old.left old.number) (λ room. length before < room)
 Ends at old new before after NotWaiting = (new ≡ old) × (after ≡ before) × (waiting_room old.left old.number ≡ None)
 
--- the try of an export on a handle that has this process, or none, and has that one behind it
+-- the try of an export on a handle that has this process, or none, and has that one after it
 abbrev pub AnswersEnd : {A : Type 0} → Option Deadline → (Option Ending → A) → Option (Ticket Record) → Option (Ticket Record) → List ℕ → List ℕ → A → Type 0
 AnswersEnd at says None None before after answer = (answer ≡ says None) × (after ≡ before)
 AnswersEnd at says (Some old) (Some new) before after answer = (e : Ending) × Ends at old new before after e × (answer ≡ says (Some e))
