@@ -25,13 +25,13 @@ lanes-more height n = rw add-one refl
 
 pub ruleset lanes_steps = (lanes-none, lanes-more, append-nil, append_assoc)
 
-pub entries-none : (past : Past) (from : ℕ) → entries_text past from 0 ≡ []
+pub entries-none : (past : Past) (column from : ℕ) → entries_text past column from 0 ≡ []
 unfolding entries_text
-entries-none past from = refl
+entries-none past column from = refl
 
-pub entries-more : (past : Past) (from count : ℕ) → entries_text past from (count + 1) ≡ entries_text past from count ++ last_text past from (first (from + count + 1) past)
+pub entries-more : (past : Past) (column from count : ℕ) → entries_text past column from (count + 1) ≡ entries_text past column from count ++ last_text past column from (first (from + count + 1) past)
 unfolding entries_text
-entries-more past from count = rw add-one refl
+entries-more past column from count = rw add-one refl
 
 pub ruleset entries_steps = (entries-none, entries-more, append-nil, append_assoc)
 

@@ -1,5 +1,5 @@
 -- The text of a picture.
-use Rattle.std.specs.Prelude.{ℕ, zero, suc, ◌+◌, ◌-◌, ◌*◌, max, min, length, List, [], ◌∷◌, ◌++◌, codes, Option, None, Some}
+use Rattle.std.specs.Prelude.{ℕ, zero, suc, ◌+◌, ◌*◌, max, min, length, List, [], ◌∷◌, ◌++◌, codes, Option, None, Some}
 use Rattle.std.specs.Fmt.{decimal}
 use Rattle.mq_model.specs.Record.{Past, Record, first}
 use Rattle.mq_model.specs.declared.entries.Reply.{Reply}
@@ -18,14 +18,14 @@ kind reply.Waits = codes "waits"
 kind (reply.Notice value) = codes "notice"
 kind reply = codes "call"
 
--- the front of a mark: its kind, and a point
-unfoldable pub mark_front : ℕ → ℕ → Reply → List ℕ
-mark_front x y reply =
-    codes "<g class=\"" ++ (kind reply ++ (codes "\"><circle cx=\"" ++ (decimal x ++ (codes "\" cy=\"" ++ (decimal y ++ (codes "\" r=\"4\"/><text x=\"" ++ (decimal (x + 8) ++ (codes "\" y=\"" ++ (decimal (y + 4) ++ codes "\">")))))))))
+-- the front of a mark: its kind, a point, and its line in the column of lines
+unfoldable pub mark_front : ℕ → ℕ → ℕ → Reply → List ℕ
+mark_front column x y reply =
+    codes "<g class=\"" ++ (kind reply ++ (codes "\"><circle cx=\"" ++ (decimal x ++ (codes "\" cy=\"" ++ (decimal y ++ (codes "\" r=\"4\"/><text x=\"" ++ (decimal column ++ (codes "\" y=\"" ++ (decimal (y + 4) ++ codes "\">")))))))))
 
--- the mark of a record: its point, and its line beside it
-unfoldable pub mark_text : ℕ → ℕ → Record → List ℕ
-mark_text from place r = mark_front (lane r.entry.process) (row from place) r.entry.reply ++ (label (line_text place r) ++ codes "</text></g>\n")
+-- the mark of a record: its point, and its line
+unfoldable pub mark_text : ℕ → ℕ → ℕ → Record → List ℕ
+mark_text column from place r = mark_front column (lane r.entry.process) (row from place) r.entry.reply ++ (label (line_text place r) ++ codes "</text></g>\n")
 
 -- the ends of a line
 unfoldable pub ends_text : Stroke → List ℕ
@@ -43,18 +43,18 @@ arrow_text None = []
 arrow_text (Some flight) = flight_text flight
 
 -- what is shown of a record: its mark, and where it has them a bar and an arrow
-unfoldable pub record_text : Past → ℕ → ℕ → Record → List ℕ
-record_text past from place r = mark_text from place r ++ (bar_text (bar past from place r.entry) ++ arrow_text (arrow past from place r.entry))
+unfoldable pub record_text : Past → ℕ → ℕ → ℕ → Record → List ℕ
+record_text past column from place r = mark_text column from place r ++ (bar_text (bar past from place r.entry) ++ arrow_text (arrow past from place r.entry))
 
 -- what is shown of the last of these records, in the journal `past`
-unfoldable pub last_text : Past → ℕ → Past → List ℕ
-last_text past from [] = []
-last_text past from (r ∷ before) = record_text past from (length before) r
+unfoldable pub last_text : Past → ℕ → ℕ → Past → List ℕ
+last_text past column from [] = []
+last_text past column from (r ∷ before) = record_text past column from (length before) r
 
 -- what is shown of so many records from the place `from` on
-unfoldable pub entries_text : Past → ℕ → ℕ → List ℕ
-entries_text past from zero = []
-entries_text past from (suc count) = entries_text past from count ++ last_text past from (first (from + count + 1) past)
+unfoldable pub entries_text : Past → ℕ → ℕ → ℕ → List ℕ
+entries_text past column from zero = []
+entries_text past column from (suc count) = entries_text past column from count ++ last_text past column from (first (from + count + 1) past)
 
 -- the greatest process number
 unfoldable pub greatest : Past → ℕ
@@ -76,9 +76,10 @@ unfoldable pub front_text : ℕ → ℕ → List ℕ
 front_text lanes height =
     codes "<svg xmlns=\"http://www.w3.org/2000/svg\" width=\"" ++ (decimal (lanes * 60 + 800) ++ (codes "\" height=\"" ++ (decimal height ++ (codes "\">\n" ++ STYLE.now))))
 
--- a picture of so many records from the place `from` on: lanes for at most 32 processes, and what is shown of each record
+-- a picture of so many records from the place `from` on: lanes for at most 32 processes, what is shown of each record, and to the right of
+-- the lanes their lines
 abbrev pub picture_text : Past → ℕ → ℕ → List ℕ
 picture_text past from count =
     let height = count * 20 + 80 in
     let lanes = min (greatest past) 32 in
-    front_text lanes height ++ (lanes_text height lanes ++ (entries_text past from count ++ codes "</svg>\n"))
+    front_text lanes height ++ (lanes_text height lanes ++ (entries_text past (lane (lanes + 1)) from count ++ codes "</svg>\n"))

@@ -1,10 +1,9 @@
 -- What a picture shows of an entry: its mark, the bar of a wait that it ends, and the arrow of a message that it takes or hands over.
-use Rattle.std.specs.Prelude.{ℕ, ◌+◌, ◌-◌, ◌*◌, ◌%◌, nat_lt, List, [], ◌++◌, codes, Option, None, Some, if◌then◌else◌}
-use Rattle.std.specs.Fmt.{decimal}
+use Rattle.std.specs.Prelude.{ℕ, ◌+◌, ◌-◌, ◌*◌, ◌%◌, nat_lt, Option, None, Some, if◌then◌else◌}
 use Rattle.std.specs.Option.{option_map}
 use Rattle.lines.specs.Words.{◌>>=◌}
 use Rattle.mq_model.specs.Messages.{priority_given}
-use Rattle.mq_model.specs.Record.{Past, Record, record_at}
+use Rattle.mq_model.specs.Record.{Past, record_at}
 use Rattle.mq_model.specs.declared.entries.Call.{Call}
 use Rattle.mq_model.specs.declared.entries.Entry.{Entry}
 use Rattle.mq_model.specs.declared.entries.Reply.{Reply}

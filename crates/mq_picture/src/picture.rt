@@ -48,7 +48,7 @@ pub fn picture_of(
     let mut text = Vec::new(alloc);
     text.extend_from_slice(front.as_bytes())?;
     push_lanes(alloc, &mut text, height, lanes)?;
-    push_entries(alloc, &mut text, journal, from, count)?;
+    push_entries(alloc, &mut text, journal, lane(lanes + 1), from, count)?;
     text.extend_from_slice(b"</svg>\n")?;
     Ok(text)
 }
@@ -60,7 +60,9 @@ fn front_text(alloc: Global, lanes: u32, height: u64) -> Result<String, AllocErr
     ensures { IfOk result (λ text. string_bytes text ≡ front_text lanes height) }
 {
     let width = u64::from(lanes) * 60 + 800;
-    format!(in alloc; "<svg xmlns=\"http://www.w3.org/2000/svg\" width=\"{width}\" height=\"{height}\">\n{STYLE}")
+    format!(in alloc;
+        "<svg xmlns=\"http://www.w3.org/2000/svg\" width=\"{width}\" height=\"{height}\">\n{STYLE}"
+    )
 }
 
 // The greatest process number of a journal.
@@ -78,12 +80,7 @@ fn greatest(journal: &Journal) -> u32
 
 // Adds the lanes of the processes 1 to `lanes`.
 #[tactic(auto, using(crate::proofs::Steps::lanes_steps))]
-fn push_lanes(
-    alloc: Global,
-    text: &mut Vec<u8>,
-    height: u64,
-    lanes: u32,
-) -> Result<(), AllocError>
+fn push_lanes(alloc: Global, text: &mut Vec<u8>, height: u64, lanes: u32) -> Result<(), AllocError>
     requires { lanes ≤ 32 }
     ensures { OnOk result (text.new.items ≡ text.old.items ++ lanes_text height lanes) }
 {
@@ -97,15 +94,12 @@ fn push_lanes(
 
 // The lane at this distance, and the number of its process above it.
 #[tactic(auto, unfolding(crate::specs::Picture::lane_text))]
-fn lane_text(
-    alloc: Global,
-    height: u64,
-    x: u64,
-    process: u32,
-) -> Result<String, AllocError>
+fn lane_text(alloc: Global, height: u64, x: u64, process: u32) -> Result<String, AllocError>
     ensures { IfOk result (λ text. string_bytes text ≡ lane_text height x process) }
 {
-    format!(in alloc; "<line class=\"lane\" x1=\"{x}\" y1=\"30\" x2=\"{x}\" y2=\"{height}\"/><text class=\"lane\" x=\"{x}\" y=\"20\">{process}</text>\n")
+    format!(in alloc;
+        "<line class=\"lane\" x1=\"{x}\" y1=\"30\" x2=\"{x}\" y2=\"{height}\"/><text class=\"lane\" x=\"{x}\" y=\"20\">{process}</text>\n"
+    )
 }
 
 // Adds what is shown of so many entries from the place `from` on.
@@ -114,16 +108,17 @@ fn push_entries(
     alloc: Global,
     text: &mut Vec<u8>,
     journal: &Journal,
+    column: u64,
     from: u64,
     count: u64,
 ) -> Result<(), AllocError>
     requires shown { from + count ≤ length journal.now.records }
     requires few { count ≤ 2000 }
-    ensures { OnOk result (text.new.items ≡ text.old.items ++ entries_text journal.now.records from count) }
+    ensures { OnOk result (text.new.items ≡ text.old.items ++ entries_text journal.now.records column from count) }
 {
     let _len = journal.len();
     for k in 0..count {
-        push_entry(alloc, text, journal, from, from + k)?;
+        push_entry(alloc, text, journal, column, from, from + k)?;
     }
     Ok(())
 }
@@ -134,15 +129,16 @@ fn push_entry(
     alloc: Global,
     text: &mut Vec<u8>,
     journal: &Journal,
+    column: u64,
     from: u64,
     place: u64,
 ) -> Result<(), AllocError>
     requires shown { place < length journal.now.records }
     requires few { place - from < 2 ^ 32 }
-    ensures { OnOk result (text.new.items ≡ text.old.items ++ last_text journal.now.records from (first (place + 1) journal.now.records)) }
+    ensures { OnOk result (text.new.items ≡ text.old.items ++ last_text journal.now.records column from (first (place + 1) journal.now.records)) }
 {
     let (entry, payload) = journal.record(place);
-    push_mark(alloc, text, from, place, entry, payload)?;
+    push_mark(alloc, text, column, from, place, entry, payload)?;
     push_bar(alloc, text, bar(journal, from, place, entry))?;
     push_arrow(alloc, text, arrow(journal, from, place, entry))
 }
@@ -152,30 +148,45 @@ fn push_entry(
 fn push_mark(
     alloc: Global,
     text: &mut Vec<u8>,
+    column: u64,
     from: u64,
     place: u64,
     entry: Entry,
     payload: &[u8],
 ) -> Result<(), AllocError>
     requires { place - from < 2 ^ 32 }
-    ensures { OnOk result (text.new.items ≡ text.old.items ++ mark_text from place (record { entry = entry; payload = payload.now })) }
+    ensures { OnOk result (text.new.items ≡ text.old.items ++ mark_text column from place (record { entry = entry; payload = payload.now })) }
 {
-    let front = mark_front(alloc, lane(entry.process), row(from, place), entry.reply)?;
+    let front = mark_front(
+        alloc,
+        column,
+        lane(entry.process),
+        row(from, place),
+        entry.reply,
+    )?;
     let line = line_of(alloc, place, entry, payload)?;
     text.extend_from_slice(front.as_bytes())?;
     push_label(text, line.as_bytes())?;
     text.extend_from_slice(b"</text></g>\n")
 }
 
-// The front of a mark at a point.
+// The front of a mark at a point, whose line stands in the column of lines.
 #[tactic(auto, unfolding(crate::specs::Picture::mark_front))]
-fn mark_front(alloc: Global, x: u64, y: u64, reply: Reply) -> Result<String, AllocError>
-    requires { (x < 2 ^ 40) × (y < 2 ^ 40) }
-    ensures { IfOk result (λ text. string_bytes text ≡ mark_front x y reply) }
+fn mark_front(
+    alloc: Global,
+    column: u64,
+    x: u64,
+    y: u64,
+    reply: Reply,
+) -> Result<String, AllocError>
+    requires { y < 2 ^ 40 }
+    ensures { IfOk result (λ text. string_bytes text ≡ mark_front column x y reply) }
 {
     let kind = kind(reply);
-    let (right, down) = (x + 8, y + 4);
-    format!(in alloc; "<g class=\"{kind}\"><circle cx=\"{x}\" cy=\"{y}\" r=\"4\"/><text x=\"{right}\" y=\"{down}\">")
+    let down = y + 4;
+    format!(in alloc;
+        "<g class=\"{kind}\"><circle cx=\"{x}\" cy=\"{y}\" r=\"4\"/><text x=\"{column}\" y=\"{down}\">"
+    )
 }
 
 // The kind of a mark.
@@ -235,5 +246,7 @@ fn flight_text(alloc: Global, flight: Flight) -> Result<String, AllocError>
 {
     let (stroke, hue) = (flight.stroke, flight.hue);
     let ends = ends_text(alloc, stroke)?;
-    format!(in alloc; "<line class=\"message\" stroke=\"hsl({hue},80%,40%)\" {ends} marker-end=\"url(#tip)\"/>\n")
+    format!(in alloc;
+        "<line class=\"message\" stroke=\"hsl({hue},80%,40%)\" {ends} marker-end=\"url(#tip)\"/>\n"
+    )
 }

@@ -106,13 +106,7 @@ pub fn arrow(journal: &Journal, from: u64, place: u64, entry: Entry) -> Option<F
 }
 
 // The arrow of a message that was received: from its send.
-fn arrow_got(
-    journal: &Journal,
-    from: u64,
-    place: u64,
-    entry: Entry,
-    sent: u64,
-) -> Option<Flight>
+fn arrow_got(journal: &Journal, from: u64, place: u64, entry: Entry, sent: u64) -> Option<Flight>
     requires { place - from < 2 ^ 32 }
     ensures { result ≡ arrow_got journal.now.records from place entry sent }
 {
@@ -130,13 +124,7 @@ fn arrow_got(
 }
 
 // The arrow of a message that was handed to a receive that waits: to its lane.
-fn arrow_handed(
-    journal: &Journal,
-    from: u64,
-    place: u64,
-    entry: Entry,
-    wait: u64,
-) -> Option<Flight>
+fn arrow_handed(journal: &Journal, from: u64, place: u64, entry: Entry, wait: u64) -> Option<Flight>
     requires { place - from < 2 ^ 32 }
     ensures { result ≡ arrow_handed journal.now.records from place entry wait }
 {

@@ -1,6 +1,4 @@
-use Rattle.std.proofs.Common.{◌≡◌, ◌∙◌, ◌++◌, List, ℕ, OnOk, ap, length, take, subst}
-use Rattle.std.specs.List.{flat_map}
-use Rattle.mq_picture.specs.Label.{named}
+use Rattle.std.proofs.Common.{◌≡◌, ◌∙◌, ap, take}
 use Rattle.mq_picture.proofs.Steps.{take_at_most}
 use Rattle.mq_picture.proofs.label.push_label.Goals as goal
 
