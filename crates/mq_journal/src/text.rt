@@ -1,5 +1,5 @@
 //! The text of a journal.
-ghost use Rattle.std.specs.Prelude.{◌≡◌, ◌++◌, ◌∷◌, ℕ, IfOk, IsErrOf, MatchResult, OnOk};
+ghost use Rattle.std.specs.Prelude.{◌≡◌, ◌<◌, ◌^◌, ◌++◌, ◌∷◌, ℕ, IfOk, IsErrOf, MatchResult, OnOk, length};
 ghost use Rattle.mq_model.specs.Record.{Past};
 ghost use Rattle.mq_journal.specs.Fitting.{AllFit, Fits};
 ghost use Rattle.mq_journal.specs.JournalFault.{StopsAt};
@@ -65,6 +65,11 @@ pub fn read_journal(alloc: Global, text: &[u8]) -> Result<Journal, JournalFault>
     }
     Ok(journal)
 }
+
+/// Journals with one text are one. The function does nothing: its contract is the law.
+pub fn one_text()
+    ensures { (a b : Past) → AllFit a → AllFit b → length b < 2 ^ 64 → journal_text a ≡ journal_text b → a ≡ b }
+{}
 
 // Adds an entry with its payload after all others.
 fn add_entry(journal: &mut Journal, entry: Entry, payload: &[u8]) -> Result<(), AllocError>

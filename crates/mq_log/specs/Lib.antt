@@ -2,3 +2,4 @@ pub mod LogFault
 pub mod Records
 pub mod Task
 pub mod Verdict
+pub mod Window

@@ -1,14 +1,50 @@
 -- The task that the words of the command line ask for.
-use Rattle.std.specs.Prelude.{ℕ, List, [], ◌∷◌, Option, Some, None, if◌then◌else◌, codes}
+use Rattle.std.specs.Prelude.{ℕ, ◌&&◌, List, [], ◌∷◌, Option, Some, None, if◌then◌else◌, codes}
 use Rattle.std.specs.Str.{bytes_eq}
+use Rattle.lines.specs.Words.{◌>>=◌, Word, number_written}
 use Rattle.mq_log.specs.declared.task.Task.{Task}
-use Rattle.mq_log.specs.declared.task.Task.TheVariants.{Run, Check, Help}
+use Rattle.mq_log.specs.declared.task.Task.TheVariants.{Run, Check, Draw, Help}
+use Rattle.mq_log.specs.declared.window.Window.{Window}
+use Rattle.mq_log.specs.declared.window.TheConstants.{WHOLE}
 
--- the task of a name
-abbrev pub task_named : List ℕ → Option Task
-task_named word = if bytes_eq word (codes "run") then Some Run else (if bytes_eq word (codes "check") then Some Check else (if bytes_eq word (codes "--help") then Some Help else None))
+-- one option: the first place, or the last
+abbrev pub window_from_or_to : Word → Word → Option Window
+window_from_or_to name place = if bytes_eq name (codes "--from") then (do
+    from ← number_written 64 place
+    Some (record { from = from; to = WHOLE.to }))
+  else (if bytes_eq name (codes "--to") then (do
+    to ← number_written 64 place
+    Some (record { from = WHOLE.from; to = to }))
+  else None)
 
--- the task of the one word after the program's name
-abbrev pub task_written : List (List ℕ) → Option Task
-task_written (program ∷ word ∷ []) = task_named word
+-- both
+abbrev pub window_from_and_to : Word → Word → Word → Word → Option Window
+window_from_and_to from first to last = if bytes_eq from (codes "--from") && bytes_eq to (codes "--to") then (do
+    from ← number_written 64 first
+    to ← number_written 64 last
+    Some (record { from = from; to = to }))
+  else None
+
+-- the part of a journal that the options of draw ask for
+abbrev pub window_written : List Word → Option Window
+window_written (name ∷ place ∷ []) = window_from_or_to name place
+window_written (from ∷ first ∷ to ∷ last ∷ []) = window_from_and_to from first to last
+window_written words = None
+
+-- the task of a name alone
+abbrev pub task_named : Word → Option Task
+task_named word =
+    if bytes_eq word (codes "run") then Some Run else (if bytes_eq word (codes "check") then Some Check else (if bytes_eq word (codes "draw") then Some (Draw WHOLE) else (if bytes_eq word (codes "--help") then Some Help else None)))
+
+-- the task of a name with these options
+abbrev pub task_after : Word → List Word → Option Task
+task_after word [] = task_named word
+task_after word (option ∷ options) = if bytes_eq word (codes "draw") then (do
+    window ← window_written (option ∷ options)
+    Some (Draw window))
+  else None
+
+-- the task of the words after the program's name
+abbrev pub task_written : List Word → Option Task
+task_written (program ∷ word ∷ options) = task_after word options
 task_written words = None

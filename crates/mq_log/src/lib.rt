@@ -1,16 +1,20 @@
-//! Journals as text: of scripts that are run, and checked.
+//! Journals as text: of scripts that are run, checked, and drawn.
 #![tactic(auto)]
 
 mod check;
 mod counts;
+mod draw;
 mod fault;
 mod record;
 mod task;
 mod verdict;
+mod window;
 
 pub use check::check_journal;
 pub use counts::Counts;
+pub use draw::draw_journal;
 pub use fault::LogFault;
 pub use record::record_script;
 pub use task::{Task, USAGE, task_of};
 pub use verdict::Verdict;
+pub use window::{WHOLE, Window};

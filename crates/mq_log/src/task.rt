@@ -1,6 +1,9 @@
 //! What the program is asked to do.
 ghost use Rattle.std.specs.Prelude.{◌≡◌, map, string_bytes};
-ghost use Rattle.mq_log.specs.Task.{task_named, task_written};
+ghost use Rattle.mq_log.specs.Task.{task_after, task_named, task_written, window_from_and_to, window_from_or_to, window_written};
+
+use crate::window::{WHOLE, Window};
+use lines::words::number;
 
 /// What the program is asked to do.
 #[derive(Clone, Copy, Debug, PartialEq, Eq)]
@@ -9,6 +12,8 @@ pub enum Task {
     Run,
     /// Checks a journal.
     Check,
+    /// Writes a picture of a journal.
+    Draw(Window),
     /// Writes the usage.
     Help,
 }
@@ -18,6 +23,8 @@ pub const USAGE: &str = "\
 usage: mqlog TASK
   run    runs the script on the standard input, and writes its journal
   check  checks the journal on the standard input: writes that it is legal, or its first entry that is not (status 1)
+  draw   writes a picture (SVG) of the journal on the standard input, of at most 2000 entries:
+         draw --from K begins with the entry at place K, draw --to L ends with that at place L, draw --from K --to L does both
 ";
 
 /// The task that the words of the command line ask for, of which the first is the program's name.
@@ -25,22 +32,85 @@ pub fn task_of(words: &[String]) -> Option<Task>
     ensures { result ≡ task_written (map string_bytes words.now) }
 {
     match words {
-        [_program, word] => named(word.as_bytes()),
+        [_program, word, options @ ..] => task_after(word.as_bytes(), options),
         _ => None,
     }
 }
 
-// The task of a name.
-fn named(word: &[u8]) -> Option<Task>
+// The task of a name with these options.
+fn task_after(word: &[u8], options: &[String]) -> Option<Task>
+    ensures { result ≡ task_after word.now (map string_bytes options.now) }
+{
+    if options.is_empty() {
+        task_named(word)
+    } else if word == b"draw".as_slice() {
+        Some(Task::Draw(window_of(options)?))
+    } else {
+        None
+    }
+}
+
+// The task of a name alone.
+fn task_named(word: &[u8]) -> Option<Task>
     ensures { result ≡ task_named word.now }
 {
     if word == b"run".as_slice() {
         Some(Task::Run)
     } else if word == b"check".as_slice() {
         Some(Task::Check)
+    } else if word == b"draw".as_slice() {
+        Some(Task::Draw(WHOLE))
     } else if word == b"--help".as_slice() {
         Some(Task::Help)
     } else {
         None
     }
+}
+
+// The part of a journal that the options ask for.
+fn window_of(options: &[String]) -> Option<Window>
+    ensures { result ≡ window_written (map string_bytes options.now) }
+{
+    match options {
+        [name, place] => window_from_or_to(name.as_bytes(), place.as_bytes()),
+        [from, first, to, last] => window_from_and_to(
+            from.as_bytes(),
+            first.as_bytes(),
+            to.as_bytes(),
+            last.as_bytes(),
+        ),
+        _ => None,
+    }
+}
+
+// One option.
+fn window_from_or_to(name: &[u8], place: &[u8]) -> Option<Window>
+    ensures { result ≡ window_from_or_to name.now place.now }
+{
+    if name == b"--from".as_slice() {
+        Some(Window {
+            from: number(place)?,
+            to: WHOLE.to,
+        })
+    } else if name == b"--to".as_slice() {
+        Some(Window {
+            from: WHOLE.from,
+            to: number(place)?,
+        })
+    } else {
+        None
+    }
+}
+
+// Both options.
+fn window_from_and_to(from: &[u8], first: &[u8], to: &[u8], last: &[u8]) -> Option<Window>
+    ensures { result ≡ window_from_and_to from.now first.now to.now last.now }
+{
+    if from != b"--from".as_slice() || to != b"--to".as_slice() {
+        return None;
+    }
+    Some(Window {
+        from: number(first)?,
+        to: number(last)?,
+    })
 }

@@ -1,4 +1,4 @@
-// Journals of message queue calls as text: of a script that is run, and checked.
+// Journals of message queue calls as text: of a script that is run, checked, and drawn.
 #![tactic(auto)]
 
 #[cfg(test)]
@@ -6,7 +6,7 @@ mod tests;
 
 use fast_mutex::FastMutex;
 use mq::Guarded;
-use mq_log::{LogFault, Task, USAGE, check_journal, record_script, task_of};
+use mq_log::{LogFault, Task, USAGE, Window, check_journal, draw_journal, record_script, task_of};
 use mq_runner::Plain;
 use std::alloc::{Alloc, Global};
 use std::io::{Eprint, Input, Print};
@@ -21,6 +21,7 @@ fn main(rt: HostRuntime) -> ExitCode {
     match asked(&rt) {
         Some(Task::Run) => run(&rt, rt.alloc()),
         Some(Task::Check) => check(&rt, rt.alloc()),
+        Some(Task::Draw(window)) => draw(&rt, rt.alloc(), window),
         Some(Task::Help) => help(&rt),
         None => {
             // Nothing is left to do where this cannot be written.
@@ -39,22 +40,28 @@ fn asked(rt: &(impl Env + Alloc<A = Global>)) -> Option<Task> {
 fn help(rt: &(impl Print + Eprint)) -> ExitCode {
     match print!(rt; "{USAGE}") {
         Ok(()) => ExitCode::SUCCESS,
-        Err(_) => {
-            let fault = LogFault::Output;
-            let _ = eprintln!(rt; "{fault}");
-            ExitCode::from(fault.status())
-        }
+        Err(_) => failed(rt, LogFault::Output),
     }
+}
+
+fn failed(rt: &impl Eprint, fault: LogFault) -> ExitCode {
+    let _ = eprintln!(rt; "{fault}");
+    ExitCode::from(fault.status())
 }
 
 fn check(rt: &(impl Print + Eprint + Input), alloc: Global) -> ExitCode {
     let (mut input, mut output) = (rt.reader(), io::writer(rt));
     match check_journal(alloc, &mut input, &mut output) {
         Ok(verdict) => ExitCode::from(verdict.status()),
-        Err(fault) => {
-            let _ = eprintln!(rt; "{fault}");
-            ExitCode::from(fault.status())
-        }
+        Err(fault) => failed(rt, fault),
+    }
+}
+
+fn draw(rt: &(impl Print + Eprint + Input), alloc: Global, window: Window) -> ExitCode {
+    let (mut input, mut output) = (rt.reader(), io::writer(rt));
+    match draw_journal(alloc, &mut input, &mut output, window) {
+        Ok(()) => ExitCode::SUCCESS,
+        Err(fault) => failed(rt, fault),
     }
 }
 

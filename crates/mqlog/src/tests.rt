@@ -2,7 +2,9 @@
 use mq::{Cause, Departure, Fault, Reply};
 use mq_journal::fault::JournalFault;
 use mq_journal::text::{read_journal, write_journal};
-use mq_log::{Counts, LogFault, Task, Verdict, check_journal, task_of};
+use mq_log::{
+    Counts, LogFault, Task, Verdict, WHOLE, Window, check_journal, draw_journal, task_of,
+};
 use std::alloc::{AllocError, Global};
 use std::io;
 use std::io::{Error, ErrorKind, Read, Write};
@@ -354,7 +356,8 @@ fn one_word_is_a_task(rt: HostRuntime) -> Result<(), Fail> {
         ("run", Some(Task::Run)),
         ("check", Some(Task::Check)),
         ("--help", Some(Task::Help)),
-        ("draw", None),
+        ("draw", Some(Task::Draw(WHOLE))),
+        ("draws", None),
         ("", None),
     ] {
         let program = String::from_str(rt.alloc(), "mqlog")?;
@@ -362,6 +365,73 @@ fn one_word_is_a_task(rt: HostRuntime) -> Result<(), Fail> {
         assert_eq!(rt; task_of(&[program, word]), task);
     }
     assert_eq!(rt; task_of(&[]), None);
+    Ok(())
+}
+
+// Options of draw, and what they ask for.
+const OPTIONS: [(&[&str], Option<Window>); 8] = [
+    (&["--from", "3"], Some(Window { from: 3, to: u64::MAX })),
+    (&["--to", "4"], Some(Window { from: 0, to: 4 })),
+    (&["--from", "3", "--to", "4"], Some(Window { from: 3, to: 4 })),
+    (&["--to", "4", "--from", "3"], None),
+    (&["--from"], None),
+    (&["--from", "x"], None),
+    (&["--from", "18446744073709551616"], None),
+    (&["--from", "1", "--to"], None),
+];
+
+#[test]
+fn draw_has_options_and_the_others_have_none(rt: HostRuntime) -> Result<(), Fail> {
+    for (options, window) in OPTIONS {
+        for task in ["draw", "check"] {
+            let mut words = Vec::new(rt.alloc());
+            words.push(String::from_str(rt.alloc(), "mqlog")?)?;
+            words.push(String::from_str(rt.alloc(), task)?)?;
+            for option in options {
+                words.push(String::from_str(rt.alloc(), option)?)?;
+            }
+            let wanted = match window {
+                Some(window) if task == "draw" => Some(Task::Draw(window)),
+                _ => None,
+            };
+            assert_eq!(rt; task_of(words.as_slice()), wanted);
+        }
+    }
+    Ok(())
+}
+
+// Windows, and how many of the twenty entries they show.
+const SHOWN: [(Window, usize); 7] = [
+    (WHOLE, 20),
+    (Window { from: 3, to: 5 }, 3),
+    (Window { from: 19, to: 19 }, 1),
+    (Window { from: 20, to: 30 }, 0),
+    (Window { from: 5, to: 4 }, 0),
+    (Window { from: 15, to: u64::MAX }, 5),
+    (Window { from: u64::MAX, to: u64::MAX }, 0),
+];
+
+// How many marks the picture of a journal has.
+fn marks_of(alloc: Global, mut text: &[u8], window: Window) -> Result<usize, LogFault> {
+    let mut output = Vec::new(alloc);
+    draw_journal(alloc, &mut text, &mut output, window)?;
+    let lines = output.as_slice().split(|b| *b == b'\n');
+    Ok(lines.filter(|line| line.starts_with(b"<g ")).count())
+}
+
+#[test]
+fn a_picture_has_a_mark_for_each_entry_shown(rt: HostRuntime) -> Result<(), Fail> {
+    for (window, marks) in SHOWN {
+        assert_eq!(rt; marks_of(rt.alloc(), RUN.as_bytes(), window), Ok(marks));
+    }
+    let mut text = Vec::new(rt.alloc());
+    for place in 0..2100u32 {
+        let line = format!(in rt.alloc(); "{place} 33 close 0 -> ok\n")?;
+        text.extend_from_slice(line.as_bytes())?;
+    }
+    assert_eq!(rt; marks_of(rt.alloc(), text.as_slice(), WHOLE), Ok(2000));
+    let fault = marks_of(rt.alloc(), b"0 1 close 0 ->\n", WHOLE);
+    assert_eq!(rt; fault, Err(LogFault::BadLine(1)));
     Ok(())
 }
 

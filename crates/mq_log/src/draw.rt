@@ -1,0 +1,40 @@
+//! A journal, from its bytes to a picture of it.
+ghost use Rattle.std.specs.Prelude.{◌≡◌, ◌+◌, ℕ, List, IsErrOf, OnOk, Some, take};
+ghost use Rattle.mq_journal.specs.JournalFault.{StopsAt};
+ghost use Rattle.mq_log.specs.Window.{Draws};
+ghost use Rattle.mq_log.specs.declared.fault.LogFault.TheVariants.{BadLine, Input, NoMemory};
+
+use crate::check::MOST_BYTES;
+use crate::fault::LogFault;
+use crate::window::{Window, shown};
+use lines::input::read_all;
+use lines::output::write_all;
+use mq_journal::text::read_journal;
+use mq_picture::picture_of;
+use std::alloc::Global;
+use std::io::{Read, Write};
+
+/// Reads a journal, which need not be legal, and writes a picture of its entries in the window, of the first 2,000 of these.
+/// `LogFault::BadLine`: a line is not that of an entry, and this is the first one. `LogFault::Input`: a read failed.
+/// `LogFault::Output`: a write failed, and a front part of the picture is written. Of the others nothing is written.
+pub fn draw_journal<R: Read, W: Write>(
+    alloc: Global,
+    input: &mut R,
+    output: &mut W,
+    window: Window,
+) -> Result<(), LogFault>
+    ensures done { (all : List ℕ) → R.remaining input.old ≡ Some all →
+        OnOk result (Draws (take (MOST_BYTES + 1) all) window (W.contents output.old) (W.contents output.new)) }
+    ensures bad_line { (all : List ℕ) (line : ℕ) → R.remaining input.old ≡ Some all →
+        IsErrOf result (BadLine line) → StopsAt line (take (MOST_BYTES + 1) all) }
+    ensures input { IsErrOf result Input → W.contents output.new ≡ W.contents output.old }
+    ensures no_memory { IsErrOf result NoMemory → W.contents output.new ≡ W.contents output.old }
+    ensures unwritten { (line : ℕ) → IsErrOf result (BadLine line) → W.contents output.new ≡ W.contents output.old }
+{
+    let text = read_all(alloc, input, MOST_BYTES)?;
+    let journal = read_journal(alloc, text.as_slice())?;
+    let (from, count) = shown(window, &journal);
+    let picture = picture_of(alloc, &journal, from, count)?;
+    write_all(output, picture.as_slice())?;
+    Ok(())
+}

@@ -1,0 +1,39 @@
+-- One record or one lane more.
+use Rattle.std.proofs.Common.{◌≡◌, ◌+◌, ◌++◌, ◌*◌, max, ℕ, zero, suc, List, [], ◌∷◌, refl, ap, add-one, append-nil, append_assoc, arith, length, take, min}
+use Rattle.mq_model.specs.Record.{Past, Record, first}
+use Rattle.std.proofs.lemmas.List.{take_all}
+use Rattle.mq_picture.specs.Shapes.{lane}
+use Rattle.mq_picture.specs.Picture.{entries_text, greatest, lane_text, lanes_text, last_text}
+
+pub greatest-nil : greatest [] ≡ 0
+unfolding greatest
+greatest-nil = refl
+
+pub greatest-more : (r : Record) (past : Past) → greatest (r ∷ past) ≡ max (greatest past) r.entry.process
+unfolding greatest
+greatest-more r past = refl
+
+pub ruleset greatest_steps = (greatest-nil, greatest-more)
+
+pub lanes-none : (height : ℕ) → lanes_text height 0 ≡ []
+unfolding lanes_text
+lanes-none height = refl
+
+pub lanes-more : (height n : ℕ) → lanes_text height (n + 1) ≡ lanes_text height n ++ lane_text height (lane (n + 1)) (n + 1)
+unfolding lanes_text
+lanes-more height n = rw add-one refl
+
+pub ruleset lanes_steps = (lanes-none, lanes-more, append-nil, append_assoc)
+
+pub entries-none : (past : Past) (column from : ℕ) → entries_text past column from 0 ≡ []
+unfolding entries_text
+entries-none past column from = refl
+
+pub entries-more : (past : Past) (column from count : ℕ) → entries_text past column from (count + 1) ≡ entries_text past column from count ++ last_text past column from (first (from + count + 1) past)
+unfolding entries_text
+entries-more past column from count = rw add-one refl
+
+pub ruleset entries_steps = (entries-none, entries-more, append-nil, append_assoc)
+
+pub take_at_most : (line : List ℕ) (n : ℕ) → take (min (length line) n) line ≡ take n line
+take_at_most line n = grind (arith, take_all)

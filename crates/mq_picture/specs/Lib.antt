@@ -1,0 +1,3 @@
+pub mod Label
+pub mod Shapes
+pub mod Picture
