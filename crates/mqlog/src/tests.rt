@@ -370,9 +370,18 @@ fn one_word_is_a_task(rt: HostRuntime) -> Result<(), Fail> {
 
 // Options of draw, and what they ask for.
 const OPTIONS: [(&[&str], Option<Window>); 8] = [
-    (&["--from", "3"], Some(Window { from: 3, to: u64::MAX })),
+    (
+        &["--from", "3"],
+        Some(Window {
+            from: 3,
+            to: u64::MAX,
+        }),
+    ),
     (&["--to", "4"], Some(Window { from: 0, to: 4 })),
-    (&["--from", "3", "--to", "4"], Some(Window { from: 3, to: 4 })),
+    (
+        &["--from", "3", "--to", "4"],
+        Some(Window { from: 3, to: 4 }),
+    ),
     (&["--to", "4", "--from", "3"], None),
     (&["--from"], None),
     (&["--from", "x"], None),
@@ -407,8 +416,20 @@ const SHOWN: [(Window, usize); 7] = [
     (Window { from: 19, to: 19 }, 1),
     (Window { from: 20, to: 30 }, 0),
     (Window { from: 5, to: 4 }, 0),
-    (Window { from: 15, to: u64::MAX }, 5),
-    (Window { from: u64::MAX, to: u64::MAX }, 0),
+    (
+        Window {
+            from: 15,
+            to: u64::MAX,
+        },
+        5,
+    ),
+    (
+        Window {
+            from: u64::MAX,
+            to: u64::MAX,
+        },
+        0,
+    ),
 ];
 
 // How many marks the picture of a journal has.
