@@ -1,5 +1,5 @@
-use Rattle.std.proofs.Common.{◌≡◌, ◌+◌, ◌<◌, ◌≤◌, ◌∷◌, length, sym, subst, arith}
-use Rattle.mq_model.specs.Record.{Record, Past, first}
+use Rattle.std.proofs.Common.{subst, arith}
+use Rattle.mq_model.specs.Record.{Record, Past}
 use Rattle.mq_state.specs.Replays.{IsCause, IsDeparture}
 use Rattle.mq_state.proofs.Replaying.{departs, not-legal}
 use Rattle.mq_state.proofs.replay.replay.Goals as goal
