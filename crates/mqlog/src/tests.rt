@@ -343,9 +343,18 @@ fn one_word_is_a_task(rt: HostRuntime) -> Result<(), Fail> {
 
 // Options of draw, and what they ask for.
 const OPTIONS: [(&[&str], Option<Window>); 8] = [
-    (&["--from", "3"], Some(Window { from: 3, to: u64::MAX })),
+    (
+        &["--from", "3"],
+        Some(Window {
+            from: 3,
+            to: u64::MAX,
+        }),
+    ),
     (&["--to", "4"], Some(Window { from: 0, to: 4 })),
-    (&["--from", "3", "--to", "4"], Some(Window { from: 3, to: 4 })),
+    (
+        &["--from", "3", "--to", "4"],
+        Some(Window { from: 3, to: 4 }),
+    ),
     (&["--to", "4", "--from", "3"], None),
     (&["--from"], None),
     (&["--from", "x"], None),
@@ -353,16 +362,22 @@ const OPTIONS: [(&[&str], Option<Window>); 8] = [
     (&["--from", "1", "--to"], None),
 ];
 
+// The words of a command line.
+fn words_of(alloc: Global, task: &str, options: &[&str]) -> Result<Vec<String>, AllocError> {
+    let mut words = Vec::new(alloc);
+    words.push(String::from_str(alloc, "mqlog")?)?;
+    words.push(String::from_str(alloc, task)?)?;
+    for option in options {
+        words.push(String::from_str(alloc, option)?)?;
+    }
+    Ok(words)
+}
+
 #[test]
 fn draw_has_options_and_the_others_have_none(rt: HostRuntime) -> Result<(), Fail> {
     for (options, window) in OPTIONS {
         for task in ["draw", "check"] {
-            let mut words = Vec::new(rt.alloc());
-            words.push(String::from_str(rt.alloc(), "mqlog")?)?;
-            words.push(String::from_str(rt.alloc(), task)?)?;
-            for option in options {
-                words.push(String::from_str(rt.alloc(), option)?)?;
-            }
+            let words = words_of(rt.alloc(), task, options)?;
             let wanted = match window {
                 Some(window) if task == "draw" => Some(Task::Draw(window)),
                 _ => None,
@@ -380,8 +395,20 @@ const SHOWN: [(Window, usize); 7] = [
     (Window { from: 19, to: 19 }, 1),
     (Window { from: 20, to: 30 }, 0),
     (Window { from: 5, to: 4 }, 0),
-    (Window { from: 15, to: u64::MAX }, 5),
-    (Window { from: u64::MAX, to: u64::MAX }, 0),
+    (
+        Window {
+            from: 15,
+            to: u64::MAX,
+        },
+        5,
+    ),
+    (
+        Window {
+            from: u64::MAX,
+            to: u64::MAX,
+        },
+        0,
+    ),
 ];
 
 // How many marks the picture of a journal has.
