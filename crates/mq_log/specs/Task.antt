@@ -1,5 +1,5 @@
 -- The task that the words of the command line ask for.
-use Rattle.std.specs.Prelude.{ℕ, ◌&&◌, List, [], ◌∷◌, Option, Some, None, if◌then◌else◌, codes}
+use Rattle.std.specs.Prelude.{◌&&◌, List, [], ◌∷◌, Option, Some, None, if◌then◌else◌, codes}
 use Rattle.std.specs.Str.{bytes_eq}
 use Rattle.lines.specs.Words.{◌>>=◌, Word, number_written}
 use Rattle.mq_log.specs.declared.task.Task.{Task}
@@ -10,20 +10,20 @@ use Rattle.mq_log.specs.declared.window.TheConstants.{WHOLE}
 -- one option: the first place, or the last
 abbrev pub window_from_or_to : Word → Word → Option Window
 window_from_or_to name place = if bytes_eq name (codes "--from") then (do
-    from ← number_written 64 place
-    Some (record { from = from; to = WHOLE.to }))
-  else (if bytes_eq name (codes "--to") then (do
-    to ← number_written 64 place
-    Some (record { from = WHOLE.from; to = to }))
-  else None)
+  from ← number_written 64 place
+  Some (record { from = from; to = WHOLE.to }))
+    else (if bytes_eq name (codes "--to") then (do
+      to ← number_written 64 place
+      Some (record { from = WHOLE.from; to = to }))
+    else None)
 
 -- both
 abbrev pub window_from_and_to : Word → Word → Word → Word → Option Window
 window_from_and_to from first to last = if bytes_eq from (codes "--from") && bytes_eq to (codes "--to") then (do
-    from ← number_written 64 first
-    to ← number_written 64 last
-    Some (record { from = from; to = to }))
-  else None
+  from ← number_written 64 first
+  to ← number_written 64 last
+  Some (record { from = from; to = to }))
+    else None
 
 -- the part of a journal that the options of draw ask for
 abbrev pub window_written : List Word → Option Window
@@ -40,9 +40,9 @@ task_named word =
 abbrev pub task_after : Word → List Word → Option Task
 task_after word [] = task_named word
 task_after word (option ∷ options) = if bytes_eq word (codes "draw") then (do
-    window ← window_written (option ∷ options)
-    Some (Draw window))
-  else None
+  window ← window_written (option ∷ options)
+  Some (Draw window))
+    else None
 
 -- the task of the words after the program's name
 abbrev pub task_written : List Word → Option Task

@@ -389,16 +389,22 @@ const OPTIONS: [(&[&str], Option<Window>); 8] = [
     (&["--from", "1", "--to"], None),
 ];
 
+// The words of a command line.
+fn words_of(alloc: Global, task: &str, options: &[&str]) -> Result<Vec<String>, AllocError> {
+    let mut words = Vec::new(alloc);
+    words.push(String::from_str(alloc, "mqlog")?)?;
+    words.push(String::from_str(alloc, task)?)?;
+    for option in options {
+        words.push(String::from_str(alloc, option)?)?;
+    }
+    Ok(words)
+}
+
 #[test]
 fn draw_has_options_and_the_others_have_none(rt: HostRuntime) -> Result<(), Fail> {
     for (options, window) in OPTIONS {
         for task in ["draw", "check"] {
-            let mut words = Vec::new(rt.alloc());
-            words.push(String::from_str(rt.alloc(), "mqlog")?)?;
-            words.push(String::from_str(rt.alloc(), task)?)?;
-            for option in options {
-                words.push(String::from_str(rt.alloc(), option)?)?;
-            }
+            let words = words_of(rt.alloc(), task, options)?;
             let wanted = match window {
                 Some(window) if task == "draw" => Some(Task::Draw(window)),
                 _ => None,
