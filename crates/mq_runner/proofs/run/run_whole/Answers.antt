@@ -1,4 +1,4 @@
-use Rattle.std.proofs.Common.{arith, rules, inr, ◌≡◌, ◌≤◌, ◌∙◌, All, ap, length, subst, sym, vec_len}
+use Rattle.std.proofs.Common.{arith, rules, ◌≡◌, ◌≤◌, ◌∙◌, All, ap, length, subst, sym, vec_len}
 use Rattle.std.proofs.lemmas.Grind.{common_steps}
 use Rattle.std.proofs.lemmas.List.Elements.{All-same, All-weaker}
 use Rattle.fast_mutex.specs.Items.{tickets_from}
