@@ -174,7 +174,8 @@ uint32_t yak_collect(yak_process *process, uint8_t *buf, size_t len, yak_message
 uint32_t yak_end_wait(yak_process *process, uint8_t *buf, size_t len, yak_message *message, const yak_moment *now);
 
 /* Checks the journal of the system from its first entry on, inside the lock: YAK_DONE, since it is the history of one thread's queues.
- * The longer the journal, the longer it takes. The process may have an open wait, and keeps it. */
+ * A million entries take some 0.1 s, with memory for the check; where that is refused, far longer. The process may have an open wait, and
+ * keeps it. */
 uint32_t yak_check(yak_process *process);
 
 /* Writes the entry of the journal at a place, from 0, into the front of a buffer as a line of text without its end, and its length: its
@@ -283,6 +284,39 @@ static inline uint32_t yak_timed_receive(yak_process *process, uint32_t d, uint8
     uint32_t answer;
     YAK_TRY(answer, yak_start_timed_receive(process, d, buf, len, message, until, &now));
     return answer == YAK_WAITS ? yak_await_until(process, buf, len, message) : answer;
+}
+
+/* Ends a system, of which these are all handles: checks its journal, gives each entry as a line of text to `line`, unless that is null,
+ * and empties the handles. YAK_EMPTY where one is empty or there is none, and then nothing is done. A line of more than 1,024 bytes is
+ * cut. */
+static inline uint32_t yak_finish(yak_process *processes, size_t count, void (*line)(void *with, const uint8_t *text, size_t len),
+                                  void *with)
+{
+    uint8_t text[1024];
+    size_t len = 0;
+    uint32_t checked;
+    if (count == 0)
+        return YAK_EMPTY;
+    for (size_t i = 0; i < count; ++i)
+        if (yak_answered(&processes[i]) == YAK_EMPTY)
+            return YAK_EMPTY;
+    /* One that is on its way keeps the others out until it is through. */
+    for (unsigned tries = 0, under_way = 1; under_way != 0; yak_pause(&tries)) {
+        under_way = 0;
+        for (size_t i = 0; i < count; ++i)
+            under_way += yak_entry(&processes[i], 0, text, sizeof text, &len) == YAK_RETRY;
+    }
+    YAK_TRY(checked, yak_check(&processes[0]));
+    for (uint64_t place = 0; line != 0; ++place) {
+        uint32_t answer;
+        YAK_TRY(answer, yak_entry(&processes[0], place, text, sizeof text, &len));
+        if (answer == YAK_NO_ENTRY)
+            break;
+        line(with, text, len);
+    }
+    for (size_t i = 0; i < count; ++i)
+        yak_free(&processes[i]);
+    return checked;
 }
 
 #ifdef YAKYROMBE_IMPLEMENTATION

@@ -84,6 +84,13 @@ static uint32_t alone(yak_process *process)
     return answer;
 }
 
+/* Counts the lines of the journal. */
+static void count_line(void *with, const uint8_t *text, size_t len)
+{
+    (void)text;
+    *(uint64_t *)with += len != 0;
+}
+
 int main(void)
 {
     yak_process processes[1 + CONSUMERS] = {YAK_PROCESS_EMPTY, YAK_PROCESS_EMPTY, YAK_PROCESS_EMPTY};
@@ -107,7 +114,8 @@ int main(void)
         sum += shares[i].sum;
     }
     printf("received %llu messages, sum %llu\n", (unsigned long long)count, (unsigned long long)sum);
-    for (int i = 0; i <= CONSUMERS; ++i)
-        yak_free(&processes[i]);
+    uint64_t entries = 0;
+    failed |= yak_finish(processes, 1 + CONSUMERS, count_line, &entries);
+    printf("history %s\n", failed == YAK_DONE && entries > 2 * MESSAGES ? "ok" : "not ok");
     return failed == YAK_DONE ? 0 : 1;
 }

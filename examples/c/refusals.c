@@ -276,8 +276,9 @@ int main(void)
     notices(&two[0]);
     handles(two);
     IS(YAK_DONE, yak_check(&two[1]));
-    yak_free(&two[0]);
-    yak_free(&two[1]);
+    IS(YAK_EMPTY, yak_finish(two, 0, 0, 0));
+    IS(YAK_DONE, yak_finish(two, 2, 0, 0));
+    IS(YAK_EMPTY, yak_finish(two, 2, 0, 0));
     bounds();
     printf("%u passed, %u failed\n", passed, failed);
     return failed == 0 ? 0 : 1;

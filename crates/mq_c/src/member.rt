@@ -283,12 +283,12 @@ impl Member {
     ghost use Rattle.mq_c.specs.Endings.{Ends, Looks};
 
     /// Tries to check the journal: `None` where the process has not come inside yet.
-    pub(crate) fn check(&mut self) -> Option<Result<(), u64>>
+    pub(crate) fn check(&mut self, alloc: Global) -> Option<Result<(), u64>>
         ensures none { IfNone result (ticket_of self.new.standing ≡ ticket_of self.old.standing) }
         ensures legal { IfSome result (λ checked. IsOk checked × Calls (ticket_of self.old.standing) (ticket_of self.new.standing) []) }
     {
         let arrived = arrive(&self.mq, &mut self.standing)?;
-        let (process, checked) = arrived.check(&self.mq);
+        let (process, checked) = arrived.check(alloc, &self.mq);
         settle(&mut self.standing, process);
         Some(checked)
     }

@@ -19,7 +19,7 @@ pub extern "C" fn yak_check(alloc: Global, process: &mut Handle) -> u32
     let Some(mut member) = process.take(alloc) else {
         return EMPTY;
     };
-    let checked = member.check();
+    let checked = member.check(alloc);
     process.put(member);
     match checked {
         Some(Ok(())) => DONE,

@@ -21,12 +21,10 @@ use crate::text::text_of;
 use fast_mutex::Look;
 use lines::input::read_all;
 use lines::output::write_all;
-use mq::{Guarded, Mq, Process};
-use mq_checker::checker::check_history;
+use mq::{Guarded, Mq, Process, verdict};
 use mq_model::journals::Journal;
 use mq_script::line::ScriptCall;
 use mq_script::script::{MOST_BYTES, Script, read_script};
-use mq_state::replay::replay;
 use std::alloc::Global;
 use std::io::{Read, Write};
 use std::sync::Wait;
@@ -210,17 +208,6 @@ where
     Ok(processes)
 }
 
-// Whether a journal is legal, or the first place that is not: by a replay, and where its memory is refused by the check that takes none.
-fn checked(alloc: Global, journal: &Journal) -> Result<(), u64>
-    ensures { IsOk result ↔ Legal journal.now.records }
-{
-    match replay(alloc, journal) {
-        Ok(None) => Ok(()),
-        Ok(Some(departure)) => Err(departure.place),
-        Err(_refused) => check_history(journal),
-    }
-}
-
 // Writes that the history is ok, where it is legal; else nothing, and gives the first place that is not legal.
 fn write_last_line<W: Write>(
     output: &mut W,
@@ -233,9 +220,9 @@ fn write_last_line<W: Write>(
     ensures written { IfOk result (λ verdict. OnOk verdict (Appends (W.contents output.old) (W.contents output.new) last_line)) }
     ensures silent { IfOk result (λ verdict. IsErr verdict → W.contents output.new ≡ W.contents output.old) }
 {
-    let verdict = checked(alloc, journal);
-    if verdict.is_ok() {
+    let found = verdict(alloc, journal);
+    if found.is_ok() {
         write_all(output, b"history ok\n")?;
     }
-    Ok(verdict)
+    Ok(found)
 }

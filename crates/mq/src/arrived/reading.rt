@@ -2,12 +2,13 @@
 
 use super::Arrived;
 use crate::guarded::Guarded;
+use crate::judging::verdict;
 use crate::process::{Process, process_of};
 use crate::stays::{begin, depart};
 use crate::system::Mq;
 use fast_mutex::Look;
-use mq_checker::checker::check_history;
 use mq_model::entries::Entry;
+use std::alloc::Global;
 
 impl<L: Look<Guarded>> Arrived<L> {
     ghost use Rattle.std.specs.Prelude.{◌≡◌, IsOk, []};
@@ -16,16 +17,15 @@ impl<L: Look<Guarded>> Arrived<L> {
     ghost use Rattle.mq_state.specs.Buffers.{waiting_room};
     ghost use Rattle.mq.specs.Calls.{Calls};
 
-    /// Checks the journal from its first entry on, as [`check_history`] does, which is the longer the more entries there are. It is
-    /// legal. Leaves without a call, and takes no memory.
-    pub fn check(self, mq: &Mq<L>) -> (Process<L>, Result<(), u64>)
+    /// Checks the journal from its first entry on, as [`verdict`] does. It is legal. Leaves without a call.
+    pub fn check(self, alloc: Global, mq: &Mq<L>) -> (Process<L>, Result<(), u64>)
         requires made { self.lock ≡ mq.now }
         ensures legal { IsOk result.1 }
         ensures calls { Calls self result.0 [] }
         ensures wait { waiting_room result.0.left result.0.number ≡ waiting_room self.left self.number }
     {
         let (inside, state) = begin::<L>(self.walk, self.number);
-        let checked = check_history(state.books.journal());
+        let checked = verdict(alloc, state.books.journal());
         (process_of(depart(mq, inside, state), self.waits), checked)
     }
 

@@ -1,0 +1,20 @@
+//! The verdict on a journal.
+ghost use Rattle.std.specs.Prelude.{◌↔◌, IsOk};
+ghost use Rattle.mq_model.specs.Answer.{Legal};
+
+use mq_checker::checker::check_history;
+use mq_model::journals::Journal;
+use mq_state::replay::replay;
+use std::alloc::Global;
+
+/// Whether a journal is legal, or the first place that is not: by a [`replay`], and where the memory for that is refused by
+/// [`check_history`], which takes none and the longer the more entries there are.
+pub fn verdict(alloc: Global, journal: &Journal) -> Result<(), u64>
+    ensures { IsOk result ↔ Legal journal.now.records }
+{
+    match replay(alloc, journal) {
+        Ok(None) => Ok(()),
+        Ok(Some(departure)) => Err(departure.place),
+        Err(_refused) => check_history(journal),
+    }
+}
