@@ -1,9 +1,10 @@
 //! A script, from its bytes to the text of its journal.
-ghost use Rattle.std.specs.Prelude.{◌≡◌, ◌+◌, ℕ, List, IsErrOf, OnOk, Some, Ok, Err, take};
+ghost use Rattle.std.specs.Prelude.{◌≡◌, ◌≢◌, ◌+◌, ℕ, List, IsErrOf, OnOk, Some, Ok, Err, take};
 ghost use Rattle.mq_runner.specs.RunFault.{StopsAt};
 ghost use Rattle.mq_script.specs.Script.{Whole, script_written};
 ghost use Rattle.mq_log.specs.Records.{IsLogged, Records};
-ghost use Rattle.mq_runner.specs.declared.fault.RunFault.TheVariants.{BadCall};
+ghost use Rattle.mq_runner.specs.declared.fault.RunFault.{RunFault};
+ghost use Rattle.mq_runner.specs.declared.fault.RunFault.TheVariants.{BadCall, Output};
 
 use fast_mutex::Look;
 use lines::output::write_all;
@@ -40,6 +41,7 @@ where
         StopsAt line result × (W.contents output.new ≡ W.contents output.old) }
     ensures bad_call_only { (all : List ℕ) (line : ℕ) → R.remaining input.old ≡ Some all →
         IsErrOf result (BadCall line) → script_written (take (MOST_BYTES + 1) all) ≡ Err line }
+    ensures unwritten { (fault : RunFault) → IsErrOf result fault → fault ≢ Output → W.contents output.new ≡ W.contents output.old }
     ensures done { (all : List ℕ) (script : Whole) → R.remaining input.old ≡ Some all →
         script_written (take (MOST_BYTES + 1) all) ≡ Ok script →
         OnOk result (Records script (W.contents output.old) (W.contents output.new)) }
