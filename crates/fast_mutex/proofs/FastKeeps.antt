@@ -27,24 +27,24 @@ use Rattle.fast_mutex.proofs.WordKeeps.{good_new_claims, good_more, good_grows}
 use Rattle.fast_mutex.proofs.FastWorld.{moved_here, moved_else, inside_point, not_true, raises_rest, raises_start, lowers_back, lowers_slow, lowers_leaving, sets_x, sets_y, leaves_world, loads_test_y, loads_await_y, loads_slow_await, loads_flag, admits_fast, refuses_fast, admits_slow, refuses_slow, others_outside, found_nobody, starting_world, sets_mark, mark_loaded}
 use Rattle.fast_mutex.proofs.MarksKeep.{course_marked, course_left, marks_stored, marks_left, marks_new, shown_now, shown_left, shown_on, Done, done_none, done_same, done_stored, done_all}
 
-module _ {S I : Type 0} (shows : S → List I) (fixes : S → List ℕ) (owner : I → ℕ) (answered : ℕ → List I → Bool) (about : About S) where
+module _ {S I : Type 0} (shows : S → List I) (fixes : S → List ℕ) (author : I → ℕ) (answered : ℕ → List I → Bool) (about : About S) where
   abbrev St : Type 0
   St = State (Opt S) (View I)
 
   abbrev Rule : St → Type 0
-  Rule = KeepsRule shows fixes owner answered about
+  Rule = KeepsRule shows fixes author answered about
 
   abbrev Fit : (ℕ → At) → Course I → View I → Type 0
-  Fit = Fits shows fixes owner answered about
+  Fit = Fits shows fixes author answered about
 
   abbrev On : (ℕ → At) → At → List (Claim I) → Type 0
-  On = Stands shows fixes owner answered about
+  On = Stands shows fixes author answered about
 
   abbrev Good : Fixed → List I → Claim I → Type 0
-  Good = IsGood shows fixes owner about
+  Good = IsGood shows fixes author about
 
   abbrev pub Stays : Type 0
-  Stays = (p : ℕ) (more before : List I) → All (λ x. owner x ≢ p) more → answered p before ≡ true → answered p (more ++ before) ≡ true
+  Stays = (p : ℕ) (more before : List I) → All (λ x. author x ≢ p) more → answered p before ≡ true → answered p (more ++ before) ≡ true
 
   abbrev claimed : ℕ → View I → ℕ
   claimed k v = times k v.claims
@@ -87,11 +87,11 @@ module _ {S I : Type 0} (shows : S → List I) (fixes : S → List ℕ) (owner :
   nobody_stands at none_in p (c ∷ cs) on = ap is_inside (sym on.0) ∙ none_in c.0
 
   -- who is inside stays there while another process moves
-  comes_on : (at : ℕ → At) (k : ℕ) (p : At) (c : Course I) → is_inside (at k) ≡ false → Comes shows fixes owner answered about at c → Comes shows fixes owner answered about (moved_to at k p) c
+  comes_on : (at : ℕ → At) (k : ℕ) (p : At) (c : Course I) → is_inside (at k) ≡ false → Comes shows fixes author answered about at c → Comes shows fixes author answered about (moved_to at k p) c
   comes_on at k p c out h = ⊎_elim (λ e. inl e) (λ t. let ne : t.0 ≢ k = (λ e. let q : true ≡ false = sym t.1 ∙ ap (λ z. is_inside (at z)) e ∙ out in absurd (cc)) in inr (t.0, ap is_inside (moved_else at k t.0 p ne) ∙ t.1, t.2)) h
 
   -- where nobody is inside, the list to come is the current one
-  comes_now : (at : ℕ → At) (c : Course I) → ((i : ℕ) → is_inside (at i) ≡ false) → Comes shows fixes owner answered about at c → c.next ≡ c.now
+  comes_now : (at : ℕ → At) (c : Course I) → ((i : ℕ) → is_inside (at i) ≡ false) → Comes shows fixes author answered about at c → c.next ≡ c.now
   comes_now at c none_in h = ⊎_elim (λ e. e) (λ t. let q : true ≡ false = sym t.1 ∙ none_in t.0 in absurd (cc)) h
 
   -- a step of seat k that neither enters nor leaves
@@ -190,7 +190,7 @@ module _ {S I : Type 0} (shows : S → List I) (fixes : S → List ℕ) (owner :
   tests : (slots id k word : ℕ) (old : At) (found : List I) (fixed : Fixed) (l : List I) (plan : Plan I) → tests_line old ≡ true → word ≡ word_loaded old → is_inside old ≡ false → is_inside (point_admitted old) ≡ true → is_inside (point_refused old) ≡ false
       → ((words marks : List ℕ) (at : ℕ → At) → IsSafeWorld about.count words marks at → get_or words word 0 ≡ k → at k ≡ old → IsSafeWorld about.count words marks (moved_to at k (point_admitted old)))
       → ((words marks : List ℕ) (at : ℕ → At) → IsSafeWorld about.count words marks at → get_or words word 0 ≢ k → at k ≡ old → IsSafeWorld about.count words marks (moved_to at k (point_refused old)))
-      → Allows Rule slots id (seat old k found fixed l [] plan, []) word (λ n. n) (IsTest shows fixes owner answered (step slots word 0 0 none) (seat old k found fixed l [] plan, []))
+      → Allows Rule slots id (seat old k found fixed l [] plan, []) word (λ n. n) (IsTest shows fixes author answered (step slots word 0 0 none) (seat old k found fixed l [] plan, []))
   tests slots id k word old found fixed l plan is_line on_word out is out' hit miss s r len at small =
       let mine : Fit r.at r.course (seat old k found fixed l [] plan) = r.seats id _ at in
       let v : ℕ = get_or s.words word 0 in
@@ -213,7 +213,7 @@ module _ {S I : Type 0} (shows : S → List I) (fixes : S → List ℕ) (owner :
             st,
             refl,
             home.3 ∙ sym (ap (λ z. z.1) mine.good.0.0),
-            (let G : List I → Type 0 = λ z. Grows owner k l z [] in subst G (sym home.2) mine.good.0.3),
+            (let G : List I → Type 0 = λ z. Grows author k l z [] in subst G (sym home.2) mine.good.0.3),
             λ t. ap (answered k) home.2 ∙ shown_now answered about.count r.course r.marked (r.idle nobody) k number.0 number.1 (mine.told out t),
           );
         },
@@ -233,7 +233,7 @@ module _ {S I : Type 0} (shows : S → List I) (fixes : S → List ℕ) (owner :
       (λ e. let t = times_here c.0 c.1 cs in let P : ℕ → Type 0 = λ i. times i (c ∷ cs) ≡ 0 in let u = subst P (sym e) z in absurd (omega arith))
       (λ ne. ap is_inside (sym on.0) ∙ others_outside about.count words marks at h k is c.0 ne)
 
-  left_home : (s : St) (r : Rule s) (id k : ℕ) (p : At) (found : List I) (fixed : Fixed) (l : List I) (more : List (Claim I)) (plan : Plan I) (st : S) → is_inside p ≡ true → GrowsBy owner k found (shows st) → fixes st ≡ fixed.1
+  left_home : (s : St) (r : Rule s) (id k : ℕ) (p : At) (found : List I) (fixed : Fixed) (l : List I) (more : List (Claim I)) (plan : Plan I) (st : S) → is_inside p ≡ true → GrowsBy author k found (shows st) → fixes st ≡ fixed.1
       → Shows answered fixed.0 found plan (shows st) → get_elem? s.views id ≡ some (seat p k found fixed l more plan)
       → Rule record { words = set s.words 1 0; homes = set s.homes 0 (some (Some st)); views = set s.views id (seat Leaving k (shows st) fixed (shows st) more no_plan) }
   left_home s r id k p found fixed l more plan st is adds same shown at =
@@ -242,8 +242,8 @@ module _ {S I : Type 0} (shows : S → List I) (fixes : S → List ℕ) (owner :
       let mine : Fit r.at r.course v = r.seats id v at in
       let mine_in : is_inside (r.at k) ≡ true = ap is_inside mine.stands.0 ∙ is in
       let lack = others_lack s r id k v l more at refl in
-      let P : List I → Type 0 = λ l. GrowsBy owner k l (shows st) in
-      let adds' : GrowsBy owner k r.course.now (shows st) = subst P (mine.found is) adds in
+      let P : List I → Type 0 = λ l. GrowsBy author k l (shows st) in
+      let adds' : GrowsBy author k r.course.now (shows st) = subst P (mine.found is) adds in
       let count : fixed.0 ≡ about.count = ap (λ z. z.0) mine.good.0.0 in
       let declared = mine.planned is in
       let came : (shows st ≡ r.course.next) ⊎ (r.course.done ≡ []) = ⊎_elim (λ e. inl (e ∙ declared.0)) (λ e. inr (sym declared.1 ∙ e)) shown.0 in
@@ -265,7 +265,7 @@ module _ {S I : Type 0} (shows : S → List I) (fixes : S → List ℕ) (owner :
               found = λ _. refl;
               planned = λ e. absurd (cc);
               told = λ _ t. absurd (cc);
-              good = ((mine.good.0.0, mine.good.0.1, mine.good.0.2, grows_none owner k (shows st)), good_more shows fixes owner about k fixed r.course.now (shows st) adds' more lack.0 mine.good.1);
+              good = ((mine.good.0.0, mine.good.0.1, mine.good.0.2, grows_none author k (shows st)), good_more shows fixes author about k fixed r.course.now (shows st) adds' more lack.0 mine.good.1);
             }
             (λ j d ne g. let f = r.seats j d g in let z = lack.1 j d ne g in
             let outside : is_inside d.at ≡ false = not_inside s.words r.course.marks r.at r.world k mine_in d.at d.claims z f.stands in record {
@@ -273,14 +273,14 @@ module _ {S I : Type 0} (shows : S → List I) (fixes : S → List ℕ) (owner :
               found = λ q. absurd (let z : true ≡ false = sym q ∙ outside in cc);
               planned = λ q. absurd (let z : true ≡ false = sym q ∙ outside in cc);
               told = f.told;
-              good = good_more shows fixes owner about k d.fixed r.course.now (shows st) adds' d.claims z f.good;
+              good = good_more shows fixes author about k d.fixed r.course.now (shows st) adds' d.claims z f.good;
             });
         once = λ j. once_same (claimed j) s.views id v w at refl (r.once j);
         total = total_same many s.views id v w at refl about.count r.total;
       }
 
   -- the store of 0 to y
-  leaves : (slots id k : ℕ) (p : At) (found : List I) (fixed : Fixed) (l : List I) (more : List (Claim I)) (plan : Plan I) (st : S) → is_inside p ≡ true → GrowsBy owner k found (shows st) → fixes st ≡ fixed.1 → Shows answered fixed.0 found plan (shows st)
+  leaves : (slots id k : ℕ) (p : At) (found : List I) (fixed : Fixed) (l : List I) (more : List (Claim I)) (plan : Plan I) (st : S) → is_inside p ≡ true → GrowsBy author k found (shows st) → fixes st ≡ fixed.1 → Shows answered fixed.0 found plan (shows st)
       → Allows Rule slots id (seat p k found fixed l more plan, (0, Some st) ∷ []) 1 (λ _. 0) (λ _. IsLeave shows (step slots 1 0 0 none) (seat p k found fixed l more plan, (0, Some st) ∷ []) 0)
   leaves slots id k p found fixed l more plan st is adds same shown s r len at small = (seat Leaving k (shows st) fixed (shows st) more no_plan, gives, tt, left_home s r id k p found fixed l more plan st is adds same shown at, record { inside = is; on = (refl, refl, refl); stores = refl; goes = refl })
 
@@ -317,7 +317,7 @@ module _ {S I : Type 0} (shows : S → List I) (fixes : S → List ℕ) (owner :
           found = λ q. absurd (cc);
           planned = λ q. absurd (cc);
           told = λ _ t. absurd (cc);
-          good = good_new_claims shows fixes owner about 1 about.count (omega arith) (omega arith);
+          good = good_new_claims shows fixes author about 1 about.count (omega arith) (omega arith);
         };
         once = λ j. let h = new_claims_once I j 1 about.count in omega arith;
         total = total_new;
@@ -338,13 +338,13 @@ module _ {S I : Type 0} (shows : S → List I) (fixes : S → List ℕ) (owner :
       let same : d ≡ v = some-injective d v (sym (subst P e g) ∙ at) in let x : true ≡ false = sym i ∙ ap (λ (z : View I). is_inside z.at) same ∙ ap is_inside o in cc) ∙ g
 
   -- a word that is 1 stays so where seat k stores another's word
-  told_on : (at : ℕ → At) (c : Course I) → Comes shows fixes owner answered about at c → Marked answered about.count c → Stays → (k q : ℕ) (given : List I) → is_inside (at k) ≡ true → GrowsBy owner k c.now given → (given ≡ c.next) ⊎ (c.done ≡ []) → 1 ≤ q → q ≤ about.count
+  told_on : (at : ℕ → At) (c : Course I) → Comes shows fixes author answered about at c → Marked answered about.count c → Stays → (k q : ℕ) (given : List I) → is_inside (at k) ≡ true → GrowsBy author k c.now given → (given ≡ c.next) ⊎ (c.done ≡ []) → 1 ≤ q → q ≤ about.count
       → (p : At) (fixed : Fixed) (cs : List (Claim I)) → On at p cs → is_inside p ≡ false → Each (Good fixed c.now) cs → mark_in c.marks (number_in cs) ≡ 1 → mark_in (set c.marks (q - 1) (flag (answered q given))) (number_in cs) ≡ 1
   told_on at c comes m stays k q given i adds same low high p fixed [] on out good up = absurd (omega (arith, up))
-  told_on at c comes m stays k q given i adds same low high p fixed (d ∷ ds) on out good up = shown_on answered about.count owner stays at c comes m d.0 (ap is_inside on.0 ∙ out) (good.0.1) (good.0.2) k q given i adds same low high up
+  told_on at c comes m stays k q given i adds same low high p fixed (d ∷ ds) on out good up = shown_on answered about.count author stays at c comes m d.0 (ap is_inside on.0 ∙ out) (good.0.1) (good.0.2) k q given i adds same low high up
 
   -- the store of the word s of process q, inside
-  marks_home : (s : St) (r : Rule s) → Stays → (id k : ℕ) (p : At) (found : List I) (fixed : Fixed) (l : List I) (plan : Plan I) (st : S) (q : ℕ) → is_inside p ≡ true → GrowsBy owner k found (shows st) → MayCome answered plan (shows st) → 1 ≤ q → q ≤ fixed.0
+  marks_home : (s : St) (r : Rule s) → Stays → (id k : ℕ) (p : At) (found : List I) (fixed : Fixed) (l : List I) (plan : Plan I) (st : S) (q : ℕ) → is_inside p ≡ true → GrowsBy author k found (shows st) → MayCome answered plan (shows st) → 1 ≤ q → q ≤ fixed.0
       → get_elem? s.views id ≡ some (seat p k found fixed l [] plan)
       → Rule record { words = set s.words (fixed.0 + 1 + q) (flag (answered q (shows st))); homes = s.homes; views = set s.views id (view_marked q (shows st) (seat p k found fixed l [] plan)) }
   marks_home s r stays id k p found fixed l plan st q is adds may low high at =
@@ -353,8 +353,8 @@ module _ {S I : Type 0} (shows : S → List I) (fixes : S → List ℕ) (owner :
       let mine : Fit r.at r.course v = r.seats id v at in
       let mine_in : is_inside (r.at k) ≡ true = ap is_inside mine.stands.0 ∙ is in
       let lack = others_lack s r id k v l [] at refl in
-      let P : List I → Type 0 = λ l. GrowsBy owner k l (shows st) in
-      let adds' : GrowsBy owner k r.course.now (shows st) = subst P (mine.found is) adds in
+      let P : List I → Type 0 = λ l. GrowsBy author k l (shows st) in
+      let adds' : GrowsBy author k r.course.now (shows st) = subst P (mine.found is) adds in
       let count : fixed.0 ≡ about.count = ap (λ z. z.0) mine.good.0.0 in
       let high' : q ≤ about.count = omega arith in
       let declared = mine.planned is in
@@ -384,7 +384,7 @@ module _ {S I : Type 0} (shows : S → List I) (fixes : S → List ℕ) (owner :
         total = total_same many s.views id v w at refl about.count r.total;
       }
 
-  marks : Stays → (slots id k : ℕ) (p : At) (found : List I) (fixed : Fixed) (l : List I) (plan : Plan I) (st : S) (q : ℕ) → is_inside p ≡ true → GrowsBy owner k found (shows st) → MayCome answered plan (shows st) → 1 ≤ q → q ≤ fixed.0
+  marks : Stays → (slots id k : ℕ) (p : At) (found : List I) (fixed : Fixed) (l : List I) (plan : Plan I) (st : S) (q : ℕ) → is_inside p ≡ true → GrowsBy author k found (shows st) → MayCome answered plan (shows st) → 1 ≤ q → q ≤ fixed.0
       → Allows Rule slots id (seat p k found fixed l [] plan, (0, Some st) ∷ []) (fixed.0 + 1 + q) (λ _. flag (answered q (shows st)))
       (λ _. IsMark shows answered (step slots (fixed.0 + 1 + q) (flag (answered q (shows st))) 0 none) (seat p k found fixed l [] plan, (0, Some st) ∷ []) (flag (answered q (shows st))))
   marks stays slots id k p found fixed l plan st q is adds may low high s r len at small = (
@@ -437,7 +437,7 @@ module _ {S I : Type 0} (shows : S → List I) (fixes : S → List ℕ) (owner :
         keeps,
         tt,
         subst (λ ws. Rule record { words = ws; homes = s.homes; views = set s.views id (view_told (word == 1) v) }) (sym (set_back s.words (fixed.0 + 1 + k))) next,
-        record { rests = refl; on = (refl, refl, refl); goes = refl; again = λ t. is ∙ mine.told refl t; left = λ a. is ∙ shown_left answered about.count owner stays r.at r.course r.comes r.marked k out number.0 number.1 l mine.good.0.3 a },
+        record { rests = refl; on = (refl, refl, refl); goes = refl; again = λ t. is ∙ mine.told refl t; left = λ a. is ∙ shown_left answered about.count author stays r.at r.course r.comes r.marked k out number.0 number.1 l mine.good.0.3 a },
       )
 
   -- the first claim goes to a new seat
@@ -504,7 +504,7 @@ module _ {S I : Type 0} (shows : S → List I) (fixes : S → List ℕ) (owner :
 
   -- who has all claims finds the state at home
   ends : (id : ℕ) (found : List I) (fixed : Fixed) (cs : List (Claim I)) (plan : Plan I) (ws : List ℕ) (xs : List (Opt S)) → about.count ≤ length cs → Final (Seen Rule id (seat_view Rest found fixed cs plan)) ws xs
-      → (st : S) × (get_elem? xs 0 ≡ some (Some st)) × (fixes st ≡ fixes about.state.value) × Each (λ (c : Claim I). Grows owner c.0 c.1 (shows st) []) cs
+      → (st : S) × (get_elem? xs 0 ≡ some (Some st)) × (fixes st ≡ fixes about.state.value) × Each (λ (c : Claim I). Grows author c.0 c.1 (shows st) []) cs
   ends id found fixed cs plan ws xs all fin =
       let v : View I = seat_view Rest found fixed cs plan in
       let s : St = fin.0 in
@@ -520,8 +520,8 @@ module _ {S I : Type 0} (shows : S → List I) (fixes : S → List ℕ) (owner :
       let o : sum_over many s.views ≡ about.count = r.total in omega arith) in
       let home = r.home nobody in
       let st : S = home.0 in
-      let P : List I → Type 0 = λ z. Each (λ (c : Claim I). Grows owner c.0 c.1 z []) cs in
-      (st, fin.4 0 (Some st) (ap (λ h. get_elem? h 0) home.1), home.3, subst P (sym home.2) (good_grows shows fixes owner about fixed r.course.now cs mine.good))
+      let P : List I → Type 0 = λ z. Each (λ (c : Claim I). Grows author c.0 c.1 z []) cs in
+      (st, fin.4 0 (Some st) (ap (λ h. get_elem? h 0) home.1), home.3, subst P (sym home.2) (good_grows shows fixes author about fixed r.course.now cs mine.good))
 
   -- The same, for a seat alone that is known by an equation.
   abbrev me_at : At → ℕ → List I → Fixed → List I → Plan I → Me (Opt S) (View I)
@@ -542,8 +542,8 @@ module _ {S I : Type 0} (shows : S → List I) (fixes : S → List ℕ) (owner :
   tests_at : (slots id k word : ℕ) (old : At) (me : Me (Opt S) (View I)) (found : List I) (fixed : Fixed) (l : List I) (plan : Plan I) → tests_line old ≡ true → word ≡ word_loaded old → is_inside old ≡ false → is_inside (point_admitted old) ≡ true → is_inside (point_refused old) ≡ false
       → ((words marks : List ℕ) (at : ℕ → At) → IsSafeWorld about.count words marks at → get_or words word 0 ≡ k → at k ≡ old → IsSafeWorld about.count words marks (moved_to at k (point_admitted old)))
       → ((words marks : List ℕ) (at : ℕ → At) → IsSafeWorld about.count words marks at → get_or words word 0 ≢ k → at k ≡ old → IsSafeWorld about.count words marks (moved_to at k (point_refused old)))
-      → me ≡ me_at old k found fixed l plan → Allows Rule slots id me word (λ n. n) (IsTest shows fixes owner answered (step slots word 0 0 none) me)
-  tests_at slots id k word old me found fixed l plan is_line on_word out is out' hit miss e = let P : Me (Opt S) (View I) → Type 0 = λ m. Allows Rule slots id m word (λ n. n) (IsTest shows fixes owner answered (step slots word 0 0 none) m) in
+      → me ≡ me_at old k found fixed l plan → Allows Rule slots id me word (λ n. n) (IsTest shows fixes author answered (step slots word 0 0 none) me)
+  tests_at slots id k word old me found fixed l plan is_line on_word out is out' hit miss e = let P : Me (Opt S) (View I) → Type 0 = λ m. Allows Rule slots id m word (λ n. n) (IsTest shows fixes author answered (step slots word 0 0 none) m) in
       subst P (sym e) (tests slots id k word old found fixed l plan is_line on_word out is out' hit miss)
 
   -- Each line of the algorithm, for the seat of a walk.
@@ -596,13 +596,13 @@ module _ {S I : Type 0} (shows : S → List I) (fixes : S → List ℕ) (owner :
     pub loads_flag_at : (j : ℕ) → me ≡ me_at (Scan j) k found fixed l plan → Allows Rule slots id me (j + 1) (λ n. n) (IsLoad (step slots (j + 1) 0 0 none) me)
     loads_flag_at j = loads_at slots id k (j + 1) (Scan j) me found fixed l plan refl refl refl (λ v. scan_outside j (eqb v 1) (eqb j fixed.0)) (λ ws ms at w e. loads_flag about.count ws ms at w k j e)
 
-    pub tests_x_at : me ≡ me_at TestX k found fixed l plan → Allows Rule slots id me 0 (λ n. n) (IsTest shows fixes owner answered (step slots 0 0 0 none) me)
+    pub tests_x_at : me ≡ me_at TestX k found fixed l plan → Allows Rule slots id me 0 (λ n. n) (IsTest shows fixes author answered (step slots 0 0 0 none) me)
     tests_x_at = tests_at slots id k 0 TestX me found fixed l plan refl refl refl refl refl (λ ws ms at w is e. admits_fast about.count ws ms at w k is e) (λ ws ms at w ne e. refuses_fast about.count ws ms at w k ne e)
 
-    pub tests_y_at : me ≡ me_at SlowY k found fixed l plan → Allows Rule slots id me 1 (λ n. n) (IsTest shows fixes owner answered (step slots 1 0 0 none) me)
+    pub tests_y_at : me ≡ me_at SlowY k found fixed l plan → Allows Rule slots id me 1 (λ n. n) (IsTest shows fixes author answered (step slots 1 0 0 none) me)
     tests_y_at = tests_at slots id k 1 SlowY me found fixed l plan refl refl refl refl refl (λ ws ms at w is e. admits_slow about.count ws ms at w k is e) (λ ws ms at w ne e. refuses_slow about.count ws ms at w k ne e)
 
-    pub leaves_at : (p : At) (st : S) → me ≡ (seat p k found fixed l [] plan, (0, Some st) ∷ []) → is_inside p ≡ true → GrowsBy owner k found (shows st) → fixes st ≡ fixed.1 → Shows answered fixed.0 found plan (shows st)
+    pub leaves_at : (p : At) (st : S) → me ≡ (seat p k found fixed l [] plan, (0, Some st) ∷ []) → is_inside p ≡ true → GrowsBy author k found (shows st) → fixes st ≡ fixed.1 → Shows answered fixed.0 found plan (shows st)
         → Allows Rule slots id me 1 (λ _. 0) (λ _. IsLeave shows (step slots 1 0 0 none) me 0)
     leaves_at p st e is adds same shown = let P : Me (Opt S) (View I) → Type 0 = λ m. Allows Rule slots id m 1 (λ _. 0) (λ _. IsLeave shows (step slots 1 0 0 none) m 0) in
         subst P (sym e) (leaves slots id k p found fixed l [] plan st is adds same shown)
@@ -612,15 +612,15 @@ module _ {S I : Type 0} (shows : S → List I) (fixes : S → List ℕ) (owner :
       subst (λ w. P w me) (sym on_word) (subst (P (fixed.0 + 1 + k)) (sym e) (looks stays slots id k found fixed l plan))
 
   -- the view of a seat that is ready to leave
-  ready_is : (me : Me (Opt S) (View I)) (r : IsReady shows fixes owner answered me) → me ≡ (seat me.0.at (number_in me.0.claims) me.0.found me.0.fixed (last_left me.0.claims) [] me.0.plan, (0, Some r.full.0) ∷ [])
+  ready_is : (me : Me (Opt S) (View I)) (r : IsReady shows fixes author answered me) → me ≡ (seat me.0.at (number_in me.0.claims) me.0.found me.0.fixed (last_left me.0.claims) [] me.0.plan, (0, Some r.full.0) ∷ [])
   ready_is me r = λ i. (seat_view me.0.at me.0.found me.0.fixed (r.alone i) me.0.plan, r.full.1 i)
 
-  pub marks_at : Stays → (slots id q word v : ℕ) (me : Me (Opt S) (View I)) → IsReady shows fixes owner answered me → 1 ≤ q → q ≤ me.0.fixed.0 → word ≡ me.0.fixed.0 + 1 + q → v ≡ flag (answered q (list_in shows me.1))
+  pub marks_at : Stays → (slots id q word v : ℕ) (me : Me (Opt S) (View I)) → IsReady shows fixes author answered me → 1 ≤ q → q ≤ me.0.fixed.0 → word ≡ me.0.fixed.0 + 1 + q → v ≡ flag (answered q (list_in shows me.1))
       → Allows Rule slots id me word (λ _. v) (λ _. IsMark shows answered (step slots word v 0 none) me v)
   marks_at stays slots id q word v me r low high on_word with_value =
       let st : S = r.full.0 in
       let given : list_in shows me.1 ≡ shows st = ap (list_in shows) r.full.1 in
-      let G : List I → Type 0 = λ l. GrowsBy owner (number_in me.0.claims) me.0.found l in
+      let G : List I → Type 0 = λ l. GrowsBy author (number_in me.0.claims) me.0.found l in
       let M : List I → Type 0 = λ l. MayCome answered me.0.plan l in
       let one = marks stays slots id (number_in me.0.claims) me.0.at me.0.found me.0.fixed (last_left me.0.claims) me.0.plan st q r.inside (subst G given r.adds) (subst M given r.may) low high in
       let P : Me (Opt S) (View I) → Type 0 = λ m. Allows Rule slots id m (me.0.fixed.0 + 1 + q) (λ _. flag (answered q (shows st))) (λ _. IsMark shows answered (step slots (me.0.fixed.0 + 1 + q) (flag (answered q (shows st))) 0 none) m (flag (answered q (shows st)))) in
@@ -629,11 +629,11 @@ module _ {S I : Type 0} (shows : S → List I) (fixes : S → List ℕ) (owner :
       subst (λ w. Q w v) (sym on_word) (subst (Q (me.0.fixed.0 + 1 + q)) (sym (with_value ∙ ap (λ l. flag (answered q l)) given)) two)
 
   -- the store of 0 to y by a seat that is ready
-  pub leaves_ready : (slots id : ℕ) (me : Me (Opt S) (View I)) → IsReady shows fixes owner answered me → Shows answered me.0.fixed.0 me.0.found me.0.plan (list_in shows me.1) → Allows Rule slots id me 1 (λ _. 0) (λ _. IsLeave shows (step slots 1 0 0 none) me 0)
+  pub leaves_ready : (slots id : ℕ) (me : Me (Opt S) (View I)) → IsReady shows fixes author answered me → Shows answered me.0.fixed.0 me.0.found me.0.plan (list_in shows me.1) → Allows Rule slots id me 1 (λ _. 0) (λ _. IsLeave shows (step slots 1 0 0 none) me 0)
   leaves_ready slots id me r shown =
       let st : S = r.full.0 in
       let given : list_in shows me.1 ≡ shows st = ap (list_in shows) r.full.1 in
-      let G : List I → Type 0 = λ l. GrowsBy owner (number_in me.0.claims) me.0.found l in
+      let G : List I → Type 0 = λ l. GrowsBy author (number_in me.0.claims) me.0.found l in
       let H : List I → Type 0 = λ l. Shows answered me.0.fixed.0 me.0.found me.0.plan l in
       leaves_at slots id (number_in me.0.claims) me me.0.found me.0.fixed (last_left me.0.claims) me.0.plan me.0.at st (ready_is me r) r.inside (subst G given r.adds) r.full.2 (subst H given shown)
 
@@ -645,32 +645,32 @@ module _ {S I : Type 0} (shows : S → List I) (fixes : S → List ℕ) (owner :
       subst (λ x. P x w) (sym e) (subst (λ y. P (seat_view Rest found fixed cs plan) y) (sym d) (joins id found fixed cs plan other found' ds plan'))
 
   pub ends_at : (id : ℕ) (v : View I) (found : List I) (fixed : Fixed) (cs : List (Claim I)) (plan : Plan I) (ws : List ℕ) (xs : List (Opt S)) → v ≡ seat_view Rest found fixed cs plan → about.count ≤ length cs → Final (Seen Rule id v) ws xs
-      → (st : S) × (get_elem? xs 0 ≡ some (Some st)) × (fixes st ≡ fixes about.state.value) × Each (λ (c : Claim I). Grows owner c.0 c.1 (shows st) []) cs
+      → (st : S) × (get_elem? xs 0 ≡ some (Some st)) × (fixes st ≡ fixes about.state.value) × Each (λ (c : Claim I). Grows author c.0 c.1 (shows st) []) cs
   ends_at id v found fixed cs plan ws xs e all fin = let P : View I → Type 0 = λ x. Final (Seen Rule id x) ws xs in ends id found fixed cs plan ws xs all (subst P e fin)
 
   pub finishes : (id : ℕ) (v : View I) (found : List I) (fixed : Fixed) (cs : List (Claim I)) (plan : Plan I) (ws : List ℕ) (xs : List (Opt S)) (result : S) → v ≡ seat_view Rest found fixed cs plan → about.count ≤ length cs → Final (Seen Rule id v) ws xs
-      → get_elem? xs 0 ≡ some (Some result) → (fixes result ≡ fixes about.state.value) × Each (λ (c : Claim I). Grows owner c.0 c.1 (shows result) []) cs
+      → get_elem? xs 0 ≡ some (Some result) → (fixes result ≡ fixes about.state.value) × Each (λ (c : Claim I). Grows author c.0 c.1 (shows result) []) cs
   finishes id v found fixed cs plan ws xs result e all fin got = let r = ends_at id v found fixed cs plan ws xs e all fin in
       let st : S = r.0 in
       let both : some (Some st) ≡ some (Some result) = sym r.1 ∙ got in
       let same : st ≡ result = cc in
-      let P : S → Type 0 = λ x. (fixes x ≡ fixes about.state.value) × Each (λ (c : Claim I). Grows owner c.0 c.1 (shows x) []) cs in subst P same (r.2, r.3)
+      let P : S → Type 0 = λ x. (fixes x ≡ fixes about.state.value) × Each (λ (c : Claim I). Grows author c.0 c.1 (shows x) []) cs in subst P same (r.2, r.3)
 
 -- a scan is at the flag of a process
 pub scan_process : (n j steps : ℕ) (p : At) → IsCounted n p steps → p ≡ Scan j → IsProcess n j
 scan_process n j steps p h e = let P : At → Type 0 = λ q. IsCounted n q steps in (subst P e h).0
 
 -- what is known of a seat that stores words s
-module _ {S I : Type 0} (shows : S → List I) (fixes : S → List ℕ) (owner : I → ℕ) (answered : ℕ → List I → Bool) where
+module _ {S I : Type 0} (shows : S → List I) (fixes : S → List ℕ) (author : I → ℕ) (answered : ℕ → List I → Bool) where
   -- a seat that has its state in the slot again is ready
-  pub ready_from : (me : Me (Opt S) (View I)) (p : At) (k : ℕ) (found : List I) (fixed : Fixed) (l : List I) (plan : Plan I) (st : S) → me ≡ (seat_view p found fixed ((k, l) ∷ []) plan, (0, Some st) ∷ []) → is_inside p ≡ true → GrowsBy owner k found (shows st) → fixes st ≡ fixed.1 → plan.stored ≡ []
-      → IsReady shows fixes owner answered me
-  ready_from me p k found fixed l plan st e is adds same blank = let P : Me (Opt S) (View I) → Type 0 = λ m. IsReady shows fixes owner answered m in
+  pub ready_from : (me : Me (Opt S) (View I)) (p : At) (k : ℕ) (found : List I) (fixed : Fixed) (l : List I) (plan : Plan I) (st : S) → me ≡ (seat_view p found fixed ((k, l) ∷ []) plan, (0, Some st) ∷ []) → is_inside p ≡ true → GrowsBy author k found (shows st) → fixes st ≡ fixed.1 → plan.stored ≡ []
+      → IsReady shows fixes author answered me
+  ready_from me p k found fixed l plan st e is adds same blank = let P : Me (Opt S) (View I) → Type 0 = λ m. IsReady shows fixes author answered m in
       subst P (sym e) record { inside = is; alone = refl; full = (st, refl, same); adds = adds; may = inr blank }
 
   -- it stays so when it has stored a word s
-  pub ready_on : (me me' : Me (Opt S) (View I)) (q : ℕ) → IsReady shows fixes owner answered me → me' ≡ (view_marked q (list_in shows me.1) me.0, me.1) → IsReady shows fixes owner answered me'
-  ready_on me me' q r e = let P : Me (Opt S) (View I) → Type 0 = λ m. IsReady shows fixes owner answered m in
+  pub ready_on : (me me' : Me (Opt S) (View I)) (q : ℕ) → IsReady shows fixes author answered me → me' ≡ (view_marked q (list_in shows me.1) me.0, me.1) → IsReady shows fixes author answered me'
+  ready_on me me' q r e = let P : Me (Opt S) (View I) → Type 0 = λ m. IsReady shows fixes author answered m in
       subst P (sym e) record { inside = r.inside; alone = r.alone; full = r.full; adds = r.adds; may = inl refl }
 
   -- what is known of the seat before it stored the words, of the seat after
@@ -680,10 +680,10 @@ module _ {S I : Type 0} (shows : S → List I) (fixes : S → List ℕ) (owner :
   -- The seat was as `me0` with its state in the slot, and has stored the words of the processes below k that differ.
   pub record IsMarking (me0 : Me (Opt S) (View I)) (k : ℕ) (me : Me (Opt S) (View I)) : Type 0 where
     pub view : me ≡ (view_planned me.0.plan me0.0, me0.1)
-    pub ready : IsReady shows fixes owner answered me
+    pub ready : IsReady shows fixes author answered me
     pub done : Done answered me0.0.found (list_in shows me0.1) k me.0.plan.stored
 
-  pub marking_none : (me : Me (Opt S) (View I)) → IsReady shows fixes owner answered me → IsMarking me 1 me
+  pub marking_none : (me : Me (Opt S) (View I)) → IsReady shows fixes author answered me → IsMarking me 1 me
   marking_none me r = record { view = refl; ready = r; done = done_none answered me.0.found (list_in shows me.1) me.0.plan.stored }
 
   pub marking_same : (me0 me me' : Me (Opt S) (View I)) (k : ℕ) → IsMarking me0 k me → answered k me0.0.found ≡ answered k (list_in shows me0.1) → me' ≡ me → IsMarking me0 (k + 1) me'

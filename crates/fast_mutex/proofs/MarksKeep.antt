@@ -82,26 +82,26 @@ module _ {I : Type 0} (answered : ℕ → List I → Bool) (n : ℕ) where
   shown_now c m none_yet p low high up = let no : has p c.done ≡ false = ap (has p) none_yet in
       flag_up (answered p c.now) (ap (λ b. flag (answered p (cond b c.next c.now))) (sym no) ∙ sym (m.1 p low high) ∙ up)
 
-  module _ (owner : I → ℕ) (stays : (p : ℕ) (more before : List I) → All (λ x. owner x ≢ p) more → answered p before ≡ true → answered p (more ++ before) ≡ true) where
-    lacks : (p : ℕ) (xs : List I) → items_of owner p xs ≡ [] → Each (λ x. owner x ≢ p) xs
+  module _ (author : I → ℕ) (stays : (p : ℕ) (more before : List I) → All (λ x. author x ≢ p) more → answered p before ≡ true → answered p (more ++ before) ≡ true) where
+    lacks : (p : ℕ) (xs : List I) → items_of author p xs ≡ [] → Each (λ x. author x ≢ p) xs
     lacks p [] e = tt
-    lacks p (x ∷ xs) e = dite (ℕ_discrete (owner x) p)
-        (λ q. let h : x ∷ items_of owner p xs ≡ [] = ap (λ b. cond b (x ∷ items_of owner p xs) (items_of owner p xs)) (sym (eq-eqb (owner x) p q)) ∙ e in absurd (cc))
-        (λ nq. (nq, lacks p xs (ap (λ b. cond b (x ∷ items_of owner p xs) (items_of owner p xs)) (sym (ne_eqb (owner x) p nq)) ∙ e)))
+    lacks p (x ∷ xs) e = dite (ℕ_discrete (author x) p)
+        (λ q. let h : x ∷ items_of author p xs ≡ [] = ap (λ b. cond b (x ∷ items_of author p xs) (items_of author p xs)) (sym (eq-eqb (author x) p q)) ∙ e in absurd (cc))
+        (λ nq. (nq, lacks p xs (ap (λ b. cond b (x ∷ items_of author p xs) (items_of author p xs)) (sym (ne_eqb (author x) p nq)) ∙ e)))
 
     -- what k adds takes no answer of p away
-    still : (k p : ℕ) (now next : List I) → k ≢ p → GrowsBy owner k now next → answered p now ≡ true → answered p next ≡ true
-    still k p now next ne g a = let others : Each (λ x. owner x ≢ p) g.behind = each_weaker (λ x. owner x ≡ k) (λ x. owner x ≢ p) (λ x e q. ne (sym e ∙ q)) g.behind (recursion_from_All (λ x. owner x ≡ k) g.behind g.mine) in
-        ap (answered p) g.is ∙ stays p g.behind now (All-from_recursion (λ x. owner x ≢ p) g.behind others) a
+    still : (k p : ℕ) (now next : List I) → k ≢ p → GrowsBy author k now next → answered p now ≡ true → answered p next ≡ true
+    still k p now next ne g a = let others : Each (λ x. author x ≢ p) g.behind = each_weaker (λ x. author x ≡ k) (λ x. author x ≢ p) (λ x e q. ne (sym e ∙ q)) g.behind (recursion_from_All (λ x. author x ≡ k) g.behind g.mine) in
+        ap (answered p) g.is ∙ stays p g.behind now (All-from_recursion (λ x. author x ≢ p) g.behind others) a
 
-    still_seen : (p : ℕ) (left now : List I) → Grows owner p left now [] → answered p left ≡ true → answered p now ≡ true
-    still_seen p left now g a = ap (answered p) g.is ∙ stays p g.behind left (All-from_recursion (λ x. owner x ≢ p) g.behind (lacks p g.behind g.mine)) a
+    still_seen : (p : ℕ) (left now : List I) → Grows author p left now [] → answered p left ≡ true → answered p now ≡ true
+    still_seen p left now g a = ap (answered p) g.is ∙ stays p g.behind left (All-from_recursion (λ x. author x ≢ p) g.behind (lacks p g.behind g.mine)) a
 
     -- who is inside is another than who is outside
     apart : (at : ℕ → At) (k p : ℕ) → is_inside (at k) ≡ true → is_inside (at p) ≡ false → k ≢ p
     apart at k p i o e = let q : true ≡ false = sym i ∙ ap (λ z. is_inside (at z)) e ∙ o in absurd (cc)
 
-    module _ (at : ℕ → At) (c : Course I) (comes : (c.next ≡ c.now) ⊎ ((k : ℕ) × (is_inside (at k) ≡ true) × GrowsBy owner k c.now c.next)) (m : Marked answered n c)
+    module _ (at : ℕ → At) (c : Course I) (comes : (c.next ≡ c.now) ⊎ ((k : ℕ) × (is_inside (at k) ≡ true) × GrowsBy author k c.now c.next)) (m : Marked answered n c)
         (p : ℕ) (out : is_inside (at p) ≡ false) (low : 1 ≤ p) (high : p ≤ n) where
       still_next : answered p c.now ≡ true → answered p c.next ≡ true
       still_next a = ⊎_elim (λ e. ap (answered p) e ∙ a) (λ t. still t.0 p c.now c.next (apart at t.0 p t.1 out) t.2 a) comes
@@ -112,13 +112,13 @@ module _ {I : Type 0} (answered : ℕ → List I → Bool) (n : ℕ) where
           split (has p c.done) (λ b. answered p (cond b c.next c.now) ≡ true → answered p c.next ≡ true) (λ _ h. h) (λ _ h. still_next h) a
 
       -- where the list that p last left answers it, the word is 1
-      pub shown_left : (left : List I) → Grows owner p left c.now [] → answered p left ≡ true → mark_in c.marks p ≡ 1
+      pub shown_left : (left : List I) → Grows author p left c.now [] → answered p left ≡ true → mark_in c.marks p ≡ 1
       shown_left left g a = let here : answered p c.now ≡ true = still_seen p left c.now g a in
           let both : answered p (cond (has p c.done) c.next c.now) ≡ true = split (has p c.done) (λ b. answered p (cond b c.next c.now) ≡ true) (λ _. still_next here) (λ _. here) in
           m.1 p low high ∙ ap flag both
 
       -- a word that is 1 stays so where another process stores words
-      pub shown_on : (k q : ℕ) (given : List I) → is_inside (at k) ≡ true → GrowsBy owner k c.now given → (given ≡ c.next) ⊎ (c.done ≡ []) → 1 ≤ q → q ≤ n → mark_in c.marks p ≡ 1 → mark_in (set c.marks (q - 1) (flag (answered q given))) p ≡ 1
+      pub shown_on : (k q : ℕ) (given : List I) → is_inside (at k) ≡ true → GrowsBy author k c.now given → (given ≡ c.next) ⊎ (c.done ≡ []) → 1 ≤ q → q ≤ n → mark_in c.marks p ≡ 1 → mark_in (set c.marks (q - 1) (flag (answered q given))) p ≡ 1
       shown_on k q given i g same some few up = dite (ℕ_discrete p q)
           (λ e. let wide : length c.marks ≡ n = m.0 in
           let a : answered p given ≡ true = ⊎_elim (λ d. ap (answered p) d ∙ shown_next up)

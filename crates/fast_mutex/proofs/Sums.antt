@@ -85,18 +85,18 @@ module _ (I : Type 0) where
   length-new_claims k zero = refl
   length-new_claims k (suc n) = ap suc (length-new_claims (suc k) n)
 
-module _ {I : Type 0} (owner : I → ℕ) where
-  pub own_lacks : (k j : ℕ) → j ≢ k → (xs : List I) → Each (λ x. owner x ≡ k) xs → items_of owner j xs ≡ []
+module _ {I : Type 0} (author : I → ℕ) where
+  pub own_lacks : (k j : ℕ) → j ≢ k → (xs : List I) → Each (λ x. author x ≡ k) xs → items_of author j xs ≡ []
   own_lacks k j n [] own = refl
-  own_lacks k j n (x ∷ xs) own = ap (λ b. cond b (x ∷ items_of owner j xs) (items_of owner j xs)) (ne_eqb (owner x) j (λ e. n (sym e ∙ own.0))) ∙ own_lacks k j n xs own.1
+  own_lacks k j n (x ∷ xs) own = ap (λ b. cond b (x ∷ items_of author j xs) (items_of author j xs)) (ne_eqb (author x) j (λ e. n (sym e ∙ own.0))) ∙ own_lacks k j n xs own.1
 
   -- what k added is not j's
-  pub grows_more : (k j : ℕ) (seen now next : List I) → j ≢ k → Grows owner j seen now [] → GrowsBy owner k now next → Grows owner j seen next []
+  pub grows_more : (k j : ℕ) (seen now next : List I) → j ≢ k → Grows author j seen now [] → GrowsBy author k now next → Grows author j seen next []
   grows_more k j seen now next n g a = record {
     behind = a.behind ++ g.behind;
     is = a.is ∙ ap (λ l. a.behind ++ l) g.is ∙ sym (append_assoc a.behind g.behind seen);
-    mine = filter-append (λ x. eqb (owner x) j) a.behind g.behind ∙ (λ i. own_lacks k j n a.behind (recursion_from_All (λ x. owner x ≡ k) a.behind a.mine) i ++ g.mine i);
+    mine = filter-append (λ x. eqb (author x) j) a.behind g.behind ∙ (λ i. own_lacks k j n a.behind (recursion_from_All (λ x. author x ≡ k) a.behind a.mine) i ++ g.mine i);
   }
 
-  pub grows_none : (j : ℕ) (now : List I) → Grows owner j now now []
+  pub grows_none : (j : ℕ) (now : List I) → Grows author j now now []
   grows_none j now = record { behind = []; is = refl; mine = refl }

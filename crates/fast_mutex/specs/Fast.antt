@@ -98,7 +98,7 @@ module _ {S I : Type 0} (fixes : S → List ℕ) where
   first_view about = seat_view Rest [] (made_with fixes about) (new_claims 1 about.count) no_plan
 
 -- the rule
-module _ {S I : Type 0} (shows : S → List I) (fixes : S → List ℕ) (owner : I → ℕ) (answered : ℕ → List I → Bool) (about : About S) where
+module _ {S I : Type 0} (shows : S → List I) (fixes : S → List ℕ) (author : I → ℕ) (answered : ℕ → List I → Bool) (about : About S) where
   -- the process of the seat stands at its point, and those joined to it at Rest
   abbrev pub Stands : (ℕ → At) → At → List (Claim I) → Type 0
   Stands at p [] = p ≡ Rest
@@ -111,11 +111,11 @@ module _ {S I : Type 0} (shows : S → List I) (fixes : S → List ℕ) (owner :
     pub found : is_inside v.at ≡ true → v.found ≡ course.now
     pub planned : is_inside v.at ≡ true → (v.plan.next ≡ course.next) × (v.plan.stored ≡ course.done)
     pub told : is_inside v.at ≡ false → v.plan.told ≡ true → mark_in course.marks (number_in v.claims) ≡ 1
-    pub good : Each (IsGood shows fixes owner about v.fixed course.now) v.claims
+    pub good : Each (IsGood shows fixes author about v.fixed course.now) v.claims
 
   -- the list to come is the current one, or that with items of the process inside in front
   abbrev pub Comes : (ℕ → At) → Course I → Type 0
-  Comes at c = (c.next ≡ c.now) ⊎ ((k : ℕ) × (is_inside (at k) ≡ true) × GrowsBy owner k c.now c.next)
+  Comes at c = (c.next ≡ c.now) ⊎ ((k : ℕ) × (is_inside (at k) ≡ true) × GrowsBy author k c.now c.next)
 
   -- `at` has the points of the processes, and `course` the current list, the list to come and the words s
   pub record KeepsRule (s : State (Opt S) (View I)) : Type 0 where
@@ -232,7 +232,7 @@ module _ {S I : Type 0} (answered : ℕ → List I → Bool) where
     pub again : me.0.plan.told ≡ true → found ≡ 1
     pub left : answered (number_in me.0.claims) (last_left me.0.claims) ≡ true → found ≡ 1
 
-module _ {S I : Type 0} (shows : S → List I) (fixes : S → List ℕ) (owner : I → ℕ) (answered : ℕ → List I → Bool) where
+module _ {S I : Type 0} (shows : S → List I) (fixes : S → List ℕ) (author : I → ℕ) (answered : ℕ → List I → Bool) where
   -- A line that loads, and admits a seat exactly where it finds its number: the seat then has the state, whose list has
   -- grown from the one that it left by others' items. Where the seat was told, the list answers its wait.
   pub record IsTest (t : Step (Opt S)) (me : Me (Opt S) (View I)) (found : ℕ) (me' : Me (Opt S) (View I)) : Type 0 where
@@ -240,7 +240,7 @@ module _ {S I : Type 0} (shows : S → List I) (fixes : S → List ℕ) (owner :
     pub on : IsOn t (word_loaded me.0.at) 0
     pub refused : found ≢ number_in me.0.claims → me' ≡ (view_at (point_refused me.0.at) me.0, me.1)
     pub admitted : found ≡ number_in me.0.claims → (st : S) × (me' ≡ (view_inside (point_admitted me.0.at) (shows st) me.0, (0, Some st) ∷ [])) × (fixes st ≡ me.0.fixed.1)
-        × Grows owner (number_in me.0.claims) (last_left me.0.claims) (shows st) [] × (me.0.plan.told ≡ true → answered (number_in me.0.claims) (shows st) ≡ true)
+        × Grows author (number_in me.0.claims) (last_left me.0.claims) (shows st) [] × (me.0.plan.told ≡ true → answered (number_in me.0.claims) (shows st) ≡ true)
 
 module _ {S I : Type 0} (shows : S → List I) where
   -- the list of the state that a seat has in its slot
@@ -280,13 +280,13 @@ module _ {I : Type 0} (answered : ℕ → List I → Bool) where
   abbrev pub Shows : ℕ → List I → Plan I → List I → Type 0
   Shows n found plan given = MayCome plan given × ((q : ℕ) → 1 ≤ q → q ≤ n → has q plan.stored ≡ false → answered q found ≡ answered q given)
 
-module _ {S I : Type 0} (shows : S → List I) (fixes : S → List ℕ) (owner : I → ℕ) (answered : ℕ → List I → Bool) where
+module _ {S I : Type 0} (shows : S → List I) (fixes : S → List ℕ) (author : I → ℕ) (answered : ℕ → List I → Bool) where
   -- the seat of one process is inside, and has in its slot the state to give back, whose list has grown by its own items
   pub record IsReady (me : Me (Opt S) (View I)) : Type 0 where
     pub inside : is_inside me.0.at ≡ true
     pub alone : me.0.claims ≡ (number_in me.0.claims, last_left me.0.claims) ∷ []
     pub full : (st : S) × (me.1 ≡ (0, Some st) ∷ []) × (fixes st ≡ me.0.fixed.1)
-    pub adds : GrowsBy owner (number_in me.0.claims) me.0.found (list_in shows me.1)
+    pub adds : GrowsBy author (number_in me.0.claims) me.0.found (list_in shows me.1)
     pub may : MayCome answered me.0.plan (list_in shows me.1)
 
 module _ {S I : Type 0} where

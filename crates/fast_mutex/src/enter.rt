@@ -20,7 +20,7 @@ pub trait Enter<S: Logged>: Lock<S> {
         requires { (Self.ticket seat).lock ≡ Self.id self.now }
         ensures stay { Self.stay result.0 ≡ record (Self.ticket seat) { left = S.items result.1 } }
         ensures fixed { S.fixed result.1 ≡ (Self.id self.now).fixed }
-        ensures grows { Grows S.owner (Self.ticket seat).number (Self.ticket seat).left (S.items result.1) [] }
+        ensures grows { Grows S.author (Self.ticket seat).number (Self.ticket seat).left (S.items result.1) [] }
         ensures told { (Self.ticket seat).told ≡ true → S.is_answered (Self.ticket seat).number (S.items result.1) ≡ true }
         ensures number { (1 ≤ (Self.ticket seat).number) × ((Self.ticket seat).number ≤ (Self.id self.now).count) };
 }
@@ -28,7 +28,11 @@ pub trait Enter<S: Logged>: Lock<S> {
 impl<S: Logged, L: Lock<S>> Enter<S> for L {
     #[inline(always)]
     fn come_in<R: Wait>(&self, rt: &R, walk: L::Walk) -> L::Walk {
-        wait_in(self, rt, hasten(self, walk))
+        let hastened = hasten(self, walk);
+        if L::is_admitted(&hastened) {
+            return hastened;
+        }
+        wait_apart(self, rt, hastened)
     }
 
     fn enter<R: Wait>(&self, rt: &R, seat: L::Seat) -> (L::Inside, S) {
@@ -36,8 +40,21 @@ impl<S: Logged, L: Lock<S>> Enter<S> for L {
     }
 }
 
+// The walk that has to wait lies in places of its own, so that one that has come in is never more than the registers that hold it.
+#[inline(always)]
+fn wait_apart<S: Logged, L: Lock<S>, R: Wait>(lock: &L, rt: &R, walk: L::Walk) -> L::Walk
+    requires { (L.walking walk).lock ≡ L.id lock.now }
+    ensures ticket { L.walking result ≡ L.walking walk }
+    ensures inside { L.is_in result ≡ true }
+{
+    let apart = walk;
+    let waited = wait_in(lock, rt, apart);
+    waited
+}
+
 // Step by step. It backs off after a step that left the walk where it was, longer each time, and begins anew with the back-off once
-// the walk has moved.
+// the walk has moved. It stands apart, so that the way of an entry that meets nobody has no more than that needs.
+#[inline(never)]
 fn wait_in<S: Logged, L: Lock<S>, R: Wait>(lock: &L, rt: &R, mut walk: L::Walk) -> L::Walk
     requires { (L.walking walk).lock ≡ L.id lock.now }
     ensures ticket { L.walking result ≡ L.walking walk }

@@ -14,8 +14,9 @@ ghost use Rattle.fast_mutex.specs.Fast.{seat_view, no_plan, view_planned, view_m
 
 use crate::lock::Missing;
 use crate::logged::Logged;
-use crate::word::{About, take_state};
-use atomic_table::{Refused, Seat, Table};
+use crate::slot::{furnish, put_in, take_out, take_state};
+use crate::word::About;
+use atomic_table::{Seat, Table};
 use lamport_core::At;
 use std::alloc::{AllocError, Global};
 use std::snapshot::Snapshot;
@@ -64,7 +65,7 @@ pub struct Walk<S: Logged> {
     ghost range: { (1 ≤ number) × (number ≤ seat.me.0.fixed.0) },
     ghost alone: { seat.me ≡ (seat_view at seat.me.0.found seat.me.0.fixed ((number, last_left seat.me.0.claims) ∷ []) seat.me.0.plan, slots_at at) },
     ghost held: { state_shown S.items S.fixed state ≡ state_at at seat.me.0.found seat.me.0.fixed },
-    ghost grown: { is_inside at ≡ true → HasGrown S.owner number (last_left seat.me.0.claims) seat.me.0.found },
+    ghost grown: { is_inside at ≡ true → HasGrown S.author number (last_left seat.me.0.claims) seat.me.0.found },
     ghost unstored: { is_inside at ≡ true → seat.me.0.plan.stored ≡ [] },
     ghost told: { is_inside at ≡ true → seat.me.0.plan.told ≡ true → S.is_answered number seat.me.0.found ≡ true },
     ghost entering: { at ≡ Leaving → ⊥ },
@@ -91,33 +92,6 @@ fn one_more(steps: u64) -> u64
     ensures { result ≡ one_more steps }
 {
     steps.saturating_add(1)
-}
-
-// The moves of the state out of its slot and back, which touch no word.
-impl<S: Logged> FastMutex<S> {
-    // Takes the state out of the slot that the seat holds.
-    fn take_out(&self, seat: &mut TableSeat<S>) -> S
-        requires own { seat.old.table_id ≡ self.now.table.shared.table_id }
-        requires inside { (st : S) × (seat.old.me.1 ≡ (0, Some st) ∷ []) }
-        ensures own { (seat.new.table_id ≡ seat.old.table_id) × (seat.new.id ≡ seat.old.id) }
-        ensures state { (seat.old.me.1 ≡ (0, Some result) ∷ []) × (seat.new.me ≡ (seat.old.me.0, (0, None) ∷ [])) }
-    {
-        let Some(state) = self.table.shared.exchange(seat, 0, None) else {
-            unreachable!()
-        };
-        state
-    }
-
-    // Puts the state into the slot that the seat holds.
-    fn put_in(&self, seat: &mut TableSeat<S>, state: S)
-        requires own { seat.old.table_id ≡ self.now.table.shared.table_id }
-        requires inside { seat.old.me.1 ≡ (0, None) ∷ [] }
-        ensures own { (seat.new.table_id ≡ seat.old.table_id) × (seat.new.id ≡ seat.old.id) }
-        ensures state { seat.new.me ≡ (seat.old.me.0, (0, Some state) ∷ []) }
-    {
-        let before = self.table.shared.exchange(seat, 0, Some(state));
-        let None = before else { unreachable!() };
-    }
 }
 
 // The lines of an entry, a function for each. Each touches one word once.
@@ -227,7 +201,7 @@ impl<S: Logged> FastMutex<S> {
         let found = self.table.shared.load::<Tests<S>>(&mut walk.seat, X);
         walk.steps = one_more(walk.steps);
         if found == number {
-            let state = self.take_out(&mut walk.seat);
+            let state = take_out(&self.table.shared, &mut walk.seat);
             walk.at = At::Fast;
             let before = walk.state.replace(state);
             let None = before else { unreachable!() };
@@ -285,7 +259,7 @@ impl<S: Logged> FastMutex<S> {
         let found = self.table.shared.load::<Tests<S>>(&mut walk.seat, Y);
         walk.steps = one_more(walk.steps);
         if found == number {
-            let state = self.take_out(&mut walk.seat);
+            let state = take_out(&self.table.shared, &mut walk.seat);
             walk.at = At::Slow;
             let before = walk.state.replace(state);
             let None = before else { unreachable!() };
@@ -365,11 +339,12 @@ impl<S: Logged> FastMutex<S> {
     }
 
     /// The walk that has come in, as a stay and the state.
+    #[inline(always)]
     pub fn admitted(walk: Walk<S>) -> (FastInside<S>, S)
         requires inside { is_inside walk.at ≡ true }
         ensures stay { stay_of result.0.number result.0.seat ≡ record (ticket_of walk.number walk.seat) { left = S.items result.1 } }
         ensures fixed { S.fixed result.1 ≡ (ticket_of walk.number walk.seat).lock.fixed }
-        ensures grows { Grows S.owner walk.number (ticket_of walk.number walk.seat).left (S.items result.1) [] }
+        ensures grows { Grows S.author walk.number (ticket_of walk.number walk.seat).left (S.items result.1) [] }
         ensures told { (ticket_of walk.number walk.seat).told ≡ true → S.is_answered walk.number (S.items result.1) ≡ true }
         ensures number { (1 ≤ walk.number) × (walk.number ≤ (ticket_of walk.number walk.seat).lock.count) }
         ensures steps { (result.0.at ≡ walk.at) × (result.0.steps ≡ walk.steps) }
@@ -401,7 +376,7 @@ impl<S: Logged> FastMutex<S> {
     // s[process] := 1 where the list that is given back answers its wait, else 0
     fn set_mark(&self, mut seat: TableSeat<S>, process: u32, mark: u64) -> TableSeat<S>
         requires lock { IsSeatOf S.fixed self.now.table.shared.table_id self.now.table.shared.key seat }
-        requires ready { IsReady S.items S.fixed S.owner S.is_answered seat.me }
+        requires ready { IsReady S.items S.fixed S.author S.is_answered seat.me }
         requires process { (1 ≤ process) × (process ≤ self.now.count) }
         requires mark { mark ≡ flag (S.is_answered process (list_in S.items seat.me.1)) }
         ensures own { (result.table_id ≡ seat.table_id) × (result.id ≡ seat.id) }
@@ -415,12 +390,12 @@ impl<S: Logged> FastMutex<S> {
     // Stores the word s of each process whose answer is not the same after the stay as before it.
     fn set_marks(&self, mut seat: TableSeat<S>, before: u32, after: u32) -> TableSeat<S>
         requires lock { IsSeatOf S.fixed self.now.table.shared.table_id self.now.table.shared.key seat }
-        requires ready { IsReady S.items S.fixed S.owner S.is_answered seat.me }
+        requires ready { IsReady S.items S.fixed S.author S.is_answered seat.me }
         requires before { before ≡ answer_bits (λ p. S.is_answered p seat.me.0.found) 1 32 }
         requires after { after ≡ answer_bits (λ p. S.is_answered p (list_in S.items seat.me.1)) 1 32 }
         ensures own { (result.table_id ≡ seat.table_id) × (result.id ≡ seat.id) }
         ensures view { result.me ≡ (view_planned result.me.0.plan seat.me.0, seat.me.1) }
-        ensures ready { IsReady S.items S.fixed S.owner S.is_answered result.me }
+        ensures ready { IsReady S.items S.fixed S.author S.is_answered result.me }
         ensures shows { Shows S.is_answered seat.me.0.fixed.0 seat.me.0.found result.me.0.plan (list_in S.items seat.me.1) }
     {
         let mut old = before;
@@ -453,10 +428,11 @@ impl<S: Logged> FastMutex<S> {
 // The bodies of the lock's calls, which `fast_lock` names.
 impl<S: Logged> FastMutex<S> {
     // the words s that change, y := 0, and then b[i] := false
+    #[inline(always)]
     pub(crate) fn depart(&self, inside: FastInside<S>, state: S) -> FastSeat<S>
         requires lock { IsSeatOf S.fixed self.now.table.shared.table_id self.now.table.shared.key inside.seat }
         requires fixed { S.fixed state ≡ S.fixed self.now.table.shared.key.state.value }
-        requires grows { GrowsBy S.owner inside.number inside.seat.me.0.found (S.items state) }
+        requires grows { GrowsBy S.author inside.number inside.seat.me.0.found (S.items state) }
         ensures { ticket_of result.number result.seat ≡ record (stay_of inside.number inside.seat) { left = S.items state; told = false } }
     {
         let FastInside {
@@ -467,7 +443,7 @@ impl<S: Logged> FastMutex<S> {
             mut seat,
         } = inside;
         let after = state.answers();
-        self.put_in(&mut seat, state);
+        put_in(&self.table.shared, &mut seat, state);
         let mut seat = self.set_marks(seat, answers, after);
         self.table.shared.store::<Leaves<S>>(&mut seat, Y, 0);
         let flag = number as usize + 1;
@@ -490,6 +466,7 @@ impl<S: Logged> FastMutex<S> {
         inside.steps
     }
 
+    #[inline(always)]
     pub(crate) fn number_of(seat: &FastSeat<S>) -> u32
         ensures { result ≡ seat.now.number }
     {
@@ -508,26 +485,13 @@ impl<S: Logged> FastMutex<S> {
         ensures first { IfOk result (λ r. (r.1.table_id ≡ r.0.table.shared.table_id) × (r.1.me ≡ (first_view S.fixed r.0.table.shared.key, []))) }
         ensures back { IfErr result (λ r. r.0 ≡ state) }
     {
-        let mut slots = match Vec::with_capacity(alloc, 1) {
-            Ok(slots) => slots,
-            Err(failed) => return Err((state, failed)),
-        };
         let about = About {
             count,
             state: Snapshot::of(&state),
         };
-        slots.push_reserved(Some(state));
         let words = [0u64; 66];
-        match Table::new(alloc, &words[..2 * count as usize + 2], slots, &about) {
-            Ok((table, first)) => Ok((FastMutex { table, count }, first)),
-            Err(Refused { mut slots }) => {
-                let Some(Some(state)) = slots.pop() else {
-                    unreachable!()
-                };
-                slots.destroy_empty();
-                Err((state, AllocError))
-            }
-        }
+        let (table, first) = furnish(alloc, &words[..2 * count as usize + 2], &about, state)?;
+        Ok((FastMutex { table, count }, first))
     }
 
     // Deals a seat of its own to the first of the processes that `first` stands for.
@@ -616,7 +580,7 @@ impl<S: Logged> FastMutex<S> {
         requires all { self.count ≤ vec_len seats }
         requires own { All (λ s. IsSeatOf S.fixed self.table.shared.table_id self.table.shared.key s.seat) seats.items }
         ensures fixed { S.fixed result ≡ S.fixed self.table.shared.key.state.value }
-        ensures grows { All (λ s. Grows S.owner s.number (last_left s.seat.me.0.claims) (S.items result) []) seats.items }
+        ensures grows { All (λ s. Grows S.author s.number (last_left s.seat.me.0.claims) (S.items result) []) seats.items }
     {
         let all = self.join_all(seats);
         let FastMutex { table, count: _ } = self;
@@ -630,7 +594,7 @@ impl<S: Logged> FastMutex<S> {
         requires own { All (λ s. IsSeatOf S.fixed self.table.shared.table_id self.table.shared.key s.seat) seats.items }
         ensures all { (self.table.shared.key.count ≤ length seats.items) ↔ IsOk result }
         ensures fixed { IfOk result (λ s. S.fixed s ≡ S.fixed self.table.shared.key.state.value) }
-        ensures grows { IfOk result (λ s. All (λ t. Grows S.owner t.number (last_left t.seat.me.0.claims) (S.items s) []) seats.items) }
+        ensures grows { IfOk result (λ s. All (λ t. Grows S.author t.number (last_left t.seat.me.0.claims) (S.items s) []) seats.items) }
         ensures back { IfErr result (λ m. (m.whole ≡ self) × (m.parts ≡ seats)) }
     {
         if seats.len() < self.count as usize {

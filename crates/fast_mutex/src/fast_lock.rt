@@ -38,6 +38,7 @@ impl<S: Logged + Drop> Lock<S> for FastMutex<S> {
         FastMutex::make(alloc, n, state)
     }
 
+    #[inline(always)]
     fn number(seat: &FastSeat<S>) -> u32 {
         FastMutex::number_of(seat)
     }
@@ -67,6 +68,7 @@ impl<S: Logged + Drop> Lock<S> for FastMutex<S> {
         }
     }
 
+    #[inline(always)]
     fn admitted(walk: Walk<S>) -> (FastInside<S>, S) {
         FastMutex::admitted(walk)
     }
@@ -90,6 +92,7 @@ impl<S: Logged + Drop> Lock<S> for FastMutex<S> {
         FastMutex::steps_of(inside)
     }
 
+    #[inline(always)]
     fn leave(&self, inside: FastInside<S>, state: S) -> FastSeat<S> {
         self.depart(inside, state)
     }
@@ -98,7 +101,7 @@ impl<S: Logged + Drop> Lock<S> for FastMutex<S> {
         requires { All (λ s. (⟦<Self as Lock<S>>⟧.ticket s).lock ≡ ⟦<Self as Lock<S>>⟧.id self) seats.items }
         ensures all { ((⟦<Self as Lock<S>>⟧.id self).count ≤ length seats.items) ↔ IsOk result }
         ensures fixed { IfOk result (λ s. S.fixed s ≡ (⟦<Self as Lock<S>>⟧.id self).fixed) }
-        ensures grows { IfOk result (λ s. All (λ t. Grows S.owner (⟦<Self as Lock<S>>⟧.ticket t).number (⟦<Self as Lock<S>>⟧.ticket t).left (S.items s) []) seats.items) }
+        ensures grows { IfOk result (λ s. All (λ t. Grows S.author (⟦<Self as Lock<S>>⟧.ticket t).number (⟦<Self as Lock<S>>⟧.ticket t).left (S.items s) []) seats.items) }
         ensures back { IfErr result (λ m. (m.whole ≡ self) × (m.parts ≡ seats)) }
     {
         self.gather(seats)

@@ -89,7 +89,7 @@ pub trait Lock<S: Logged>: Sized + Drop {
         requires { is_in walk ≡ true }
         ensures stay { stay result.0 ≡ record (walking walk) { left = S.items result.1 } }
         ensures fixed { S.fixed result.1 ≡ (walking walk).lock.fixed }
-        ensures grows { Grows S.owner (walking walk).number (walking walk).left (S.items result.1) [] }
+        ensures grows { Grows S.author (walking walk).number (walking walk).left (S.items result.1) [] }
         ensures told { (walking walk).told ≡ true → S.is_answered (walking walk).number (S.items result.1) ≡ true }
         ensures number { (1 ≤ (walking walk).number) × ((walking walk).number ≤ (walking walk).lock.count) };
 
@@ -103,7 +103,7 @@ pub trait Lock<S: Logged>: Sized + Drop {
     fn leave(&self, inside: Self::Inside, state: S) -> Self::Seat
         requires lock { (stay inside).lock ≡ id self.now }
         requires fixed { S.fixed state ≡ (id self.now).fixed }
-        requires grows { GrowsBy S.owner (stay inside).number (stay inside).left (S.items state) }
+        requires grows { GrowsBy S.author (stay inside).number (stay inside).left (S.items state) }
         ensures { ticket result ≡ record (stay inside) { left = S.items state; told = false } };
 
     /// Ends the lock and takes the state: with all seats outside nobody is inside. It never waits, and takes no memory.
@@ -111,7 +111,7 @@ pub trait Lock<S: Logged>: Sized + Drop {
         requires { All (λ s. (ticket s).lock ≡ id self) seats.items }
         ensures all { ((id self).count ≤ length seats.items) ↔ IsOk result }
         ensures fixed { IfOk result (λ s. S.fixed s ≡ (id self).fixed) }
-        ensures grows { IfOk result (λ s. All (λ t. Grows S.owner (ticket t).number (ticket t).left (S.items s) []) seats.items) }
+        ensures grows { IfOk result (λ s. All (λ t. Grows S.author (ticket t).number (ticket t).left (S.items s) []) seats.items) }
         ensures back { IfErr result (λ m. (m.whole ≡ self) × (m.parts ≡ seats)) };
 }
 

@@ -8,16 +8,16 @@ use Rattle.mq_model.specs.Descriptors.{is_place}
 use Rattle.mq_model.specs.Waits.{named_wait, names_wait, open_wait, is_answered}
 use Rattle.mq_model.specs.declared.entries.Reply.{Reply}
 use Rattle.mq_model.proofs.Places.{split}
-use Rattle.mq.specs.Calls.{owner}
+use Rattle.mq.specs.Calls.{author}
 
 -- the list found is the first records of the one that is left
-pub found-first : (p places : ℕ) (left now : Past) → GrowsBy owner p left now → places ≡ length left → first places now ≡ left
+pub found-first : (p places : ℕ) (left now : Past) → GrowsBy author p left now → places ≡ length left → first places now ≡ left
 found-first p places left now g e =
     let long : length now ≡ length g.behind + length left = ap length g.is ∙ length-append g.behind left in
     let rest : length now - places ≡ length g.behind = omega arith in
     (λ i. drop (rest i) (g.is i)) ∙ drop-append_seam g.behind left
 
-pub found-few : (p places : ℕ) (left now : Past) → GrowsBy owner p left now → places ≡ length left → places ≤ length now
+pub found-few : (p places : ℕ) (left now : Past) → GrowsBy author p left now → places ≡ length left → places ≤ length now
 found-few p places left now g e =
     let long : length now ≡ length g.behind + length left = ap length g.is ∙ length-append g.behind left in omega arith
 

@@ -1,11 +1,12 @@
 -- What a call in one stay leaves.
-use Rattle.std.proofs.Common.{◌≡◌, ℕ, Bool, true, false, List, [], ◌∷◌, ◌++◌, length, Option, Some, None, Result, IfErr, refl, ap, sym, subst, ◌∙◌, eq-eqb}
+use Rattle.std.proofs.Common.{◌≡◌, ℕ, Bool, true, false, List, [], ◌∷◌, ◌++◌, length, Option, Some, None, is_some, Result, IfErr, refl, ap, sym, subst, ◌∙◌, eq-eqb}
 use Rattle.std.specs.List.{All}
 use Rattle.std.specs.Option.{option_map}
 use Rattle.mq_model.specs.Record.{Record, Past}
-use Rattle.mq_model.specs.Waits.{open_wait, wait_deadline, is_wait}
-use Rattle.mq_model.specs.Answer.{Legal}
+use Rattle.mq_model.specs.Waits.{open_wait, wait_deadline, is_wait, named_wait}
+use Rattle.mq_model.specs.Legality.{Legal}
 use Rattle.mq_model.specs.Bounds.{has_entry, HeedsBounds}
+use Rattle.mq_model.proofs.Frames.{answered_by-none}
 use Rattle.mq_model.proofs.Places.{split}
 use Rattle.mq_model.specs.declared.entries.Call.{Call}
 use Rattle.mq_model.specs.declared.entries.Reply.{Reply}
@@ -15,7 +16,8 @@ use Rattle.mq_model.specs.declared.faults.Fault.{Fault}
 use Rattle.mq_state.specs.Kept.{Kept}
 use Rattle.mq_state.specs.Buffers.{waiting_call, waiting_room, room_of}
 use Rattle.fast_mutex.specs.Items.{LockId, Ticket, Grows, GrowsBy, items_of}
-use Rattle.mq.specs.Calls.{owner, recorded, made, Calls, Found, Stops, fixed_of, bounds_of, bounds_in, Came, IsFree, WaitsIn, wait_begun}
+use Rattle.mq.specs.Calls.{author, recorded, made, Calls, Found, Stops, fixed_of, bounds_of, bounds_in, Came, IsFree, WaitsIn, wait_begun, answered_bits}
+use Rattle.mq.proofs.Answering.{answers-kept, bits-kept}
 use Rattle.mq.proofs.Others.{wait-grown, deadline-grown, call-grown, room-grown}
 use Rattle.mq.proofs.Growing.{grows-on, own-made, all-made}
 
@@ -48,25 +50,25 @@ module _ {old stay : Ticket Record} {system : LockId} {books : Kept} {p : ℕ} w
   came-free c free = came-wait c ∙ free
 
   -- what a stay adds is its process's own
-  pub came-grows_by : {records : Past} (added : Past) → Came old system stay books p → records ≡ added ++ books.records → All (λ x. owner x ≡ p) added → GrowsBy owner stay.number stay.left records
+  pub came-grows_by : {records : Past} (added : Past) → Came old system stay books p → records ≡ added ++ books.records → All (λ x. author x ≡ p) added → GrowsBy author stay.number stay.left records
   came-grows_by {records} added c is mine = record {
     behind = added;
     is = rw c.found is;
     mine = rw (same-number c) mine;
   }
 
-  pub came-grows : {records : Past} (call : Call) (given : List ℕ) (reply : Reply) → Came old system stay books p → records ≡ made p call given reply ++ books.records → GrowsBy owner stay.number stay.left records
+  pub came-grows : {records : Past} (call : Call) (given : List ℕ) (reply : Reply) → Came old system stay books p → records ≡ made p call given reply ++ books.records → GrowsBy author stay.number stay.left records
   came-grows {records} call given reply c is = came-grows_by (made p call given reply) c is (all-made p call given reply)
 
   -- what a stay leaves that adds these records
-  pub came-calls : {records : Past} (own : ℕ → Past) → Came old system stay books p → old.lock ≡ system → records ≡ own p ++ books.records → items_of owner p (own p) ≡ own p → Legal records
+  pub came-calls : {records : Past} (own : ℕ → Past) → Came old system stay books p → old.lock ≡ system → records ≡ own p ++ books.records → items_of author p (own p) ≡ own p → Legal records
       → Calls old (record { lock = system; number = stay.number; left = records; told = false }) (own old.number)
   came-calls {records} own c lock is mine legal = record {
     lock = sym lock;
     number = c.number;
     legal = legal;
     grows =
-        let added : Grows owner old.number books.records records (own old.number) = record { behind = own p; is = is; mine = rw (sym c.process) mine } in
+        let added : Grows author old.number books.records records (own old.number) = record { behind = own p; is = is; mine = rw (sym c.process) mine } in
         grown added;
   }
     where
@@ -74,7 +76,7 @@ module _ {old stay : Ticket Record} {system : LockId} {books : Kept} {p : ℕ} w
       empty [] = refl
       empty (x ∷ xs) = ap (λ (l : Past). x ∷ l) (empty xs)
 
-      grown : Grows owner old.number books.records records (own old.number) → Grows owner old.number old.left records (own old.number)
+      grown : Grows author old.number books.records records (own old.number) → Grows author old.number old.left records (own old.number)
       grown added = rw (sym (empty (own old.number))) (grows-on c.grows added)
 
   pub came-made : {records : Past} (call : Call) (given : List ℕ) (reply : Reply) → Came old system stay books p → old.lock ≡ system → records ≡ made p call given reply ++ books.records → Legal records
@@ -105,6 +107,15 @@ module _ {old stay : Ticket Record} {system : LockId} {books : Kept} {p : ℕ} w
       by : (b : Bool) → has_entry reply ≡ b → open_wait (made p call given reply ++ books.records) p ≡ None
       by false e = rw e (came-free c free)
       by true e = rw (e, eq-eqb p p refl, answered) refl
+
+  -- where its reply names no wait, each answer is as it was
+  pub came-quiet : {records : Past} (call : Call) (given : List ℕ) (reply : Reply) → Came old system stay books p → IsFree old → records ≡ made p call given reply ++ books.records → is_some (named_wait reply) ≡ false
+      → answered_bits stay.left ≡ answered_bits records
+  came-quiet call given reply c free is quiet = rw (c.found, is) (sym (by (has_entry reply) refl))
+    where
+      by : (b : Bool) → has_entry reply ≡ b → answered_bits (made p call given reply ++ books.records) ≡ answered_bits books.records
+      by false e = rw e refl
+      by true e = rw e (bits-kept _ _ (answers-kept books.records books.records (recorded p call given reply) p refl quiet (ap is_some (answered_by-none books.records p (came-free c free))) (λ q. refl)) 1 32)
 
   -- where it waits, it waits in this call
   pub now-waits : {records : Past} (call : Call) (given : List ℕ) → Came old system stay books p → records ≡ made p call given Waits ++ books.records

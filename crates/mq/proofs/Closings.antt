@@ -7,7 +7,7 @@ use Rattle.std.proofs.lemmas.Bool.{eqb-false}
 use Rattle.mq_model.specs.Record.{Past}
 use Rattle.mq_model.specs.Descriptors.{held, lowest_held, numbers_from, descriptor_numbers}
 use Rattle.mq_model.specs.Waits.{open_wait}
-use Rattle.mq_model.specs.Answer.{Appends}
+use Rattle.mq_model.specs.Legality.{Appends}
 use Rattle.mq_model.proofs.Places.{split}
 use Rattle.mq_model.specs.declared.entries.Call.TheVariants.{MqClose}
 use Rattle.mq_model.specs.declared.entries.Reply.{Reply}
@@ -16,7 +16,7 @@ use Rattle.mq_model.specs.declared.faults.Fault.{Fault}
 use Rattle.mq_model.specs.declared.bounds.Bounds.{Bounds}
 use Rattle.mq_model.specs.Bounds.{has_entry, HeedsBounds}
 use Rattle.fast_mutex.specs.Items.{items_of}
-use Rattle.mq.specs.Calls.{owner, recorded, closes, Closing, Stops}
+use Rattle.mq.specs.Calls.{author, recorded, closes, Closing, Stops}
 
 -- a process holds no descriptor below d
 abbrev pub IsFrom : Past → ℕ → ℕ → Type 0
@@ -77,7 +77,7 @@ from-end past p from = by (lowest_held past p) refl
 
 -- the close of a held descriptor is done
 pub close-done : (past new : Past) (p d : ℕ) (reply : Reply) → lowest_held past p ≡ Some d → Appends past new p (MqClose d) [] reply → reply ≡ Done
-close-done past new p d reply lowest appends = let some = (lowest-held past p d lowest).0 in appends.answers ∙ rw some refl
+close-done past new p d reply lowest appends = let some = (lowest-held past p d lowest).0 in appends.replies ∙ rw some refl
 
 pub closing-more : {found now after : Past} {p d : ℕ} → Closing found now p → lowest_held now p ≡ Some d → after ≡ recorded p (MqClose d) [] Done ∷ now → Closing found after p
 closing-more {found} {now} {after} {p} {d} c lowest is = record {
@@ -89,13 +89,13 @@ closing-more {found} {now} {after} {p} {d} c lowest is = record {
 pub closed-free : (past : Past) (p d : ℕ) → open_wait (recorded p (MqClose d) [] Done ∷ past) p ≡ None
 closed-free past p d = rw (eq-eqb p p refl) refl
 
-pub own-closes : (p : ℕ) (ds : List ℕ) → items_of owner p (closes p ds) ≡ closes p ds
+pub own-closes : (p : ℕ) (ds : List ℕ) → items_of author p (closes p ds) ≡ closes p ds
 own-closes p [] = refl
 own-closes p (d ∷ ds) = rw (eq-eqb p p refl, own-closes p ds) refl
 
-pub all-closes : (p : ℕ) (ds : List ℕ) → All (λ x. owner x ≡ p) (closes p ds)
-all-closes p [] = All-nil (λ x. owner x ≡ p)
-all-closes p (d ∷ ds) = All-cons (λ x. owner x ≡ p) (recorded p (MqClose d) [] Done) (closes p ds) refl (all-closes p ds)
+pub all-closes : (p : ℕ) (ds : List ℕ) → All (λ x. author x ≡ p) (closes p ds)
+all-closes p [] = All-nil (λ x. author x ≡ p)
+all-closes p (d ∷ ds) = All-cons (λ x. author x ≡ p) (recorded p (MqClose d) [] Done) (closes p ds) refl (all-closes p ds)
 
 -- the close of a held descriptor is refused for want of memory, or because the journal is full
 pub close-refused : (bounds : Option Bounds) (past new : Past) (p d : ℕ) (reply : Reply) (fault : Fault) → lowest_held past p ≡ Some d → reply ≡ Refused fault

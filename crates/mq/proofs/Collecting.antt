@@ -6,7 +6,7 @@ use Rattle.std.proofs.lemmas.List.Elements.{All-nil, All-cons}
 use Rattle.mq_model.specs.Record.{Record, Past}
 use Rattle.mq_model.specs.Messages.{is_receive}
 use Rattle.mq_model.specs.Waits.{open_wait, answered_by, is_answered}
-use Rattle.mq_model.specs.Answer.{Legal, Appends}
+use Rattle.mq_model.specs.Legality.{Legal, Appends}
 use Rattle.mq_model.specs.declared.entries.Received.{Received}
 use Rattle.mq_model.specs.declared.entries.Deadline.{Deadline}
 use Rattle.mq_model.specs.declared.faults.Fault.TheVariants.{TimedOut}
@@ -19,7 +19,7 @@ use Rattle.mq_state.specs.declared.collected.Collected.{Collected as Outcome}
 use Rattle.fast_mutex.specs.Items.{LockId, Ticket}
 use Rattle.mq_state.specs.declared.collected.Collected.TheVariants.{Got as GotMessage, Sent}
 use Rattle.mq.specs.Says.{start_send_says, start_receive_says}
-use Rattle.mq.specs.Calls.{owner, recorded, Calls, Came, Collects, StillWaits, WithdrawsAt, Withdraws, Expired, Begins, Waited, OneCall, ReceiveCall, WaitedSend, WaitedReceive}
+use Rattle.mq.specs.Calls.{author, recorded, Calls, Came, Collects, StillWaits, WithdrawsAt, Withdraws, Expired, Begins, Waited, OneCall, ReceiveCall, WaitedSend, WaitedReceive}
 use Rattle.mq.proofs.Replies.{send-waits, receive-waits}
 use Rattle.mq.proofs.Messages.{message-kept, received-kept}
 use Rattle.mq.proofs.Growing.{own-recorded, calls-on}
@@ -45,16 +45,16 @@ room-fits past p len some fits = by (open_wait past p) refl
 pub record Adds (found new : Past) (p : ℕ) : Type 0 where
   pub added : Past
   pub is : new ≡ added ++ found
-  pub mine : All (λ x. owner x ≡ p) added
+  pub mine : All (λ x. author x ≡ p) added
 
 pub collect-adds : (found new : Past) (p : ℕ) (result : Option Outcome) → (IsSome result ↔ IsSome (answered_by found p)) → IfSome (answered_by found p) (λ by. Appends found new p Collect [] (Collected by)) → (result ≡ None → new ≡ found) → Adds found new p
 collect-adds found new p result some entry none = by (answered_by found p) refl result refl
   where
     by : (o : Option ℕ) → answered_by found p ≡ o → (r : Option Outcome) → result ≡ r → Adds found new p
-    by o is None nothing = record { added = []; is = none nothing; mine = All-nil (λ x. owner x ≡ p) }
+    by o is None nothing = record { added = []; is = none nothing; mine = All-nil (λ x. author x ≡ p) }
     by (Some b) is (Some r) there =
         let appends : Appends found new p Collect [] (Collected b) = subst (λ (o : Option ℕ). IfSome o (λ by. Appends found new p Collect [] (Collected by))) is entry in
-        record { added = recorded p Collect [] (Collected b) ∷ []; is = appends.records; mine = All-cons (λ x. owner x ≡ p) (recorded p Collect [] (Collected b)) [] refl (All-nil (λ x. owner x ≡ p)) }
+        record { added = recorded p Collect [] (Collected b) ∷ []; is = appends.records; mine = All-cons (λ x. author x ≡ p) (recorded p Collect [] (Collected b)) [] refl (All-nil (λ x. author x ≡ p)) }
     by None is (Some r) there = absurd (let given : IsSome result = rw there refl in let yes = some.0 given in let bad : false ≡ true = rw is at yes in cc)
 
 -- where it gives something, the wait was answered
@@ -90,10 +90,10 @@ end-adds found new p now result some entry none waits = by result refl
     by : (r : Option Outcome) → result ≡ r → Adds found new p
     by None nothing =
         let x = withdrawn-wait found new p now waits (none nothing) in
-        record { added = recorded p (Withdraw now) [] (Withdrawn x.0) ∷ []; is = x.2; mine = All-cons (λ x. owner x ≡ p) (recorded p (Withdraw now) [] (Withdrawn x.0)) [] refl (All-nil (λ x. owner x ≡ p)) }
+        record { added = recorded p (Withdraw now) [] (Withdrawn x.0) ∷ []; is = x.2; mine = All-cons (λ x. author x ≡ p) (recorded p (Withdraw now) [] (Withdrawn x.0)) [] refl (All-nil (λ x. author x ≡ p)) }
     by (Some value) there =
         let a = collect-answered found new p result value some entry there in
-        record { added = recorded p Collect [] (Collected a.by) ∷ []; is = a.added; mine = All-cons (λ x. owner x ≡ p) (recorded p Collect [] (Collected a.by)) [] refl (All-nil (λ x. owner x ≡ p)) }
+        record { added = recorded p Collect [] (Collected a.by) ∷ []; is = a.added; mine = All-cons (λ x. author x ≡ p) (recorded p Collect [] (Collected a.by)) [] refl (All-nil (λ x. author x ≡ p)) }
 
 -- where it gives nothing, the wait was not
 pub collect-unanswered : (found : Past) (p : ℕ) (result : Option Outcome) → (IsSome result ↔ IsSome (answered_by found p)) → result ≡ None → is_answered found p ≡ false

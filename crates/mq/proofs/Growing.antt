@@ -8,7 +8,7 @@ use Rattle.mq_model.proofs.Places.{split}
 use Rattle.mq_model.specs.declared.entries.Call.{Call}
 use Rattle.mq_model.specs.declared.entries.Reply.{Reply}
 use Rattle.fast_mutex.specs.Items.{Ticket, Grows, items_of}
-use Rattle.mq.specs.Calls.{owner, recorded, made, Calls}
+use Rattle.mq.specs.Calls.{author, recorded, made, Calls}
 
 -- one stay after another
 pub grows-on : {A : Type 0} {own : A → ℕ} {p : ℕ} {xs ys zs first second : List A} → Grows own p xs ys first → Grows own p ys zs second → Grows own p xs zs (second ++ first)
@@ -18,24 +18,24 @@ grows-on {A} {own} {p} {xs} {ys} {zs} {first} {second} g h = record {
   mine = filter-append (λ x. own x == p) h.behind g.behind ∙ (ap (λ (l : List A). l ++ items_of own p g.behind) h.mine ∙ ap (λ (l : List A). second ++ l) g.mine);
 }
 
-pub own-recorded : (p : ℕ) (call : Call) (given : List ℕ) (reply : Reply) → items_of owner p (recorded p call given reply ∷ []) ≡ recorded p call given reply ∷ []
+pub own-recorded : (p : ℕ) (call : Call) (given : List ℕ) (reply : Reply) → items_of author p (recorded p call given reply ∷ []) ≡ recorded p call given reply ∷ []
 own-recorded p call given reply = rw (eq-eqb p p refl) refl
 
 -- what a call adds is its process's own
-pub own-made : (p : ℕ) (call : Call) (given : List ℕ) (reply : Reply) → items_of owner p (made p call given reply) ≡ made p call given reply
+pub own-made : (p : ℕ) (call : Call) (given : List ℕ) (reply : Reply) → items_of author p (made p call given reply) ≡ made p call given reply
 own-made p call given reply = split (has_entry reply)
     (λ some. rw some (own-recorded p call given reply))
     (λ none. rw none refl)
 
-pub all-made : (p : ℕ) (call : Call) (given : List ℕ) (reply : Reply) → All (λ x. owner x ≡ p) (made p call given reply)
+pub all-made : (p : ℕ) (call : Call) (given : List ℕ) (reply : Reply) → All (λ x. author x ≡ p) (made p call given reply)
 all-made p call given reply = split (has_entry reply)
-    (λ some. rw some (All-cons (λ x. owner x ≡ p) (recorded p call given reply) [] refl (All-nil (λ x. owner x ≡ p))))
-    (λ none. rw none (All-nil (λ x. owner x ≡ p)))
+    (λ some. rw some (All-cons (λ x. author x ≡ p) (recorded p call given reply) [] refl (All-nil (λ x. author x ≡ p))))
+    (λ none. rw none (All-nil (λ x. author x ≡ p)))
 
 pub calls-on : {old mid new : Ticket Record} {first : Past} (own : ℕ → Past) → Calls old mid first → Calls mid new (own mid.number) → Calls old new (own old.number ++ first)
 calls-on {old} {mid} {new} {first} own a b = record {
   lock = b.lock ∙ a.lock;
   number = b.number ∙ a.number;
   legal = b.legal;
-  grows = grows-on a.grows (subst (λ (n : ℕ). Grows owner n mid.left new.left (own n)) a.number b.grows);
+  grows = grows-on a.grows (subst (λ (n : ℕ). Grows author n mid.left new.left (own n)) a.number b.grows);
 }

@@ -8,7 +8,7 @@ use Rattle.mq_model.specs.declared.entries.Call.{Call}
 use Rattle.mq_model.specs.declared.entries.Call.TheVariants.{MqReceive, MqTimedReceive}
 use Rattle.mq_model.specs.declared.entries.Reply.{Reply}
 use Rattle.mq_model.specs.declared.entries.Reply.TheVariants.{Opened, Queued, Handed, Waits, Got, Collected, Attrs, Notice, Done, Refused, Withdrawn}
-use Rattle.mq_model.specs.Answer.{payload_of}
+use Rattle.mq_model.specs.Legality.{payload_of}
 use Rattle.mq_state.specs.Buffers.{message_at, received_at, with_front, filled, room_of}
 use Rattle.mq.specs.Calls.{recorded, made}
 

@@ -1,11 +1,11 @@
 -- What a call on the books leaves, and which replies it is given.
 use Rattle.std.proofs.Common.{◌≡◌, ◌≢◌, ℕ, Bool, true, false, List, ◌++◌, Option, Some, None, Result, Ok, Err, refl, ap, sym, ◌∙◌}
 use Rattle.mq_model.specs.Record.{Past}
-use Rattle.mq_model.specs.Answer.{Appends, answer}
+use Rattle.mq_model.specs.Legality.{Appends, reply_to}
 use Rattle.mq_model.specs.Bounds.{has_entry}
 use Rattle.mq_model.specs.Waits.{is_wait}
 use Rattle.mq_model.proofs.Places.{split}
-use Rattle.mq_model.proofs.Cases.{answer_says, OpenReply, DoneReply, AttrsReply, SendSays, ReceiveSays}
+use Rattle.mq_model.proofs.Cases.{reply_says, OpenReply, DoneReply, AttrsReply, SendSays, ReceiveSays}
 use Rattle.mq_model.specs.declared.entries.Description.{Description}
 use Rattle.mq_model.specs.declared.entries.Call.{Call}
 use Rattle.mq_model.specs.declared.entries.Call.TheVariants.{MqOpen, MqClose, MqUnlink, MqSend, MqReceive, MqGetattr, MqSetattr, MqNotify, NextNotice, Collect, MqTimedSend, MqTimedReceive, Withdraw}
@@ -83,21 +83,21 @@ received past o room (Attrs s) says = absurd says.3
 received past o room (Notice v) says = absurd says.3
 received past o room Done says = absurd says.3
 
--- an answer is one of the replies that the call may be given
-pub may-answer : (past : Past) (p : ℕ) (call : Call) (given : List ℕ) → may_reply call (answer past p call given) ≡ true
-may-answer past p (MqOpen flags attr) given = opened _ (answer_says past p (MqOpen flags attr) given)
-may-answer past p (MqClose d) given = done _ ((answer_says past p (MqClose d) given).0)
-may-answer past p MqUnlink given = done _ (answer_says past p MqUnlink given)
-may-answer past p (MqSend d prio len) given = sent past _ prio len _ (answer_says past p (MqSend d prio len) given)
-may-answer past p (MqTimedSend d prio len until now) given = sent past _ prio len _ (answer_says past p (MqTimedSend d prio len until now) given)
-may-answer past p (MqReceive d room) given = received past _ room _ (answer_says past p (MqReceive d room) given)
-may-answer past p (MqTimedReceive d room until now) given = received past _ room _ (answer_says past p (MqTimedReceive d room until now) given)
-may-answer past p (MqGetattr d) given = attributes _ (answer_says past p (MqGetattr d) given)
-may-answer past p (MqSetattr d nonblock) given = attributes _ (answer_says past p (MqSetattr d nonblock) given)
-may-answer past p (MqNotify d value) given = done _ (answer_says past p (MqNotify d value) given)
-may-answer past p NextNotice given = refl
-may-answer past p Collect given = refl
-may-answer past p (Withdraw now) given = refl
+-- the reply of the definition is one that the call may be given
+pub may-be-reply : (past : Past) (p : ℕ) (call : Call) (given : List ℕ) → may_reply call (reply_to past p call given) ≡ true
+may-be-reply past p (MqOpen flags attr) given = opened _ (reply_says past p (MqOpen flags attr) given)
+may-be-reply past p (MqClose d) given = done _ ((reply_says past p (MqClose d) given).0)
+may-be-reply past p MqUnlink given = done _ (reply_says past p MqUnlink given)
+may-be-reply past p (MqSend d prio len) given = sent past _ prio len _ (reply_says past p (MqSend d prio len) given)
+may-be-reply past p (MqTimedSend d prio len until now) given = sent past _ prio len _ (reply_says past p (MqTimedSend d prio len until now) given)
+may-be-reply past p (MqReceive d room) given = received past _ room _ (reply_says past p (MqReceive d room) given)
+may-be-reply past p (MqTimedReceive d room until now) given = received past _ room _ (reply_says past p (MqTimedReceive d room until now) given)
+may-be-reply past p (MqGetattr d) given = attributes _ (reply_says past p (MqGetattr d) given)
+may-be-reply past p (MqSetattr d nonblock) given = attributes _ (reply_says past p (MqSetattr d nonblock) given)
+may-be-reply past p (MqNotify d value) given = done _ (reply_says past p (MqNotify d value) given)
+may-be-reply past p NextNotice given = refl
+may-be-reply past p Collect given = refl
+may-be-reply past p (Withdraw now) given = refl
 
 -- a reply without an entry is a refusal
 pub unentered : (reply : Reply) → has_entry reply ≡ false → (f : Fault) × (reply ≡ Refused f)
@@ -124,7 +124,7 @@ asked {old} {new} {p} {call} {given} {reply} entry none = split (has_entry reply
 pub replied : {old new : Past} {p : ℕ} {call : Call} {given : List ℕ} {reply : Reply}
     → (has_entry reply ≡ true → Appends old new p call given reply) → ((f : Fault) → may_reply call (Refused f) ≡ true) → may_reply call reply ≡ true
 replied {old} {new} {p} {call} {given} {reply} entry refused = split (has_entry reply)
-    (λ room. rw ((entry room).answers) (may-answer old p call given))
+    (λ room. rw ((entry room).replies) (may-be-reply old p call given))
     (λ want. let x = unentered reply want in rw x.1 (refused x.0))
 
 not-opened : (reply : Reply) → is_opened reply ≡ true → is_wait reply ≡ false

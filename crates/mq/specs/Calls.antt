@@ -6,7 +6,7 @@ use Rattle.mq_model.specs.Record.{Record, Past}
 use Rattle.mq_model.specs.Descriptors.{lowest_held}
 use Rattle.mq_model.specs.Deadlines.{deadline_of}
 use Rattle.mq_model.specs.Waits.{open_wait, wait_deadline, answered_by, is_answered}
-use Rattle.mq_model.specs.Answer.{Legal, payload_of}
+use Rattle.mq_model.specs.Legality.{Legal, payload_of}
 use Rattle.mq_model.specs.Bounds.{has_entry, HeedsBounds}
 use Rattle.mq_model.specs.declared.bounds.Bounds.{Bounds}
 use Rattle.mq_model.specs.declared.entries.Received.{Received}
@@ -22,8 +22,8 @@ use Rattle.mq_state.specs.Kept.{Kept}
 use Rattle.mq_state.specs.declared.collected.Collected.{Collected as Outcome}
 use Rattle.mq.specs.Says.{send_says, receive_says}
 
-abbrev pub owner : Record → ℕ
-owner r = r.entry.process
+abbrev pub author : Record → ℕ
+author r = r.entry.process
 
 -- the record of a call that was given these bytes, a name or a message
 abbrev pub recorded : ℕ → Call → List ℕ → Reply → Record
@@ -67,7 +67,7 @@ pub record Calls (old new : Ticket Record) (own : Past) : Type 0 where
   pub lock : new.lock ≡ old.lock
   pub number : new.number ≡ old.number
   pub legal : Legal new.left
-  pub grows : Grows owner old.number old.left new.left own
+  pub grows : Grows author old.number old.left new.left own
 
 -- the journal that a call found: it added its record to it, and its reply is that the journal is full exactly where it was
 pub record Found (old new : Ticket Record) (call : Call) (given : List ℕ) (reply : Reply) : Type 0 where
@@ -240,7 +240,7 @@ pub record Came (old : Ticket Record) (system : LockId) (stay : Ticket Record) (
   pub n : books.n ≡ system.count
   pub bounds : books.bounds ≡ bounds_in system.fixed
   pub found : stay.left ≡ books.records
-  pub grows : Grows owner old.number old.left books.records []
+  pub grows : Grows author old.number old.left books.records []
   pub told : old.told ≡ true → is_answered books.records old.number ≡ true
 
 -- a process on its way in: its number, the room that its open wait needs, and that its lock is that of a system

@@ -12,7 +12,7 @@ mod reading;
 use crate::asking::{ask, ask_by_name};
 use crate::guarded::Guarded;
 use crate::process::{Process, process_of};
-use crate::stays::{begin, depart};
+use crate::stays::{begin, depart, depart_after};
 use crate::system::Mq;
 use fast_mutex::Look;
 use mq_model::entries::{Attr, Call, OpenFlags, Reply, Status};
@@ -66,7 +66,10 @@ impl<L: Look<Guarded>> Arrived<L> {
     {
         let (inside, mut state) = begin::<L>(self.walk, self.number);
         let reply = ask(&mut state.books, self.number, call);
-        (process_of(depart(mq, inside, state), None), reply)
+        (
+            process_of(depart_after(mq, inside, state, reply), None),
+            reply,
+        )
     }
 
     // One call, of those that have a name.
@@ -81,7 +84,10 @@ impl<L: Look<Guarded>> Arrived<L> {
     {
         let (inside, mut state) = begin::<L>(self.walk, self.number);
         let reply = ask_by_name(&mut state.books, self.number, call, name);
-        (process_of(depart(mq, inside, state), None), reply)
+        (
+            process_of(depart_after(mq, inside, state, reply), None),
+            reply,
+        )
     }
 
     /// As [`Process::open`].

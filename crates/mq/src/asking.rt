@@ -1,6 +1,6 @@
 //! Calls on the books by their kind, and what their replies say.
 ghost use Rattle.std.specs.Prelude.{◌≡◌, ◌≤◌, ◌++◌, Bool, true, false, None, Some, [], length, IsSome, IfSome, ◌↔◌};
-ghost use Rattle.mq_model.specs.Answer.{answer, Appends};
+ghost use Rattle.mq_model.specs.Legality.{reply_to, Appends};
 ghost use Rattle.mq_model.specs.Deadlines.{is_over};
 ghost use Rattle.mq_model.specs.Waits.{open_wait, wait_deadline, answered_by};
 ghost use Rattle.mq_model.specs.declared.entries.Call.{Call};

@@ -1,5 +1,5 @@
 //! The state that the lock guards.
-ghost use Rattle.std.specs.Prelude.{◌≡◌, ◌≤◌, ◌∷◌, [], refl, length, is_some};
+ghost use Rattle.std.specs.Prelude.{◌≡◌, ◌≤◌, ◌∷◌, [], false, refl, length, is_some};
 ghost use Rattle.fast_mutex.specs.Marks.{flag};
 ghost use Rattle.mq_model.specs.Record.{first};
 ghost use Rattle.mq_model.specs.Waits.{is_answered, named_wait};
@@ -51,14 +51,14 @@ impl Logged for Guarded {
 
     ghost use Rattle.std.specs.Prelude.{◌∷◌, [], refl};
     ghost use Rattle.mq_model.specs.Waits.{is_answered};
-    ghost use Rattle.mq.specs.Calls.{owner, fixed_of};
+    ghost use Rattle.mq.specs.Calls.{author, fixed_of};
     ghost use Rattle.mq_model.proofs.OthersLeave.{answered-stays};
 
     ghost items = { λ s. s.books.records };
 
     ghost fixed = { λ s. fixed_of s.books.n s.books.bounds };
 
-    ghost owner = { owner };
+    ghost author = { author };
 
     ghost is_answered = { λ p past. is_answered past p };
 
@@ -123,6 +123,27 @@ impl Visit {
             places,
         } = self;
         let answered = answered_now(&books, process, answered, own, places);
+        Guarded { books, answered }
+    }
+
+    /// The state to give back after one call, which got this reply. The answers are counted anew only where it names a wait.
+    #[inline(always)]
+    pub(crate) fn end_after(self, reply: Reply) -> Guarded
+        requires quiet { is_some (named_wait reply) ≡ false → self.answered ≡ answered_bits self.books.records }
+        ensures { result.books ≡ self.books }
+    {
+        let Visit {
+            books,
+            process: _,
+            answered,
+            own: _,
+            places: _,
+        } = self;
+        let answered = if names_wait(reply) {
+            all_answered(&books)
+        } else {
+            answered
+        };
         Guarded { books, answered }
     }
 }

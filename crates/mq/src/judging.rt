@@ -1,6 +1,6 @@
 //! The verdict on a journal.
 ghost use Rattle.std.specs.Prelude.{◌↔◌, IsOk};
-ghost use Rattle.mq_model.specs.Answer.{Legal};
+ghost use Rattle.mq_model.specs.Legality.{Legal};
 
 use mq_checker::checker::check_history;
 use mq_model::journals::Journal;

@@ -1,7 +1,7 @@
 //! A process and its calls.
 ghost use Rattle.std.specs.Prelude.{◌≡◌, ◌≢◌, ◌≤◌, Bool, true, false, Some, None, IsSome, IfSome, IfNone, OnSome, Ok, length, [], is_some};
 ghost use Rattle.mq_model.specs.Waits.{open_wait};
-ghost use Rattle.mq_model.specs.Answer.{Legal};
+ghost use Rattle.mq_model.specs.Legality.{Legal};
 ghost use Rattle.mq_model.specs.declared.entries.Call.{Call};
 ghost use Rattle.mq_state.specs.Buffers.{waiting_room, waiting_call, room_of};
 ghost use Rattle.mq.specs.Calls.{ticket_of};
@@ -45,6 +45,7 @@ impl<L: Look<Guarded>> Model for Process<L> {
 }
 
 /// The process of a seat, with the room that its open wait needs.
+#[inline(always)]
 pub(crate) fn process_of<L: Look<Guarded>>(seat: L::Seat, waits: Option<usize>) -> Process<L>
     requires { waits ≡ waiting_room (L.ticket seat).left (L.ticket seat).number }
     ensures { result ≡ L.ticket seat }
@@ -206,6 +207,7 @@ impl<L: Look<Guarded>> Process<L> {
 }
 
 // Enters with the seat of a process, which waits until nobody else is inside.
+#[inline(always)]
 fn arrive<L: Look<Guarded>, R: Wait>(
     rt: &R,
     mq: &Mq<L>,

@@ -1,12 +1,14 @@
 //! The two steps that touch the lock, once a walk has come in.
-ghost use Rattle.std.specs.Prelude.{◌≡◌, true, false};
+ghost use Rattle.std.specs.Prelude.{◌≡◌, true, false, is_some};
 ghost use Rattle.fast_mutex.specs.Items.{GrowsBy};
-ghost use Rattle.mq_model.specs.Answer.{Legal};
-ghost use Rattle.mq.specs.Calls.{Came, Knows, owner, bounds_in, fixed_of};
+ghost use Rattle.mq_model.specs.Legality.{Legal};
+ghost use Rattle.mq_model.specs.Waits.{named_wait};
+ghost use Rattle.mq.specs.Calls.{Came, Knows, answered_bits, author, bounds_in, fixed_of};
 
 use crate::guarded::{Guarded, Visit};
 use crate::system::Mq;
 use fast_mutex::Look;
+use mq_model::entries::Reply;
 
 /// The stay of a walk that has come in, of this process.
 #[inline(always)]
@@ -28,10 +30,30 @@ pub(crate) fn depart<L: Look<Guarded>>(mq: &Mq<L>, inside: L::Inside, visit: Vis
     requires n { visit.books.n ≡ mq.now.count }
     requires bounds { visit.books.bounds ≡ bounds_in mq.now.fixed }
     requires knows { Knows (L.stay inside) visit.process visit.answered visit.places visit.own }
-    requires grows { GrowsBy owner (L.stay inside).number (L.stay inside).left visit.books.records }
+    requires grows { GrowsBy author (L.stay inside).number (L.stay inside).left visit.books.records }
     ensures left { L.ticket result ≡ record { lock = mq.now; number = (L.stay inside).number; left = visit.books.records; told = false } }
     ensures legal { Legal visit.books.records }
 {
     let _ = visit.books.journal();
     mq.lock().leave(inside, visit.end())
+}
+
+/// The same after one call, which got this reply. No record is looked up.
+#[inline(always)]
+pub(crate) fn depart_after<L: Look<Guarded>>(
+    mq: &Mq<L>,
+    inside: L::Inside,
+    visit: Visit,
+    reply: Reply,
+) -> L::Seat
+    requires lock { (L.stay inside).lock ≡ mq.now }
+    requires n { visit.books.n ≡ mq.now.count }
+    requires bounds { visit.books.bounds ≡ bounds_in mq.now.fixed }
+    requires quiet { is_some (named_wait reply) ≡ false → visit.answered ≡ answered_bits visit.books.records }
+    requires grows { GrowsBy author (L.stay inside).number (L.stay inside).left visit.books.records }
+    ensures left { L.ticket result ≡ record { lock = mq.now; number = (L.stay inside).number; left = visit.books.records; told = false } }
+    ensures legal { Legal visit.books.records }
+{
+    let _ = visit.books.journal();
+    mq.lock().leave(inside, visit.end_after(reply))
 }

@@ -2,9 +2,9 @@
 ghost use Rattle.std.specs.Prelude.{◌≡◌, ◌≤◌, ◌<◌, ◌⊎◌, ◌↔◌, [], map, length, Err, IfOk, IfErr, IsOk, vec_len, vec_capacity};
 ghost use Rattle.std.specs.List.{All};
 ghost use Rattle.fast_mutex.specs.Items.{Grows, tickets_from};
-ghost use Rattle.mq_model.specs.Answer.{Legal};
+ghost use Rattle.mq_model.specs.Legality.{Legal};
 ghost use Rattle.mq_model.specs.declared.faults.Fault.TheVariants.{Invalid, NoMemory};
-ghost use Rattle.mq.specs.Calls.{owner};
+ghost use Rattle.mq.specs.Calls.{author};
 
 use crate::guarded::Guarded;
 use crate::process::{Process, process_of, seat_of};
@@ -48,9 +48,9 @@ impl<L: Look<Guarded>> Mq<L> {
     ghost use Rattle.std.specs.Prelude.{◌≡◌, ◌≤◌, ◌<◌, ◌⊎◌, ◌↔◌, ◌∷◌, [], Some, None, map, length, Err, IfOk, IfErr, IsOk, vec_len, vec_capacity};
     ghost use Rattle.std.specs.List.{All};
     ghost use Rattle.fast_mutex.specs.Items.{Grows, tickets_from};
-    ghost use Rattle.mq_model.specs.Answer.{Legal};
+    ghost use Rattle.mq_model.specs.Legality.{Legal};
     ghost use Rattle.mq_model.specs.declared.faults.Fault.TheVariants.{Invalid, NoMemory};
-    ghost use Rattle.mq.specs.Calls.{owner, fixed_of, bounds_in};
+    ghost use Rattle.mq.specs.Calls.{author, fixed_of, bounds_in};
 
     // The system over these queues of n processes, with an empty journal.
     fn over(alloc: Global, n: u32, books: Books) -> Result<(Mq<L>, Vec<Process<L>>), Fault>
@@ -125,7 +125,7 @@ impl<L: Look<Guarded>> Mq<L> {
         ensures all { (vec_len processes ≡ self.count) ↔ IsOk result }
         ensures legal { IfOk result (λ journal. Legal journal.records) }
         ensures processes { IfOk result (λ journal. All (λ r. r.entry.process ≤ self.count) journal.records) }
-        ensures grows { IfOk result (λ journal. All (λ p. Grows owner p.number p.left journal.records []) processes.items) }
+        ensures grows { IfOk result (λ journal. All (λ p. Grows author p.number p.left journal.records []) processes.items) }
         ensures back { IfErr result (λ m. (m.whole ≡ self) × (m.parts ≡ processes)) }
     {
         if processes.len() != self.n as usize {

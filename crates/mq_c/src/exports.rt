@@ -3,18 +3,20 @@
 ghost use Rattle.std.specs.Prelude.{◌≡◌, Some, None, IfSome, IfNone, [], length, if◌then◌else◌};
 ghost use Rattle.mq_model.specs.declared.entries.Call.{Call};
 ghost use Rattle.mq_model.specs.Fault.{number_of};
-ghost use Rattle.mq_c.specs.Openings.{open_fault, name_fault, flags_of, attr_of, deadline_of};
+ghost use Rattle.mq_handles.specs.Openings.{open_fault, name_fault, flags_of, attr_of, deadline_of};
 ghost use Rattle.mq.specs.Calls.{OneCall, ReceiveCall, Exits};
 ghost use Rattle.mq.specs.Says.{open_says, done_says, attributes_says, notice_says, start_send_says, start_receive_says};
-ghost use Rattle.mq_c.specs.Tries.{Answers, AnswersWith};
-ghost use Rattle.mq_c.specs.Endings.{AnswersEnd, AnswersLook};
-ghost use Rattle.mq_c.specs.Handles.{process_in};
-ghost use Rattle.mq_c.specs.Codes.{told, code_of, written, given_code, given, notice_code, notice_given, sent_code, got_code, message_got, attributes_got, end_code, end_message};
+ghost use Rattle.mq_handles.specs.Tries.{Gives, GivesWith};
+ghost use Rattle.mq_handles.specs.Endings.{GivesEnd, GivesLook};
+ghost use Rattle.mq_handles.specs.Handles.{process_in};
+ghost use Rattle.mq_handles.specs.Codes.{told, code_of, written, given_code, given, notice_code, notice_given, sent_code, got_code, message_got, attributes_got, end_code, end_message};
 
-use crate::answers::{self, EMPTY};
-use crate::handle::Handle;
-use crate::requests::{Attributes, Message, Moment, Opening, limits, read_name, read_open};
 use mq::Status;
+use mq_handles::handle::Handle;
+use mq_handles::numbers::{self, EMPTY};
+use mq_handles::requests::{
+    Attributes, Message, Moment, Opening, limits, read_name, read_open, registration,
+};
 use std::alloc::Global;
 
 /// Opens a queue (`mq_open`) and writes its descriptor. A name or an access that is none is refused before all else.
@@ -27,7 +29,7 @@ pub extern "C" fn yak_open(
     d: &mut u32,
 ) -> u32
     ensures bad { IfSome (open_fault name.now opening.now) (λ fault. (result ≡ number_of fault) × (process.new ≡ process.old) × (d.new ≡ d.old)) }
-    ensures good { IfNone (open_fault name.now opening.now) (Answers (λ old new result. OneCall open_says old new (Call.MqOpen (flags_of opening.now) (attr_of opening.now)) name.now result) (λ t. told (code_of given_code t) (written (given d.old) d.old t)) (process_in process.old) (process_in process.new) (told result d.new)) }
+    ensures good { IfNone (open_fault name.now opening.now) (Gives (λ old new result. OneCall open_says old new (Call.MqOpen (flags_of opening.now) (attr_of opening.now)) name.now result) (λ t. told (code_of given_code t) (written (given d.old) d.old t)) (process_in process.old) (process_in process.new) (told result d.new)) }
 {
     let (name, flags) = match read_open(name, opening) {
         Ok(read) => read,
@@ -38,14 +40,14 @@ pub extern "C" fn yak_open(
     };
     let tried = member.open(&name, flags, limits(opening));
     process.put(member);
-    answers::opened(tried, d)
+    numbers::opened(tried, d)
 }
 
 /// Unbinds a name (`mq_unlink`). A name that is none is refused before all else.
 #[unsafe(no_mangle)]
 pub extern "C" fn yak_unlink(alloc: Global, process: &mut Handle, name: &[u8]) -> u32
     ensures bad { IfSome (name_fault name.now) (λ fault. (result ≡ number_of fault) × (process.new ≡ process.old)) }
-    ensures good { IfNone (name_fault name.now) (Answers (λ old new result. OneCall done_says old new Call.MqUnlink name.now result) (code_of given_code) (process_in process.old) (process_in process.new) result) }
+    ensures good { IfNone (name_fault name.now) (Gives (λ old new result. OneCall done_says old new Call.MqUnlink name.now result) (code_of given_code) (process_in process.old) (process_in process.new) result) }
 {
     let name = match read_name(name) {
         Ok(name) => name,
@@ -56,20 +58,20 @@ pub extern "C" fn yak_unlink(alloc: Global, process: &mut Handle, name: &[u8]) -
     };
     let tried = member.unlink(&name);
     process.put(member);
-    answers::done(tried)
+    numbers::done(tried)
 }
 
 /// Closes a descriptor (`mq_close`).
 #[unsafe(no_mangle)]
 pub extern "C" fn yak_close(alloc: Global, process: &mut Handle, d: u32) -> u32
-    ensures { Answers (λ old new result. OneCall done_says old new (Call.MqClose d) [] result) (code_of given_code) (process_in process.old) (process_in process.new) result }
+    ensures { Gives (λ old new result. OneCall done_says old new (Call.MqClose d) [] result) (code_of given_code) (process_in process.old) (process_in process.new) result }
 {
     let Some(mut member) = process.take(alloc) else {
         return EMPTY;
     };
     let tried = member.close(d);
     process.put(member);
-    answers::done(tried)
+    numbers::done(tried)
 }
 
 /// Registers on the queue of a descriptor with this value, or removes the registration (`mq_notify`).
@@ -81,15 +83,14 @@ pub extern "C" fn yak_notify(
     registers: bool,
     value: u64,
 ) -> u32
-    ensures { Answers (λ old new result. OneCall done_says old new (Call.MqNotify d (if registers then Some value else None)) [] result) (code_of given_code) (process_in process.old) (process_in process.new) result }
+    ensures { Gives (λ old new result. OneCall done_says old new (Call.MqNotify d (if registers then Some value else None)) [] result) (code_of given_code) (process_in process.old) (process_in process.new) result }
 {
     let Some(mut member) = process.take(alloc) else {
         return EMPTY;
     };
-    let value = if registers { Some(value) } else { None };
-    let tried = member.notify(d, value);
+    let tried = member.notify(d, registration(registers, value));
     process.put(member);
-    answers::done(tried)
+    numbers::done(tried)
 }
 
 /// Writes the attributes of a descriptor (`mq_getattr`).
@@ -100,14 +101,14 @@ pub extern "C" fn yak_getattr(
     d: u32,
     attributes: &mut Attributes,
 ) -> u32
-    ensures { Answers (λ old new result. OneCall attributes_says old new (Call.MqGetattr d) [] result) (λ t. told (code_of given_code t) (written (attributes_got attributes.old) attributes.old t)) (process_in process.old) (process_in process.new) (told result attributes.new) }
+    ensures { Gives (λ old new result. OneCall attributes_says old new (Call.MqGetattr d) [] result) (λ t. told (code_of given_code t) (written (attributes_got attributes.old) attributes.old t)) (process_in process.old) (process_in process.new) (told result attributes.new) }
 {
     let Some(mut member) = process.take(alloc) else {
         return EMPTY;
     };
     let tried = member.getattr(d);
     process.put(member);
-    answers::attributes(tried, attributes)
+    numbers::attributes(tried, attributes)
 }
 
 /// Sets the flag of a descriptor and writes the attributes from before (`mq_setattr`).
@@ -119,7 +120,7 @@ pub extern "C" fn yak_setattr(
     nonblock: bool,
     before: &mut Attributes,
 ) -> u32
-    ensures { Answers (λ old new result. OneCall attributes_says old new (Call.MqSetattr d nonblock) [] result) (λ t. told (code_of given_code t) (written (attributes_got before.old) before.old t)) (process_in process.old) (process_in process.new) (told result before.new) }
+    ensures { Gives (λ old new result. OneCall attributes_says old new (Call.MqSetattr d nonblock) [] result) (λ t. told (code_of given_code t) (written (attributes_got before.old) before.old t)) (process_in process.old) (process_in process.new) (told result before.new) }
 {
     let Some(mut member) = process.take(alloc) else {
         return EMPTY;
@@ -132,33 +133,33 @@ pub extern "C" fn yak_setattr(
     };
     let tried = member.setattr(d, set);
     process.put(member);
-    answers::attributes(tried, before)
+    numbers::attributes(tried, before)
 }
 
 /// Writes the value of the oldest notice that the process has not taken.
 #[unsafe(no_mangle)]
 pub extern "C" fn yak_next_notice(alloc: Global, process: &mut Handle, value: &mut u64) -> u32
-    ensures { Answers (λ old new result. OneCall notice_says old new Call.NextNotice [] result) (λ t. told (code_of notice_code t) (written (notice_given value.old) value.old t)) (process_in process.old) (process_in process.new) (told result value.new) }
+    ensures { Gives (λ old new result. OneCall notice_says old new Call.NextNotice [] result) (λ t. told (code_of notice_code t) (written (notice_given value.old) value.old t)) (process_in process.old) (process_in process.new) (told result value.new) }
 {
     let Some(mut member) = process.take(alloc) else {
         return EMPTY;
     };
     let tried = member.next_notice();
     process.put(member);
-    answers::notice(tried, value)
+    numbers::notice(tried, value)
 }
 
 /// Closes all descriptors of the process, as the end of a process does.
 #[unsafe(no_mangle)]
 pub extern "C" fn yak_exit(alloc: Global, process: &mut Handle) -> u32
-    ensures { Answers (λ old new result. Exits old new result) (code_of given_code) (process_in process.old) (process_in process.new) result }
+    ensures { Gives (λ old new result. Exits old new result) (code_of given_code) (process_in process.old) (process_in process.new) result }
 {
     let Some(mut member) = process.take(alloc) else {
         return EMPTY;
     };
     let tried = member.exit();
     process.put(member);
-    answers::done(tried)
+    numbers::done(tried)
 }
 
 /// Sends a message, or begins to wait for its admission (`mq_send`).
@@ -170,14 +171,14 @@ pub extern "C" fn yak_start_send(
     bytes: &[u8],
     prio: u32,
 ) -> u32
-    ensures { Answers (λ old new result. OneCall start_send_says old new (Call.MqSend d prio (length bytes.now)) bytes.now result) (code_of sent_code) (process_in process.old) (process_in process.new) result }
+    ensures { Gives (λ old new result. OneCall start_send_says old new (Call.MqSend d prio (length bytes.now)) bytes.now result) (code_of sent_code) (process_in process.old) (process_in process.new) result }
 {
     let Some(mut member) = process.take(alloc) else {
         return EMPTY;
     };
     let tried = member.start_send(d, bytes, prio);
     process.put(member);
-    answers::sent(tried)
+    numbers::sent(tried)
 }
 
 /// The same at the moment `now`, with a deadline (`mq_timedsend`).
@@ -191,14 +192,14 @@ pub extern "C" fn yak_start_timed_send(
     until: &Moment,
     now: &Moment,
 ) -> u32
-    ensures { Answers (λ old new result. OneCall start_send_says old new (Call.MqTimedSend d prio (length bytes.now) (deadline_of until.now) (deadline_of now.now)) bytes.now result) (code_of sent_code) (process_in process.old) (process_in process.new) result }
+    ensures { Gives (λ old new result. OneCall start_send_says old new (Call.MqTimedSend d prio (length bytes.now) (deadline_of until.now) (deadline_of now.now)) bytes.now result) (code_of sent_code) (process_in process.old) (process_in process.new) result }
 {
     let Some(mut member) = process.take(alloc) else {
         return EMPTY;
     };
     let tried = member.start_timed_send(d, bytes, prio, until.deadline(), now.deadline());
     process.put(member);
-    answers::sent(tried)
+    numbers::sent(tried)
 }
 
 /// Receives the oldest message of the highest priority into the front of the buffer, or begins to wait for one (`mq_receive`).
@@ -210,14 +211,14 @@ pub extern "C" fn yak_start_receive(
     buf: &mut [u8],
     message: &mut Message,
 ) -> u32
-    ensures { AnswersWith (buf.new ≡ buf.old) (λ old new result. ReceiveCall start_receive_says old new (Call.MqReceive d (length buf.old)) buf.old buf.new result) (λ t. told (code_of got_code t) (written (message_got message.old) message.old t)) (process_in process.old) (process_in process.new) (told result message.new) }
+    ensures { GivesWith (buf.new ≡ buf.old) (λ old new result. ReceiveCall start_receive_says old new (Call.MqReceive d (length buf.old)) buf.old buf.new result) (λ t. told (code_of got_code t) (written (message_got message.old) message.old t)) (process_in process.old) (process_in process.new) (told result message.new) }
 {
     let Some(mut member) = process.take(alloc) else {
         return EMPTY;
     };
     let tried = member.start_receive(d, buf);
     process.put(member);
-    answers::got(tried, message)
+    numbers::got(tried, message)
 }
 
 /// The same at the moment `now`, with a deadline (`mq_timedreceive`).
@@ -231,14 +232,14 @@ pub extern "C" fn yak_start_timed_receive(
     until: &Moment,
     now: &Moment,
 ) -> u32
-    ensures { AnswersWith (buf.new ≡ buf.old) (λ old new result. ReceiveCall start_receive_says old new (Call.MqTimedReceive d (length buf.old) (deadline_of until.now) (deadline_of now.now)) buf.old buf.new result) (λ t. told (code_of got_code t) (written (message_got message.old) message.old t)) (process_in process.old) (process_in process.new) (told result message.new) }
+    ensures { GivesWith (buf.new ≡ buf.old) (λ old new result. ReceiveCall start_receive_says old new (Call.MqTimedReceive d (length buf.old) (deadline_of until.now) (deadline_of now.now)) buf.old buf.new result) (λ t. told (code_of got_code t) (written (message_got message.old) message.old t)) (process_in process.old) (process_in process.new) (told result message.new) }
 {
     let Some(mut member) = process.take(alloc) else {
         return EMPTY;
     };
     let tried = member.start_timed_receive(d, buf, until.deadline(), now.deadline());
     process.put(member);
-    answers::got(tried, message)
+    numbers::got(tried, message)
 }
 
 /// Ends the open wait, if it is answered: a message that was received lies in the front of the buffer then.
@@ -249,14 +250,14 @@ pub extern "C" fn yak_collect(
     buf: &mut [u8],
     message: &mut Message,
 ) -> u32
-    ensures { AnswersEnd None (λ e. told (end_code e) (end_message message.old e)) (process_in process.old) (process_in process.new) buf.old buf.new (told result message.new) }
+    ensures { GivesEnd None (λ e. told (end_code e) (end_message message.old e)) (process_in process.old) (process_in process.new) buf.old buf.new (told result message.new) }
 {
     let Some(mut member) = process.take(alloc) else {
         return EMPTY;
     };
     let tried = member.collect(buf);
     process.put(member);
-    answers::ended(tried, message)
+    numbers::ended(tried, message)
 }
 
 /// Ends the open wait, whose deadline has passed at the moment `now`: as `yak_collect` where it is answered, and else it is withdrawn.
@@ -268,25 +269,25 @@ pub extern "C" fn yak_end_wait(
     message: &mut Message,
     now: &Moment,
 ) -> u32
-    ensures { AnswersEnd (Some (deadline_of now.now)) (λ e. told (end_code e) (end_message message.old e)) (process_in process.old) (process_in process.new) buf.old buf.new (told result message.new) }
+    ensures { GivesEnd (Some (deadline_of now.now)) (λ e. told (end_code e) (end_message message.old e)) (process_in process.old) (process_in process.new) buf.old buf.new (told result message.new) }
 {
     let Some(mut member) = process.take(alloc) else {
         return EMPTY;
     };
     let tried = member.end_wait(buf, now.deadline());
     process.put(member);
-    answers::ended(tried, message)
+    numbers::ended(tried, message)
 }
 
 /// Looks from outside the lock whether the open wait is answered, which takes one load.
 #[unsafe(no_mangle)]
 pub extern "C" fn yak_answered(alloc: Global, process: &mut Handle) -> u32
-    ensures { AnswersLook (process_in process.old) (process_in process.new) result }
+    ensures { GivesLook (process_in process.old) (process_in process.new) result }
 {
     let Some(mut member) = process.take(alloc) else {
         return EMPTY;
     };
     let looked = member.answered();
     process.put(member);
-    answers::looked(looked)
+    numbers::looked(looked)
 }

@@ -7,7 +7,7 @@ use Rattle.std.proofs.lemmas.Bool.{and_parts}
 use Rattle.mq_model.specs.Record.{Record, Past}
 use Rattle.mq_model.specs.Descriptors.{opened_queue, called_queue}
 use Rattle.mq_model.specs.Messages.{taken_by}
-use Rattle.mq_model.specs.Answer.{Legal, IsLegalNext}
+use Rattle.mq_model.specs.Legality.{Legal, IsLegalNext}
 use Rattle.mq_model.specs.Owners.{waiter_in, OwnersMirror}
 use Rattle.mq_model.specs.OwnersNoted.{EntryQueue, noted, noted_open, noted_done, noted_attributes, with_answer_at}
 use Rattle.mq_checker.specs.TakenTable.{marked, TakenMirror}

@@ -3,10 +3,10 @@
 
 ghost use Rattle.std.specs.Prelude.{◌≡◌, ◌+◌, ◌<◌, ◌&&◌, ◌↔◌, IsTrue, IsOk, IfErr, length};
 ghost use Rattle.mq_model.specs.Record.{first};
-ghost use Rattle.mq_model.specs.Answer.{may_call, Legal, IsFirstIllegal};
+ghost use Rattle.mq_model.specs.Legality.{may_call, Legal, IsFirstIllegal};
 ghost use Rattle.mq_checker.specs.CheckerTables.{TablesMirror};
 
-use crate::expected::answer;
+use crate::expected::reply_to;
 use crate::tables;
 use crate::tables::Tables;
 use mq_model::entries::Call;
@@ -46,7 +46,7 @@ fn is_legal_at(journal: &Journal, k: u64, tables: &Tables) -> bool
     let process = is_process(entry.process);
     let turn = may_call(journal, k, tables, entry.process, entry.call);
     let fits = is_payload(entry.call, entry.reply, payload);
-    let expected = answer(journal, k, tables, entry.process, entry.call, payload);
+    let expected = reply_to(journal, k, tables, entry.process, entry.call, payload);
     let same = is_same(entry.reply, expected);
     all(process, turn, fits, same)
 }

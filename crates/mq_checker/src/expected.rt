@@ -8,7 +8,7 @@ ghost use Rattle.mq_model.specs.Descriptors.{held, created, alive, lowest_free};
 ghost use Rattle.mq_model.specs.Messages.{is_in, present, best, least, waiting_sends, waiting_receives};
 ghost use Rattle.mq_model.specs.Names.{attributes, bound_queue};
 ghost use Rattle.mq_model.specs.Notices.{registered_place};
-ghost use Rattle.mq_model.specs.Answer.{answer_open, answer_send, answer_receive, answer_attributes, answer_notify, status_facts, answer, Legal};
+ghost use Rattle.mq_model.specs.Legality.{reply_to_open, reply_to_send, reply_to_receive, reply_to_attributes, reply_to_notify, status_facts, reply_to, Legal};
 ghost use Rattle.mq_checker.specs.CheckerTables.{TablesMirror};
 
 use crate::scan_messages::{best, present_count};
@@ -52,7 +52,7 @@ fn open_facts(journal: &Journal, k: u64, tables: &Tables, p: u32, name: &[u8]) -
     }
 }
 
-fn answer_open(
+fn reply_to_open(
     journal: &Journal,
     k: u64,
     tables: &Tables,
@@ -63,7 +63,7 @@ fn answer_open(
 ) -> Reply
     requires bound { k ≤ length journal.now.records }
     requires mirror { TablesMirror (first k journal.now.records) tables.now }
-    ensures { result ≡ answer_open (first k journal.now.records) p flags attr name.now }
+    ensures { result ≡ reply_to_open (first k journal.now.records) p flags attr name.now }
 {
     let facts = open_facts(journal, k, tables, p, name);
     ladder::open(flags, attr, facts)
@@ -111,7 +111,7 @@ fn send_facts(journal: &Journal, k: u64, tables: &Tables, h: Description) -> Sen
     }
 }
 
-fn answer_send(
+fn reply_to_send(
     journal: &Journal,
     k: u64,
     tables: &Tables,
@@ -122,7 +122,7 @@ fn answer_send(
     requires bound { k ≤ length journal.now.records }
     requires mirror { TablesMirror (first k journal.now.records) tables.now }
     requires legal { Legal (first k journal.now.records) }
-    ensures { result ≡ answer_send (first k journal.now.records) held prio len }
+    ensures { result ≡ reply_to_send (first k journal.now.records) held prio len }
 {
     match held {
         None => ladder::send(prio, len, None),
@@ -170,7 +170,7 @@ fn receive_facts(journal: &Journal, k: u64, tables: &Tables, h: Description) -> 
     }
 }
 
-fn answer_receive(
+fn reply_to_receive(
     journal: &Journal,
     k: u64,
     tables: &Tables,
@@ -180,7 +180,7 @@ fn answer_receive(
     requires bound { k ≤ length journal.now.records }
     requires mirror { TablesMirror (first k journal.now.records) tables.now }
     requires legal { Legal (first k journal.now.records) }
-    ensures { result ≡ answer_receive (first k journal.now.records) held room }
+    ensures { result ≡ reply_to_receive (first k journal.now.records) held room }
 {
     match held {
         None => ladder::receive(room, None),
@@ -203,12 +203,17 @@ fn few_present(journal: &Journal, k: u64, tables: &Tables, q: u64) -> u64
     present_count(journal, k, &tables.marks, q)
 }
 
-fn answer_attributes(journal: &Journal, k: u64, tables: &Tables, held: Option<Description>) -> Reply
+fn reply_to_attributes(
+    journal: &Journal,
+    k: u64,
+    tables: &Tables,
+    held: Option<Description>,
+) -> Reply
     requires bound { k ≤ length journal.now.records }
     requires legal { Legal (first k journal.now.records) }
     requires created { IfSome held (λ h. IsTrue (is_in (created (first k journal.now.records)) h.queue)) }
     requires mirror { TablesMirror (first k journal.now.records) tables.now }
-    ensures { result ≡ answer_attributes (first k journal.now.records) held }
+    ensures { result ≡ reply_to_attributes (first k journal.now.records) held }
 {
     match held {
         None => ladder::status(None),
@@ -220,7 +225,7 @@ fn answer_attributes(journal: &Journal, k: u64, tables: &Tables, held: Option<De
     }
 }
 
-fn answer_notify(
+fn reply_to_notify(
     journal: &Journal,
     k: u64,
     p: u32,
@@ -228,7 +233,7 @@ fn answer_notify(
     value: Option<u64>,
 ) -> Reply
     requires { k ≤ length journal.now.records }
-    ensures { result ≡ answer_notify (first k journal.now.records) p held value }
+    ensures { result ≡ reply_to_notify (first k journal.now.records) p held value }
 {
     match held {
         None => ladder::notify(p, value, None),
@@ -254,7 +259,7 @@ fn held_created(journal: &Journal, k: u64, tables: &Tables, p: u32, d: u32) -> O
 }
 
 // What a call at place `k` is answered.
-pub(crate) fn answer(
+pub(crate) fn reply_to(
     journal: &Journal,
     k: u64,
     tables: &Tables,
@@ -265,13 +270,13 @@ pub(crate) fn answer(
     requires bound { k ≤ length journal.now.records }
     requires legal { Legal (first k journal.now.records) }
     requires mirror { TablesMirror (first k journal.now.records) tables.now }
-    ensures { result ≡ answer (first k journal.now.records) p call name.now }
+    ensures { result ≡ reply_to (first k journal.now.records) p call name.now }
 {
     match call {
-        Call::MqOpen { flags, attr } => answer_open(journal, k, tables, p, flags, attr, name),
+        Call::MqOpen { flags, attr } => reply_to_open(journal, k, tables, p, flags, attr, name),
         Call::MqClose { d } => ladder::close(tables::held(journal, k, tables, p, d)),
         Call::MqUnlink => ladder::unlink(bound_queue(journal, k, name)),
-        Call::MqSend { d, prio, len } => answer_send(
+        Call::MqSend { d, prio, len } => reply_to_send(
             journal,
             k,
             tables,
@@ -279,7 +284,7 @@ pub(crate) fn answer(
             prio,
             len,
         ),
-        Call::MqReceive { d, room } => answer_receive(
+        Call::MqReceive { d, room } => reply_to_receive(
             journal,
             k,
             tables,
@@ -294,7 +299,11 @@ pub(crate) fn answer(
             now,
         } => {
             let held = tables::held(journal, k, tables, p, d);
-            ladder::timed(until, now, answer_send(journal, k, tables, held, prio, len))
+            ladder::timed(
+                until,
+                now,
+                reply_to_send(journal, k, tables, held, prio, len),
+            )
         }
         Call::MqTimedReceive {
             d,
@@ -303,15 +312,15 @@ pub(crate) fn answer(
             now,
         } => {
             let held = tables::held(journal, k, tables, p, d);
-            ladder::timed(until, now, answer_receive(journal, k, tables, held, room))
+            ladder::timed(until, now, reply_to_receive(journal, k, tables, held, room))
         }
-        Call::MqGetattr { d } | Call::MqSetattr { d, .. } => answer_attributes(
+        Call::MqGetattr { d } | Call::MqSetattr { d, .. } => reply_to_attributes(
             journal,
             k,
             tables,
             held_created(journal, k, tables, p, d),
         ),
-        Call::MqNotify { d, value } => answer_notify(
+        Call::MqNotify { d, value } => reply_to_notify(
             journal,
             k,
             p,

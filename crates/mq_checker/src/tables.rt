@@ -8,7 +8,7 @@ ghost use Rattle.mq_model.specs.Descriptors.{held, opened_queue, called_queue, l
 ghost use Rattle.mq_model.specs.Messages.{least};
 ghost use Rattle.mq_model.specs.Waits.{open_wait, wait_deadline, answered_by};
 ghost use Rattle.mq_model.specs.Owners.{waiting, OwnersMirror};
-ghost use Rattle.mq_model.specs.Answer.{Legal};
+ghost use Rattle.mq_model.specs.Legality.{Legal};
 ghost use Rattle.mq_checker.specs.CheckerTables.{TablesMirror};
 
 use crate::scan_names::{descriptor_of, opened_queue};

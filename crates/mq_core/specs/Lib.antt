@@ -7,7 +7,7 @@ pub use Rattle.mq_model.specs.Messages
 pub use Rattle.mq_model.specs.Notices
 pub use Rattle.mq_model.specs.Deadlines
 pub use Rattle.mq_model.specs.Waits
-pub use Rattle.mq_model.specs.Answer
+pub use Rattle.mq_model.specs.Legality
 pub use Rattle.mq_model.specs.Owners
 pub use Rattle.mq_model.specs.OwnersNoted
 pub use Rattle.mq_laws.specs.Laws

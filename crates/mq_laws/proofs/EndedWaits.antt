@@ -6,7 +6,7 @@ use Rattle.mq_model.specs.Record.{Record, Past, record_at}
 use Rattle.mq_model.specs.Descriptors.{is_on}
 use Rattle.mq_model.specs.Messages.{is_in, if_in, is_accepted, with_place, queues, hands_over, blocked_sends, admits, ends_send, ends_receive, ended_sends, ended_receives, entered, admitted, handed, waiting_sends, waiting_receives}
 use Rattle.mq_model.specs.Waits.{is_wait, open_wait, named_wait, ended_wait, answered_by}
-use Rattle.mq_model.specs.Answer.{Legal, IsLegalNext}
+use Rattle.mq_model.specs.Legality.{Legal, IsLegalNext}
 use Rattle.mq_laws.specs.Laws.{reply_at, withdrawn_wait, Has, IsOnce}
 use Rattle.mq_model.proofs.Places.{split, clash}
 use Rattle.mq_model.proofs.Prefixes.{record_at-below}

@@ -7,7 +7,7 @@ use Rattle.mq_model.specs.Descriptors.{is_place, is_on}
 use Rattle.mq_model.specs.Messages.{is_in, taken, taken_by, present, admitted}
 use Rattle.mq_model.specs.Notices.{notified, registered, registered_place, registration_of, only_if, unless, ends}
 use Rattle.mq_model.specs.Waits.{is_wait, open_wait, named_wait, names_wait, answered_by}
-use Rattle.mq_model.specs.Answer.{Legal, IsLegalNext}
+use Rattle.mq_model.specs.Legality.{Legal, IsLegalNext}
 use Rattle.mq_model.proofs.Prefixes.{record_at-below}
 use Rattle.mq_laws.specs.Laws.{reply_at, message_given, cause, Has, GivesOnce}
 use Rattle.mq_model.proofs.Places.{split, clash, is_in-filter, find-in}

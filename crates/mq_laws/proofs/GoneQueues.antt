@@ -9,7 +9,7 @@ use Rattle.mq_model.specs.Record.{Record, Past, record_at, first}
 use Rattle.mq_model.specs.Names.{creates, unlinks, bound_queue, name_of}
 use Rattle.mq_model.specs.Descriptors.{held, held_after, opened_queue, called_queue, created, alive, is_named, is_held}
 use Rattle.mq_model.specs.Messages.{is_in, is_accepted, handed, admitted, taken, taken_by, present}
-use Rattle.mq_model.specs.Answer.{Legal, IsLegalNext, answer_open}
+use Rattle.mq_model.specs.Legality.{Legal, IsLegalNext, reply_to_open}
 use Rattle.mq_laws.specs.Laws.{message_given, IsTakenAt, IsGoneAt, EndsForGood}
 use Rattle.mq_model.proofs.Places.{split, clash, is_in-filter, find-in}
 use Rattle.mq_model.proofs.Cases.{Says}
@@ -69,7 +69,7 @@ needed-before past r legal q lt e = split (is_named (r ∷ past) q)
     opens : (new : Bool) → opened_queue past r.payload new ≡ q → (d : ℕ) (flags : OpenFlags) (attr : Option Attr) → r.entry.call ≡ MqOpen flags attr → r.entry.reply ≡ Opened d new → (is_named past q || is_held past q) ≡ true
     opens true opened d flags attr call reply = let same : length past ≡ q = opened in absurd (omega (arith, lt, same))
     opens false opened d flags attr call reply =
-        let answered : Opened d false ≡ answer_open past r.entry.process flags attr r.payload = rw (call, reply) at legal.1.reply in
+        let answered : Opened d false ≡ reply_to_open past r.entry.process flags attr r.payload = rw (call, reply) at legal.1.reply in
         let facts = opened-says past r.entry.process flags attr r.payload d false answered in
         rw (bound-named past r.payload q (some-is (bound_queue past r.payload) facts.new opened)) refl
 

@@ -3,7 +3,7 @@ use Rattle.std.proofs.Common.{◌≡◌, ℕ, suc, ◌-◌, ◌<◌, ◌≤◌, 
 use Rattle.std.specs.Prelude.{nat_le, drop}
 use Rattle.std.specs.Option.{option_map, option_and_then}
 use Rattle.mq_model.specs.Record.{Record, Past, record_at, first}
-use Rattle.mq_model.specs.Answer.{Legal, IsLegalNext}
+use Rattle.mq_model.specs.Legality.{Legal, IsLegalNext}
 use Rattle.mq_laws.specs.Laws.{reply_at, Has, IsOnce}
 use Rattle.mq_model.specs.declared.entries.Reply.{Reply}
 use Rattle.mq_model.proofs.Places.{split}

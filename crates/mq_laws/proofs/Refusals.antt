@@ -7,7 +7,7 @@ use Rattle.mq_model.specs.Descriptors.{is_on}
 use Rattle.mq_model.specs.Messages.{is_in, present, best, goes_first, priority}
 use Rattle.mq_model.specs.Notices.{registration_after, registered, notices_given, values_notified}
 use Rattle.mq_model.specs.Waits.{open_wait, names_wait}
-use Rattle.mq_model.specs.Answer.{Legal, answer, may_call}
+use Rattle.mq_model.specs.Legality.{Legal, reply_to, may_call}
 use Rattle.mq_laws.specs.Refusals.{IsUnchanged, RefusalsChangeNothing}
 use Rattle.mq_model.proofs.Alive.{none-of}
 use Rattle.mq_model.proofs.Places.{split}
@@ -29,7 +29,7 @@ abbrev refused : ℕ → Call → Fault → List ℕ → Record
 refused p call f payload = record { entry = record { process = p; call = call; reply = Refused f }; payload = payload }
 
 -- a call that is refused is no collect and no withdrawal, so its process had no open wait
-idle : (past : Past) (p : ℕ) (call : Call) (f : Fault) (payload : List ℕ) → IsTrue (may_call past p call) → Refused f ≡ answer past p call payload → is_none (open_wait past p) ≡ true
+idle : (past : Past) (p : ℕ) (call : Call) (f : Fault) (payload : List ℕ) → IsTrue (may_call past p call) → Refused f ≡ reply_to past p call payload → is_none (open_wait past p) ≡ true
 idle past p (MqOpen flags attr) f payload turn e = grind arith
 idle past p (MqClose d) f payload turn e = grind arith
 idle past p MqUnlink f payload turn e = grind arith
@@ -113,7 +113,7 @@ unchanged past p call f payload idle = record {
 pub refusals-change-nothing : (past : Past) → Legal past → RefusalsChangeNothing past
 refusals-change-nothing past legal k r f at is =
     let x = legal-at past legal k r at in
-    let reply : Refused f ≡ answer (first k past) r.entry.process r.entry.call r.payload = sym is ∙ x.next.reply in
+    let reply : Refused f ≡ reply_to (first k past) r.entry.process r.entry.call r.payload = sym is ∙ x.next.reply in
     let free = none-of (open_wait (first k past) r.entry.process) (idle (first k past) r.entry.process r.entry.call f r.payload x.next.turn reply) in
     let P : Reply → Type 0 = λ reply. IsUnchanged (first k past) (record { entry = record { process = r.entry.process; call = r.entry.call; reply = reply }; payload = r.payload } ∷ first k past) in
     let here : IsUnchanged (first k past) (r ∷ first k past) = subst P (sym is) (unchanged (first k past) r.entry.process r.entry.call f r.payload free) in

@@ -5,7 +5,7 @@ use Rattle.std.proofs.lemmas.Bool.{and_parts, eqb-false, false_from_ne_true}
 use Rattle.mq_model.specs.Record.{Record, Past, record_at, first}
 use Rattle.mq_model.specs.Descriptors.{held, called_queue, is_on, is_place}
 use Rattle.mq_model.specs.Notices.{registration_by, registration_of, only_if, notified, is_removal, removes, is_close_of, closes, ends, unless, registered}
-use Rattle.mq_model.specs.Answer.{Legal, IsLegalNext, answer, answer_notify}
+use Rattle.mq_model.specs.Legality.{Legal, IsLegalNext, reply_to, reply_to_notify}
 use Rattle.mq_model.specs.declared.entries.Description.{Description}
 use Rattle.mq_model.specs.declared.entries.Registration.{Registration}
 use Rattle.mq_model.specs.declared.entries.Call.{Call}
@@ -260,10 +260,10 @@ registered-stands (r ∷ past) q n e = by (only_if (is_on past r.entry q) (regis
         }
 
 -- a registration is made only where none stands
-busy : (past : Past) (p d v q : ℕ) (n : Registration) (payload : List ℕ) → registered past q ≡ Some n → called_queue past p (MqNotify d (Some v)) ≡ Some q → Done ≡ answer past p (MqNotify d (Some v)) payload → ⊥
+busy : (past : Past) (p d v q : ℕ) (n : Registration) (payload : List ℕ) → registered past q ≡ Some n → called_queue past p (MqNotify d (Some v)) ≡ Some q → Done ≡ reply_to past p (MqNotify d (Some v)) payload → ⊥
 busy past p d v q n payload stands on is = by (held past p d) refl on is
   where
-    by : (o : Option Description) → held past p d ≡ o → option_map (λ (h : Description). h.queue) o ≡ Some q → Done ≡ answer_notify past p o (Some v) → ⊥
+    by : (o : Option Description) → held past p d ≡ o → option_map (λ (h : Description). h.queue) o ≡ Some q → Done ≡ reply_to_notify past p o (Some v) → ⊥
     by None e on is = absurd (cc)
     by (Some h) e on is =
         let same : h.queue ≡ q = cc in
@@ -279,7 +279,7 @@ none-made past r q n next stands = by (only_if (is_on past r.entry q) (registrat
         let parts = only-parts (is_on past r.entry q) (registration_of (length past) r.entry.process r.entry.call r.entry.reply) m is in
         let made = made-of (length past) r.entry.process r.entry.call r.entry.reply m parts.1 in
         let on : called_queue past r.entry.process (MqNotify m.d (Some m.value)) ≡ Some q = ap (called_queue past r.entry.process) (sym made.call) ∙ place-is q (called_queue past r.entry.process r.entry.call) parts.0 in
-        let is : Done ≡ answer past r.entry.process (MqNotify m.d (Some m.value)) r.payload = sym made.reply ∙ next.reply ∙ ap (λ c. answer past r.entry.process c r.payload) made.call in
+        let is : Done ≡ reply_to past r.entry.process (MqNotify m.d (Some m.value)) r.payload = sym made.reply ∙ next.reply ∙ ap (λ c. reply_to past r.entry.process c r.payload) made.call in
         absurd (busy past r.entry.process m.d m.value q n r.payload stands on is)
 
 pub stands-registered : (past : Past) → Legal past → (q : ℕ) (n : Registration) → Stands past q n → registered past q ≡ Some n

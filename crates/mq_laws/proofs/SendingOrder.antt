@@ -9,7 +9,7 @@ use Rattle.mq_model.specs.Record.{Record, Past, record_at, first}
 use Rattle.mq_model.specs.Names.{attributes}
 use Rattle.mq_model.specs.Descriptors.{called_queue, created, is_on}
 use Rattle.mq_model.specs.Messages.{is_in, with_place, is_accepted, is_send, queues, blocks_send, admits, blocked_sends, ended_sends, waiting_sends, waiting_receives, entered, admitted, handed, taken, taken_by, present, is_full, priority, priority_given, goes_first, least}
-use Rattle.mq_model.specs.Answer.{Legal, IsLegalNext}
+use Rattle.mq_model.specs.Legality.{Legal, IsLegalNext}
 use Rattle.mq_laws.specs.Laws.{message_given, withdrawn_wait, Has, IsTakenAt, LeavesInOrder}
 use Rattle.mq_model.proofs.Places.{split, clash, is_in-filter, find-in}
 use Rattle.mq_model.proofs.Cases.{Says}

@@ -9,7 +9,7 @@ use Rattle.mq_model.specs.Record.{Record, Past}
 use Rattle.mq_model.specs.Names.{attributes}
 use Rattle.mq_model.specs.Descriptors.{held, called_queue, created, is_place, is_on}
 use Rattle.mq_model.specs.Messages.{is_in, with_place, if_in, queues, admits, is_send, best, blocked_sends, ended_sends, waiting_sends, entered, admitted, taken, present, is_full, least}
-use Rattle.mq_model.specs.Answer.{Legal, IsLegalNext}
+use Rattle.mq_model.specs.Legality.{Legal, IsLegalNext}
 use Rattle.mq_laws.specs.Laws.{WaitsForCause}
 use Rattle.mq_model.proofs.Places.{split, clash, is_in-filter, find-in}
 use Rattle.mq_model.proofs.Cases.{Says}

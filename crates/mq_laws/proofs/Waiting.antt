@@ -6,7 +6,7 @@ use Rattle.std.proofs.lemmas.Bool.{eqb-false, and_parts}
 use Rattle.mq_model.specs.Record.{Record, Past}
 use Rattle.mq_model.specs.Descriptors.{is_place, is_on, called_queue, held}
 use Rattle.mq_model.specs.Messages.{is_in, if_in, taken, present, admitted, least, blocked_sends, blocked_receives, blocks_send, is_receive, best, ended_receives, ended_sends, waiting_sends, waiting_receives}
-use Rattle.mq_model.specs.Answer.{Legal}
+use Rattle.mq_model.specs.Legality.{Legal}
 use Rattle.mq_model.proofs.Places.{split, is_in-filter, find-in}
 use Rattle.mq_model.proofs.Best.{best-none}
 use Rattle.mq_model.proofs.Cases.{Says}

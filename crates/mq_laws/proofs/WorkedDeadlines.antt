@@ -3,7 +3,7 @@ use Rattle.std.proofs.Common.{ℕ, [], ◌∷◌, refl, true, false, Some, None}
 use Rattle.std.specs.Prelude.{pos, negsuc, codes}
 use Rattle.mq_model.specs.Record.{Past}
 use Rattle.mq_model.specs.Descriptors.{descriptor_numbers}
-use Rattle.mq_model.specs.Answer.{Legal, IsLegalNext}
+use Rattle.mq_model.specs.Legality.{Legal, IsLegalNext}
 use Rattle.mq_model.specs.declared.entries.Access.TheVariants.{Both}
 use Rattle.mq_model.specs.declared.entries.Deadline.{Deadline}
 use Rattle.mq_model.specs.declared.faults.Fault.TheVariants.{Invalid, TimedOut}

@@ -3,7 +3,7 @@ use Rattle.std.proofs.Common.{ℕ, ℤ, List, [], ◌∷◌, refl, Bool, true, f
 use Rattle.std.specs.Prelude.{pos, negsuc, codes, replicate}
 use Rattle.mq_model.specs.Record.{Record, Past}
 use Rattle.mq_model.specs.Descriptors.{descriptor_numbers}
-use Rattle.mq_model.specs.Answer.{Legal}
+use Rattle.mq_model.specs.Legality.{Legal}
 use Rattle.mq_model.specs.declared.entries.Access.{Access}
 use Rattle.mq_model.specs.declared.entries.Access.TheVariants.{Read, Write, Both}
 use Rattle.mq_model.specs.declared.entries.Status.{Status}

@@ -3,7 +3,7 @@ use Rattle.std.proofs.Common.{[], ◌∷◌, true, false, Some, None}
 use Rattle.std.specs.Prelude.{pos, codes, replicate}
 use Rattle.mq_model.specs.Record.{Past}
 use Rattle.mq_model.specs.Descriptors.{descriptor_numbers}
-use Rattle.mq_model.specs.Answer.{IsLegalNext}
+use Rattle.mq_model.specs.Legality.{IsLegalNext}
 use Rattle.mq_model.specs.declared.entries.Access.TheVariants.{Read, Write, Both}
 use Rattle.mq_model.specs.declared.faults.Fault.TheVariants.{NoEntry, NoMemory, JournalFull}
 use Rattle.mq_model.specs.declared.entries.Call.TheVariants.{MqClose, MqUnlink, MqSend, MqReceive, MqNotify, Collect}

@@ -1,7 +1,7 @@
 //! What every legal journal keeps, whoever made it. Each function does nothing and takes no time: its contract is the law.
 #![tactic(auto)]
 
-ghost use Rattle.mq_model.specs.Answer.{Legal};
+ghost use Rattle.mq_model.specs.Legality.{Legal};
 ghost use Rattle.mq_laws.specs.Laws.{GivesOnce, GivesBest, LeavesInOrder, HoldsDescriptors, EndsForGood, WaitsForCause};
 ghost use Rattle.mq_laws.specs.Refusals.{RefusalsChangeNothing};
 ghost use Rattle.mq_laws.specs.Registrations.{RegistersLatest};

@@ -1,7 +1,8 @@
 -- What is written of a script that is run for its journal.
 use Rattle.std.specs.Prelude.{ℕ, List, Option}
 use Rattle.std.specs.Io.KnownBytes as known
-use Rattle.mq_model.specs.Answer.{Legal}
+use Rattle.lines.specs.Output.{AppendsPart}
+use Rattle.mq_model.specs.Legality.{Legal}
 use Rattle.mq_model.specs.Record.{Past}
 use Rattle.mq_script.specs.Script.{Whole}
 use Rattle.mq_runner.specs.Runs.{RunsWhole}
@@ -21,3 +22,10 @@ pub record Records (script : Whole) (old new : Option (List ℕ)) : Type 0 where
   pub replies : List ℕ
   pub ran : RunsWhole script replies journal
   pub written : known.Appends old new (journal_text journal)
+
+-- known bytes have grown by a front part of the text of a legal journal
+pub record IsLoggedInPart (old new : Option (List ℕ)) : Type 0 where
+  pub journal : Past
+  pub legal : Legal journal
+  pub fits : AllFit journal
+  pub written : AppendsPart old new (journal_text journal)

@@ -4,7 +4,7 @@ use Rattle.std.specs.Fmt.{decimal}
 use Rattle.std.specs.List.{join_with_byte, list_any}
 use Rattle.std.specs.Io.KnownBytes as known
 use Rattle.lines.specs.Output.{AppendsTooLittle}
-use Rattle.mq_model.specs.Answer as answer
+use Rattle.mq_model.specs.Legality as legality
 use Rattle.mq_model.specs.Record.{Past, Record, first}
 use Rattle.mq_model.specs.declared.entries.Reply.{Reply}
 use Rattle.mq_model.specs.declared.entries.Reply.TheVariants as reply
@@ -64,7 +64,7 @@ verdict_text past (Illegal departure) = illegal_text past departure
 
 -- the verdict is right: the journal is legal, and has these counts, or this is the first place that is not legal, and why
 abbrev pub Judges : Past → Verdict → Type 0
-Judges past (Legal counts) = answer.Legal past × (counts ≡ counts_of past)
+Judges past (Legal counts) = legality.Legal past × (counts ≡ counts_of past)
 Judges past (Illegal departure) = IsDeparture past departure
 
 -- the verdict on bytes that are the text of a journal; known bytes have grown by its text

@@ -2,7 +2,7 @@
 ghost use Rattle.std.specs.Prelude.{◌≡◌, ◌≢◌, ◌+◌, ℕ, List, IsErrOf, OnOk, Some, Ok, Err, take};
 ghost use Rattle.mq_runner.specs.RunFault.{StopsAt};
 ghost use Rattle.mq_script.specs.Script.{Whole, script_written};
-ghost use Rattle.mq_log.specs.Records.{IsLogged, Records};
+ghost use Rattle.mq_log.specs.Records.{IsLogged, IsLoggedInPart, Records};
 ghost use Rattle.mq_runner.specs.declared.fault.RunFault.{RunFault};
 ghost use Rattle.mq_runner.specs.declared.fault.RunFault.TheVariants.{BadCall, Output};
 
@@ -42,6 +42,7 @@ where
     ensures bad_call_only { (all : List ℕ) (line : ℕ) → R.remaining input.old ≡ Some all →
         IsErrOf result (BadCall line) → script_written (take (MOST_BYTES + 1) all) ≡ Err line }
     ensures unwritten { (fault : RunFault) → IsErrOf result fault → fault ≢ Output → W.contents output.new ≡ W.contents output.old }
+    ensures output { IsErrOf result Output → IsLoggedInPart (W.contents output.old) (W.contents output.new) }
     ensures done { (all : List ℕ) (script : Whole) → R.remaining input.old ≡ Some all →
         script_written (take (MOST_BYTES + 1) all) ≡ Ok script →
         OnOk result (Records script (W.contents output.old) (W.contents output.new)) }

@@ -11,7 +11,7 @@ use Rattle.mq_model.specs.Names.{creates, unlinks, bound_queue, name_of}
 use Rattle.mq_model.specs.Descriptors.{held, description, held_after, opened_queue, openers, created, is_held, is_named, is_place, alive, Holder}
 use Rattle.mq_model.specs.Messages.{is_in}
 use Rattle.mq_model.specs.Owners.{held_in, is_held_in, holds, slot_of, OwnersMirror}
-use Rattle.mq_model.specs.Answer.{Legal}
+use Rattle.mq_model.specs.Legality.{Legal}
 use Rattle.mq_model.specs.declared.entries.Attr.{Attr}
 use Rattle.mq_model.specs.declared.entries.OpenFlags.{OpenFlags}
 use Rattle.mq_model.specs.declared.entries.Description.{Description}

@@ -11,7 +11,7 @@ use Rattle.mq_model.specs.Deadlines.{is_moment, has_passed}
 use Rattle.mq_model.specs.Waits.{open_wait, answered_by}
 use Rattle.mq_model.specs.Limits.{most_priorities, most_queues}
 use Rattle.mq_model.specs.Ladder.{is_read_only, is_write_only, is_of, accepted_reply, found_reply, close_reply, timed_reply}
-use Rattle.mq_model.specs.Answer.{answer, answer_open, answer_send, answer_receive, answer_attributes, answer_notify}
+use Rattle.mq_model.specs.Legality.{reply_to, reply_to_open, reply_to_send, reply_to_receive, reply_to_attributes, reply_to_notify}
 use Rattle.mq_model.specs.declared.entries.Attr.{Attr}
 use Rattle.mq_model.specs.declared.entries.OpenFlags.{OpenFlags}
 use Rattle.mq_model.specs.declared.faults.Fault.{Fault}
@@ -103,7 +103,7 @@ message_says past h prio len None facts first room =
     (λ full. (h, refl, facts, (first, full, rw full at room)))
     (λ full. (h, refl, facts, (first, full, refl)))
 
-send_says : (past : Past) (o : Option Description) (prio len : ℕ) → SendSays past o prio len (answer_send past o prio len)
+send_says : (past : Past) (o : Option Description) (prio len : ℕ) → SendSays past o prio len (reply_to_send past o prio len)
 send_says past None prio len = tt
 send_says past (Some h) prio len =
     let P = SendSays past (Some h) prio len in
@@ -117,7 +117,7 @@ best_says : (past : Past) (h : Description) (room : ℕ) (m : Option ℕ) → Ma
 best_says past h room (Some m) facts found = (h, refl, facts, (found, refl, refl))
 best_says past h room None facts found = either (ReceiveSays past (Some h) room) h.nonblock (Refused Again) Waits (λ _. tt) (λ blocks. (h, refl, facts, (found, blocks)))
 
-receive_says : (past : Past) (o : Option Description) (room : ℕ) → ReceiveSays past o room (answer_receive past o room)
+receive_says : (past : Past) (o : Option Description) (room : ℕ) → ReceiveSays past o room (reply_to_receive past o room)
 receive_says past None room = tt
 receive_says past (Some h) room =
     let P = ReceiveSays past (Some h) room in
@@ -132,7 +132,7 @@ timed_says P until now Waits refused says =
     (λ _. either P (has_passed until now) (Refused TimedOut) Waits (λ _. refused TimedOut) (λ _. says))
 timed_says P until now reply refused says = says
 
-open_says : (past : Past) (p : ℕ) (flags : OpenFlags) (attr : Option Attr) (name : List ℕ) → OpenReply (answer_open past p flags attr name)
+open_says : (past : Past) (p : ℕ) (flags : OpenFlags) (attr : Option Attr) (name : List ℕ) → OpenReply (reply_to_open past p flags attr name)
 open_says past p flags attr name =
     let bound = is_some (bound_queue past name) in
     let free = lowest_free past p in
@@ -146,26 +146,26 @@ close_says : (o : Option Description) → CloseSays o (close_reply o)
 close_says None = (tt, tt)
 close_says (Some h) = (tt, (h, refl))
 
-attributes_says : (past : Past) (o : Option Description) → AttrsReply (answer_attributes past o)
+attributes_says : (past : Past) (o : Option Description) → AttrsReply (reply_to_attributes past o)
 attributes_says past None = tt
 attributes_says past (Some h) = tt
 
-notify_says : (past : Past) (p : ℕ) (o : Option Description) (value : Option ℕ) → DoneReply (answer_notify past p o value)
+notify_says : (past : Past) (p : ℕ) (o : Option Description) (value : Option ℕ) → DoneReply (reply_to_notify past p o value)
 notify_says past p None value = tt
 notify_says past p (Some h) (Some v) = either DoneReply (is_some (registered past h.queue)) _ _ (λ _. tt) (λ _. tt)
 notify_says past p (Some h) None = either DoneReply (is_of p (registered past h.queue)) _ _ (λ _. tt) (λ _. tt)
 
-pub answer_says : (past : Past) (p : ℕ) (call : Call) (name : List ℕ) → Says past p call (answer past p call name)
-answer_says past p (MqOpen flags attr) name = open_says past p flags attr name
-answer_says past p (MqClose d) name = close_says (held past p d)
-answer_says past p MqUnlink name = either DoneReply (is_some (bound_queue past name)) _ _ (λ _. tt) (λ _. tt)
-answer_says past p (MqSend d prio len) name = send_says past (held past p d) prio len
-answer_says past p (MqTimedSend d prio len until now) name = timed_says (SendSays past (held past p d) prio len) until now _ (λ f. tt) (send_says past (held past p d) prio len)
-answer_says past p (MqReceive d room) name = receive_says past (held past p d) room
-answer_says past p (MqTimedReceive d room until now) name = timed_says (ReceiveSays past (held past p d) room) until now _ (λ f. tt) (receive_says past (held past p d) room)
-answer_says past p (MqGetattr d) name = attributes_says past (held past p d)
-answer_says past p (MqSetattr d nonblock) name = attributes_says past (held past p d)
-answer_says past p (MqNotify d value) name = notify_says past p (held past p d) value
-answer_says past p NextNotice name = refl
-answer_says past p Collect name = refl
-answer_says past p (Withdraw now) name = refl
+pub reply_says : (past : Past) (p : ℕ) (call : Call) (name : List ℕ) → Says past p call (reply_to past p call name)
+reply_says past p (MqOpen flags attr) name = open_says past p flags attr name
+reply_says past p (MqClose d) name = close_says (held past p d)
+reply_says past p MqUnlink name = either DoneReply (is_some (bound_queue past name)) _ _ (λ _. tt) (λ _. tt)
+reply_says past p (MqSend d prio len) name = send_says past (held past p d) prio len
+reply_says past p (MqTimedSend d prio len until now) name = timed_says (SendSays past (held past p d) prio len) until now _ (λ f. tt) (send_says past (held past p d) prio len)
+reply_says past p (MqReceive d room) name = receive_says past (held past p d) room
+reply_says past p (MqTimedReceive d room until now) name = timed_says (ReceiveSays past (held past p d) room) until now _ (λ f. tt) (receive_says past (held past p d) room)
+reply_says past p (MqGetattr d) name = attributes_says past (held past p d)
+reply_says past p (MqSetattr d nonblock) name = attributes_says past (held past p d)
+reply_says past p (MqNotify d value) name = notify_says past p (held past p d) value
+reply_says past p NextNotice name = refl
+reply_says past p Collect name = refl
+reply_says past p (Withdraw now) name = refl

@@ -9,7 +9,7 @@ use Rattle.mq_model.specs.Record.{Record, Past}
 use Rattle.mq_model.specs.Names.{creates, unlinks, bound_queue, are_within_limits}
 use Rattle.mq_model.specs.Descriptors.{held, held_after, after_open, after_close, after_setattr, description, with_nonblock, opened_queue, opened_number, with_holder, openers, created, is_held, is_named, is_place, alive, called_queue, descriptor_of, lowest_free, Holder}
 use Rattle.mq_model.specs.Messages.{is_in}
-use Rattle.mq_model.specs.Answer.{Legal, answer_open}
+use Rattle.mq_model.specs.Legality.{Legal, reply_to_open}
 use Rattle.mq_model.proofs.Places.{split}
 use Rattle.mq_model.proofs.Cases.{either}
 use Rattle.mq_model.specs.declared.faults.Fault.TheVariants.{Exists, NoEntry, Invalid, TooManyOpen, NoSpace}
@@ -83,7 +83,7 @@ bound-created (r ∷ past) name q e = split (creates r.entry.call r.entry.reply 
     (λ t. let none : None ≡ Some q = rw (f, t) at e in absurd (cc))
     (λ g. let old : bound_queue past name ≡ Some q = rw (f, g) at e in created-more past r q (bound-created past name q old)))
 
-opened-bound : (past : Past) (p : ℕ) (flags : OpenFlags) (attr : Option Attr) (name : List ℕ) (d : ℕ) → answer_open past p flags attr name ≡ Opened d false → is_some (bound_queue past name) ≡ true
+opened-bound : (past : Past) (p : ℕ) (flags : OpenFlags) (attr : Option Attr) (name : List ℕ) (d : ℕ) → reply_to_open past p flags attr name ≡ Opened d false → is_some (bound_queue past name) ≡ true
 opened-bound past p flags attr name d e =
     either (λ reply. reply ≡ Opened d false → is_some (bound_queue past name) ≡ true) (flags.create && flags.excl && is_some (bound_queue past name)) (Refused Exists) _ (λ t g. absurd (cc))
     (λ f. either (λ reply. reply ≡ Opened d false → is_some (bound_queue past name) ≡ true) (not flags.create && not (is_some (bound_queue past name))) (Refused NoEntry) _ (λ t g. absurd (cc))
@@ -105,7 +105,7 @@ created-held (r ∷ past) legal p d h e = split (r.entry.process == p)
     opened : (new : Bool) (flags : OpenFlags) (attr : Option Attr) → r.entry.call ≡ MqOpen flags attr → r.entry.reply ≡ Opened d new → opened_queue past r.payload new ≡ h.queue → is_in (created (r ∷ past)) h.queue ≡ true
     opened true flags attr call reply q = rw (call, reply, eq-eqb (length past) h.queue q) refl
     opened false flags attr call reply q =
-        let answered : Opened d false ≡ answer_open past r.entry.process flags attr r.payload = rw (call, reply) at legal.1.reply in
+        let answered : Opened d false ≡ reply_to_open past r.entry.process flags attr r.payload = rw (call, reply) at legal.1.reply in
         let bound = opened-bound past r.entry.process flags attr r.payload d (sym answered) in
         created-more past r h.queue (by (bound_queue past r.payload) refl bound q)
       where

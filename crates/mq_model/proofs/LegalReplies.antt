@@ -3,8 +3,8 @@ use Rattle.std.proofs.Common.{◌≡◌, ℕ, true, Option, Some, refl, sym, sub
 use Rattle.mq_model.specs.Record.{Record, Past}
 use Rattle.mq_model.specs.Descriptors.{held, descriptor_of}
 use Rattle.mq_model.specs.Messages.{best, is_receive}
-use Rattle.mq_model.specs.Answer.{IsLegalNext}
-use Rattle.mq_model.proofs.Cases.{Says, answer_says, MayReceive}
+use Rattle.mq_model.specs.Legality.{IsLegalNext}
+use Rattle.mq_model.proofs.Cases.{Says, reply_says, MayReceive}
 use Rattle.mq_model.specs.declared.entries.Description.{Description}
 use Rattle.mq_model.specs.declared.entries.Call.{Call}
 use Rattle.mq_model.specs.declared.entries.Call.TheVariants.{MqOpen, MqClose, MqUnlink, MqSend, MqReceive, MqGetattr, MqSetattr, MqNotify, NextNotice, Collect, MqTimedSend, MqTimedReceive, Withdraw}
@@ -13,7 +13,7 @@ use Rattle.mq_model.specs.declared.entries.Reply.TheVariants.{Got}
 
 -- what the reply of a legal record says
 pub legal_says : (past : Past) (r : Record) → IsLegalNext past r → Says past r.entry.process r.entry.call r.entry.reply
-legal_says past r legal = let P = λ (y : Reply). Says past r.entry.process r.entry.call y in subst P (sym legal.reply) (answer_says past r.entry.process r.entry.call r.payload)
+legal_says past r legal = let P = λ (y : Reply). Says past r.entry.process r.entry.call y in subst P (sym legal.reply) (reply_says past r.entry.process r.entry.call r.payload)
 
 -- a call by which a process receives with descriptor d
 abbrev pub Receives : Call → ℕ → Type 0

@@ -6,7 +6,7 @@ use Rattle.mq_model.specs.Record.{Record, Past}
 use Rattle.mq_model.specs.Descriptors.{is_place, is_on, called_queue}
 use Rattle.mq_model.specs.Messages.{is_in, with_place, is_send, is_receive, ends_receive, least, blocks_send, blocks_receive, blocked_sends, blocked_receives, waiting_receives, ended_receives}
 use Rattle.mq_model.specs.Waits.{is_wait, names_wait, open_wait, answered_by}
-use Rattle.mq_model.specs.Answer.{Legal, IsLegalNext, may_call}
+use Rattle.mq_model.specs.Legality.{Legal, IsLegalNext, may_call}
 use Rattle.mq_model.proofs.Places.{split, clash, is_in-filter}
 use Rattle.mq_model.proofs.Cases.{Says}
 use Rattle.mq_model.proofs.LegalReplies.{legal_says}

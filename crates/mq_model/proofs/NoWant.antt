@@ -9,7 +9,7 @@ use Rattle.mq_model.specs.Messages.{present, is_full, best, least, waiting_sends
 use Rattle.mq_model.specs.Notices.{registered, registered_place}
 use Rattle.mq_model.specs.Limits.{most_priorities, most_queues}
 use Rattle.mq_model.specs.Ladder.{is_read_only, is_write_only, is_of, accepted_reply, found_reply, close_reply, timed_reply}
-use Rattle.mq_model.specs.Answer.{answer, answer_open, answer_send, answer_receive, answer_attributes, answer_notify}
+use Rattle.mq_model.specs.Legality.{reply_to, reply_to_open, reply_to_send, reply_to_receive, reply_to_attributes, reply_to_notify}
 use Rattle.mq_model.proofs.Cases.{either}
 use Rattle.mq_model.specs.declared.entries.Attr.{Attr}
 use Rattle.mq_model.specs.declared.entries.Deadline.{Deadline}
@@ -30,7 +30,7 @@ accepted-other : (w : Option ℕ) (full : Bool) (n : Option ℕ) → Other (acce
 accepted-other (Some w) full n = tt
 accepted-other None full n = either Other full Waits (Queued n) (λ _. tt) (λ _. tt)
 
-send-other : (past : Past) (o : Option Description) (prio len : ℕ) → Other (answer_send past o prio len)
+send-other : (past : Past) (o : Option Description) (prio len : ℕ) → Other (reply_to_send past o prio len)
 send-other past None prio len = tt
 send-other past (Some h) prio len =
     either Other (is_read_only h.access) _ _ (λ _. tt) (λ _.
@@ -43,7 +43,7 @@ found-other : (nonblock : Bool) (m w n : Option ℕ) → Other (found_reply nonb
 found-other nonblock (Some m) w n = tt
 found-other nonblock None w n = either Other nonblock (Refused Again) Waits (λ _. tt) (λ _. tt)
 
-receive-other : (past : Past) (o : Option Description) (room : ℕ) → Other (answer_receive past o room)
+receive-other : (past : Past) (o : Option Description) (room : ℕ) → Other (reply_to_receive past o room)
 receive-other past None room = tt
 receive-other past (Some h) room =
     either Other (is_write_only h.access) _ _ (λ _. tt) (λ _.
@@ -56,7 +56,7 @@ timed-other until now Waits other =
     (λ _. either Other (has_passed until now) (Refused TimedOut) Waits (λ _. tt) (λ _. tt))
 timed-other until now reply other = other
 
-open-other : (past : Past) (p : ℕ) (flags : OpenFlags) (attr : Option Attr) (name : List ℕ) → Other (answer_open past p flags attr name)
+open-other : (past : Past) (p : ℕ) (flags : OpenFlags) (attr : Option Attr) (name : List ℕ) → Other (reply_to_open past p flags attr name)
 open-other past p flags attr name =
     let bound = is_some (bound_queue past name) in
     either Other (flags.create && flags.excl && bound) _ _ (λ _. tt) (λ _.
@@ -69,40 +69,40 @@ close-other : (o : Option Description) → Other (close_reply o)
 close-other None = tt
 close-other (Some h) = tt
 
-attributes-other : (past : Past) (o : Option Description) → Other (answer_attributes past o)
+attributes-other : (past : Past) (o : Option Description) → Other (reply_to_attributes past o)
 attributes-other past None = tt
 attributes-other past (Some h) = tt
 
-notify-other : (past : Past) (p : ℕ) (o : Option Description) (value : Option ℕ) → Other (answer_notify past p o value)
+notify-other : (past : Past) (p : ℕ) (o : Option Description) (value : Option ℕ) → Other (reply_to_notify past p o value)
 notify-other past p None value = tt
 notify-other past p (Some h) (Some v) = either Other (is_some (registered past h.queue)) _ _ (λ _. tt) (λ _. tt)
 notify-other past p (Some h) None = either Other (is_of p (registered past h.queue)) _ _ (λ _. tt) (λ _. tt)
 
-answer-other : (past : Past) (p : ℕ) (call : Call) (name : List ℕ) → Other (answer past p call name)
-answer-other past p (MqOpen flags attr) name = open-other past p flags attr name
-answer-other past p (MqClose d) name = close-other (held past p d)
-answer-other past p MqUnlink name = either Other (is_some (bound_queue past name)) _ _ (λ _. tt) (λ _. tt)
-answer-other past p (MqSend d prio len) name = send-other past (held past p d) prio len
-answer-other past p (MqReceive d room) name = receive-other past (held past p d) room
-answer-other past p (MqTimedSend d prio len until now) name = timed-other until now _ (send-other past (held past p d) prio len)
-answer-other past p (MqTimedReceive d room until now) name = timed-other until now _ (receive-other past (held past p d) room)
-answer-other past p (MqGetattr d) name = attributes-other past (held past p d)
-answer-other past p (MqSetattr d nonblock) name = attributes-other past (held past p d)
-answer-other past p (MqNotify d value) name = notify-other past p (held past p d) value
-answer-other past p NextNotice name = tt
-answer-other past p Collect name = tt
-answer-other past p (Withdraw now) name = tt
+reply-other : (past : Past) (p : ℕ) (call : Call) (name : List ℕ) → Other (reply_to past p call name)
+reply-other past p (MqOpen flags attr) name = open-other past p flags attr name
+reply-other past p (MqClose d) name = close-other (held past p d)
+reply-other past p MqUnlink name = either Other (is_some (bound_queue past name)) _ _ (λ _. tt) (λ _. tt)
+reply-other past p (MqSend d prio len) name = send-other past (held past p d) prio len
+reply-other past p (MqReceive d room) name = receive-other past (held past p d) room
+reply-other past p (MqTimedSend d prio len until now) name = timed-other until now _ (send-other past (held past p d) prio len)
+reply-other past p (MqTimedReceive d room until now) name = timed-other until now _ (receive-other past (held past p d) room)
+reply-other past p (MqGetattr d) name = attributes-other past (held past p d)
+reply-other past p (MqSetattr d nonblock) name = attributes-other past (held past p d)
+reply-other past p (MqNotify d value) name = notify-other past p (held past p d) value
+reply-other past p NextNotice name = tt
+reply-other past p Collect name = tt
+reply-other past p (Withdraw now) name = tt
 
--- a definition's answer is never that memory was wanting
-pub answers-other : (past : Past) (p : ℕ) (call : Call) (name : List ℕ) (reply : Reply) → reply ≡ answer past p call name → reply ≢ Refused NoMemory
-answers-other past p call name reply is want =
-    let other : Other reply = subst Other (sym is) (answer-other past p call name) in
+-- a definition's reply is never that memory was wanting
+pub replies-other : (past : Past) (p : ℕ) (call : Call) (name : List ℕ) (reply : Reply) → reply ≡ reply_to past p call name → reply ≢ Refused NoMemory
+replies-other past p call name reply is want =
+    let other : Other reply = subst Other (sym is) (reply-other past p call name) in
     let none : Other (Refused NoMemory) = subst Other want other in
     absurd none
 
 -- nor is it that the journal is full
-pub answers-room : (past : Past) (p : ℕ) (call : Call) (name : List ℕ) (reply : Reply) → reply ≡ answer past p call name → reply ≢ Refused JournalFull
-answers-room past p call name reply is full =
-    let other : Other reply = subst Other (sym is) (answer-other past p call name) in
+pub replies-room : (past : Past) (p : ℕ) (call : Call) (name : List ℕ) (reply : Reply) → reply ≡ reply_to past p call name → reply ≢ Refused JournalFull
+replies-room past p call name reply is full =
+    let other : Other reply = subst Other (sym is) (reply-other past p call name) in
     let none : Other (Refused JournalFull) = subst Other full other in
     absurd none

@@ -6,7 +6,7 @@ use Rattle.std.proofs.lemmas.Grind.{common_steps}
 use Rattle.mq_model.specs.Record.{Record, Past, record_at}
 use Rattle.mq_model.specs.Descriptors.{is_on}
 use Rattle.mq_model.specs.Notices.{registration_by, registration_of, only_if, notified, ends, unless, registered, value_of_notify, value_given, value_notified, values_notified, gives_notice, notices_given, notices}
-use Rattle.mq_model.specs.Answer.{Legal}
+use Rattle.mq_model.specs.Legality.{Legal}
 use Rattle.mq_model.specs.declared.entries.Registration.{Registration}
 use Rattle.mq_model.specs.declared.entries.Call.{Call}
 use Rattle.mq_model.specs.declared.entries.Call.TheVariants.{MqOpen, MqClose, MqUnlink, MqSend, MqReceive, MqGetattr, MqSetattr, MqNotify, NextNotice, Collect, MqTimedSend, MqTimedReceive, Withdraw}

@@ -10,7 +10,7 @@ use Rattle.std.proofs.lemmas.List.Sums.{sum_by-cons}
 use Rattle.mq_model.specs.Record.{Record, Past}
 use Rattle.mq_model.specs.Descriptors.{numbers_from}
 use Rattle.mq_model.specs.Waits.{open_wait}
-use Rattle.mq_model.specs.Answer.{Legal, IsLegalNext}
+use Rattle.mq_model.specs.Legality.{Legal, IsLegalNext}
 use Rattle.mq_model.specs.Bounds.{open_waits}
 use Rattle.mq_model.specs.Owners.{wait_in, waits_count, OwnersMirror}
 use Rattle.mq_model.specs.declared.owners.OpenWait.{OpenWait}

@@ -6,7 +6,7 @@ use Rattle.std.specs.Option.{unwrap_or}
 use Rattle.mq_model.specs.Record.{Past}
 use Rattle.mq_model.specs.Names.{bound_queue, are_within_limits}
 use Rattle.mq_model.specs.Descriptors.{held, lowest_free, alive, numbers_from, descriptor_numbers}
-use Rattle.mq_model.specs.Answer.{answer_open}
+use Rattle.mq_model.specs.Legality.{reply_to_open}
 use Rattle.mq_model.proofs.Cases.{either}
 use Rattle.mq_model.proofs.Places.{split}
 use Rattle.mq_model.specs.declared.entries.Attr.{Attr}
@@ -29,8 +29,8 @@ some-of : (o : Option ℕ) → is_none o ≡ false → o ≡ Some (unwrap_or o 0
 some-of None e = absurd (let bad : true ≡ false = e in cc)
 some-of (Some d) e = refl
 
-opened-answer : (past : Past) (p : ℕ) (flags : OpenFlags) (attr : Option Attr) (name : List ℕ) → OpenedSays past p name (answer_open past p flags attr name)
-opened-answer past p flags attr name =
+opened-reply : (past : Past) (p : ℕ) (flags : OpenFlags) (attr : Option Attr) (name : List ℕ) → OpenedSays past p name (reply_to_open past p flags attr name)
+opened-reply past p flags attr name =
     let P = OpenedSays past p name in
     let bound = is_some (bound_queue past name) in
     let free = lowest_free past p in
@@ -40,8 +40,8 @@ opened-answer past p flags attr name =
     either P (is_none free) _ _ (λ _. tt) (λ some.
     either P (not bound && nat_le 64 (length (alive past))) _ _ (λ _. tt) (λ room. record { free = some-of free some; new = refl; room = room })))))
 
-pub opened-says : (past : Past) (p : ℕ) (flags : OpenFlags) (attr : Option Attr) (name : List ℕ) (d : ℕ) (created : Bool) → Opened d created ≡ answer_open past p flags attr name → OpenedFacts past p name d created
-opened-says past p flags attr name d created e = rw (← e) at (opened-answer past p flags attr name)
+pub opened-says : (past : Past) (p : ℕ) (flags : OpenFlags) (attr : Option Attr) (name : List ℕ) (d : ℕ) (created : Bool) → Opened d created ≡ reply_to_open past p flags attr name → OpenedFacts past p name d created
+opened-says past p flags attr name d created e = rw (← e) at (opened-reply past p flags attr name)
 
 find-below : (t : ℕ → Bool) (low n d : ℕ) → find t (numbers_from low n) ≡ Some d → (t d ≡ true) × (d < low + n)
 find-below t low zero d e = absurd (cc)

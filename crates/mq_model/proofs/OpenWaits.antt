@@ -5,7 +5,7 @@ use Rattle.std.proofs.lemmas.Bool.{and_parts, eqb-false}
 use Rattle.mq_model.specs.Record.{Record, Past, record_at}
 use Rattle.mq_model.specs.Deadlines.{deadline_of, is_over}
 use Rattle.mq_model.specs.Waits.{is_wait, open_wait, wait_deadline, answered_by}
-use Rattle.mq_model.specs.Answer.{IsLegalNext, may_call}
+use Rattle.mq_model.specs.Legality.{IsLegalNext, may_call}
 use Rattle.mq_model.specs.declared.entries.Deadline.{Deadline}
 use Rattle.mq_model.specs.declared.entries.Call.{Call}
 use Rattle.mq_model.specs.declared.entries.Call.TheVariants.{MqOpen, MqClose, MqUnlink, MqSend, MqReceive, MqTimedSend, MqTimedReceive, MqGetattr, MqSetattr, MqNotify, NextNotice, Collect, Withdraw}

@@ -12,7 +12,7 @@ use Rattle.mq_model.specs.Descriptors.{held, held_after, description, with_nonbl
 use Rattle.mq_model.specs.Messages.{is_in, is_send, is_receive, least}
 use Rattle.mq_model.specs.Deadlines.{deadline_of}
 use Rattle.mq_model.specs.Waits.{is_wait, named_wait, names_wait, open_wait, answered_by}
-use Rattle.mq_model.specs.Answer.{Legal, IsLegalNext, may_call, answer}
+use Rattle.mq_model.specs.Legality.{Legal, IsLegalNext, may_call, reply_to}
 use Rattle.mq_model.specs.Owners.{held_in, wait_in, with_wait, with_answer, with_slot, waiter_in, OwnersMirror, wait_kind, blocked, waiting}
 use Rattle.mq_model.specs.OwnersNoted.{EntryQueue, FitsSlots, noted, noted_done, noted_attributes, with_answer_at}
 use Rattle.mq_model.specs.declared.owners.OpenWait.{OpenWait}
@@ -28,7 +28,7 @@ use Rattle.mq_model.specs.declared.entries.Call.TheVariants.{MqOpen, MqClose, Mq
 use Rattle.mq_model.specs.declared.entries.Reply.{Reply}
 use Rattle.mq_model.specs.declared.entries.Reply.TheVariants.{Opened, Queued, Handed, Waits, Got, Collected, Attrs, Notice, Done, Refused, Withdrawn}
 use Rattle.mq_model.proofs.Places.{split, clash}
-use Rattle.mq_model.proofs.Cases.{Says, answer_says}
+use Rattle.mq_model.proofs.Cases.{Says, reply_says}
 use Rattle.mq_model.proofs.LegalReplies.{legal_says}
 use Rattle.mq_model.proofs.OwnerLines.{line-exists, held_in-with_slot, held_in-number, held_in-with_wait, held_in-with_answer, wait_in-with_wait, wait_in-with_answer, wait_in-with_slot, answer_in-with_wait, answer_in-with_answer, answer_in-with_slot, slots-with_slot, slots-with_wait, slots-with_answer}
 use Rattle.mq_model.proofs.Frames.{open_wait-same, answered_by-step, blocked-older}
@@ -304,10 +304,10 @@ after-flag past owners m p d nonblock payload s e = split (d == e)
     (λ f. rw f refl)
 
 -- what the replies Done and Attrs say of the descriptor of a close or a setattr
-close-held : (past : Past) (p d : ℕ) (payload : List ℕ) (s : Reply) → answer past p (MqClose d) payload ≡ Done → is_some (held past p d) ≡ true
+close-held : (past : Past) (p d : ℕ) (payload : List ℕ) (s : Reply) → reply_to past p (MqClose d) payload ≡ Done → is_some (held past p d) ≡ true
 close-held past p d payload s e = split (is_some (held past p d)) (λ t. t) (λ f. let bad : Refused BadDescriptor ≡ Done = rw f at e in absurd (cc))
 
-setattr-held : (past : Past) (p d : ℕ) (nonblock : Bool) (payload : List ℕ) (s : Status) → answer past p (MqSetattr d nonblock) payload ≡ Attrs s → is_some (held past p d) ≡ true
+setattr-held : (past : Past) (p d : ℕ) (nonblock : Bool) (payload : List ℕ) (s : Status) → reply_to past p (MqSetattr d nonblock) payload ≡ Attrs s → is_some (held past p d) ≡ true
 setattr-held past p d nonblock payload s e = by (held past p d) refl
   where
     by : (o : Option Description) → held past p d ≡ o → is_some (held past p d) ≡ true
@@ -324,20 +324,20 @@ held-small past owners m p d e = by (held past p d) refl e
 quiet : (past : Past) (p : ℕ) (call : Call) (reply : Reply) (payload : List ℕ) → open_wait past p ≡ None → is_wait reply ≡ false → named_wait reply ≡ None → ((d : ℕ) → held_after past call payload reply d (held past p d) ≡ held past p d) → IsQuiet past p call reply payload
 quiet past p call reply payload free goes unnamed same = record { free = free; goes = goes; unnamed = unnamed; descriptors = same }
 
-keep-opened : (past : Past) (owners : List Owner) → OwnersMirror past owners → (p : ℕ) (call : Call) (payload : List ℕ) (d : ℕ) (created : Bool) (q : ℕ) → Opened d created ≡ answer past p call payload → open_wait past p ≡ None → p < length owners → q ≡ opened_queue past payload created →
+keep-opened : (past : Past) (owners : List Owner) → OwnersMirror past owners → (p : ℕ) (call : Call) (payload : List ℕ) (d : ℕ) (created : Bool) (q : ℕ) → Opened d created ≡ reply_to past p call payload → open_wait past p ≡ None → p < length owners → q ≡ opened_queue past payload created →
     OwnersMirror (rec p call (Opened d created) payload ∷ past) (noted owners (length past) p call (Opened d created) q)
 keep-opened past owners m p (MqOpen flags attr) payload d created q is free lt at =
     keep-slot past owners m p (MqOpen flags attr) (Opened d created) payload d (Some (description q flags)) lt
     (record { free = free; goes = refl; unnamed = refl; number = (lowest_free-is past p d (opened-says past p flags attr payload d created is).free).1; descriptors = after-open past p flags attr payload d created q at })
 keep-opened past owners m p call payload d created q is free lt at = keep-quiet past owners m p call (Opened d created) payload (quiet past p call (Opened d created) payload free refl refl (λ d. refl))
 
-keep-done : (past : Past) (owners : List Owner) → OwnersMirror past owners → (p : ℕ) (call : Call) (payload : List ℕ) → Done ≡ answer past p call payload → open_wait past p ≡ None → p < length owners →
+keep-done : (past : Past) (owners : List Owner) → OwnersMirror past owners → (p : ℕ) (call : Call) (payload : List ℕ) → Done ≡ reply_to past p call payload → open_wait past p ≡ None → p < length owners →
     OwnersMirror (rec p call Done payload ∷ past) (noted_done owners p call)
 keep-done past owners m p (MqClose d) payload is free lt =
     keep-slot past owners m p (MqClose d) Done payload d None lt (record { free = free; goes = refl; unnamed = refl; number = held-small past owners m p d (close-held past p d payload Done (sym is)); descriptors = λ e. refl })
 keep-done past owners m p call payload is free lt = keep-quiet past owners m p call Done payload (quiet past p call Done payload free refl refl (λ d. refl))
 
-keep-attributes : (past : Past) (owners : List Owner) → OwnersMirror past owners → (p : ℕ) (call : Call) (s : Status) (payload : List ℕ) → Attrs s ≡ answer past p call payload → open_wait past p ≡ None → p < length owners →
+keep-attributes : (past : Past) (owners : List Owner) → OwnersMirror past owners → (p : ℕ) (call : Call) (s : Status) (payload : List ℕ) → Attrs s ≡ reply_to past p call payload → open_wait past p ≡ None → p < length owners →
     OwnersMirror (rec p call (Attrs s) payload ∷ past) (noted_attributes owners p call)
 keep-attributes past owners m p (MqSetattr d nonblock) s payload is free lt =
     keep-slot past owners m p (MqSetattr d nonblock) (Attrs s) payload d (option_map (with_nonblock nonblock) (held_in owners p d)) lt (record { free = free; goes = refl; unnamed = refl; number = held-small past owners m p d (setattr-held past p d nonblock payload s (sym is)); descriptors = after-flag past owners m p d nonblock payload s })
@@ -350,7 +350,7 @@ keep-got past owners m legal p call place (Some w) n payload says free =
     let x = admits-least past p call place (Some w) n says in
     answers-waiter past owners m legal p call (Got place (Some w) n) payload w free refl refl (λ d. refl) Send x.0 (sym x.1)
 
-keep-by : (past : Past) (owners : List Owner) → OwnersMirror past owners → Legal past → (p : ℕ) (call : Call) (reply : Reply) (payload : List ℕ) (q : ℕ) → Says past p call reply → reply ≡ answer past p call payload →
+keep-by : (past : Past) (owners : List Owner) → OwnersMirror past owners → Legal past → (p : ℕ) (call : Call) (reply : Reply) (payload : List ℕ) (q : ℕ) → Says past p call reply → reply ≡ reply_to past p call payload →
     (ends_wait reply ≡ false → open_wait past p ≡ None) → p < length owners → EntryQueue past p call payload reply q → OwnersMirror (rec p call reply payload ∷ past) (noted owners (length past) p call reply q)
 keep-by past owners m legal p call (Opened d created) payload q says is free lt at = keep-opened past owners m p call payload d created q is (free refl) lt at
 keep-by past owners m legal p call (Queued n) payload q says is free lt at = keep-quiet past owners m p call (Queued n) payload (quiet past p call (Queued n) payload (free refl) refl refl (λ d. refl))
@@ -372,10 +372,10 @@ noted-keeps past owners m legal r q next lt at =
     keep-by past owners m legal r.entry.process r.entry.call r.entry.reply r.payload q says next.reply (λ other. turn-none past r.entry.process r.entry.call r.entry.reply says next.turn other) lt at
 
 -- what the entry changes of the descriptors has a number that a descriptor may have
-pub noted-fits : (past : Past) (owners : List Owner) → OwnersMirror past owners → (p : ℕ) (call : Call) (reply : Reply) (payload : List ℕ) → reply ≡ answer past p call payload → FitsSlots call reply
-noted-fits past owners m p call (Opened d created) payload is = opened call is (subst (Says past p call) (sym is) (answer_says past p call payload))
+pub noted-fits : (past : Past) (owners : List Owner) → OwnersMirror past owners → (p : ℕ) (call : Call) (reply : Reply) (payload : List ℕ) → reply ≡ reply_to past p call payload → FitsSlots call reply
+noted-fits past owners m p call (Opened d created) payload is = opened call is (subst (Says past p call) (sym is) (reply_says past p call payload))
   where
-    opened : (call : Call) → Opened d created ≡ answer past p call payload → Says past p call (Opened d created) → d < 16
+    opened : (call : Call) → Opened d created ≡ reply_to past p call payload → Says past p call (Opened d created) → d < 16
     opened (MqOpen flags attr) is says = (lowest_free-is past p d (opened-says past p flags attr payload d created is).free).1
     opened (MqClose e) is says = absurd says.0
     opened MqUnlink is says = absurd says

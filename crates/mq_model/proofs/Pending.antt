@@ -6,7 +6,7 @@ use Rattle.std.proofs.lemmas.Bool.{and_parts}
 use Rattle.mq_model.specs.Record.{Past}
 use Rattle.mq_model.specs.Messages.{is_in, least}
 use Rattle.mq_model.specs.Waits.{open_wait, answered_by}
-use Rattle.mq_model.specs.Answer.{Legal}
+use Rattle.mq_model.specs.Legality.{Legal}
 use Rattle.mq_model.specs.Owners.{wait_in, answer_in, pending, pending_in, is_kind, IsFirstWait, OwnersMirror, blocked, waiting}
 use Rattle.mq_model.specs.declared.owners.OpenWait.{OpenWait}
 use Rattle.mq_model.specs.declared.owners.Owner.{Owner}

@@ -6,7 +6,7 @@ use Rattle.std.proofs.lemmas.Bool.{eqb-false}
 use Rattle.mq_model.specs.Record.{Record, Past, record_at, first}
 use Rattle.mq_model.specs.Names.{bound_queue}
 use Rattle.mq_model.specs.Descriptors.{is_place, is_named}
-use Rattle.mq_model.specs.Answer.{Legal}
+use Rattle.mq_model.specs.Legality.{Legal}
 use Rattle.mq_model.proofs.Places.{split}
 
 pub length-first : (k : ℕ) (past : Past) → k ≤ length past → length (first k past) ≡ k

@@ -6,7 +6,7 @@ use Rattle.std.proofs.lemmas.Bool.{eqb-false, and_parts, false_from_ne_true, not
 use Rattle.mq_model.specs.Record.{Record, Past, record_at}
 use Rattle.mq_model.specs.Descriptors.{is_place, is_on, called_queue}
 use Rattle.mq_model.specs.Messages.{is_in, with_place, if_in, queues, admits, ends_send, blocks_send, blocked_sends, waiting_sends, ended_sends, entered, admitted, taken, taken_by, present, least, priority, priority_given}
-use Rattle.mq_model.specs.Answer.{Legal}
+use Rattle.mq_model.specs.Legality.{Legal}
 use Rattle.mq_model.specs.declared.entries.Call.{Call}
 use Rattle.mq_model.specs.declared.entries.Reply.{Reply}
 use Rattle.mq_model.specs.declared.entries.Reply.TheVariants.{Opened, Queued, Handed, Waits, Got, Collected, Attrs, Notice, Done, Refused, Withdrawn}

@@ -8,7 +8,7 @@ use Rattle.mq_model.specs.Record.{Record, Past}
 use Rattle.mq_model.specs.Names.{creates, bound_queue, attributes, attributes_given, are_within_limits}
 use Rattle.mq_model.specs.Descriptors.{held, called_queue, created, lowest_free, alive, is_place, is_named, is_held}
 use Rattle.mq_model.specs.Messages.{is_in, is_send, with_place, present, is_full}
-use Rattle.mq_model.specs.Answer.{Legal, IsLegalNext, answer_open}
+use Rattle.mq_model.specs.Legality.{Legal, IsLegalNext, reply_to_open}
 use Rattle.mq_model.proofs.Places.{split, is_in-filter, find-in}
 use Rattle.mq_model.proofs.Cases.{Says, BestReply, either}
 use Rattle.mq_model.proofs.LegalReplies.{legal_says}
@@ -41,8 +41,8 @@ abbrev CreatedSays : Option Attr → Reply → Type 0
 CreatedSays attr (Opened d true) = are_within_limits attr ≡ true
 CreatedSays attr reply = Unit {0}
 
-created-answer : (past : Past) (p : ℕ) (flags : OpenFlags) (attr : Option Attr) (name : List ℕ) → CreatedSays attr (answer_open past p flags attr name)
-created-answer past p flags attr name =
+created-reply : (past : Past) (p : ℕ) (flags : OpenFlags) (attr : Option Attr) (name : List ℕ) → CreatedSays attr (reply_to_open past p flags attr name)
+created-reply past p flags attr name =
     let P = CreatedSays attr in
     let bound = is_some (bound_queue past name) in
     let free = lowest_free past p in
@@ -63,8 +63,8 @@ creates-within past r legal e = by r.entry.call r.entry.reply refl refl e
   where
     by : (call : Call) (reply : Reply) → r.entry.call ≡ call → r.entry.reply ≡ reply → creates call reply ≡ true → are_within_limits (Some (attributes_given r.entry.call)) ≡ true
     by (MqOpen flags attr) (Opened d true) c is e =
-        let answered : Opened d true ≡ answer_open past r.entry.process flags attr r.payload = rw (c, is) at legal.reply in
-        let within : are_within_limits attr ≡ true = rw (← answered) at (created-answer past r.entry.process flags attr r.payload) in
+        let answered : Opened d true ≡ reply_to_open past r.entry.process flags attr r.payload = rw (c, is) at legal.reply in
+        let within : are_within_limits attr ≡ true = rw (← answered) at (created-reply past r.entry.process flags attr r.payload) in
         rw c (given-within flags attr within)
     by call (Opened d false) c is e = absurd (let bad : false ≡ true = e in cc)
     by (MqClose d') (Opened d true) c is e = absurd (let bad : false ≡ true = e in cc)

@@ -5,7 +5,7 @@ use Rattle.std.proofs.lemmas.Bool.{false_from_ne_true}
 use Rattle.mq_model.specs.Record.{Record, Past}
 use Rattle.mq_model.specs.Messages.{is_in, is_send, if_in, taken, taken_by, with_place, present, admitted, entered, queues, admits, blocked_sends, blocks_send}
 use Rattle.mq_model.specs.Descriptors.{is_place, is_on, called_queue}
-use Rattle.mq_model.specs.Answer.{Legal, IsLegalNext}
+use Rattle.mq_model.specs.Legality.{Legal, IsLegalNext}
 use Rattle.mq_model.proofs.Places.{split, is_in-filter, find-in}
 use Rattle.mq_model.proofs.Cases.{Says}
 use Rattle.mq_model.proofs.LegalReplies.{legal_says, got_says}

@@ -7,7 +7,7 @@ use Rattle.mq_model.specs.Record.{Record, Past, record_at}
 use Rattle.mq_model.specs.Descriptors.{is_on}
 use Rattle.mq_model.specs.Messages.{is_in, with_place, ends_receive, ends_send, blocks_receive, blocks_send, blocked_sends, blocked_receives, least, waiting_sends, waiting_receives, ended_sends, ended_receives}
 use Rattle.mq_model.specs.Waits.{is_wait, names_wait, open_wait, answered_by}
-use Rattle.mq_model.specs.Answer.{Legal, IsLegalNext, may_call}
+use Rattle.mq_model.specs.Legality.{Legal, IsLegalNext, may_call}
 use Rattle.mq_model.proofs.Places.{split, is_in-filter, is_in-with_place}
 use Rattle.mq_model.proofs.Cases.{Says}
 use Rattle.mq_model.proofs.LegalReplies.{legal_says}

@@ -5,7 +5,7 @@ use Rattle.mq_model.specs.Limits.{most_processes}
 use Rattle.mq_model.specs.Record.{Past, payload_bytes, Process}
 use Rattle.mq_model.specs.Descriptors.{held, numbers_from}
 use Rattle.mq_model.specs.Waits.{open_wait}
-use Rattle.mq_model.specs.Answer.{answer_send, is_refused}
+use Rattle.mq_model.specs.Legality.{reply_to_send, is_refused}
 use Rattle.mq_model.specs.declared.bounds.Bounds.{Bounds}
 use Rattle.mq_model.specs.declared.entries.Call.{Call}
 use Rattle.mq_model.specs.declared.entries.Call.TheVariants.{MqOpen, MqUnlink, MqSend, MqReceive, MqTimedSend, MqTimedReceive, Collect, Withdraw}
@@ -38,8 +38,8 @@ entries_needed _ = 1
 abbrev pub bytes_needed : Past → Process → Call → List ℕ → ℕ
 bytes_needed past p (MqOpen flags attr) given = length given
 bytes_needed past p MqUnlink given = length given
-bytes_needed past p (MqSend d prio len) given = if is_refused (answer_send past (held past p d) prio len) then 0 else length given
-bytes_needed past p (MqTimedSend d prio len until now) given = if is_refused (answer_send past (held past p d) prio len) then 0 else length given
+bytes_needed past p (MqSend d prio len) given = if is_refused (reply_to_send past (held past p d) prio len) then 0 else length given
+bytes_needed past p (MqTimedSend d prio len until now) given = if is_refused (reply_to_send past (held past p d) prio len) then 0 else length given
 bytes_needed past p call given = 0
 
 -- a call of process p that is given these bytes, a name or a message, finds the journal full: with what it needs, and with the entries

@@ -10,7 +10,7 @@ pub mod Ladder
 pub mod Messages
 pub mod Notices
 pub mod Waits
-pub mod Answer
+pub mod Legality
 pub mod Bounds
 pub mod OnePass
 pub mod Owners

@@ -1,7 +1,7 @@
 //! What a record says of its process and its payload, whatever stands before it.
 ghost use Rattle.std.specs.Prelude.{◌≡◌, ◌&&◌, nat_le};
 ghost use Rattle.mq_model.specs.Limits.{most_processes};
-ghost use Rattle.mq_model.specs.Answer.{is_refused, is_payload};
+ghost use Rattle.mq_model.specs.Legality.{is_refused, is_payload};
 
 use crate::entries::{Call, Reply};
 use crate::limits::PROCESSES;

@@ -2,7 +2,7 @@ pub mod AtOnce
 pub mod Blocking
 pub mod KnownBytes
 pub mod Lists
-pub mod Owners
+pub mod Authors
 pub mod Standing
 pub mod Stopping
 pub mod Taking

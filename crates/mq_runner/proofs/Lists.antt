@@ -1,4 +1,4 @@
--- The answers and shares of a phase, one more after the others.
+-- The completions and shares of a phase, one more after the others.
 use Rattle.std.proofs.Common.{◌≡◌, ◌<◌, ◌+◌, ◌==◌, ◌++◌, ℕ, List, [], ◌∷◌, Bool, length, get_or, take, filter, ap, sym, ◌∙◌, append_assoc, append-nil, inl, inr, eq-eqb, eqb-true}
 use Rattle.std.proofs.lemmas.Bool.{cases_Bool}
 use Rattle.std.proofs.lemmas.List.{take_more, map-append}
@@ -15,14 +15,14 @@ use Rattle.mq_runner.specs.declared.turns.Turn.{Turn}
 use Rattle.mq_runner.specs.declared.turns.Worked.{Worked}
 use denote.Ref.{Bor}
 
-text_in-push : (workers : List (Worked (Ticket Record))) (worked : Worked (Ticket Record)) → text_in (workers ++ worked ∷ []) ≡ text_in workers ++ reply_lines worked.process.number worked.answers.items
-text_in-push [] worked = append-nil (reply_lines worked.process.number worked.answers.items)
+text_in-push : (workers : List (Worked (Ticket Record))) (worked : Worked (Ticket Record)) → text_in (workers ++ worked ∷ []) ≡ text_in workers ++ reply_lines worked.process.number worked.completions.items
+text_in-push [] worked = append-nil (reply_lines worked.process.number worked.completions.items)
 text_in-push (first ∷ workers) worked =
-    let lines = reply_lines first.process.number first.answers.items in
-    ap (λ ls. lines ++ ls) (text_in-push workers worked) ∙ sym (append_assoc lines (text_in workers) (reply_lines worked.process.number worked.answers.items))
+    let lines = reply_lines first.process.number first.completions.items in
+    ap (λ ls. lines ++ ls) (text_in-push workers worked) ∙ sym (append_assoc lines (text_in workers) (reply_lines worked.process.number worked.completions.items))
 
 -- the text of the first i processes, and that of one more
-pub text_in-more : (workers : List (Worked (Ticket Record))) (i : ℕ) (d : Worked (Ticket Record)) → i < length workers → text_in (take (i + 1) workers) ≡ text_in (take i workers) ++ reply_lines (get_or workers i d).process.number (get_or workers i d).answers.items
+pub text_in-more : (workers : List (Worked (Ticket Record))) (i : ℕ) (d : Worked (Ticket Record)) → i < length workers → text_in (take (i + 1) workers) ≡ text_in (take i workers) ++ reply_lines (get_or workers i d).process.number (get_or workers i d).completions.items
 text_in-more workers i d low = ap text_in (take_more workers i d low) ∙ text_in-push (take i workers) (get_or workers i d)
 
 abbrev is_of : ℕ → WrittenCall → Bool

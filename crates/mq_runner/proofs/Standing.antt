@@ -92,7 +92,7 @@ in-later {calls} {old} {mid} {new} {line} b later = record {
   later = b.later;
   are = b.are;
   line_is = b.line_is;
-  answers = b.answers;
+  completions = b.completions;
   mid = b.mid;
   ran = b.ran;
   blocks = blocks-later b.call.moment b.call.command _ b.mid mid new b.blocks later;
@@ -104,11 +104,11 @@ confirmed-ends processes share worked confirmed e c = by worked.blocked refl
   where
     by : (o : Option ℕ) → worked.blocked ≡ o → Ends share confirmed
     by None none =
-        let ran : RunsCalls (calls_in share.turns.items) worked.answers.items share.process worked.process = rw none at e.ends in
+        let ran : RunsCalls (calls_in share.turns.items) worked.completions.items share.process worked.process = rw none at e.ends in
         record {
           same = record { lock = c.same.lock ∙ e.same.lock; number = c.same.number ∙ e.same.number };
           free = λ _. rw (c.kept none) (e.free none);
-          ends = rw (c.blocked, none, c.answers, c.kept none) ran;
+          ends = rw (c.blocked, none, c.completions, c.kept none) ran;
         }
     by (Some line) some =
         let waits : BlocksIn (calls_in share.turns.items) share.process worked.process line = rw some at e.ends in
@@ -163,7 +163,7 @@ each-ends calls [] [] ends dealt = tt
 each-ends calls [] (w ∷ ended) ends dealt = absurd ends
 each-ends calls (s ∷ shares) [] ends dealt = absurd ends
 each-ends calls (s ∷ shares) (w ∷ ended) ends dealt =
-    let P : List WrittenCall → Type 0 = λ cs. EndsIn w.blocked cs w.answers.items s.process w.process in
+    let P : List WrittenCall → Type 0 = λ cs. EndsIn w.blocked cs w.completions.items s.process w.process in
     (record { same = ends.0.same; ends = subst P dealt.0 ends.0.ends }, each-ends calls shares ended ends.1 dealt.1)
 
 pub phase-stands : (calls : List WrittenCall) (shares : List (Share (Ticket Record))) (before : List (Ticket Record)) (lines : List ℕ) → EndsInDeadlock shares lines → All (λ share. calls_in share.turns.items ≡ calls_of share.process.number calls) shares → map (λ share. share.process) shares ≡ before → ComesToAStand calls before lines

@@ -12,26 +12,26 @@ use Rattle.mq_runner.specs.Runs.{IsReady, Performs, RunsCalls, RunsPhase, RunsPh
 use Rattle.mq_script.specs.ReplyLines.{reply_lines}
 use Rattle.mq_script.specs.Script.{WrittenCall, said_calls, said_phases}
 use Rattle.mq_script.specs.declared.line.ScriptCall.{ScriptCall}
-use Rattle.mq_script.specs.declared.reply.Answer.{Answer}
+use Rattle.mq_script.specs.declared.reply.Completion.{Completion}
 use Rattle.mq_runner.specs.declared.turns.Share.{Share}
 use Rattle.mq_runner.specs.declared.turns.Turn.{Turn}
 use Rattle.mq_runner.specs.declared.turns.Worked.{Worked}
 use denote.Ref.{Bor}
 
 -- one more call after the others
-pub RunsCalls-push : (calls : List WrittenCall) (call : WrittenCall) (answers : List Answer) (answer : Answer) (old mid new : Ticket Record) → RunsCalls calls answers old mid → Performs call.moment call.command (buffer_given call.command) answer.buffer.items mid new answer.outcome → RunsCalls (calls ++ call ∷ []) (answers ++ answer ∷ []) old new
-RunsCalls-push [] call [] answer old mid new ran last =
-    let P : Ticket Record → Type 0 = λ m. Performs call.moment call.command (buffer_given call.command) answer.buffer.items m new answer.outcome in
+pub RunsCalls-push : (calls : List WrittenCall) (call : WrittenCall) (completions : List Completion) (completion : Completion) (old mid new : Ticket Record) → RunsCalls calls completions old mid → Performs call.moment call.command (buffer_given call.command) completion.buffer.items mid new completion.outcome → RunsCalls (calls ++ call ∷ []) (completions ++ completion ∷ []) old new
+RunsCalls-push [] call [] completion old mid new ran last =
+    let P : Ticket Record → Type 0 = λ m. Performs call.moment call.command (buffer_given call.command) completion.buffer.items m new completion.outcome in
     (new, subst P ran last, refl)
-RunsCalls-push [] call (a ∷ answers) answer old mid new ran last = absurd ran
-RunsCalls-push (c ∷ calls) call [] answer old mid new ran last = absurd ran
-RunsCalls-push (c ∷ calls) call (a ∷ answers) answer old mid new ran last =
-    (ran.0, ran.1, RunsCalls-push calls call answers answer ran.0 mid new ran.2 last)
+RunsCalls-push [] call (a ∷ completions) completion old mid new ran last = absurd ran
+RunsCalls-push (c ∷ calls) call [] completion old mid new ran last = absurd ran
+RunsCalls-push (c ∷ calls) call (a ∷ completions) completion old mid new ran last =
+    (ran.0, ran.1, RunsCalls-push calls call completions completion ran.0 mid new ran.2 last)
 
 -- a process without calls
-pub nothing-ran : (turns : List Turn) (answers : List Answer) (process : Ticket Record) → length turns ≡ 0 → answers ≡ [] → RunsCalls (calls_in turns) answers process process
-nothing-ran [] answers process few none = rw none refl
-nothing-ran (turn ∷ turns) answers process few none = absurd (omega arith)
+pub nothing-ran : (turns : List Turn) (completions : List Completion) (process : Ticket Record) → length turns ≡ 0 → completions ≡ [] → RunsCalls (calls_in turns) completions process process
+nothing-ran [] completions process few none = rw none refl
+nothing-ran (turn ∷ turns) completions process few none = absurd (omega arith)
 
 -- one more after the others
 pub zip-push : {A B : Type 0} (R : A → B → Type 0) (xs : List A) (ys : List B) (x : A) (y : B) → AllZip R xs ys → R x y → AllZip R (xs ++ x ∷ []) (ys ++ y ∷ [])
@@ -66,13 +66,13 @@ phase-ran calls [] [] off dealt = refl
 phase-ran calls [] (w ∷ workers) off dealt = absurd off
 phase-ran calls (s ∷ shares) [] off dealt = absurd off
 phase-ran calls (s ∷ shares) (w ∷ workers) off dealt =
-    let P : List WrittenCall → Type 0 = λ cs. RunsCalls cs w.answers.items s.process w.process in (
-      w.answers.items,
+    let P : List WrittenCall → Type 0 = λ cs. RunsCalls cs w.completions.items s.process w.process in (
+      w.completions.items,
       text_in workers,
       subst P dealt.0 off.0.calls,
       off.0.same,
       phase-ran calls shares workers off.1 dealt.1,
-      ap (λ n. reply_lines n w.answers.items ++ text_in workers) off.0.same.number,
+      ap (λ n. reply_lines n w.completions.items ++ text_in workers) off.0.same.number,
     )
 
 pub phase-done : (calls : List WrittenCall) (shares : List (Share (Ticket Record))) (workers : List (Worked (Ticket Record))) (before after : List (Ticket Record)) (text : List ℕ) → AllWorkOff shares workers → All (λ share. calls_in share.turns.items ≡ calls_of share.process.number calls) shares → map (λ share. share.process) shares ≡ before → after ≡ map (λ worked. worked.process) workers → text ≡ text_in workers → RunsPhase calls before after text

@@ -3,9 +3,9 @@ use Rattle.std.specs.Prelude.{◌≡◌, ◌≤◌, ◌==◌, ◌++◌, ℕ, Lis
 use Rattle.std.specs.List.{All}
 use Rattle.std.specs.Io.KnownBytes as known
 use Rattle.fast_mutex.specs.Items.{LockId, Ticket, Grows, tickets_from}
-use Rattle.mq.specs.Calls.{Calls, IsFree, Exits, OneCall, SendCall, TimedReceive, TimedSend, WholeReceive, owner, recorded}
+use Rattle.mq.specs.Calls.{Calls, IsFree, Exits, OneCall, SendCall, TimedReceive, TimedSend, WholeReceive, author, recorded}
 use Rattle.mq.specs.Says.{attributes_says, done_says, notice_says, open_says}
-use Rattle.mq_model.specs.Answer.{Legal}
+use Rattle.mq_model.specs.Legality.{Legal}
 use Rattle.mq_model.specs.Name.{has_name_form, is_name, is_short}
 use Rattle.mq_model.specs.Record.{Past, Record}
 use Rattle.mq_model.specs.declared.entries.Call.{Call}
@@ -25,7 +25,7 @@ use Rattle.mq_script.specs.declared.command.Command.{Command}
 use Rattle.mq_script.specs.declared.command.Command.TheVariants as command
 use Rattle.mq_script.specs.declared.reply.Outcome.{Outcome}
 use Rattle.mq_script.specs.declared.reply.Outcome.TheVariants as outcomes
-use Rattle.mq_script.specs.declared.reply.Answer.{Answer}
+use Rattle.mq_script.specs.declared.reply.Completion.{Completion}
 
 -- the same process, of the same lock; the journal that it left may have grown
 pub record IsSameProcess (old new : Ticket Record) : Type 0 where
@@ -54,20 +54,20 @@ pub record MakesNamed {A : Type 0} (says : Reply → Option (Result A Fault)) (s
   pub too_long : IsTrue (has_name_form name) → IsFalse (is_short name) → (new ≡ old) × (came ≡ outcomes.Refused NameTooLong)
   pub invalid : IsFalse (has_name_form name) → (new ≡ old) × (came ≡ outcomes.Refused Invalid)
 
--- the process carried out the command in a phase of that moment, and this is printed of it. `before` is what the buffer held, `behind` what it holds
+-- the process carried out the command in a phase of that moment, and this is printed of it. `before` is what the buffer held, `after` what it holds
 abbrev pub Performs : Deadline → Command Word → List ℕ → List ℕ → Ticket Record → Ticket Record → Outcome → Type 0
-Performs moment (command.Open name flags attr) before behind old new came = MakesNamed open_says outcomes.Opened (MqOpen flags attr) name old new came
-Performs moment (command.Close d) before behind old new came = Shows (λ _. outcomes.Done) (OneCall done_says old new (MqClose d) []) came
-Performs moment (command.Unlink name) before behind old new came = MakesNamed done_says (λ _. outcomes.Done) MqUnlink name old new came
-Performs moment (command.Send d prio message) before behind old new came = Shows (λ _. outcomes.Done) (SendCall old new d message prio) came
-Performs moment (command.Receive d room) before behind old new came = Shows outcomes.Got (WholeReceive old new d before behind) came
-Performs moment (command.TimedSend d prio until message) before behind old new came = Shows (λ _. outcomes.Done) (TimedSend (λ now. now ≡ moment) old new d message prio until) came
-Performs moment (command.TimedReceive d room until) before behind old new came = Shows outcomes.Got (TimedReceive (λ now. now ≡ moment) old new d before behind until) came
-Performs moment (command.Getattr d) before behind old new came = Shows outcomes.Attrs (OneCall attributes_says old new (MqGetattr d) []) came
-Performs moment (command.Setattr d nonblock) before behind old new came = Shows outcomes.Attrs (OneCall attributes_says old new (MqSetattr d nonblock) []) came
-Performs moment (command.Notify d value) before behind old new came = Shows (λ _. outcomes.Done) (OneCall done_says old new (MqNotify d value) []) came
-Performs moment command.Notice before behind old new came = Shows outcomes.Notice (OneCall notice_says old new NextNotice []) came
-Performs moment command.Exit before behind old new came = Shows (λ _. outcomes.Done) (Exits old new) came
+Performs moment (command.Open name flags attr) before after old new came = MakesNamed open_says outcomes.Opened (MqOpen flags attr) name old new came
+Performs moment (command.Close d) before after old new came = Shows (λ _. outcomes.Done) (OneCall done_says old new (MqClose d) []) came
+Performs moment (command.Unlink name) before after old new came = MakesNamed done_says (λ _. outcomes.Done) MqUnlink name old new came
+Performs moment (command.Send d prio message) before after old new came = Shows (λ _. outcomes.Done) (SendCall old new d message prio) came
+Performs moment (command.Receive d room) before after old new came = Shows outcomes.Got (WholeReceive old new d before after) came
+Performs moment (command.TimedSend d prio until message) before after old new came = Shows (λ _. outcomes.Done) (TimedSend (λ now. now ≡ moment) old new d message prio until) came
+Performs moment (command.TimedReceive d room until) before after old new came = Shows outcomes.Got (TimedReceive (λ now. now ≡ moment) old new d before after until) came
+Performs moment (command.Getattr d) before after old new came = Shows outcomes.Attrs (OneCall attributes_says old new (MqGetattr d) []) came
+Performs moment (command.Setattr d nonblock) before after old new came = Shows outcomes.Attrs (OneCall attributes_says old new (MqSetattr d nonblock) []) came
+Performs moment (command.Notify d value) before after old new came = Shows (λ _. outcomes.Done) (OneCall done_says old new (MqNotify d value) []) came
+Performs moment command.Notice before after old new came = Shows outcomes.Notice (OneCall notice_says old new NextNotice []) came
+Performs moment command.Exit before after old new came = Shows (λ _. outcomes.Done) (Exits old new) came
 
 -- the process made this call of the queues, and waits in it: after the journal that it left before, the wait is its only record
 pub record WaitsFor (old new : Ticket Record) (call : Call) (given : List ℕ) : Type 0 where
@@ -84,14 +84,14 @@ Blocks moment (command.TimedReceive d room until) before old new = WaitsFor old 
 Blocks moment other before old new = ⊥
 
 -- a process made these calls one after the other, and this is what they came to
-abbrev pub RunsCalls : List WrittenCall → List Answer → Ticket Record → Ticket Record → Type 0
+abbrev pub RunsCalls : List WrittenCall → List Completion → Ticket Record → Ticket Record → Type 0
 RunsCalls [] [] old new = new ≡ old
-RunsCalls [] (answer ∷ answers) old new = ⊥
+RunsCalls [] (completion ∷ completions) old new = ⊥
 RunsCalls (call ∷ calls) [] old new = ⊥
-RunsCalls (call ∷ calls) (answer ∷ answers) old new =
+RunsCalls (call ∷ calls) (completion ∷ completions) old new =
     (mid : Ticket Record)
-    × Performs call.moment call.command (buffer_given call.command) answer.buffer.items old mid answer.outcome
-    × RunsCalls calls answers mid new
+    × Performs call.moment call.command (buffer_given call.command) completion.buffer.items old mid completion.outcome
+    × RunsCalls calls completions mid new
 
 -- the calls of process p
 abbrev pub calls_of : ℕ → List WrittenCall → List WrittenCall
@@ -104,11 +104,11 @@ RunsPhase calls [] [] text = text ≡ []
 RunsPhase calls [] (new ∷ after) text = ⊥
 RunsPhase calls (old ∷ before) [] text = ⊥
 RunsPhase calls (old ∷ before) (new ∷ after) text =
-    (answers : List Answer) × (rest : List ℕ)
-    × RunsCalls (calls_of old.number calls) answers old new
+    (completions : List Completion) × (rest : List ℕ)
+    × RunsCalls (calls_of old.number calls) completions old new
     × IsSameProcess old new
     × RunsPhase calls before after rest
-    × (text ≡ reply_lines old.number answers ++ rest)
+    × (text ≡ reply_lines old.number completions ++ rest)
 
 -- phases were run one after the other
 abbrev pub RunsPhases : List (List WrittenCall) → List (Ticket Record) → List (Ticket Record) → List ℕ → Type 0
@@ -132,8 +132,8 @@ pub record RunsWhole (script : Whole) (replies : List ℕ) (journal : Past) : Ty
   pub processes : List (Ticket Record)
   pub ran : RunsPhases script.phases (tickets_from system 1 script.processes) processes replies
   pub legal : Legal journal
-  pub owners : All (λ r. (1 ≤ owner r) × (owner r ≤ script.processes)) journal
-  pub grows : All (λ process. Grows owner process.number process.left journal []) processes
+  pub authors : All (λ r. (1 ≤ author r) × (author r ≤ script.processes)) journal
+  pub grows : All (λ process. Grows author process.number process.left journal []) processes
 
 -- A script was run whole, and known bytes have grown by its replies and the last line
 pub record RunsScript (script : Whole) (old new : Option (List ℕ)) : Type 0 where

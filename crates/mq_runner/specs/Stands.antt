@@ -8,7 +8,7 @@ use Rattle.mq_model.specs.Record.{Record}
 use Rattle.mq_runner.specs.Buffer.{buffer_given}
 use Rattle.mq_runner.specs.Runs.{Blocks, IsSameProcess, RunsCalls, calls_of}
 use Rattle.mq_script.specs.Script.{WrittenCall}
-use Rattle.mq_script.specs.declared.reply.Answer.{Answer}
+use Rattle.mq_script.specs.declared.reply.Completion.{Completion}
 use Rattle.mq_runner.specs.declared.fault.RunFault.{RunFault}
 use Rattle.mq_runner.specs.declared.fault.RunFault.TheVariants.{Deadlock, NoMemory}
 use Rattle.mq_runner.specs.declared.turns.Worked.{Worked}
@@ -20,15 +20,15 @@ pub record BlocksIn (calls : List WrittenCall) (old new : Ticket Record) (line :
   pub later : List WrittenCall
   pub are : calls ≡ made ++ call ∷ later
   pub line_is : call.line ≡ line
-  pub answers : List Answer
+  pub completions : List Completion
   pub mid : Ticket Record
-  pub ran : RunsCalls made answers old mid
+  pub ran : RunsCalls made completions old mid
   pub blocks : Blocks call.moment call.command (buffer_given call.command) mid new
 
 -- what became of the calls of a process: all were made, or one of them waits, that of the line
-abbrev pub EndsIn : Option ℕ → List WrittenCall → List Answer → Ticket Record → Ticket Record → Type 0
-EndsIn None calls answers old new = RunsCalls calls answers old new
-EndsIn (Some line) calls answers old new = BlocksIn calls old new line
+abbrev pub EndsIn : Option ℕ → List WrittenCall → List Completion → Ticket Record → Ticket Record → Type 0
+EndsIn None calls completions old new = RunsCalls calls completions old new
+EndsIn (Some line) calls completions old new = BlocksIn calls old new line
 
 abbrev pub process_in : Option ℕ → ℕ → List ℕ
 process_in None process = []
@@ -55,7 +55,7 @@ FindsBlocked processes worked = is_some worked.blocked ≡ true → list_all (is
 -- a process of a phase: its calls ended so
 pub record EndsPhase (calls : List WrittenCall) (old : Ticket Record) (worked : Worked (Ticket Record)) : Type 0 where
   pub same : IsSameProcess old worked.process
-  pub ends : EndsIn worked.blocked (calls_of old.number calls) worked.answers.items old worked.process
+  pub ends : EndsIn worked.blocked (calls_of old.number calls) worked.completions.items old worked.process
 
 -- A phase came to a stand. Each process made all its calls, or some first ones and then waits in the next one; these are the lines of
 -- those calls, and there is one. Each process that waits found inside the lock, in the journal that it last left, that every process
@@ -70,7 +70,7 @@ pub record ComesToAStand (calls : List WrittenCall) (before : List (Ticket Recor
 -- a worker that waits asked whether these processes are blocked, until they were; it is as it was but for the calls of others
 pub record Confirms (processes : List ℕ) (worked confirmed : Worked (Ticket Record)) : Type 0 where
   pub blocked : confirmed.blocked ≡ worked.blocked
-  pub answers : confirmed.answers ≡ worked.answers
+  pub completions : confirmed.completions ≡ worked.completions
   pub same : IsSameProcess worked.process confirmed.process
   pub kept : worked.blocked ≡ None → confirmed.process ≡ worked.process
   pub calls : is_some worked.blocked ≡ true → Calls worked.process confirmed.process []

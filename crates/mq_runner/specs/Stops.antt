@@ -16,8 +16,8 @@ pub record RunsFront (phases : List (List WrittenCall)) (before : List (Ticket R
   pub written : known.Appends old new replies
 
 -- a script was run up to the end of a phase, or not begun: nothing else is written
-abbrev pub StopsBehindPhase : Whole → Option (List ℕ) → Option (List ℕ) → Type 0
-StopsBehindPhase script old new = (new ≡ old) ⊎ ((system : LockId) × RunsFront script.phases (tickets_from system 1 script.processes) old new)
+abbrev pub StopsAfterPhase : Whole → Option (List ℕ) → Option (List ℕ) → Type 0
+StopsAfterPhase script old new = (new ≡ old) ⊎ ((system : LockId) × RunsFront script.phases (tickets_from system 1 script.processes) old new)
 
 -- known bytes grow by a text, and by a front part of the next one that lacks a byte or more
 abbrev pub AppendsInto : Option (List ℕ) → Option (List ℕ) → List ℕ → List ℕ → Type 0

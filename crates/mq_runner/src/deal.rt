@@ -37,11 +37,11 @@ fn share_of<'s, L: Look<Guarded>>(
     ensures calls { IfOk result (λ share. calls_in share.turns.items ≡ calls_of process.number (said_calls calls.now)) }
 {
     let turns = turns_of(alloc, process.number(), calls)?;
-    let answers = Vec::with_capacity(alloc, turns.len())?;
+    let completions = Vec::with_capacity(alloc, turns.len())?;
     Ok(Share {
         process,
         turns,
-        answers,
+        completions,
     })
 }
 

@@ -1,6 +1,6 @@
 //! A script, from its bytes to the journal of its calls.
 ghost use Rattle.std.specs.Prelude.{◌≡◌, ◌+◌, ℕ, List, IfOk, IsErrOf, Some, Ok, Err, take};
-ghost use Rattle.mq_model.specs.Answer.{Legal};
+ghost use Rattle.mq_model.specs.Legality.{Legal};
 ghost use Rattle.mq_runner.specs.RunFault.{StopsAt};
 ghost use Rattle.mq_runner.specs.Runs.{RunsWhole};
 ghost use Rattle.mq_script.specs.Script.{Whole, script_written};

@@ -6,6 +6,7 @@ ghost use Rattle.mq_runner.specs.Members.{AllGive, AllHaveShares, Gives};
 ghost use Rattle.mq_runner.specs.Phase.{AllWorkOff, AreReady, Ends, EndsEarly};
 ghost use Rattle.mq_runner.specs.Runs.{Blocks, IsReady, IsSameProcess, Performs};
 ghost use Rattle.mq_script.specs.Grammar.{said};
+ghost use Rattle.mq_script.specs.Replies.{HasMessage};
 
 use crate::calls::perform;
 use crate::fault::RunFault;
@@ -15,7 +16,7 @@ use crate::settling::settled;
 use crate::turns::{Share, Turn, Worked};
 use fast_mutex::Look;
 use mq::{Guarded, Mq, Process};
-use mq_script::reply::Answer;
+use mq_script::reply::{Completion, Outcome};
 use std::alloc::{AllocError, Global};
 use std::snapshot::Snapshot;
 use std::sync::Wait;
@@ -136,7 +137,7 @@ fn idle<L: Look<Guarded>>(share: Share<'_, Process<L>>) -> Worked<Process<L>>
 {
     Worked {
         process: share.process,
-        answers: share.answers,
+        completions: share.completions,
         blocked: None,
     }
 }
@@ -155,17 +156,17 @@ fn work<L: Look<Guarded>, R: Wait + Clock, G: Gate>(
     let Share {
         mut process,
         turns,
-        mut answers,
+        mut completions,
     } = share;
     for turn in turns {
         let line = turn.call.line;
         gate.before(process.number(), line);
-        match answer(rt, mq, &mut process, peers, turn) {
-            Some(answer) => answers.push_reserved(answer),
+        match complete(rt, mq, &mut process, peers, turn) {
+            Some(completion) => completions.push_reserved(completion),
             None => {
                 return Worked {
                     process,
-                    answers,
+                    completions,
                     blocked: Some(line),
                 };
             }
@@ -174,22 +175,22 @@ fn work<L: Look<Guarded>, R: Wait + Clock, G: Gate>(
     leave(peers, process.number());
     Worked {
         process,
-        answers,
+        completions,
         blocked: None,
     }
 }
 
-fn answer<L: Look<Guarded>, R: Wait + Clock>(
+fn complete<L: Look<Guarded>, R: Wait + Clock>(
     rt: &R,
     mq: &Mq<L>,
     process: &mut Process<L>,
     peers: &[Peer],
     turn: Turn<'_>,
-) -> Option<Answer>
+) -> Option<Completion>
     requires { IsReady mq.now process.old }
     ensures same { IsSameProcess process.old process.new }
     ensures free { IfSome result (λ _. IsFree process.new) }
-    ensures performed { IfSome result (λ answer. Performs turn.entry.call.clock.moment (said turn.entry.call.command) (buffer_given (said turn.entry.call.command)) answer.buffer.items process.old process.new answer.outcome) }
+    ensures performed { IfSome result (λ completion. Performs turn.entry.call.clock.moment (said turn.entry.call.command) (buffer_given (said turn.entry.call.command)) completion.buffer.items process.old process.new completion.outcome) }
     ensures blocks { IfNone result (Blocks turn.entry.call.clock.moment (said turn.entry.call.command) (buffer_given (said turn.entry.call.command)) process.old process.new) }
 {
     let Turn { call, mut buffer } = turn;
@@ -202,5 +203,14 @@ fn answer<L: Look<Guarded>, R: Wait + Clock>(
         &call.command,
         buffer.as_mut_slice(),
     )?;
-    Some(Answer { outcome, buffer })
+    Some(completion_of(outcome, buffer))
+}
+
+// What a call came to, with the buffer that it left.
+fn completion_of(outcome: Outcome, buffer: Vec<u8>) -> Completion
+    requires { HasMessage outcome (vec_len buffer) }
+    ensures outcome { result.outcome ≡ outcome }
+    ensures buffer { result.buffer ≡ buffer }
+{
+    Completion { outcome, buffer }
 }

@@ -2,13 +2,13 @@
 ghost use Rattle.std.specs.Prelude.{◌≡◌, ◌≤◌, ◌+◌, ◌↔◌, ℕ, List, IfErr, IfOk, IsErr, IsErrOf, IsOk, OnErr, OnOk, Some, Ok, Err, Vec, length, take, vec_len};
 ghost use Rattle.std.specs.Io.KnownBytes.{Appends, Consumes};
 ghost use Rattle.std.specs.List.{All};
-ghost use Rattle.mq_model.specs.Answer.{Legal};
+ghost use Rattle.mq_model.specs.Legality.{Legal};
 ghost use Rattle.mq_runner.specs.RunFault.{IsLate, StopsAt};
 ghost use Rattle.fast_mutex.specs.Items.{Ticket};
 ghost use Rattle.lines.specs.Output.{AppendsTooLittle};
 ghost use Rattle.mq_model.specs.Record.{Record};
 ghost use Rattle.mq_runner.specs.Runs.{IsReady, RunsPhase, RunsPhases, RunsScript, RunsWhole, last_line};
-ghost use Rattle.mq_runner.specs.Stops.{RunsFront, StopsBehindPhase, StopsBlocked, StopsInDeadlock, StopsInPhase, StopsInWrite};
+ghost use Rattle.mq_runner.specs.Stops.{RunsFront, StopsAfterPhase, StopsBlocked, StopsInDeadlock, StopsInPhase, StopsInWrite};
 ghost use Rattle.mq_runner.specs.Stands.{ComesToAStand};
 ghost use Rattle.mq_script.specs.Script.{Whole, said_calls, said_phases, said_script, script_written};
 ghost use Rattle.mq_runner.specs.declared.fault.RunFault.TheVariants.{BadCall, Deadlock, Input, NoMemory, Output};
@@ -64,7 +64,7 @@ where
         IsErrOf result (BadCall line) → script_written (take (MOST_BYTES + 1) all) ≡ Err line }
     ensures no_memory { (all : List ℕ) (script : Whole) → R.remaining input.old ≡ Some all →
         script_written (take (MOST_BYTES + 1) all) ≡ Ok script → IsErrOf result NoMemory →
-        StopsBehindPhase script (W.contents output.old) (W.contents output.new) }
+        StopsAfterPhase script (W.contents output.old) (W.contents output.new) }
     ensures output { (all : List ℕ) (script : Whole) → R.remaining input.old ≡ Some all →
         script_written (take (MOST_BYTES + 1) all) ≡ Ok script → IsErrOf result Output →
         StopsInWrite script (W.contents output.old) (W.contents output.new) }
@@ -97,7 +97,7 @@ where
     G: Gate + Sync,
     requires { (1 ≤ script.now.processes) × (script.now.processes ≤ 32) }
     ensures fault { IfErr result IsLate }
-    ensures no_memory { IsErrOf result NoMemory → StopsBehindPhase (said_script script.now) (W.contents output.old) (W.contents output.new) }
+    ensures no_memory { IsErrOf result NoMemory → StopsAfterPhase (said_script script.now) (W.contents output.old) (W.contents output.new) }
     ensures output { IsErrOf result Output → StopsInWrite (said_script script.now) (W.contents output.old) (W.contents output.new) }
     ensures deadlock { (lines : Vec ℕ Global) → IsErrOf result (Deadlock lines) → StopsInDeadlock (said_script script.now) lines.items (W.contents output.old) (W.contents output.new) }
     ensures done { OnOk result (RunsScript (said_script script.now) (W.contents output.old) (W.contents output.new)) }
@@ -125,7 +125,7 @@ where
     G: Gate + Sync,
     requires { (1 ≤ script.now.processes) × (script.now.processes ≤ 32) }
     ensures fault { IfErr result IsLate }
-    ensures no_memory { IsErrOf result NoMemory → StopsBehindPhase (said_script script.now) (W.contents output.old) (W.contents output.new) }
+    ensures no_memory { IsErrOf result NoMemory → StopsAfterPhase (said_script script.now) (W.contents output.old) (W.contents output.new) }
     ensures output { IsErrOf result Output → StopsInWrite (said_script script.now) (W.contents output.old) (W.contents output.new) }
     ensures deadlock { (lines : Vec ℕ Global) → IsErrOf result (Deadlock lines) → StopsInDeadlock (said_script script.now) lines.items (W.contents output.old) (W.contents output.new) }
     ensures legal { IfOk result (λ journal. Legal journal.records) }

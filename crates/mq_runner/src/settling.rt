@@ -97,7 +97,7 @@ fn confirm_one<L: Look<Guarded>, R: Wait>(
 {
     let Worked {
         mut process,
-        answers,
+        completions,
         blocked,
     } = worked;
     if blocked.is_some() {
@@ -105,7 +105,7 @@ fn confirm_one<L: Look<Guarded>, R: Wait>(
     }
     Worked {
         process,
-        answers,
+        completions,
         blocked,
     }
 }

@@ -5,7 +5,7 @@ ghost use Rattle.mq_runner.specs.Phase.{text_in};
 use crate::turns::Worked;
 use fast_mutex::Look;
 use mq::{Guarded, Process};
-use mq_script::text::push_answers;
+use mq_script::text::push_completions;
 use std::alloc::{AllocError, Global};
 
 /// The lines of the replies of a phase, those of the first process first.
@@ -17,11 +17,11 @@ pub fn text_of<L: Look<Guarded>>(
 {
     let mut text = Vec::new(alloc);
     for worked in workers {
-        push_answers(
+        push_completions(
             alloc,
             &mut text,
             worked.process.number(),
-            worked.answers.as_slice(),
+            worked.completions.as_slice(),
         )?;
     }
     Ok(text)

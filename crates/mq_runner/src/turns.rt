@@ -1,11 +1,11 @@
 //! What each process has to do in a phase, and what it came to.
-ghost use Rattle.std.specs.Prelude.{◌≡◌, ◌≤◌, [], IfOk, vec_len, vec_capacity};
+ghost use Rattle.std.specs.Prelude.{◌≡◌, ◌≤◌, [], IfOk, replicate, vec_len, vec_capacity};
 ghost use Rattle.mq_runner.specs.Buffer.{buffer_given};
 ghost use Rattle.mq_script.specs.Grammar.{said};
 
 use mq_script::command::Command;
 use mq_script::line::ScriptCall;
-use mq_script::reply::Answer;
+use mq_script::reply::Completion;
 use std::alloc::{AllocError, Global};
 
 /// A call of a script with its buffer, which a receive fills.
@@ -16,21 +16,21 @@ pub struct Turn<'s> {
     ghost given: { buffer.items ≡ buffer_given (said call.command) },
 }
 
-/// A process with its calls of a phase, and the places of their answers.
+/// A process with its calls of a phase, and the places of their completions.
 #[derive(Drop)]
 pub struct Share<'s, P> {
     pub process: P,
     pub turns: Vec<Turn<'s>>,
-    pub answers: Vec<Answer>,
-    ghost none: { answers.items ≡ [] },
-    ghost room: { vec_len turns ≤ vec_capacity answers },
+    pub completions: Vec<Completion>,
+    ghost none: { completions.items ≡ [] },
+    ghost room: { vec_len turns ≤ vec_capacity completions },
 }
 
 /// A process that made its calls of a phase, with what they came to; or some first ones, and then waits in one for ever.
 #[derive(Drop)]
 pub struct Worked<P> {
     pub process: P,
-    pub answers: Vec<Answer>,
+    pub completions: Vec<Completion>,
     /// The line of the call that waits.
     pub blocked: Option<u64>,
 }
@@ -39,15 +39,22 @@ pub struct Worked<P> {
 pub fn turn_of<'s>(alloc: Global, call: ScriptCall<&'s [u8]>) -> Result<Turn<'s>, AllocError>
     ensures { IfOk result (λ turn. turn.call ≡ call.entry) }
 {
-    let room = match call.command {
-        Command::Receive { d: _, room } => room,
+    let room = room_of(&call.command);
+    let buffer = vec![in alloc; 0; room]?;
+    Ok(Turn { call, buffer })
+}
+
+// How many bytes the buffer of a call has.
+fn room_of(command: &Command<&[u8]>) -> usize
+    ensures { replicate result 0 ≡ buffer_given (said command.now) }
+{
+    match command {
+        Command::Receive { d: _, room } => *room,
         Command::TimedReceive {
             d: _,
             room,
             until: _,
-        } => room,
+        } => *room,
         _ => 0,
-    };
-    let buffer = vec![in alloc; 0; room]?;
-    Ok(Turn { call, buffer })
+    }
 }

@@ -2,7 +2,7 @@
 ghost use Rattle.std.specs.Prelude.{◌≡◌, ◌≤◌, true, Some, None, IsSome, IsTrue, IfSome, IfNone, [], length};
 ghost use Rattle.mq.specs.Calls.{Calls, Collects, IsFree, SendCall, TimedReceive, TimedSend, WholeReceive};
 ghost use Rattle.mq.specs.Says.{FitsIn};
-ghost use Rattle.mq_model.specs.Answer.{Legal};
+ghost use Rattle.mq_model.specs.Legality.{Legal};
 ghost use Rattle.mq_model.specs.declared.entries.Call.{Call};
 ghost use Rattle.mq_state.specs.Buffers.{waiting_room};
 ghost use Rattle.mq_runner.specs.Runs.{IsSameProcess, Shows, WaitsFor};

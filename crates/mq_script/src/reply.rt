@@ -19,7 +19,7 @@ pub enum Outcome {
 
 /// What a call came to. A message that was received lies in the front of the buffer.
 #[derive(Drop)]
-pub struct Answer {
+pub struct Completion {
     pub outcome: Outcome,
     pub buffer: Vec<u8>,
     ghost message: { HasMessage outcome (vec_len buffer) },

@@ -2,25 +2,25 @@
 ghost use Rattle.std.specs.Prelude.{◌≡◌, ◌++◌, OnOk};
 ghost use Rattle.mq_script.specs.ReplyLines.{reply_lines};
 
-use crate::reply::{Answer, push_reply};
+use crate::reply::{Completion, push_reply};
 use std::alloc::{AllocError, Global};
 
 /// Adds the lines of the replies to a process.
-pub fn push_answers(
+pub fn push_completions(
     alloc: Global,
     text: &mut Vec<u8>,
     process: u32,
-    answers: &[Answer],
+    completions: &[Completion],
 ) -> Result<(), AllocError>
-    ensures { OnOk result (text.new.items ≡ text.old.items ++ reply_lines process answers.now) }
+    ensures { OnOk result (text.new.items ≡ text.old.items ++ reply_lines process completions.now) }
 {
-    for answer in answers {
+    for completion in completions {
         push_reply(
             alloc,
             text,
             process,
-            &answer.outcome,
-            answer.buffer.as_slice(),
+            &completion.outcome,
+            completion.buffer.as_slice(),
         )?;
     }
     Ok(())

@@ -15,8 +15,8 @@ pub const SPARE: u32 = 32_769;
 /// it on, and the index of the next of them.
 #[derive(Clone, Copy, Debug, PartialEq, Eq)]
 pub struct Cell {
-    pub prio: u32,
     pub place: u64,
+    pub prio: u32,
     pub next: u32,
 }
 
@@ -42,6 +42,7 @@ pub fn fresh(alloc: Global, spare: u32) -> Result<Vec<Cell>, AllocError>
 }
 
 /// The slot at an index.
+#[inline(always)]
 pub fn at(cells: &[Cell], index: u32) -> Cell
     requires { index < length cells.now }
     ensures { result ≡ cell_at cells.now index }
@@ -50,6 +51,7 @@ pub fn at(cells: &[Cell], index: u32) -> Cell
 }
 
 /// Puts a message into the spare slot `new`, and that slot into the chain after the slot `before`.
+#[inline(always)]
 pub fn link(cells: &mut Vec<Cell>, before: u32, new: u32, prio: u32, place: u64)
     requires before { before < length cells.old.items }
     requires new { new < length cells.old.items }
@@ -61,6 +63,7 @@ pub fn link(cells: &mut Vec<Cell>, before: u32, new: u32, prio: u32, place: u64)
 }
 
 /// Takes the first message's slot out of the chain, and puts it before the chain of `count` spare slots that begins at `spare`.
+#[inline(always)]
 pub fn unlink(cells: &mut Vec<Cell>, first: u32, spare: u32, count: u32)
     requires head { 0 < length cells.old.items }
     requires first { first < length cells.old.items }

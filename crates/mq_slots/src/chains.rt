@@ -58,6 +58,7 @@ impl Slots {
 
     /// Adds a message, in room that is there: its priority, 0 to 32,767, and the place of its send, which is above that of each
     /// message present.
+    #[inline(always)]
     pub fn push(&mut self, prio: u32, place: u64)
         requires room { length self.old.messages < self.old.cap }
         requires prio { prio < 32768 }
@@ -78,6 +79,7 @@ impl Slots {
     }
 
     /// Takes out the message that is received next, the oldest of the highest priority, as its priority and its place.
+    #[inline(always)]
     pub fn pop(&mut self) -> Option<(u32, u64)>
         ensures none { IsNone result ↔ (self.old.messages ≡ []) }
         ensures best { IfSome result (λ m. IsBest self.old.messages m) }

@@ -30,6 +30,7 @@ pub fn find_level(levels: &[Level], prio: u32) -> usize
 }
 
 /// The last slot of the level with that index, or the head of the chain where there is none.
+#[inline(always)]
 pub fn last_from(levels: &[Level], at: usize) -> u32
     ensures { result ≡ last_from levels.now at }
 {
@@ -41,13 +42,18 @@ pub fn last_from(levels: &[Level], at: usize) -> u32
 }
 
 /// Notes the slot of the newest message of a priority, whose level has that index or is put there.
+#[inline(always)]
 pub fn note_level(levels: &mut Vec<Level>, at: usize, prio: u32, last: u32)
     requires within { at ≤ vec_len levels.old }
     requires room { vec_len levels.old < vec_capacity levels.old }
     ensures items { levels.new.items ≡ noted levels.old.items at prio last }
     ensures capacity { vec_capacity levels.old ≤ vec_capacity levels.new }
 {
-    if at < levels.len() && levels[at].prio == prio {
+    if at >= levels.len() {
+        levels.push_reserved(Level { prio, last });
+        return;
+    }
+    if levels[at].prio == prio {
         levels[at].last = last;
         return;
     }
@@ -57,6 +63,7 @@ pub fn note_level(levels: &mut Vec<Level>, at: usize, prio: u32, last: u32)
 }
 
 /// Takes the highest level out, if that slot is its last one.
+#[inline(always)]
 pub fn drop_level(levels: &mut Vec<Level>, slot: u32)
     ensures items { levels.new.items ≡ dropped levels.old.items slot }
     ensures capacity { vec_capacity levels.old ≤ vec_capacity levels.new }

@@ -64,9 +64,9 @@ best-is xs b best = find-only (λ a. list_all (goes_first a) xs) xs b best.there
     ])
 
 -- what `best` of the slots answers
-pub best-answer : (xs : List (ℕ × ℕ)) (o : Option (ℕ × ℕ)) → (IsNone o ↔ (xs ≡ [])) → IfSome o (λ m. IsBest xs m) → o ≡ best_slot xs
-best-answer xs None none best = let empty : xs ≡ [] = none.0 refl in rw empty refl
-best-answer xs (Some m) none best = sym (best-is xs m best)
+pub best-found : (xs : List (ℕ × ℕ)) (o : Option (ℕ × ℕ)) → (IsNone o ↔ (xs ≡ [])) → IfSome o (λ m. IsBest xs m) → o ≡ best_slot xs
+best-found xs None none best = let empty : xs ≡ [] = none.0 refl in rw empty refl
+best-found xs (Some m) none best = sym (best-is xs m best)
 
 -- what `pop` of the slots leaves, where the best message stands at a place
 pub popped : (xs ys : List (ℕ × ℕ)) (o : Option (ℕ × ℕ)) (place : ℕ) → (IsNone o ↔ (xs ≡ [])) → IfSome o (λ m. IsBest xs m) → IfSome o (λ m. ys ≡ without m.1 xs) → option_map (λ m. m.1) (best_slot xs) ≡ Some place → ys ≡ without place xs

@@ -1,12 +1,12 @@
 -- With bounds there is room for all that they allow.
-use Rattle.std.proofs.Common.{◌≡◌, ◌≢◌, ℕ, ◌+◌, ◌<◌, ◌≤◌, Bool, true, false, ◌||◌, not, List, [], ◌∷◌, length, cond, Option, Some, None, is_some, Result, Ok, Err, refl, sym, ◌∙◌, ap, subst, arith, ◌⊎◌, inl, inr, if◌then◌else◌, ◌==◌, ◌&&◌, vec_capacity}
-use Rattle.std.specs.Prelude.{nat_lt, ◌↔◌, IsTrue, IsOk}
+use Rattle.std.proofs.Common.{◌≡◌, ◌≢◌, ℕ, ◌+◌, ◌<◌, ◌≤◌, Bool, true, false, ◌||◌, List, [], ◌∷◌, length, Option, Some, None, is_some, Result, Ok, Err, refl, sym, ◌∙◌, ap, subst, arith, ◌⊎◌, inl, inr, if◌then◌else◌, ◌==◌, ◌&&◌, vec_capacity}
+use Rattle.std.specs.Prelude.{nat_lt, IsOk}
 use Rattle.std.specs.Result.{is_err}
 use Rattle.mq_model.proofs.Places.{split}
 use Rattle.std.proofs.lemmas.Bool.Decides.{nat_tests}
 use Rattle.mq_model.specs.Record.{Record, Past, Shown, payload_bytes}
-use Rattle.mq_model.specs.Bounds.{open_waits, exceeds, finds_full, entries_needed, bytes_needed, has_entry, HeedsBounds}
-use Rattle.mq_model.specs.Answer.{Appends, answer, is_refused}
+use Rattle.mq_model.specs.Bounds.{open_waits, exceeds, finds_full, has_entry, HeedsBounds}
+use Rattle.mq_model.specs.Legality.{Appends, reply_to, is_refused}
 use Rattle.mq_model.specs.Notices.{notified}
 use Rattle.mq_model.specs.Ladder.{timed_reply}
 use Rattle.mq_model.specs.declared.bounds.Bounds.{Bounds}
@@ -19,7 +19,7 @@ use Rattle.mq_model.specs.declared.entries.Reply.TheVariants.{Waits, Refused}
 use Rattle.mq_model.specs.declared.entries.Registration.{Registration}
 use Rattle.mq_model.specs.declared.faults.Fault.{Fault}
 use Rattle.mq_model.specs.declared.faults.Fault.TheVariants.{NoMemory, JournalFull}
-use Rattle.mq_model.proofs.NoWant.{answers-other, answers-room}
+use Rattle.mq_model.proofs.NoWant.{replies-other, replies-room}
 use Rattle.mq_model.proofs.OpenCount.{open_waits-counted}
 use Rattle.mq_model.specs.Owners.{waits_count}
 use Rattle.mq_state.specs.Inboxes.{room_in}
@@ -139,12 +139,12 @@ pub record IsEntered (o : Option Bounds) (past : Past) (p : ℕ) (call : Call) (
   pub heeds : HeedsBounds o past p call given reply
   pub entry : has_entry reply ≡ true
 
--- the answer of a call that has its room
+-- the reply to a call that has its room
 pub room-given : (o : Option Bounds) (past : Past) (p : ℕ) (call : Call) (given : List ℕ) (reply : Reply) (k m : ℕ) (result : Result (Unit {0}) Fault) → NeedsJust k m past p call given →
-    IsRoomRefused o (length past + open_waits past + k) (payload_bytes past + m) result → result ≡ Ok tt → reply ≡ answer past p call given → IsEntered o past p call given reply
+    IsRoomRefused o (length past + open_waits past + k) (payload_bytes past + m) result → result ≡ Ok tt → reply ≡ reply_to past p call given → IsEntered o past p call given reply
 room-given o past p call given reply k m result needs room is answers =
-    let other = answers-other past p call given reply answers in
-    let left = answers-room past p call given reply answers in
+    let other = replies-other past p call given reply answers in
+    let left = replies-room past p call given reply answers in
     record {
       heeds = record { full = (λ f. absurd (left f), λ f. absurd (let bad : Ok tt ≡ Err JournalFull = sym is ∙ room.full (sym (full-by o past p call given k m needs) ∙ f) in cc)); memory = λ _ want. other want };
       entry = other-entry reply other left;
@@ -192,9 +192,9 @@ called-wanting j j' t t' p call given none same kept n bounds =
       bounds = bounds;
     }
 
--- one that gets its answer: `between` is the journal with room made
+-- one that gets its reply: `between` is the journal with room made
 pub called : (j between j' : Shown) (t t' : Tables) (p : ℕ) (call : Call) (given : List ℕ) (reply : Reply) (k m : ℕ) (result : Result (Unit {0}) Fault) → NeedsJust k m j.records p call given →
-    IsRoomRefused t.bounds (length j.records + open_waits j.records + k) (payload_bytes j.records + m) result → result ≡ Ok tt → reply ≡ answer j.records p call given → between.records ≡ j.records →
+    IsRoomRefused t.bounds (length j.records + open_waits j.records + k) (payload_bytes j.records + m) result → result ≡ Ok tt → reply ≡ reply_to j.records p call given → between.records ≡ j.records →
     Appends between.records j'.records p call given reply → IsKeptBy j' t' → IsPooled None t' → t'.n ≡ t.n → t'.bounds ≡ t.bounds → IsCalled j j' t t' p call given reply
 called j between j' t t' p call given reply k m result needs room is answers same appends kept pool n bounds =
     let x = room-given t.bounds j.records p call given reply k m result needs room is answers in

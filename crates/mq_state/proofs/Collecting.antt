@@ -4,8 +4,7 @@ use Rattle.std.specs.Option.{option_map, option_and_then, unwrap_or}
 use Rattle.mq_model.specs.Record.{Record, Past, record_at}
 use Rattle.mq_model.specs.Messages.{is_receive}
 use Rattle.mq_model.specs.Waits.{open_wait, answered_by}
-use Rattle.mq_model.specs.Answer.{Legal}
-use Rattle.mq_model.specs.declared.entries.Call.{Call}
+use Rattle.mq_model.specs.Legality.{Legal}
 use Rattle.mq_model.specs.declared.entries.Call.TheVariants.{Collect}
 use Rattle.mq_model.proofs.OpenWaits.{open_wait-process}
 use Rattle.mq_state.specs.Buffers.{waiting_call, room_of, FitsOutcome}

@@ -5,7 +5,7 @@ use Rattle.std.specs.Option.{unwrap_or}
 use Rattle.mq_model.specs.Record.{Past}
 use Rattle.mq_model.specs.Names.{bound_queue, attributes_given, are_within_limits}
 use Rattle.mq_model.specs.Descriptors.{lowest_free, alive}
-use Rattle.mq_model.specs.Answer.{answer, answer_open}
+use Rattle.mq_model.specs.Legality.{reply_to, reply_to_open}
 use Rattle.mq_model.specs.declared.entries.Attr.{Attr}
 use Rattle.mq_model.specs.declared.entries.OpenFlags.{OpenFlags}
 use Rattle.mq_model.specs.declared.entries.Call.TheVariants.{MqOpen}
@@ -18,8 +18,8 @@ given-within : (flags : OpenFlags) (attr : Option Attr) → are_within_limits at
 given-within flags None e = refl
 given-within flags (Some attr) e = e
 
-answer-within : (past : Past) (p : ℕ) (flags : OpenFlags) (attr : Option Attr) (name : List ℕ) → CreatesWithin (MqOpen flags attr) (answer_open past p flags attr name)
-answer-within past p flags attr name =
+reply-within : (past : Past) (p : ℕ) (flags : OpenFlags) (attr : Option Attr) (name : List ℕ) → CreatesWithin (MqOpen flags attr) (reply_to_open past p flags attr name)
+reply-within past p flags attr name =
     let P : Reply → Type 0 = CreatesWithin (MqOpen flags attr) in
     let bound = is_some (bound_queue past name) in
     let free = lowest_free past p in
@@ -34,5 +34,5 @@ answer-within past p flags attr name =
     opened false true is e c = given-within flags attr is
     opened false false is e c = absurd (let bad : true ≡ false = e in cc)
 
-pub open-within : (past : Past) (p : ℕ) (flags : OpenFlags) (attr : Option Attr) (name : List ℕ) (reply : Reply) → reply ≡ answer past p (MqOpen flags attr) name → CreatesWithin (MqOpen flags attr) reply
-open-within past p flags attr name reply is = subst (CreatesWithin (MqOpen flags attr)) (sym is) (answer-within past p flags attr name)
+pub open-within : (past : Past) (p : ℕ) (flags : OpenFlags) (attr : Option Attr) (name : List ℕ) (reply : Reply) → reply ≡ reply_to past p (MqOpen flags attr) name → CreatesWithin (MqOpen flags attr) reply
+open-within past p flags attr name reply is = subst (CreatesWithin (MqOpen flags attr)) (sym is) (reply-within past p flags attr name)

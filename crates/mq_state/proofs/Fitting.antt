@@ -9,13 +9,13 @@ use Rattle.mq_model.specs.Names.{attributes}
 use Rattle.mq_model.specs.Descriptors.{held, called_queue, is_place, is_on}
 use Rattle.mq_model.specs.Messages.{is_in, is_send, is_receive, with_place, if_in, queues, admits, blocks_send, blocks_receive, blocked_sends, blocked_receives, waiting_sends, waiting_receives, least, ended_sends, ended_receives, entered, admitted, present}
 use Rattle.mq_model.specs.Waits.{open_wait, names_wait, answered_by}
-use Rattle.mq_model.specs.Answer.{Legal, IsLegalNext, answer, is_refused, is_payload}
+use Rattle.mq_model.specs.Legality.{Legal, IsLegalNext, reply_to, is_refused, is_payload}
 use Rattle.mq_model.specs.declared.entries.Call.{Call}
 use Rattle.mq_model.specs.declared.entries.Call.TheVariants.{MqOpen, MqClose, MqUnlink, MqSend, MqReceive, MqGetattr, MqSetattr, MqNotify, NextNotice, Collect, MqTimedSend, MqTimedReceive, Withdraw}
 use Rattle.mq_model.specs.declared.entries.Reply.{Reply}
 use Rattle.mq_model.specs.declared.entries.Reply.TheVariants.{Opened, Queued, Handed, Waits, Got, Collected, Attrs, Notice, Done, Refused, Withdrawn}
-use Rattle.mq_model.proofs.Places.{split, clash, find-in, is_in-filter}
-use Rattle.mq_model.proofs.Cases.{Says, SendSays, ReceiveSays, MayReceive, BestReply, answer_says}
+use Rattle.mq_model.proofs.Places.{split, find-in, is_in-filter}
+use Rattle.mq_model.proofs.Cases.{Says, SendSays, ReceiveSays, MayReceive, BestReply, reply_says}
 use Rattle.mq_model.proofs.Waiters.{admits-least}
 use Rattle.mq_model.proofs.LegalReplies.{legal_says}
 use Rattle.mq_model.proofs.Frames.{record_at-older, attributes-older}
@@ -210,8 +210,8 @@ received-fits past legal p call m a n says receives =
     (sent-fits past legal x.0.queue m (admitted-sent past x.0.queue m (present-admitted past x.0.queue m inside)))
     x.1.roomy
 
-pub reply-fits : (past : Past) → Legal past → (p : ℕ) (call : Call) (reply : Reply) → reply ≡ answer past p call [] → is_receive call ≡ true → Fits past reply (room_of call)
-reply-fits past legal p call reply is receives = by reply (subst (Says past p call) (sym is) (answer_says past p call []))
+pub reply-fits : (past : Past) → Legal past → (p : ℕ) (call : Call) (reply : Reply) → reply ≡ reply_to past p call [] → is_receive call ≡ true → Fits past reply (room_of call)
+reply-fits past legal p call reply is receives = by reply (subst (Says past p call) (sym is) (reply_says past p call []))
   where
     by : (reply : Reply) → Says past p call reply → Fits past reply (room_of call)
     by (Got m a n) says = received-fits past legal p call m a n says receives

@@ -2,6 +2,7 @@ pub mod BestSlots
 pub mod QueueLines
 pub mod QueuesKeep
 pub mod QueuesNoted
+pub mod Rising
 pub mod Reading
 pub mod Arriving
 pub mod Creating

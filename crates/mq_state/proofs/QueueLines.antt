@@ -8,7 +8,10 @@ use Rattle.std.proofs.lemmas.List.Quantifiers.{position-Some}
 use Rattle.std.proofs.lemmas.Iterator.Adapters.{position_from-zero}
 use Rattle.mq_model.proofs.Places.{split, clash}
 use Rattle.mq_state.specs.QueueShown.{QueueShown}
-use Rattle.mq_state.specs.Queues.{queue_in, changed, reregistered, without_queue}
+use Rattle.mq_state.specs.Queues.{queue_in, changed, renewed, touches_line, reregistered, without_queue}
+use Rattle.mq_model.specs.declared.entries.Call.{Call}
+use Rattle.mq_model.specs.declared.entries.Reply.{Reply}
+use Rattle.mq_model.specs.declared.entries.Reply.TheVariants.{Queued, Got, Done}
 use Rattle.mq_model.specs.Notices.{registration_after}
 use Rattle.mq_model.specs.declared.entries.Entry.{Entry}
 use Rattle.mq_model.specs.declared.entries.Registration.{Registration}
@@ -64,6 +67,22 @@ changed-at f queues q i x y e is to = ap (set queues i) (to ∙ ap f is) ∙ cha
 pub changed-None : (f : QueueShown → QueueShown) (queues : List QueueShown) (q : ℕ) → position (λ x. x.place == q) queues ≡ None → changed f queues q ≡ queues
 unfolding queue_in
 changed-None f queues q e = changed-none f queues q (queue_in-None queues q e)
+
+changed-same : (f : QueueShown → QueueShown) (queues : List QueueShown) (q : ℕ) → ((x : QueueShown) → f x ≡ x) → queues ≡ changed f queues q
+changed-same f [] q same = refl
+changed-same f (x ∷ queues) q same = split (x.place == q)
+    (λ t. rw t (ap (λ y. y ∷ queues) (sym (same x))))
+    (λ n. rw n (ap (λ rest. x ∷ rest) (changed-same f queues q same)))
+
+renewed-same : (here : ℕ) (call : Call) (reply : Reply) (prio : ℕ) → touches_line reply ≡ false → (x : QueueShown) → renewed here call reply prio x ≡ x
+renewed-same here call (Queued notified) prio none x = absurd (cc)
+renewed-same here call (Got place admitted notified) prio none x = absurd (cc)
+renewed-same here call Done prio none x = absurd (cc)
+renewed-same here call _ prio none x = refl
+
+-- an entry that touches no line leaves that of its queue
+pub changed-untouched : (here : ℕ) (call : Call) (reply : Reply) (prio : ℕ) (queues : List QueueShown) (q : ℕ) → touches_line reply ≡ false → queues ≡ changed (renewed here call reply prio) queues q
+changed-untouched here call reply prio queues q none = changed-same (renewed here call reply prio) queues q (renewed-same here call reply prio none)
 
 find-changed : (f : QueueShown → QueueShown) (queues : List QueueShown) (q k : ℕ) → ((x : QueueShown) → (f x).place ≡ x.place) →
     find (λ x. x.place == k) (changed f queues q) ≡ (if q == k then option_map f (find (λ x. x.place == k) queues) else find (λ x. x.place == k) queues)

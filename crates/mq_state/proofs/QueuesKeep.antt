@@ -9,7 +9,7 @@ use Rattle.mq_model.specs.Names.{bound_queue}
 use Rattle.mq_model.specs.Descriptors.{alive, created, is_named, is_held, called_queue, opened_queue}
 use Rattle.mq_model.specs.Messages.{is_in, is_send, present, priority, priority_given, waiting_sends, blocked_sends, ended_sends, least}
 use Rattle.mq_model.specs.Notices.{registration_after}
-use Rattle.mq_model.specs.Answer.{Legal}
+use Rattle.mq_model.specs.Legality.{Legal}
 use Rattle.mq_model.specs.declared.entries.Entry.{Entry}
 use Rattle.mq_model.specs.declared.entries.Registration.{Registration}
 use Rattle.mq_model.specs.declared.entries.Call.{Call}

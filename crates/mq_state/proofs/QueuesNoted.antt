@@ -10,7 +10,7 @@ use Rattle.mq_model.specs.Names.{creates, unlinks, bound_queue, attributes, attr
 use Rattle.mq_model.specs.Descriptors.{held, created, after_setattr, with_nonblock, alive, is_named, is_held, is_place, is_on, called_queue, opened_queue}
 use Rattle.mq_model.specs.Messages.{is_in, present, is_full}
 use Rattle.mq_model.specs.Notices.{registered, registration_after, only_if, registration_of, or_else}
-use Rattle.mq_model.specs.Answer.{Legal, IsLegalNext}
+use Rattle.mq_model.specs.Legality.{Legal, IsLegalNext}
 use Rattle.mq_model.specs.Owners.{OwnersMirror, is_held_in}
 use Rattle.mq_model.specs.declared.entries.Attr.{Attr}
 use Rattle.mq_model.specs.declared.entries.OpenFlags.{OpenFlags}

@@ -1,7 +1,7 @@
 -- Where and why a journal is not legal.
 use Rattle.std.proofs.Common.{◌≡◌, ℕ, ◌+◌, ◌<◌, ◌∷◌, ◌∙◌, length, sym, subst, ap, arith, refl, Bool, true, false, Option, Some, IfSome}
 use Rattle.mq_model.specs.Record.{Record, Past, record_at, first}
-use Rattle.mq_model.specs.Answer.{Legal, IsLegalNext}
+use Rattle.mq_model.specs.Legality.{Legal, IsLegalNext}
 use Rattle.mq_model.proofs.Prefixes.{first-all, record_at-of_first, legal-first}
 use Rattle.mq_state.specs.declared.replay.Cause.{Cause}
 use Rattle.mq_state.specs.declared.replay.Cause.TheVariants.{Process, Turn, Payload, Reply}

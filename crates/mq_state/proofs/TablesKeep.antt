@@ -6,7 +6,7 @@ use Rattle.mq_model.specs.Names.{creates, bound_queue}
 use Rattle.mq_model.specs.Descriptors.{held, called_queue, opened_queue, alive}
 use Rattle.mq_model.specs.Messages.{is_in, present, is_full, priority}
 use Rattle.mq_model.specs.Notices.{registered, registered_place, notified, gives_notice, notices}
-use Rattle.mq_model.specs.Answer.{Legal, IsLegalNext, answer}
+use Rattle.mq_model.specs.Legality.{Legal, IsLegalNext, reply_to}
 use Rattle.mq_model.specs.Owners.{OwnersMirror}
 use Rattle.mq_model.specs.OwnersNoted.{EntryQueue, noted}
 use Rattle.mq_model.specs.declared.faults.Fault.TheVariants.{BadDescriptor, NoEntry}
@@ -45,7 +45,7 @@ bound-or (Some q) d e = refl
 held-called : (past : Past) (p d : ℕ) (h : Description) → held past p d ≡ Some h → option_map (λ h. h.queue) (held past p d) ≡ Some (unwrap_or (option_map (λ h. h.queue) (held past p d)) (length past))
 held-called past p d h e = rw e refl
 
-done-on : (past : Past) (p : ℕ) (call : Call) (payload : List ℕ) → Done ≡ answer past p call payload → Says past p call Done → DoneOn past p call payload (entry_queue past p call payload)
+done-on : (past : Past) (p : ℕ) (call : Call) (payload : List ℕ) → Done ≡ reply_to past p call payload → Says past p call Done → DoneOn past p call payload (entry_queue past p call payload)
 done-on past p (MqClose d) payload is says = held-called past p d says.1.0 says.1.1
 done-on past p MqUnlink payload is says = by (bound_queue past payload) refl
   where
@@ -129,7 +129,7 @@ got-on past p NextNotice m a n payload says = absurd (cc)
 got-on past p Collect m a n payload says = absurd (cc)
 got-on past p (Withdraw now) m a n payload says = absurd (cc)
 
-opened-on : (past : Past) (p : ℕ) (call : Call) (d : ℕ) (created : Bool) (payload : List ℕ) → Opened d created ≡ answer past p call payload → Says past p call (Opened d created) → entry_queue past p call payload ≡ opened_queue past payload created
+opened-on : (past : Past) (p : ℕ) (call : Call) (d : ℕ) (created : Bool) (payload : List ℕ) → Opened d created ≡ reply_to past p call payload → Says past p call (Opened d created) → entry_queue past p call payload ≡ opened_queue past payload created
 opened-on past p (MqOpen flags attr) d created payload is says = by (bound_queue past payload) refl created (opened-says past p flags attr payload d created is).new
   where
     by : (o : Option ℕ) → bound_queue past payload ≡ o → (c : Bool) → not (is_some (bound_queue past payload)) ≡ c → unwrap_or (bound_queue past payload) (length past) ≡ opened_queue past payload c

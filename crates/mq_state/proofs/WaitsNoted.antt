@@ -1,13 +1,12 @@
 -- How many processes wait after an entry, and that the tables keep their sizes.
-use Rattle.std.proofs.Common.{◌≡◌, ℕ, ◌+◌, ◌<◌, ◌≤◌, Bool, true, false, List, length, Option, Some, None, refl, sym, ◌∙◌, ap, arith}
+use Rattle.std.proofs.Common.{◌≡◌, ℕ, ◌+◌, ◌<◌, ◌≤◌, true, false, List, length, Option, Some, None, refl, sym, ◌∙◌, ap, arith}
 use Rattle.std.specs.Prelude.{IsTrue}
 use Rattle.std.specs.Option.{option_map, option_and_then}
 use Rattle.std.proofs.lemmas.List.Sums.{count_by-le-length}
 use Rattle.mq_model.specs.Record.{Past}
-use Rattle.mq_model.specs.Messages.{is_send}
 use Rattle.mq_model.specs.Deadlines.{deadline_of}
 use Rattle.mq_model.specs.Waits.{open_wait, answered_by}
-use Rattle.mq_model.specs.Answer.{may_call}
+use Rattle.mq_model.specs.Legality.{may_call}
 use Rattle.mq_model.specs.Owners.{wait_in, wait_kind, with_wait, waiter_in, waits_count, pending_in, OwnersMirror}
 use Rattle.mq_model.specs.OwnersNoted.{noted, noted_open, noted_done, noted_attributes, with_answer_at}
 use Rattle.mq_model.specs.declared.owners.OpenWait.{OpenWait}

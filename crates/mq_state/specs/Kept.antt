@@ -1,6 +1,6 @@
 use Rattle.std.specs.Prelude.{ℕ, ◌≡◌, ◌+◌, ◌≤◌, true, false, List, length, Option, Some, None, Result, Ok, Err, ◌⊎◌}
 use Rattle.mq_model.specs.Record.{Past, Shown, payload_bytes}
-use Rattle.mq_model.specs.Answer.{Legal, Appends}
+use Rattle.mq_model.specs.Legality.{Legal, Appends}
 use Rattle.mq_model.specs.Waits.{open_wait}
 use Rattle.mq_model.specs.declared.entries.Call.{Call}
 use Rattle.mq_model.specs.Bounds.{has_entry, exceeds, entries_needed, bytes_needed, HeedsBounds}
@@ -86,7 +86,7 @@ pub record MayCall (j : Shown) (t : Tables) (p : ℕ) : Type 0 where
   pub process : (1 ≤ p) × (p ≤ t.n)
   pub no_wait : open_wait j.records p ≡ None
 
--- a call of process p got its answer: it has its entry, or none and the answer that memory was wanting or the journal is full
+-- a call of process p got its reply: it has its entry, or none and the reply that memory was wanting or the journal is full
 pub record IsCalled (j j' : Shown) (t t' : Tables) (p : ℕ) (call : Call) (given : List ℕ) (reply : Reply) : Type 0 where
   pub entry : has_entry reply ≡ true → Appends j.records j'.records p call given reply
   pub no_entry : has_entry reply ≡ false → j'.records ≡ j.records
@@ -95,6 +95,15 @@ pub record IsCalled (j j' : Shown) (t t' : Tables) (p : ℕ) (call : Call) (give
   pub pool : IsPooled None t'
   pub n : t'.n ≡ t.n
   pub bounds : t'.bounds ≡ t.bounds
+
+-- what a call of process p with this reply made of the queues: its entry, or nothing where the reply has none. The reply is that the journal
+-- is full exactly where the call finds it full, and with bounds never that memory was wanting
+pub record IsMade (old new : Kept) (p : ℕ) (call : Call) (given : List ℕ) (reply : Reply) : Type 0 where
+  pub entry : has_entry reply ≡ true → Appends old.records new.records p call given reply
+  pub no_entry : has_entry reply ≡ false → new.records ≡ old.records
+  pub full : HeedsBounds old.bounds old.records p call given reply
+  pub processes : new.n ≡ old.n
+  pub bounds : new.bounds ≡ old.bounds
 
 -- room for the entry, for the entry that ends each open wait, and for that of a wait that the entry begins. A collect or a
 -- withdrawal itself stands in the room that was kept for it

@@ -7,7 +7,7 @@ use Rattle.std.specs.Option.{option_map, option_and_then, unwrap_or}
 use Rattle.mq_model.specs.Record.{Past}
 use Rattle.mq_model.specs.Names.{attributes, name_of}
 use Rattle.mq_model.specs.Descriptors.{alive, is_named}
-use Rattle.mq_model.specs.Messages.{present, priority, priority_given}
+use Rattle.mq_model.specs.Messages.{is_in, present, priority, priority_given}
 use Rattle.mq_model.specs.Notices.{registered, registration_after}
 use Rattle.mq_model.specs.Ladder.{is_of}
 use Rattle.mq_model.specs.Owners.{is_held_in}
@@ -42,6 +42,15 @@ is_named_in queues q = unwrap_or (option_map (λ x. x.named) (queue_in queues q)
 unfoldable pub bound_in : Past → List QueueShown → List ℕ → Option ℕ
 bound_in past queues name = option_map (λ x. x.place) (find (λ x. x.named && bytes_eq (name_of past x.place) name) queues)
 
+-- each number is below all after it
+abbrev pub Rises : List ℕ → Type 0
+Rises [] = Unit {0}
+Rises (k ∷ ks) = ((j : ℕ) → is_in ks j ≡ true → k < j) × Rises ks
+
+-- the lines stand in the order in which the queues were created
+abbrev pub HaveRisingPlaces : List QueueShown → Type 0
+HaveRisingPlaces queues = Rises (map (λ x. x.place) queues)
+
 -- the table with the line of queue q changed
 abbrev pub changed : (QueueShown → QueueShown) → List QueueShown → ℕ → List QueueShown
 changed f [] q = []
@@ -75,6 +84,13 @@ renewed here call (Queued notified) prio x = with_slot (priority_given call, her
 renewed here call (Got place admitted notified) prio x = admitting admitted prio (without_slot place x)
 renewed here call Done prio x = renewed_done call x
 renewed here call _ prio x = x
+
+-- an entry with this reply may change the line of its queue
+abbrev pub touches_line : Reply → Bool
+touches_line (Queued notified) = true
+touches_line (Got place admitted notified) = true
+touches_line Done = true
+touches_line _ = false
 
 abbrev pub HasRoomFor : Option ℕ → QueueShown → Type 0
 HasRoomFor None x = Unit {0}

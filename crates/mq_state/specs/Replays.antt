@@ -2,7 +2,7 @@
 use Rattle.std.specs.Prelude.{◌≡◌, ◌≢◌, ◌&&◌, Bool, true, false, nat_le, IfSome}
 use Rattle.mq_model.specs.Limits.{most_processes}
 use Rattle.mq_model.specs.Record.{Record, Past, record_at, first}
-use Rattle.mq_model.specs.Answer.{answer, may_call, is_payload, IsFirstIllegal}
+use Rattle.mq_model.specs.Legality.{reply_to, may_call, is_payload, IsFirstIllegal}
 use Rattle.mq_state.specs.declared.replay.Cause.{Cause}
 use Rattle.mq_state.specs.declared.replay.Cause.TheVariants.{Process, Turn, Payload, Reply}
 use Rattle.mq_state.specs.declared.replay.Departure.{Departure}
@@ -21,7 +21,7 @@ abbrev pub IsCause : Past → Record → Cause → Type 0
 IsCause past r Process = has_process r ≡ false
 IsCause past r Turn = (has_process r ≡ true) × (is_in_turn past r ≡ false)
 IsCause past r Payload = (has_process r ≡ true) × (is_in_turn past r ≡ true) × (has_payload r ≡ false)
-IsCause past r (Reply expected) = (has_process r ≡ true) × (is_in_turn past r ≡ true) × (has_payload r ≡ true) × (expected ≡ answer past r.entry.process r.entry.call r.payload) × (r.entry.reply ≢ expected)
+IsCause past r (Reply expected) = (has_process r ≡ true) × (is_in_turn past r ≡ true) × (has_payload r ≡ true) × (expected ≡ reply_to past r.entry.process r.entry.call r.payload) × (r.entry.reply ≢ expected)
 
 -- the records before the place are legal, the record at the place may not stand after them, and this is why
 pub record IsDeparture (past : Past) (d : Departure) : Type 0 where

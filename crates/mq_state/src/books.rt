@@ -1,6 +1,6 @@
 //! The queues of one thread, with the journal of the calls made on them.
 //!
-//! Each call is made by a process p from 1 to n that has no open wait, appends exactly one entry, the call with the answer
+//! Each call is made by a process p from 1 to n that has no open wait, appends exactly one entry, the call with the reply
 //! that the definitions give, and returns that reply. A call that is answered `Refused(NoMemory)` or `Refused(JournalFull)` has no
 //! entry and changes nothing. The first comes only where a growth was refused, and never with bounds; the second only with bounds, and
 //! exactly where the call finds the journal full.
@@ -8,10 +8,9 @@ ghost use Rattle.std.specs.Prelude.{◌≡◌, ◌≢◌, ◌<◌, ◌≤◌, �
 ghost use Rattle.mq_model.specs.Deadlines.{is_over};
 ghost use Rattle.mq_model.specs.Waits.{open_wait, wait_deadline, answered_by, is_answered};
 ghost use Rattle.mq_model.specs.Descriptors.{lowest_held};
-ghost use Rattle.mq_model.specs.Answer.{Appends, Legal};
+ghost use Rattle.mq_model.specs.Legality.{Appends, Legal};
 ghost use Rattle.mq_state.specs.Buffers.{filled, collected, collected_into, collected_by, into_by, waiting_call, waiting_room, room_of, FitsOutcome};
-ghost use Rattle.mq_model.specs.Bounds.{has_entry, HeedsBounds};
-ghost use Rattle.mq_state.specs.Kept.{IsKeptBy, HasRoomWithin};
+ghost use Rattle.mq_state.specs.Kept.{IsKeptBy, IsMade, HasRoomWithin};
 
 use crate::buffers;
 use crate::collected::{Collected, received};
@@ -90,11 +89,7 @@ impl Books {
     pub fn open(&mut self, p: u32, name: &Name, flags: OpenFlags, attr: Option<Attr>) -> Reply
         requires process { (1 ≤ p) × (p ≤ self.old.n) }
         requires no_wait { open_wait self.old.records p ≡ None }
-        ensures entry { has_entry result ≡ true → Appends self.old.records self.new.records p (Call.MqOpen flags attr) name.now result }
-        ensures no_entry { has_entry result ≡ false → self.new.records ≡ self.old.records }
-        ensures full { HeedsBounds self.old.bounds self.old.records p (Call.MqOpen flags attr) name.now result }
-        ensures processes { self.new.n ≡ self.old.n }
-        ensures bounds { self.new.bounds ≡ self.old.bounds }
+        ensures { IsMade self.old self.new p (Call.MqOpen flags attr) name.now result }
     {
         let Shelf { journal, tables } = &mut *self.shelf;
         tables.open(journal, p, name.bytes(), flags, attr)
@@ -104,11 +99,7 @@ impl Books {
     pub fn close(&mut self, p: u32, d: u32) -> Reply
         requires process { (1 ≤ p) × (p ≤ self.old.n) }
         requires no_wait { open_wait self.old.records p ≡ None }
-        ensures entry { has_entry result ≡ true → Appends self.old.records self.new.records p (Call.MqClose d) [] result }
-        ensures no_entry { has_entry result ≡ false → self.new.records ≡ self.old.records }
-        ensures full { HeedsBounds self.old.bounds self.old.records p (Call.MqClose d) [] result }
-        ensures processes { self.new.n ≡ self.old.n }
-        ensures bounds { self.new.bounds ≡ self.old.bounds }
+        ensures { IsMade self.old self.new p (Call.MqClose d) [] result }
     {
         let Shelf { journal, tables } = &mut *self.shelf;
         tables.close(journal, p, d)
@@ -118,11 +109,7 @@ impl Books {
     pub fn unlink(&mut self, p: u32, name: &Name) -> Reply
         requires process { (1 ≤ p) × (p ≤ self.old.n) }
         requires no_wait { open_wait self.old.records p ≡ None }
-        ensures entry { has_entry result ≡ true → Appends self.old.records self.new.records p (Call.MqUnlink) name.now result }
-        ensures no_entry { has_entry result ≡ false → self.new.records ≡ self.old.records }
-        ensures full { HeedsBounds self.old.bounds self.old.records p (Call.MqUnlink) name.now result }
-        ensures processes { self.new.n ≡ self.old.n }
-        ensures bounds { self.new.bounds ≡ self.old.bounds }
+        ensures { IsMade self.old self.new p Call.MqUnlink name.now result }
     {
         let Shelf { journal, tables } = &mut *self.shelf;
         tables.unlink(journal, p, name.bytes())
@@ -132,11 +119,7 @@ impl Books {
     pub fn getattr(&mut self, p: u32, d: u32) -> Reply
         requires process { (1 ≤ p) × (p ≤ self.old.n) }
         requires no_wait { open_wait self.old.records p ≡ None }
-        ensures entry { has_entry result ≡ true → Appends self.old.records self.new.records p (Call.MqGetattr d) [] result }
-        ensures no_entry { has_entry result ≡ false → self.new.records ≡ self.old.records }
-        ensures full { HeedsBounds self.old.bounds self.old.records p (Call.MqGetattr d) [] result }
-        ensures processes { self.new.n ≡ self.old.n }
-        ensures bounds { self.new.bounds ≡ self.old.bounds }
+        ensures { IsMade self.old self.new p (Call.MqGetattr d) [] result }
     {
         let Shelf { journal, tables } = &mut *self.shelf;
         tables.getattr(journal, p, d)
@@ -147,11 +130,7 @@ impl Books {
     pub fn setattr(&mut self, p: u32, d: u32, new: Status) -> Reply
         requires process { (1 ≤ p) × (p ≤ self.old.n) }
         requires no_wait { open_wait self.old.records p ≡ None }
-        ensures entry { has_entry result ≡ true → Appends self.old.records self.new.records p (Call.MqSetattr d new.nonblock) [] result }
-        ensures no_entry { has_entry result ≡ false → self.new.records ≡ self.old.records }
-        ensures full { HeedsBounds self.old.bounds self.old.records p (Call.MqSetattr d new.nonblock) [] result }
-        ensures processes { self.new.n ≡ self.old.n }
-        ensures bounds { self.new.bounds ≡ self.old.bounds }
+        ensures { IsMade self.old self.new p (Call.MqSetattr d new.nonblock) [] result }
     {
         let Shelf { journal, tables } = &mut *self.shelf;
         tables.setattr(journal, p, d, new.nonblock)
@@ -162,11 +141,7 @@ impl Books {
     pub fn notify(&mut self, p: u32, d: u32, value: Option<u64>) -> Reply
         requires process { (1 ≤ p) × (p ≤ self.old.n) }
         requires no_wait { open_wait self.old.records p ≡ None }
-        ensures entry { has_entry result ≡ true → Appends self.old.records self.new.records p (Call.MqNotify d value) [] result }
-        ensures no_entry { has_entry result ≡ false → self.new.records ≡ self.old.records }
-        ensures full { HeedsBounds self.old.bounds self.old.records p (Call.MqNotify d value) [] result }
-        ensures processes { self.new.n ≡ self.old.n }
-        ensures bounds { self.new.bounds ≡ self.old.bounds }
+        ensures { IsMade self.old self.new p (Call.MqNotify d value) [] result }
     {
         let Shelf { journal, tables } = &mut *self.shelf;
         tables.notify(journal, p, d, value)
@@ -176,11 +151,7 @@ impl Books {
     pub fn next_notice(&mut self, p: u32) -> Reply
         requires process { (1 ≤ p) × (p ≤ self.old.n) }
         requires no_wait { open_wait self.old.records p ≡ None }
-        ensures entry { has_entry result ≡ true → Appends self.old.records self.new.records p (Call.NextNotice) [] result }
-        ensures no_entry { has_entry result ≡ false → self.new.records ≡ self.old.records }
-        ensures full { HeedsBounds self.old.bounds self.old.records p (Call.NextNotice) [] result }
-        ensures processes { self.new.n ≡ self.old.n }
-        ensures bounds { self.new.bounds ≡ self.old.bounds }
+        ensures { IsMade self.old self.new p Call.NextNotice [] result }
     {
         let Shelf { journal, tables } = &mut *self.shelf;
         tables.next_notice(journal, p)
@@ -192,12 +163,8 @@ impl Books {
     pub fn send(&mut self, p: u32, d: u32, bytes: &[u8], prio: u32) -> Reply
         requires process { (1 ≤ p) × (p ≤ self.old.n) }
         requires no_wait { open_wait self.old.records p ≡ None }
-        ensures entry { has_entry result ≡ true → Appends self.old.records self.new.records p (Call.MqSend d prio (length bytes.now)) bytes.now result }
-        ensures no_entry { has_entry result ≡ false → self.new.records ≡ self.old.records }
-        ensures full { HeedsBounds self.old.bounds self.old.records p (Call.MqSend d prio (length bytes.now)) bytes.now result }
+        ensures made { IsMade self.old self.new p (Call.MqSend d prio (length bytes.now)) bytes.now result }
         ensures refused { (fault : Fault) → result ≡ Reply.Refused fault → fault ≢ Fault.NoMemory → self.new.byte_room ≡ self.old.byte_room }
-        ensures processes { self.new.n ≡ self.old.n }
-        ensures bounds { self.new.bounds ≡ self.old.bounds }
     {
         let Shelf { journal, tables } = &mut *self.shelf;
         tables.send(journal, p, d, bytes, prio)
@@ -209,11 +176,7 @@ impl Books {
     pub fn receive(&mut self, p: u32, d: u32, buf: &mut [u8]) -> Reply
         requires process { (1 ≤ p) × (p ≤ self.old.n) }
         requires no_wait { open_wait self.old.records p ≡ None }
-        ensures entry { has_entry result ≡ true → Appends self.old.records self.new.records p (Call.MqReceive d (length buf.old)) [] result }
-        ensures no_entry { has_entry result ≡ false → self.new.records ≡ self.old.records }
-        ensures full { HeedsBounds self.old.bounds self.old.records p (Call.MqReceive d (length buf.old)) [] result }
-        ensures processes { self.new.n ≡ self.old.n }
-        ensures bounds { self.new.bounds ≡ self.old.bounds }
+        ensures made { IsMade self.old self.new p (Call.MqReceive d (length buf.old)) [] result }
         ensures buffer { buf.new ≡ filled self.old.records result buf.old }
     {
         let Shelf { journal, tables } = &mut *self.shelf;
@@ -234,12 +197,8 @@ impl Books {
     ) -> Reply
         requires process { (1 ≤ p) × (p ≤ self.old.n) }
         requires no_wait { open_wait self.old.records p ≡ None }
-        ensures entry { has_entry result ≡ true → Appends self.old.records self.new.records p (Call.MqTimedSend d prio (length bytes.now) until now) bytes.now result }
-        ensures no_entry { has_entry result ≡ false → self.new.records ≡ self.old.records }
-        ensures full { HeedsBounds self.old.bounds self.old.records p (Call.MqTimedSend d prio (length bytes.now) until now) bytes.now result }
+        ensures made { IsMade self.old self.new p (Call.MqTimedSend d prio (length bytes.now) until now) bytes.now result }
         ensures refused { (fault : Fault) → result ≡ Reply.Refused fault → fault ≢ Fault.NoMemory → self.new.byte_room ≡ self.old.byte_room }
-        ensures processes { self.new.n ≡ self.old.n }
-        ensures bounds { self.new.bounds ≡ self.old.bounds }
     {
         let Shelf { journal, tables } = &mut *self.shelf;
         tables.timed_send(journal, p, d, bytes, prio, until, now)
@@ -258,11 +217,7 @@ impl Books {
     ) -> Reply
         requires process { (1 ≤ p) × (p ≤ self.old.n) }
         requires no_wait { open_wait self.old.records p ≡ None }
-        ensures entry { has_entry result ≡ true → Appends self.old.records self.new.records p (Call.MqTimedReceive d (length buf.old) until now) [] result }
-        ensures no_entry { has_entry result ≡ false → self.new.records ≡ self.old.records }
-        ensures full { HeedsBounds self.old.bounds self.old.records p (Call.MqTimedReceive d (length buf.old) until now) [] result }
-        ensures processes { self.new.n ≡ self.old.n }
-        ensures bounds { self.new.bounds ≡ self.old.bounds }
+        ensures made { IsMade self.old self.new p (Call.MqTimedReceive d (length buf.old) until now) [] result }
         ensures buffer { buf.new ≡ filled self.old.records result buf.old }
     {
         let Shelf { journal, tables } = &mut *self.shelf;

@@ -3,7 +3,7 @@ ghost use Rattle.std.specs.Prelude.{◌≡◌, ◌<◌, ◌^◌, ◌==◌, ◌++
 ghost use Rattle.std.specs.Option.{option_map};
 ghost use Rattle.std.specs.Str.{bytes_eq};
 ghost use Rattle.mq_model.specs.Names.{name_of, are_within_limits};
-ghost use Rattle.mq_state.specs.Queues.{queue_in, slots_in, registration_in, is_named_in, bound_in, changed, renewed, renewed_done, HasRoom, IsInOrder, reregistered, without_queue, fresh, frees, may_free, released, noted_queues};
+ghost use Rattle.mq_state.specs.Queues.{queue_in, slots_in, registration_in, is_named_in, bound_in, changed, renewed, renewed_done, HasRoom, IsInOrder, reregistered, without_queue, fresh, frees, may_free, released, noted_queues, touches_line, HaveRisingPlaces};
 ghost use Rattle.mq_state.specs.QueueShown.{QueueShown};
 ghost use Rattle.mq_state.specs.Order.{best_slot, slots_for};
 ghost use Rattle.mq_state.specs.Pool.{Pool, IsSpare, emptied};
@@ -171,11 +171,38 @@ pub fn slots_for(attributes: Attr) -> u32
     attributes.maxmsg as u32
 }
 
-/// The index of queue q.
+/// The index of queue q, found by halves, since the places of the lines rise.
 pub fn index_of(queues: &[Queue], q: u64) -> Option<usize>
+    requires { HaveRisingPlaces queues.now }
     ensures { result ≡ position (λ x. x.place == q) queues.now }
 {
-    queues.iter().position(|x| x.place() == q)
+    let mut low = 0;
+    let mut high = queues.len();
+    while low < high {
+        let middle = low + (high - low) / 2;
+        if queues[middle].place() < q {
+            low = middle + 1;
+        } else {
+            high = middle;
+        }
+    }
+    if low < queues.len() && queues[low].place() == q {
+        Some(low)
+    } else {
+        None
+    }
+}
+
+/// The index of queue q, which may be this one. Where it is not, the queue is looked for.
+#[inline(always)]
+pub fn index_from(queues: &[Queue], q: u64, hint: usize) -> Option<usize>
+    requires { HaveRisingPlaces queues.now }
+    ensures { result ≡ position (λ x. x.place == q) queues.now }
+{
+    if hint < queues.len() && queues[hint].place() == q {
+        return Some(hint);
+    }
+    index_of(queues, q)
 }
 
 /// Queue q.
@@ -187,6 +214,18 @@ pub fn find(queues: &[Queue], q: u64) -> Option<&Queue>
     queues.iter().find(|x| x.place() == q)
 }
 
+/// Queue q, which has perhaps this index.
+#[inline(always)]
+pub fn find_from(queues: &[Queue], q: u64, hint: usize) -> Option<&Queue>
+    requires { HaveRisingPlaces queues.now }
+    ensures { option_map (λ x. x.now) result ≡ queue_in queues.now q }
+{
+    match index_from(queues, q, hint) {
+        None => None,
+        Some(i) => Some(&queues[i]),
+    }
+}
+
 /// What the line of a queue says: how many messages are present, which is received next, and the registration that stands.
 #[derive(Clone, Copy, Debug)]
 pub struct LineFacts {
@@ -195,16 +234,17 @@ pub struct LineFacts {
     pub registration: Option<Registration>,
 }
 
-/// The line of queue q, found once.
+/// The line of queue q, found once, perhaps at this index.
 #[tactic(auto, unfolding(crate::specs::Queues::slots_in, crate::specs::Queues::registration_in))]
 #[inline(always)]
-pub fn line(queues: &[Queue], q: u64) -> LineFacts
+pub fn line(queues: &[Queue], q: u64, hint: usize) -> LineFacts
+    requires { HaveRisingPlaces queues.now }
     ensures count { result.count ≡ length (slots_in queues.now q) }
     ensures bound { result.count < 2 ^ 63 }
     ensures best { result.best ≡ best_slot (slots_in queues.now q) }
     ensures registration { result.registration ≡ registration_in queues.now q }
 {
-    match find(queues, q) {
+    match find_from(queues, q, hint) {
         None => LineFacts {
             count: 0,
             best: None,
@@ -275,28 +315,59 @@ fn keep(spares: &mut Vec<Slots>, mut slots: Slots)
     }
 }
 
+// The index of the first line of queue q.
+fn first_at(queues: &[Queue], q: u64) -> Option<usize>
+    ensures { result ≡ position (λ x. x.place == q) queues.now }
+{
+    queues.iter().position(|x| x.place() == q)
+}
+
 // Queue q exists no longer. Its order is kept for a queue to come.
 fn remove(queues: &mut Vec<Queue>, spares: &mut Vec<Slots>, q: u64)
     ensures items { queues.new.items ≡ without_queue queues.old.items q }
     ensures room { (vec_len queues.new ≤ vec_len queues.old) × (vec_capacity queues.new ≡ vec_capacity queues.old) }
     ensures pool { (m : ℕ) → Pool m queues.old.items spares.old.items (vec_capacity queues.old) (vec_capacity spares.old) → Pool m queues.new.items spares.new.items (vec_capacity queues.new) (vec_capacity spares.new) }
 {
-    while let Some(i) = index_of(queues, q) {
+    while let Some(i) = first_at(queues, q) {
         let queue = queues.remove(i);
         keep(spares, queue.into_slots());
     }
 }
 
-// Notes an entry in the line of its queue.
+// An entry with this reply may change the line of its queue.
 #[inline(always)]
-fn renew(queues: &mut [Queue], q: u64, here: u64, entry: Entry, prio: u32)
+fn touches_line(reply: Reply) -> bool
+    ensures { result ≡ touches_line reply }
+{
+    match reply {
+        Reply::Queued { .. } | Reply::Got { .. } | Reply::Done => true,
+        _ => false,
+    }
+}
+
+// Notes an entry in the line of its queue, which has perhaps this index, and gives the index where it was found.
+#[inline(always)]
+fn renew(
+    queues: &mut [Queue],
+    q: u64,
+    here: u64,
+    entry: Entry,
+    prio: u32,
+    hint: usize,
+) -> Option<usize>
+    requires rising { HaveRisingPlaces queues.old }
     requires room { (x : QueueShown) → queue_in queues.old q ≡ Some x → HasRoom entry.reply x }
     requires order { (x : QueueShown) → queue_in queues.old q ≡ Some x → IsInOrder here entry.call entry.reply prio x }
     ensures { queues.new ≡ changed (renewed here entry.call entry.reply prio) queues.old q }
 {
-    if let Some(i) = index_of(queues, q) {
+    if !touches_line(entry.reply) {
+        return None;
+    }
+    let found = index_from(queues, q, hint);
+    if let Some(i) = found {
         queues[i].note(here, entry, prio);
     }
+    found
 }
 
 // Notes an entry made on queue q in the registration of each line.
@@ -344,18 +415,27 @@ fn release(owners: &[Owner], freed: bool, queues: &mut Vec<Queue>, spares: &mut 
 
 // Notes an entry made on queue q in the lines: its registrations, and what its own queue lets in and gives out.
 #[inline(always)]
-fn note_lines(queues: &mut Vec<Queue>, here: u64, entry: Entry, q: u64, prio: u32)
+fn note_lines(
+    queues: &mut Vec<Queue>,
+    here: u64,
+    entry: Entry,
+    q: u64,
+    prio: u32,
+    hint: usize,
+) -> Option<usize>
+    requires rising { HaveRisingPlaces queues.old.items }
     requires room { (x : QueueShown) → queue_in (map (reregistered q here entry) queues.old.items) q ≡ Some x → HasRoom entry.reply x }
     requires order { (x : QueueShown) → queue_in (map (reregistered q here entry) queues.old.items) q ≡ Some x → IsInOrder here entry.call entry.reply prio x }
     ensures items { queues.new.items ≡ changed (renewed here entry.call entry.reply prio) (map (reregistered q here entry) queues.old.items) q }
     ensures room { (vec_len queues.new ≡ vec_len queues.old) × (vec_capacity queues.new ≡ vec_capacity queues.old) }
 {
     note_registrations(queues, q, here, entry);
-    renew(queues, q, here, entry, prio);
+    renew(queues, q, here, entry, prio, hint)
 }
 
 /// Notes the entry at place `here`, made on queue q, where the table of processes has noted it. A message that it admits has
-/// priority `prio`. A queue that it creates is added apart. The order of a queue that exists no longer joins the spare ones.
+/// priority `prio`. A queue that it creates is added apart. The order of a queue that exists no longer joins the spare ones. The line of
+/// queue q has perhaps the index `hint`, and where it was looked for, the index is given.
 #[inline(always)]
 pub fn note(
     queues: &mut Vec<Queue>,
@@ -365,15 +445,18 @@ pub fn note(
     entry: Entry,
     q: u64,
     prio: u32,
-)
+    hint: usize,
+) -> Option<usize>
+    requires rising { HaveRisingPlaces queues.old.items }
     requires room { (x : QueueShown) → queue_in (map (reregistered q here entry) queues.old.items) q ≡ Some x → HasRoom entry.reply x }
     requires order { (x : QueueShown) → queue_in (map (reregistered q here entry) queues.old.items) q ≡ Some x → IsInOrder here entry.call entry.reply prio x }
     ensures items { queues.new.items ≡ noted_queues owners.now here entry q prio queues.old.items }
     ensures room { vec_len queues.old < vec_capacity queues.old → vec_len queues.new < vec_capacity queues.new }
     ensures pool { (m : ℕ) → Pool m queues.old.items spares.old.items (vec_capacity queues.old) (vec_capacity spares.old) → Pool m queues.new.items spares.new.items (vec_capacity queues.new) (vec_capacity spares.new) }
 {
-    note_lines(queues, here, entry, q, prio);
+    let found = note_lines(queues, here, entry, q, prio, hint);
     release(owners, may_free(entry), queues, spares, q);
+    found
 }
 
 /// Adds the queue that the entry at place `here` creates, in room that is there.

@@ -1,7 +1,7 @@
 //! Whether a journal is legal, and where and why it is not, in time nearly linear in its length: the tables of the queues say what
 //! each call is answered, and note each entry.
 ghost use Rattle.std.specs.Prelude.{◌≡◌, ◌↔◌, IfOk, IfSome, None};
-ghost use Rattle.mq_model.specs.Answer.{Legal, IsLegalNext};
+ghost use Rattle.mq_model.specs.Legality.{Legal, IsLegalNext};
 ghost use Rattle.mq_state.specs.Kept.{AreThoseOf};
 
 use crate::prefixes::Prefix;
@@ -51,7 +51,7 @@ fn cause_at(past: &Prefix<'_>, tables: &Tables, entry: Entry, payload: &[u8]) ->
     if !is_payload(entry.call, entry.reply, payload) {
         return Some(Cause::Payload);
     }
-    let expected = tables.answer_to(past, entry.process, entry.call, payload);
+    let expected = tables.reply_to(past, entry.process, entry.call, payload);
     if !is_same(entry.reply, expected) {
         return Some(Cause::Reply(expected));
     }

@@ -37,7 +37,12 @@ pub struct Tables {
     // the orders of queues to come, where the tables have bounds
     spares: Vec<Slots>,
     inboxes: Vec<Inbox>,
+    // at which index the queue of a place was found last, by the remainder of the place. It may be wrong
+    hints: [u8; HINTS],
 }
+
+/// How many hints there are.
+const HINTS: usize = 64;
 
 impl Tables {
     ghost use Rattle.mq_state.specs.Tables.{TablesMirror, HasNoticeRoom};
@@ -67,7 +72,14 @@ impl Tables {
             queues,
             spares,
             inboxes,
+            hints: [0; HINTS],
         })
+    }
+
+    // The index at which queue q was found last, or any other.
+    #[inline(always)]
+    fn hint(&self, q: u64) -> usize {
+        usize::from(self.hints[q as usize % HINTS])
     }
 
     /// How many processes there are.
@@ -124,7 +136,7 @@ impl Tables {
 impl Tables {
     ghost use Rattle.std.specs.Prelude.{vec_len, vec_capacity};
     ghost use Rattle.mq_model.specs.OwnersNoted.{noted, FitsSlots};
-    ghost use Rattle.mq_state.specs.Queues.{queue_in, reregistered, noted_queues, registration_in, HasRoom, IsInOrder};
+    ghost use Rattle.mq_state.specs.Queues.{queue_in, reregistered, noted_queues, registration_in, HasRoom, IsInOrder, HaveRisingPlaces};
     ghost use Rattle.mq_state.specs.Inboxes.{notices_in, room_in};
     ghost use Rattle.mq_state.specs.QueueShown.{QueueShown};
     ghost use Rattle.mq_state.specs.Pool.{IsPooled};
@@ -165,6 +177,7 @@ impl Tables {
         requires notice_room { (n : Registration) → registration_in self.old.queues.items q ≡ Some n → 0 < room_in self.old.inboxes.items n.process }
         requires brings { BringsOrder entry.call entry.reply (vec_len self.old.queues) (vec_capacity self.old.queues) fresh }
         requires waits { self.old.waits ≡ waits_count self.old.owners.items }
+        requires rising { HaveRisingPlaces self.old.queues.items }
         ensures waits { self.new.waits ≡ waits_count self.new.owners.items }
         ensures n { self.new.n ≡ self.old.n }
         ensures bounds { self.new.bounds ≡ self.old.bounds }
@@ -179,7 +192,8 @@ impl Tables {
         let prio = admitted_priority(journal, entry.reply);
         self.note_notices(entry, q);
         self.waits = note_owners(&mut self.owners, self.waits, here, entry, q);
-        queues::note(
+        let hint = self.hint(q);
+        let found = queues::note(
             &mut self.queues,
             &mut self.spares,
             &self.owners,
@@ -187,9 +201,21 @@ impl Tables {
             entry,
             q,
             prio,
+            hint,
         );
+        set_hint(&mut self.hints, q, found);
         if let Some(slots) = fresh {
             queues::add(&mut self.queues, here, slots);
+        }
+    }
+}
+
+// Notes at which index queue q was found, if it was looked for.
+#[inline(always)]
+fn set_hint(hints: &mut [u8; HINTS], q: u64, found: Option<usize>) {
+    if let Some(index) = found {
+        if index < HINTS {
+            hints[q as usize % HINTS] = index as u8;
         }
     }
 }

@@ -31,7 +31,7 @@ impl Logged for Notes {
 
     ghost fixed = { λ s. s.title ∷ [] };
 
-    ghost owner = { λ x. x.0 };
+    ghost author = { λ x. x.0 };
 
     ghost is_answered = { λ p xs. false };
 

@@ -4,7 +4,7 @@ ghost use Rattle.mq.specs.Calls.{IsFree};
 
 use crate::refusals::say_refused;
 use fast_mutex::{FastMutex, Look};
-use mq::{Guarded, Mq, Process};
+use mq::{Guarded, Mq, Process, verdict};
 use mq_checker::checker::check_history;
 use mq_model::entries::{Received, Reply};
 use mq_model::faults::Fault;
@@ -17,6 +17,7 @@ use std::sync::Wait;
 use std::time::Clock;
 use steps::{Ask, CREATE, OPEN, Step, Told, expect_steps};
 
+mod blocked;
 mod bounded;
 mod calls;
 mod deadlines;
@@ -227,6 +228,10 @@ fn expect_order<R: Abort + Print>(rt: &R, alloc: Global, journal: &Journal) {
     assert_eq!(rt; journal.len(), 5);
     let other = exchanged(rt, alloc, journal).expect(rt, "memory");
     assert_eq!(rt; check_history(&other), Err(3));
+    assert_eq!(rt;
+        (verdict(alloc, journal), verdict(alloc, &other)),
+        (Ok(()), Err(3))
+    );
 }
 
 #[test]

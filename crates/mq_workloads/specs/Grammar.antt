@@ -29,6 +29,12 @@ deep_written (depth ∷ rounds ∷ []) = do
   if nat_le (depth * rounds) 10000000 then Some (workload.Deep depth rounds) else None
 deep_written words = None
 
+abbrev pub wide_written : List Word → Option Workload
+wide_written (rounds ∷ []) = do
+  rounds ← rounds_written rounds
+  Some (workload.Wide rounds)
+wide_written words = None
+
 abbrev pub ping_pong_written : List Word → Option Workload
 ping_pong_written (rounds ∷ []) = do
   rounds ← rounds_written rounds
@@ -86,6 +92,7 @@ storm_written words = None
 abbrev pub name_text : Name → List ℕ
 name_text name.Pair = codes "pair"
 name_text name.Deep = codes "deep"
+name_text name.Wide = codes "wide"
 name_text name.PingPong = codes "pingpong"
 name_text name.Stream = codes "stream"
 name_text name.Check = codes "check"
@@ -95,7 +102,7 @@ name_text name.Idle = codes "idle"
 name_text name.Storm = codes "storm"
 
 abbrev pub names : List Name
-names = name.Pair ∷ name.Deep ∷ name.PingPong ∷ name.Stream ∷ name.Check ∷ name.Replay ∷ name.Crowd ∷ name.Idle ∷ name.Storm ∷ []
+names = name.Pair ∷ name.Deep ∷ name.Wide ∷ name.PingPong ∷ name.Stream ∷ name.Check ∷ name.Replay ∷ name.Crowd ∷ name.Idle ∷ name.Storm ∷ []
 
 -- the workload that a word names
 abbrev pub name_written : Word → Option Name
@@ -105,6 +112,7 @@ name_written word = find (λ name. bytes_eq word (name_text name)) names
 abbrev pub workload_written : Name → List Word → Option Workload
 workload_written name.Pair = pair_written
 workload_written name.Deep = deep_written
+workload_written name.Wide = wide_written
 workload_written name.PingPong = ping_pong_written
 workload_written name.Stream = stream_written
 workload_written name.Check = check_written

@@ -9,6 +9,7 @@ usage_text =
     line (codes "usage: one line on the standard input, of a workload and its sizes")
     ++ line (codes "  pair N      one process: a send and a receive in turn, N times each")
     ++ line (codes "  deep D N    one process: fills a queue of depth D with D messages of pseudo-random priorities and drains it, N times")
+    ++ line (codes "  wide N      32 processes with 16 descriptors each on 64 queues, of which every second one has a registration: one sends and receives in turn, N times each")
     ++ line (codes "  pingpong N  two processes in two threads: a message to and fro, N times")
     ++ line (codes "  stream N    two processes in two threads: one sends N messages, one receives them")
     ++ line (codes "  check K     checks a journal of K entries")

@@ -16,6 +16,7 @@ mod report;
 mod run;
 mod storm;
 mod tally;
+mod wide;
 mod workload;
 
 pub use fault::{BenchFault, WorkFault};

@@ -1,6 +1,6 @@
 //! Journals that are made to be replayed, and their replay.
 ghost use Rattle.std.specs.Prelude.{◌≡◌, ◌≤◌, ◌↔◌, IfOk, IsTrue};
-ghost use Rattle.mq_model.specs.Answer.{Legal};
+ghost use Rattle.mq_model.specs.Legality.{Legal};
 
 use crate::alone::DEPTH;
 use crate::calls::{MESSAGE, MESSAGE_SIZE};

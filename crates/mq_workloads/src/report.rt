@@ -158,6 +158,7 @@ pub fn title_of(workload: Workload) -> &'static str {
             depth: _,
             rounds: _,
         } => "deep",
+        Workload::Wide { rounds: _ } => "wide",
         Workload::PingPong { rounds: _ } => "pingpong",
         Workload::Stream { rounds: _ } => "stream",
         Workload::Check { entries: _ } => "check",

@@ -17,6 +17,7 @@ use crate::members::Part;
 use crate::replays::{is_legal, journal_of};
 use crate::report::{Besides, Measured, line_of, replayed, result_of, stormed, timed, title_of};
 use crate::storm::storm;
+use crate::wide::wide;
 use crate::workload::{Request, Workload, request_of};
 use fast_mutex::FastMutex;
 use lines::input::read_all;
@@ -42,6 +43,7 @@ const USAGE: &[u8] = b"\
 usage: one line on the standard input, of a workload and its sizes
   pair N      one process: a send and a receive in turn, N times each
   deep D N    one process: fills a queue of depth D with D messages of pseudo-random priorities and drains it, N times
+  wide N      32 processes with 16 descriptors each on 64 queues, of which every second one has a registration: one sends and receives in turn, N times each
   pingpong N  two processes in two threads: a message to and fro, N times
   stream N    two processes in two threads: one sends N messages, one receives them
   check K     checks a journal of K entries
@@ -145,6 +147,10 @@ fn measure<S: Wait + Threads + Clock + CpuClock + Sync>(
                 time,
                 &journal,
             ))
+        }
+        Workload::Wide { rounds } => {
+            let time = wide::<Lamport, S>(rt, alloc, bounds, rounds)?;
+            Ok(timed(2 * u64::from(rounds), time))
         }
         Workload::PingPong { rounds } => {
             let parts = (Part::Asks, Part::Replies);

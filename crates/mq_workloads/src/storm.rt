@@ -1,7 +1,7 @@
 //! The workload of 32 processes, each in a thread of its own, that make calls of every kind at random. No call waits for ever: what
 //! may wait has a deadline, or is a wait that is given up.
 ghost use Rattle.std.specs.Prelude.{◌≡◌, IfOk};
-ghost use Rattle.mq_model.specs.Answer.{Legal};
+ghost use Rattle.mq_model.specs.Legality.{Legal};
 ghost use Rattle.mq_workloads.specs.Ready.{IsReady};
 
 use crate::dice::Dice;

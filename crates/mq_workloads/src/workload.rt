@@ -1,7 +1,7 @@
 //! What a run is asked for, and the words that write it.
 ghost use Rattle.std.specs.Prelude.{◌≡◌, ◌≤◌, ◌*◌, map, IfSome};
 ghost use Rattle.lines.specs.Words.{count_written};
-ghost use Rattle.mq_workloads.specs.Grammar.{request_written, bounded_written, workload_written, pair_written, deep_written, ping_pong_written, stream_written, check_written, replay_written, crowd_written, idle_written, storm_written, name_written};
+ghost use Rattle.mq_workloads.specs.Grammar.{request_written, bounded_written, workload_written, pair_written, deep_written, wide_written, ping_pong_written, stream_written, check_written, replay_written, crowd_written, idle_written, storm_written, name_written};
 
 use lines::words::count_of;
 use mq_model::bounds::Bounds;
@@ -13,6 +13,8 @@ pub enum Workload {
     Pair { rounds: u32 },
     /// One process fills a queue to its depth and drains it.
     Deep { depth: u32, rounds: u32 },
+    /// One of 32 processes, which have 16 descriptors each on 64 queues, sends and receives in turn.
+    Wide { rounds: u32 },
     /// Two processes in two threads send a message to and fro.
     PingPong { rounds: u32 },
     /// A process sends, and another one receives in a thread of its own.
@@ -42,6 +44,7 @@ pub enum Request {
 pub enum Name {
     Pair,
     Deep,
+    Wide,
     PingPong,
     Stream,
     Check,
@@ -63,9 +66,10 @@ const MOST_BOUND: u32 = 1_000_000_000;
 /// The longest time of a workload, in milliseconds.
 const MOST_MILLISECONDS: u32 = 60_000;
 
-const NAMES: [Name; 9] = [
+const NAMES: [Name; 10] = [
     Name::Pair,
     Name::Deep,
+    Name::Wide,
     Name::PingPong,
     Name::Stream,
     Name::Check,
@@ -85,6 +89,7 @@ impl Name {
         match self {
             Name::Pair => b"pair",
             Name::Deep => b"deep",
+            Name::Wide => b"wide",
             Name::PingPong => b"pingpong",
             Name::Stream => b"stream",
             Name::Check => b"check",
@@ -141,6 +146,7 @@ fn workload_of(name: Name, arguments: &[&[u8]]) -> Option<Workload>
     match name {
         Name::Pair => pair_of(arguments),
         Name::Deep => deep_of(arguments),
+        Name::Wide => wide_of(arguments),
         Name::PingPong => ping_pong_of(arguments),
         Name::Stream => stream_of(arguments),
         Name::Check => check_of(arguments),
@@ -174,6 +180,17 @@ fn deep_of(arguments: &[&[u8]]) -> Option<Workload>
             }
             Some(Workload::Deep { depth, rounds })
         }
+        _ => None,
+    }
+}
+
+fn wide_of(arguments: &[&[u8]]) -> Option<Workload>
+    ensures { result ≡ wide_written (map (λ word. word.now) arguments.now) }
+{
+    match arguments {
+        [rounds] => Some(Workload::Wide {
+            rounds: count_of(MOST_ROUNDS, rounds)?,
+        }),
         _ => None,
     }
 }

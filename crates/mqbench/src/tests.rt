@@ -17,10 +17,11 @@ fn output_of<S: Wait + Threads + Clock + CpuClock + Sync>(
 }
 
 // Lines, and how their results begin.
-const RESULTS: [(&str, &str); 12] = [
+const RESULTS: [(&str, &str); 13] = [
     ("pair 3\n", "pair: 6 operations, "),
     (" deep  4 2 \n", "deep: 16 operations, "),
     ("deep 1 002", "deep: 4 operations, "),
+    ("wide 3\n", "wide: 6 operations, "),
     ("pingpong 20\n", "pingpong: 80 operations, "),
     ("stream 50\n", "stream: 100 operations, "),
     ("check 5\n", "check: 5 operations, "),
@@ -79,7 +80,7 @@ fn a_replay_prints_its_history(rt: HostRuntime) {
     }
 }
 
-const REFUSED: [&str; 40] = [
+const REFUSED: [&str; 41] = [
     "word\n",
     "Pair 1\n",
     "pair\n",
@@ -90,6 +91,7 @@ const REFUSED: [&str; 40] = [
     "pair 1 1\n",
     "deep 4097 1\n",
     "deep 4096 2442\n",
+    "wide 1 1\n",
     "pingpong 1 1\n",
     "stream -1\n",
     "check 18446744073709551617\n",

@@ -10,6 +10,8 @@ use std::io;
 use std::io::{Error, ErrorKind, Read, Write};
 use std::test::Fail;
 
+mod recorded;
+
 // How the check of a text ended, and what it wrote.
 fn output_of(alloc: Global, mut text: &[u8]) -> (Result<Verdict, LogFault>, Vec<u8>) {
     let mut output = Vec::new(alloc);

@@ -13,7 +13,6 @@ use std::time::Clock;
 mod deadlines;
 mod deadlocks;
 mod gates;
-mod journals;
 mod limits;
 mod scripts;
 mod streams;

@@ -12,7 +12,7 @@ pub struct FastRule<S> {
 impl<S: Logged> TableRule<Option<S>, View<S::Item>, About<S>> for FastRule<S> {
     ghost use Rattle.fast_mutex.specs.Fast.{KeepsRule, first_view};
 
-    ghost holds = { KeepsRule S.items S.fixed S.owner S.is_answered };
+    ghost holds = { KeepsRule S.items S.fixed S.author S.is_answered };
 
     ghost first = { first_view S.fixed };
 }
@@ -43,7 +43,7 @@ pub struct Tests<S> {
 impl<S: Logged> Play<Option<S>, View<S::Item>> for Tests<S> {
     ghost use Rattle.fast_mutex.specs.Fast.{IsTest};
 
-    ghost then = { IsTest S.items S.fixed S.owner S.is_answered };
+    ghost then = { IsTest S.items S.fixed S.author S.is_answered };
 }
 
 /// The load of the own word s, outside.

@@ -9,7 +9,7 @@ use crate::asking;
 use crate::asking::{ask_receive, ask_send};
 use crate::guarded::Guarded;
 use crate::process::{Process, process_of};
-use crate::stays::{begin, depart};
+use crate::stays::{begin, depart, depart_after};
 use crate::system::Mq;
 use fast_mutex::Look;
 use mq_model::entries::{Call, Deadline, Received, Reply};
@@ -28,6 +28,7 @@ impl<L: Look<Guarded>> Arrived<L> {
     ghost use Rattle.mq.specs.Calls.{IsFree, OneCall, ReceiveCall, WaitsIn, Collects, StillWaits, WithdrawsAt};
 
     // Sends, with or without a deadline.
+    #[inline(always)]
     pub(crate) fn begin_send(
         self,
         mq: &Mq<L>,
@@ -44,11 +45,13 @@ impl<L: Look<Guarded>> Arrived<L> {
     {
         let (inside, mut state) = begin::<L>(self.walk, self.number);
         let reply = ask_send(&mut state.books, self.number, call, bytes);
-        let process = process_of(depart(mq, inside, state), wait_begun(reply, 0));
+        let seat = depart_after(mq, inside, state, reply);
+        let process = process_of(seat, wait_begun(reply, 0));
         (process, accepted(reply))
     }
 
     // Receives, with or without a deadline.
+    #[inline(always)]
     pub(crate) fn begin_receive(
         self,
         mq: &Mq<L>,
@@ -68,7 +71,8 @@ impl<L: Look<Guarded>> Arrived<L> {
         let (inside, mut state) = begin::<L>(self.walk, self.number);
         let reply = ask_receive(&mut state.books, self.number, call, buf);
         let got = message_got(&state.books, reply);
-        let process = process_of(depart(mq, inside, state), wait_begun(reply, room));
+        let seat = depart_after(mq, inside, state, reply);
+        let process = process_of(seat, wait_begun(reply, room));
         (process, got)
     }
 
@@ -205,6 +209,7 @@ impl<L: Look<Guarded>> Arrived<L> {
 }
 
 // How long a buffer the wait needs that this reply begins.
+#[inline(always)]
 fn wait_begun(reply: Reply, room: usize) -> Option<usize>
     ensures { result ≡ wait_begun reply room }
 {
@@ -215,6 +220,7 @@ fn wait_begun(reply: Reply, room: usize) -> Option<usize>
 }
 
 // What a send with this reply gives.
+#[inline(always)]
 fn accepted(reply: Reply) -> Result<bool, Fault>
     requires { is_sent reply ≡ true }
     ensures { start_send_says reply ≡ Some result }
@@ -229,6 +235,7 @@ fn accepted(reply: Reply) -> Result<bool, Fault>
 }
 
 // What a receive with this reply gives.
+#[inline(always)]
 fn message_got(books: &Books, reply: Reply) -> Result<Option<Received>, Fault>
     requires { is_received reply ≡ true }
     ensures { start_receive_says books.now.records reply ≡ Some result }

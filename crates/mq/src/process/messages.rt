@@ -14,7 +14,7 @@ use std::time::Clock;
 
 impl<L: Look<Guarded>> Process<L> {
     ghost use Rattle.std.specs.Prelude.{◌≡◌, ◌≢◌, ◌≤◌, ◌||◌, Bool, true, false, Some, None, IsSome, IfSome, IfNone, IfOk, Ok, length, []};
-    ghost use Rattle.mq_model.specs.Answer.{Legal};
+    ghost use Rattle.mq_model.specs.Legality.{Legal};
     ghost use Rattle.mq_model.specs.declared.entries.Call.{Call};
     ghost use Rattle.mq_state.specs.Buffers.{waiting_room};
     ghost use Rattle.mq.specs.Says.{start_send_says, start_receive_says, FitsIn};
@@ -23,6 +23,7 @@ impl<L: Look<Guarded>> Process<L> {
     ghost use Rattle.mq.specs.Calls.{IsFree, OneCall, ReceiveCall, SendCall, WholeReceive, WaitsIn, Collects, StillWaits};
 
     // Sends without waiting, with or without a deadline.
+    #[inline(always)]
     pub(super) fn begin_send<R: Wait>(
         &mut self,
         rt: &R,
@@ -45,6 +46,7 @@ impl<L: Look<Guarded>> Process<L> {
     }
 
     // Receives without waiting, with or without a deadline.
+    #[inline(always)]
     pub(super) fn begin_receive<R: Wait>(
         &mut self,
         rt: &R,

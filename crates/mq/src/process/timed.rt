@@ -15,7 +15,7 @@ use std::time::Clock;
 
 impl<L: Look<Guarded>> Process<L> {
     ghost use Rattle.std.specs.Prelude.{◌≡◌, ◌≢◌, ◌≤◌, Bool, true, false, Some, None, IsSome, IfSome, IfNone, IfOk, Ok, length, []};
-    ghost use Rattle.mq_model.specs.Answer.{Legal};
+    ghost use Rattle.mq_model.specs.Legality.{Legal};
     ghost use Rattle.mq_model.specs.Deadlines.{is_over};
     ghost use Rattle.mq_model.specs.Waits.{wait_deadline};
     ghost use Rattle.mq_model.specs.declared.entries.Call.{Call};

@@ -3,7 +3,7 @@ ghost use Rattle.std.specs.Prelude.{◌≡◌, ◌≢◌, ◌<◌, ◌≤◌, �
 ghost use Rattle.mq_model.specs.Name.{is_name};
 ghost use Rattle.mq_model.specs.Names.{creates};
 ghost use Rattle.mq_model.specs.Waits.{open_wait, answered_by};
-ghost use Rattle.mq_model.specs.Answer.{Appends, answer, may_call, is_payload, payload_of, is_refused, Legal, IsLegalNext};
+ghost use Rattle.mq_model.specs.Legality.{Appends, reply_to, may_call, is_payload, payload_of, is_refused, Legal, IsLegalNext};
 ghost use Rattle.std.specs.Option.{option_map};
 ghost use Rattle.mq_model.specs.Owners.{waits_count, answer_in, wait_in, lowest_held_in};
 ghost use Rattle.mq_model.specs.Messages.{is_send, is_receive};
@@ -153,7 +153,7 @@ impl Tables {
         Ok(())
     }
 
-    // Appends the entry of a call that gets its answer, with its payload.
+    // Appends the entry of a call that gets its reply, with its payload.
     #[inline(always)]
     fn append(&mut self, journal: &mut Journal, entry: Entry, payload: &[u8], fresh: Option<Slots>)
         requires kept { IsKeptBy journal.old self.old }
@@ -175,7 +175,7 @@ impl Tables {
         journal.push(entry, payload);
     }
 
-    // Appends the entry of a call that was given these bytes, with its answer.
+    // Appends the entry of a call that was given these bytes, with its reply.
     #[inline(always)]
     fn record(
         &mut self,
@@ -189,7 +189,7 @@ impl Tables {
         requires kept { IsKeptBy journal.old self.old }
         requires process { (1 ≤ p) × (p ≤ self.old.n) }
         requires turn { IsTrue (may_call journal.old.records p call) }
-        requires answers { reply ≡ answer journal.old.records p call given.now }
+        requires replies { reply ≡ reply_to journal.old.records p call given.now }
         requires payload { IsTrue (is_payload call reply (payload_of call reply given.now)) }
         requires registration { HasRoomToRegister self.old.queues.items self.old.inboxes.items p call reply }
         requires brings { BringsOrder call reply (vec_len self.old.queues) (vec_capacity self.old.queues) fresh }
@@ -222,7 +222,7 @@ impl Tables {
     ) -> Reply
         requires may_call { MayCall journal.old self.old p }
         requires turn { IsTrue (may_call journal.old.records p call) }
-        requires answers { reply ≡ answer journal.old.records p call given.now }
+        requires replies { reply ≡ reply_to journal.old.records p call given.now }
         requires payload { IsTrue (is_payload call reply (payload_of call reply given.now)) }
         requires registration { HasRoomToRegister self.old.queues.items self.old.inboxes.items p call reply }
         requires creates { creates call reply ≡ false }
@@ -242,7 +242,7 @@ impl Tables {
         requires { MayCall journal.old self.old p }
         ensures { IsCalled journal.old journal.new self.old self.new p (Call.MqClose d) [] result }
     {
-        let reply = self.answer_close(&Prefix::whole(journal), p, d);
+        let reply = self.reply_to_close(&Prefix::whole(journal), p, d);
         self.settle(journal, p, Call::MqClose { d }, reply, &[])
     }
 
@@ -312,7 +312,7 @@ impl Tables {
         if let Err(fault) = self.make_room(journal, 1, name.len(), name.len()) {
             return Reply::Refused(fault);
         }
-        let reply = self.answer_open(&Prefix::whole(journal), p, name, flags, attr);
+        let reply = self.reply_to_open(&Prefix::whole(journal), p, name, flags, attr);
         let call = Call::MqOpen { flags, attr };
         let Ok(fresh) = self.fresh_slots(call, reply) else {
             return Reply::Refused(Fault::NoMemory);
@@ -327,7 +327,7 @@ impl Tables {
         requires form { IsTrue (is_name name.now) }
         ensures { IsCalled journal.old journal.new self.old self.new p (Call.MqUnlink) name.now result }
     {
-        let reply = self.answer_unlink(&Prefix::whole(journal), p, name);
+        let reply = self.reply_to_unlink(&Prefix::whole(journal), p, name);
         self.settle(journal, p, Call::MqUnlink, reply, name)
     }
 
@@ -336,7 +336,7 @@ impl Tables {
         requires { MayCall journal.old self.old p }
         ensures { IsCalled journal.old journal.new self.old self.new p (Call.MqGetattr d) [] result }
     {
-        let reply = self.answer_attributes(&Prefix::whole(journal), p, d);
+        let reply = self.reply_to_attributes(&Prefix::whole(journal), p, d);
         self.settle(journal, p, Call::MqGetattr { d }, reply, &[])
     }
 
@@ -345,7 +345,7 @@ impl Tables {
         requires { MayCall journal.old self.old p }
         ensures { IsCalled journal.old journal.new self.old self.new p (Call.MqSetattr d nonblock) [] result }
     {
-        let reply = self.answer_attributes(&Prefix::whole(journal), p, d);
+        let reply = self.reply_to_attributes(&Prefix::whole(journal), p, d);
         self.settle(journal, p, Call::MqSetattr { d, nonblock }, reply, &[])
     }
 
@@ -385,7 +385,7 @@ impl Tables {
             return Reply::Refused(fault);
         }
         let call = Call::MqNotify { d, value };
-        let reply = self.answer_notify(&Prefix::whole(journal), p, d, value);
+        let reply = self.reply_to_notify(&Prefix::whole(journal), p, d, value);
         if self.make_notice_room(p, call, reply).is_err() {
             return Reply::Refused(Fault::NoMemory);
         }
@@ -398,7 +398,7 @@ impl Tables {
         requires { MayCall journal.old self.old p }
         ensures { IsCalled journal.old journal.new self.old self.new p (Call.NextNotice) [] result }
     {
-        let reply = self.answer_next_notice(&Prefix::whole(journal), p);
+        let reply = self.reply_to_next_notice(&Prefix::whole(journal), p);
         self.settle(journal, p, Call::NextNotice, reply, &[])
     }
 
@@ -417,7 +417,7 @@ impl Tables {
         requires may_call { MayCall journal.old self.old p }
         requires sends { is_send call ≡ true }
         requires length { length_sent call ≡ length bytes.now }
-        requires answers { reply ≡ answer journal.old.records p call bytes.now }
+        requires replies { reply ≡ reply_to journal.old.records p call bytes.now }
         requires needs { NeedsJust 2 most journal.old.records p call bytes.now }
         requires most { most ≤ length bytes.now }
         requires kept { length (payload_of call reply bytes.now) ≤ most }
@@ -440,7 +440,7 @@ impl Tables {
         ensures refused { (fault : Fault) → result ≡ Reply.Refused fault → fault ≢ Fault.NoMemory → journal.new.byte_room ≡ journal.old.byte_room }
     {
         let len = bytes.len() as u64;
-        let reply = self.answer_send(&Prefix::whole(journal), p, d, prio, len);
+        let reply = self.reply_to_send(&Prefix::whole(journal), p, d, prio, len);
         let most = bytes_kept(reply, bytes);
         self.settle_send(
             journal,
@@ -468,7 +468,7 @@ impl Tables {
         ensures refused { (fault : Fault) → result ≡ Reply.Refused fault → fault ≢ Fault.NoMemory → journal.new.byte_room ≡ journal.old.byte_room }
     {
         let len = bytes.len() as u64;
-        let plain = self.answer_send(&Prefix::whole(journal), p, d, prio, len);
+        let plain = self.reply_to_send(&Prefix::whole(journal), p, d, prio, len);
         let reply = ladder::timed(until, now, plain);
         let call = Call::MqTimedSend {
             d,
@@ -493,7 +493,7 @@ impl Tables {
         requires may_call { MayCall journal.old self.old p }
         requires receives { is_receive call ≡ true }
         requires room { room_of call ≡ length buf.old }
-        requires answers { reply ≡ answer journal.old.records p call [] }
+        requires replies { reply ≡ reply_to journal.old.records p call [] }
         ensures called { IsCalled journal.old journal.new self.old self.new p call [] result }
         ensures buffer { buf.new ≡ filled journal.old.records result buf.old }
     {
@@ -513,7 +513,7 @@ impl Tables {
         ensures buffer { buf.new ≡ filled journal.old.records result buf.old }
     {
         let room = buf.len() as u64;
-        let reply = self.answer_receive(&Prefix::whole(journal), p, d, room);
+        let reply = self.reply_to_receive(&Prefix::whole(journal), p, d, room);
         self.settle_receive(journal, p, Call::MqReceive { d, room }, reply, buf)
     }
 
@@ -532,7 +532,7 @@ impl Tables {
         ensures buffer { buf.new ≡ filled journal.old.records result buf.old }
     {
         let room = buf.len() as u64;
-        let found = self.answer_receive(&Prefix::whole(journal), p, d, room);
+        let found = self.reply_to_receive(&Prefix::whole(journal), p, d, room);
         let reply = ladder::timed(until, now, found);
         let call = Call::MqTimedReceive {
             d,

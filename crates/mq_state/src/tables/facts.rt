@@ -5,7 +5,7 @@ ghost use Rattle.mq_model.specs.Names.{attributes, bound_queue};
 ghost use Rattle.mq_model.specs.Descriptors.{held, lowest_free, alive};
 ghost use Rattle.mq_model.specs.Messages.{is_in, present, best, least};
 ghost use Rattle.mq_model.specs.Notices.{registered};
-ghost use Rattle.mq_model.specs.Answer.{Legal, may_call, answer, answer_attributes, open_facts, send_facts, receive_facts, status_facts};
+ghost use Rattle.mq_model.specs.Legality.{Legal, may_call, reply_to, reply_to_attributes, open_facts, send_facts, receive_facts, status_facts};
 ghost use Rattle.mq_model.specs.Owners.{waiting, waits_count};
 ghost use Rattle.mq_model.specs.Waits.{open_wait, wait_deadline, answered_by};
 ghost use Rattle.mq_state.specs.Kept.{Mirrors, AreThoseOf};
@@ -99,7 +99,7 @@ impl Tables {
         ensures best { option_map (λ m. m.1) result.best ≡ best journal.now.records q }
         ensures registered { result.registration ≡ registered journal.now.records q }
     {
-        queues::line(&self.queues, q)
+        queues::line(&self.queues, q, self.hint(q))
     }
 
     // The place of the send, or receive, that waits the longest on queue q.
@@ -134,7 +134,7 @@ impl Tables {
     }
 
     // The reply to an open.
-    pub(crate) fn answer_open(
+    pub(crate) fn reply_to_open(
         &self,
         journal: &Prefix<'_>,
         p: u32,
@@ -143,24 +143,24 @@ impl Tables {
         attr: Option<Attr>,
     ) -> Reply
         requires mirror { Mirrors journal.now self.now }
-        ensures { result ≡ answer journal.now.records p (Call.MqOpen flags attr) name.now }
+        ensures { result ≡ reply_to journal.now.records p (Call.MqOpen flags attr) name.now }
     {
         ladder::open(flags, attr, self.open_facts(journal, p, name))
     }
 
     // The reply to a close.
-    pub(crate) fn answer_close(&self, journal: &Prefix<'_>, p: u32, d: u32) -> Reply
+    pub(crate) fn reply_to_close(&self, journal: &Prefix<'_>, p: u32, d: u32) -> Reply
         requires mirror { Mirrors journal.now self.now }
         requires legal { Legal journal.now.records }
-        ensures { result ≡ answer journal.now.records p (Call.MqClose d) [] }
+        ensures { result ≡ reply_to journal.now.records p (Call.MqClose d) [] }
     {
         ladder::close(self.held(journal, p, d))
     }
 
     // The reply to an unlink.
-    pub(crate) fn answer_unlink(&self, journal: &Prefix<'_>, p: u32, name: &[u8]) -> Reply
+    pub(crate) fn reply_to_unlink(&self, journal: &Prefix<'_>, p: u32, name: &[u8]) -> Reply
         requires mirror { Mirrors journal.now self.now }
-        ensures { result ≡ answer journal.now.records p Call.MqUnlink name.now }
+        ensures { result ≡ reply_to journal.now.records p Call.MqUnlink name.now }
     {
         ladder::unlink(self.bound(journal, name))
     }
@@ -179,10 +179,10 @@ impl Tables {
     }
 
     // The reply to a getattr, and to a setattr.
-    pub(crate) fn answer_attributes(&self, journal: &Prefix<'_>, p: u32, d: u32) -> Reply
+    pub(crate) fn reply_to_attributes(&self, journal: &Prefix<'_>, p: u32, d: u32) -> Reply
         requires mirror { Mirrors journal.now self.now }
         requires legal { Legal journal.now.records }
-        ensures { result ≡ answer_attributes journal.now.records (held journal.now.records p d) }
+        ensures { result ≡ reply_to_attributes journal.now.records (held journal.now.records p d) }
     {
         match self.held(journal, p, d) {
             Some(h) => ladder::status(Some(self.status_facts(journal, h))),
@@ -191,7 +191,7 @@ impl Tables {
     }
 
     // The reply to a notify.
-    pub(crate) fn answer_notify(
+    pub(crate) fn reply_to_notify(
         &self,
         journal: &Prefix<'_>,
         p: u32,
@@ -200,7 +200,7 @@ impl Tables {
     ) -> Reply
         requires mirror { Mirrors journal.now self.now }
         requires legal { Legal journal.now.records }
-        ensures { result ≡ answer journal.now.records p (Call.MqNotify d value) [] }
+        ensures { result ≡ reply_to journal.now.records p (Call.MqNotify d value) [] }
     {
         match self.held(journal, p, d) {
             Some(h) => {
@@ -212,9 +212,9 @@ impl Tables {
     }
 
     // The reply to a look for the oldest notice.
-    pub(crate) fn answer_next_notice(&self, journal: &Prefix<'_>, p: u32) -> Reply
+    pub(crate) fn reply_to_next_notice(&self, journal: &Prefix<'_>, p: u32) -> Reply
         requires mirror { Mirrors journal.now self.now }
-        ensures { result ≡ answer journal.now.records p Call.NextNotice [] }
+        ensures { result ≡ reply_to journal.now.records p Call.NextNotice [] }
     {
         Reply::Notice(notices::first(&self.inboxes, p))
     }
@@ -240,7 +240,7 @@ impl Tables {
 
     // The reply to a send.
     #[inline(always)]
-    pub(crate) fn answer_send(
+    pub(crate) fn reply_to_send(
         &self,
         journal: &Prefix<'_>,
         p: u32,
@@ -252,7 +252,7 @@ impl Tables {
         requires legal { Legal journal.now.records }
         requires few { self.now.n ≤ 32 }
         requires waits { self.now.waits ≡ waits_count self.now.owners.items }
-        ensures { result ≡ answer journal.now.records p (Call.MqSend d prio len) [] }
+        ensures { result ≡ reply_to journal.now.records p (Call.MqSend d prio len) [] }
     {
         match self.held(journal, p, d) {
             Some(h) => ladder::send(prio, len, Some(self.send_facts(journal, h))),
@@ -282,12 +282,12 @@ impl Tables {
 
     // The reply to a receive.
     #[inline(always)]
-    pub(crate) fn answer_receive(&self, journal: &Prefix<'_>, p: u32, d: u32, room: u64) -> Reply
+    pub(crate) fn reply_to_receive(&self, journal: &Prefix<'_>, p: u32, d: u32, room: u64) -> Reply
         requires mirror { Mirrors journal.now self.now }
         requires legal { Legal journal.now.records }
         requires few { self.now.n ≤ 32 }
         requires waits { self.now.waits ≡ waits_count self.now.owners.items }
-        ensures { result ≡ answer journal.now.records p (Call.MqReceive d room) [] }
+        ensures { result ≡ reply_to journal.now.records p (Call.MqReceive d room) [] }
     {
         match self.held(journal, p, d) {
             Some(h) => ladder::receive(room, Some(self.receive_facts(journal, h))),
@@ -343,33 +343,33 @@ impl Tables {
     }
 
     // The reply to a call of process p, a name being that of an open or an unlink.
-    pub(crate) fn answer_to(&self, journal: &Prefix<'_>, p: u32, call: Call, name: &[u8]) -> Reply
+    pub(crate) fn reply_to(&self, journal: &Prefix<'_>, p: u32, call: Call, name: &[u8]) -> Reply
         requires { AreThoseOf journal.now.records self.now }
-        ensures { result ≡ answer journal.now.records p call name.now }
+        ensures { result ≡ reply_to journal.now.records p call name.now }
     {
         match call {
-            Call::MqOpen { flags, attr } => self.answer_open(journal, p, name, flags, attr),
-            Call::MqClose { d } => self.answer_close(journal, p, d),
-            Call::MqUnlink => self.answer_unlink(journal, p, name),
-            Call::MqSend { d, prio, len } => self.answer_send(journal, p, d, prio, len),
-            Call::MqReceive { d, room } => self.answer_receive(journal, p, d, room),
+            Call::MqOpen { flags, attr } => self.reply_to_open(journal, p, name, flags, attr),
+            Call::MqClose { d } => self.reply_to_close(journal, p, d),
+            Call::MqUnlink => self.reply_to_unlink(journal, p, name),
+            Call::MqSend { d, prio, len } => self.reply_to_send(journal, p, d, prio, len),
+            Call::MqReceive { d, room } => self.reply_to_receive(journal, p, d, room),
             Call::MqTimedSend {
                 d,
                 prio,
                 len,
                 until,
                 now,
-            } => ladder::timed(until, now, self.answer_send(journal, p, d, prio, len)),
+            } => ladder::timed(until, now, self.reply_to_send(journal, p, d, prio, len)),
             Call::MqTimedReceive {
                 d,
                 room,
                 until,
                 now,
-            } => ladder::timed(until, now, self.answer_receive(journal, p, d, room)),
-            Call::MqGetattr { d } => self.answer_attributes(journal, p, d),
-            Call::MqSetattr { d, nonblock: _ } => self.answer_attributes(journal, p, d),
-            Call::MqNotify { d, value } => self.answer_notify(journal, p, d, value),
-            Call::NextNotice => self.answer_next_notice(journal, p),
+            } => ladder::timed(until, now, self.reply_to_receive(journal, p, d, room)),
+            Call::MqGetattr { d } => self.reply_to_attributes(journal, p, d),
+            Call::MqSetattr { d, nonblock: _ } => self.reply_to_attributes(journal, p, d),
+            Call::MqNotify { d, value } => self.reply_to_notify(journal, p, d, value),
+            Call::NextNotice => self.reply_to_next_notice(journal, p),
             Call::Collect => Reply::Collected {
                 by: self.answered_by(journal, p).unwrap_or(0),
             },

@@ -25,7 +25,7 @@ impl Logged for Bell {
 
     ghost fixed = { λ s. [] };
 
-    ghost owner = { λ x. x };
+    ghost author = { λ x. x };
 
     ghost is_answered = { is_called };
 

@@ -14,7 +14,8 @@ use std::sync::Wait;
 use std::sync::atomic::{AtomicBool, Ordering};
 use std::time::Clock;
 
-const START: Deadline = Deadline { sec: 0, nsec: 0 };
+/// The first moment of the clock of the test.
+pub const START: Deadline = Deadline { sec: 0, nsec: 0 };
 
 /// The second moment of the clock of the test.
 pub const LATER: Deadline = Deadline { sec: 1, nsec: 0 };

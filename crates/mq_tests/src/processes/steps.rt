@@ -2,7 +2,7 @@
 ghost use Rattle.std.specs.Prelude.{◌≡◌, None};
 ghost use Rattle.mq.specs.Calls.{IsFree};
 
-use super::deadlines::{LATER, Ticks};
+use super::deadlines::{LATER, START, Ticks};
 use crate::refusals::say_refused;
 use fast_mutex::Look;
 use mq::{Guarded, Monotonic, Mq, Process};
@@ -45,6 +45,11 @@ pub enum Ask<'a> {
     ReceiveUntilTick(u32),
     StartSend(u32, &'a [u8], u32),
     StartReceive(u32),
+    /// The same with a deadline, the second moment of the clock of the test, at the first one.
+    StartTimedSend(u32, &'a [u8], u32),
+    StartTimedReceive(u32),
+    /// Whether these processes are blocked.
+    AreBlocked(&'a [u32]),
     Notify(u32, Option<u64>),
     NextNotice,
     Getattr(u32),
@@ -124,6 +129,12 @@ fn call<L: Look<Guarded>, R: Wait + Clock>(
         Ask::StartReceive(d) => p
             .start_receive(rt, mq, d, buf)?
             .map_or(Told::Waits, Told::Got),
+        Ask::StartTimedSend(d, bytes, prio) => {
+            begun(p.start_timed_send(rt, mq, d, bytes, prio, LATER, START)?)
+        }
+        Ask::StartTimedReceive(d) => p
+            .start_timed_receive(rt, mq, d, buf, LATER, START)?
+            .map_or(Told::Waits, Told::Got),
         Ask::Notify(d, value) => done(p.notify(rt, mq, d, value)?),
         Ask::NextNotice => Told::Notice(p.next_notice(rt, mq)?),
         Ask::Getattr(d) => Told::Attrs(p.getattr(rt, mq, d)?),
@@ -173,6 +184,7 @@ pub fn asked_once<L: Look<Guarded>, R: Wait + Clock>(
         Ask::Answered => Told::Is(p.answered(mq)),
         Ask::Buffer => Told::Bytes(*buf),
         Ask::Collect => collect(rt, mq, p, buf),
+        Ask::AreBlocked(processes) => Told::Is(p.are_blocked(rt, mq, processes)),
         _ if p.waiting().is_some() => Told::Nothing,
         _ => match call(rt, mq, p, ask, buf) {
             Ok(told) => told,

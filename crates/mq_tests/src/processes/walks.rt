@@ -7,6 +7,7 @@ use super::{CREATED, Pair, expect_journal, finish, make_pair, room};
 use crate::refusals::say_refused;
 use fast_mutex::{FastMutex, Look};
 use mq::{Arrived, Guarded, Mq, Process};
+use mq_model::entries::Entry;
 use mq_model::faults::Fault;
 use mq_model::journals::Journal;
 use mq_model::names::Name;
@@ -50,6 +51,39 @@ fn journal_of_walks<L: Look<Guarded>, R: Print>(rt: &R, alloc: Global) -> Option
     };
     let two = two.leave(&mq);
     finish(room(rt, alloc)?, mq, one, two)
+}
+
+// What the process that made the only call finds inside: the verdict on the journal, its first entry, and that there is no second.
+fn readings<L: Look<Guarded>, R: Print>(rt: &R, alloc: Global) -> Option<Readings> {
+    let Pair { mq, one, two: _ } = make_pair::<L, R>(rt, alloc)?;
+    let one = opened(rt, &mq, inside(&mq, one)?)?;
+    let (one, checked) = inside(&mq, one)?.check(alloc, &mq);
+    let (one, first) = inside(&mq, one)?.entry(&mq, 0);
+    let (_, second) = inside(&mq, one)?.entry(&mq, 1);
+    Some((checked, first, second))
+}
+
+type Readings = (Result<(), u64>, Option<Entry>, Option<Entry>);
+
+// The process inside, where nobody else is.
+fn inside<L: Look<Guarded>>(mq: &Mq<L>, process: Process<L>) -> Option<Arrived<L>>
+    requires { process.lock ≡ mq.now }
+    ensures lock { IfSome result (λ arrived. arrived.lock ≡ mq.now) }
+    ensures free { IsFree process → IfSome result (λ arrived. IsFree arrived) }
+{
+    process.approach(mq).advance(mq, 5).ok()
+}
+
+#[test]
+fn the_journal_is_read_from_inside(rt: HostRuntime) {
+    let found = readings::<FastMutex<Guarded>, _>(&rt, rt.alloc());
+    let (checked, first, second) = found.expect(&rt, "memory");
+    assert_eq!(&rt; checked, Ok(()));
+    let replies = (
+        first.map(|entry| entry.reply),
+        second.map(|entry| entry.reply),
+    );
+    assert_eq!(&rt; replies, (Some(CREATED), None));
 }
 
 #[test]

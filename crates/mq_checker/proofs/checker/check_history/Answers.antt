@@ -1,6 +1,6 @@
 use Rattle.std.proofs.Common.{◌+◌, refl, []}
 use Rattle.mq_model.specs.Record.{Past, first}
-use Rattle.mq_model.specs.Answer.{Legal}
+use Rattle.mq_model.specs.Legality.{Legal}
 use Rattle.mq_checker.specs.CheckerTables.{TablesMirror}
 use Rattle.mq_checker.specs.declared.tables.Tables.{Tables}
 use Rattle.mq_model.proofs.Prefixes.{first-none, legal-first}

@@ -1,5 +1,5 @@
 use Rattle.mq_model.specs.Record.{first}
-use Rattle.mq_model.specs.Answer.{Legal}
+use Rattle.mq_model.specs.Legality.{Legal}
 use Rattle.mq_checker.specs.CheckerTables.{TablesMirror}
 use Rattle.mq_checker.proofs.checker.check_history.Given as goal
 

@@ -2,7 +2,7 @@ use Rattle.std.proofs.Common.{◌≡◌, ℕ, Option, Some, None, sym, IfSome, I
 use Rattle.mq_model.specs.Record.{Past, first}
 use Rattle.mq_model.specs.Descriptors.{held, created}
 use Rattle.mq_model.specs.Messages.{is_in}
-use Rattle.mq_model.specs.Answer.{Legal}
+use Rattle.mq_model.specs.Legality.{Legal}
 use Rattle.mq_model.specs.declared.entries.Description.{Description}
 use Rattle.mq_model.proofs.HeldQueues.{created-held}
 use Rattle.mq_checker.proofs.expected.held_created.Goals as goal

@@ -1,6 +1,6 @@
 use Rattle.std.proofs.Common.{◌+◌, subst, arith, ◌∷◌}
 use Rattle.mq_model.specs.Record.{Record, first}
-use Rattle.mq_model.specs.Answer.{Legal}
+use Rattle.mq_model.specs.Legality.{Legal}
 use Rattle.mq_model.proofs.Prefixes.{length-first}
 use Rattle.mq_model.proofs.LegalReplies.{legal_says}
 use Rattle.mq_model.proofs.OwnersKeep.{noted-fits}

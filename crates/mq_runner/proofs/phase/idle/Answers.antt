@@ -7,5 +7,5 @@ pub returns : goal.returns
 returns g c = let share = c.args.share in let few : length share.turns.items ≡ 0 = grind (arith, common_steps) in record {
   same = record { lock = refl; number = refl };
   free = λ _. c.requires.free;
-  ends = nothing-ran share.turns.items share.answers.items share.process few share.none;
+  ends = nothing-ran share.turns.items share.completions.items share.process few share.none;
 }

@@ -1,6 +1,6 @@
 use Rattle.std.proofs.Common.{◌≡◌, subst, ℕ, List, take, Ok, OnOk, Vec, Global}
 use Rattle.mq_runner.specs.Runs.{RunsScript}
-use Rattle.mq_runner.specs.Stops.{StopsBehindPhase, StopsInDeadlock, StopsInWrite}
+use Rattle.mq_runner.specs.Stops.{StopsAfterPhase, StopsInDeadlock, StopsInWrite}
 use Rattle.mq_script.specs.Script.{Whole, said_script, script_written}
 use Rattle.lines.specs.declared.input.ReadFault.{ReadFault}
 use Rattle.lines.specs.declared.input.ReadFault.TheVariants as read
@@ -35,7 +35,7 @@ pub returns-clause-no_memory : goal.returns-clause-no_memory
 returns-clause-no_memory g c = λ all script known written failed.
     let text : c.in_ok-text.text.items ≡ take 1048577 all = rw known at c.in_ok-text.ensures.bytes in
     let same = same_script _ _ (take 1048577 all) (said_script c.in_ok-script.script) script text c.as_slice.ensures.value c.in_ok-script.ensures.written written in
-    subst (λ s. StopsBehindPhase s (g.W.Write.contents c.args.output.now) (g.W.Write.contents c.run_phases.new.output)) same (c.run_phases.ensures.no_memory failed)
+    subst (λ s. StopsAfterPhase s (g.W.Write.contents c.args.output.now) (g.W.Write.contents c.run_phases.new.output)) same (c.run_phases.ensures.no_memory failed)
 
 pub returns-clause-done : goal.returns-clause-done
 returns-clause-done g c = λ all script known written.

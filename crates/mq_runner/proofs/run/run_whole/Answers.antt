@@ -4,9 +4,9 @@ use Rattle.std.proofs.lemmas.List.Elements.{All-same, All-weaker}
 use Rattle.fast_mutex.specs.Items.{tickets_from}
 use Rattle.mq_runner.specs.Runs.{IsReady, RunsPhases}
 use Rattle.mq_script.specs.Script.{said_phases}
-use Rattle.mq.specs.Calls.{owner}
+use Rattle.mq.specs.Calls.{author}
 use Rattle.mq_model.specs.Record.{Record}
-use Rattle.mq_runner.proofs.Owners.{owners-within}
+use Rattle.mq_runner.proofs.Authors.{authors-within}
 use Rattle.mq_runner.proofs.Working.{new-count, new-ready}
 use Rattle.mq_runner.proofs.run.run_whole.Goals as goal
 
@@ -40,7 +40,7 @@ returns-clause-done g c =
         processes = after;
         ran = phases;
         legal = c.in-Ok-finish.ensures.legal;
-        owners = subst (λ m. All (λ (r : Record). (1 ≤ owner r) × (owner r ≤ m)) journal.records) c.in-Ok.ensures.count (owners-within mq.count journal.records c.in-Ok-finish.ensures.legal c.in-Ok-finish.ensures.processes);
+        authors = subst (λ m. All (λ (r : Record). (1 ≤ author r) × (author r ≤ m)) journal.records) c.in-Ok.ensures.count (authors-within mq.count journal.records c.in-Ok-finish.ensures.legal c.in-Ok-finish.ensures.processes);
         grows = c.in-Ok-finish.ensures.grows;
       },
       ran.2,

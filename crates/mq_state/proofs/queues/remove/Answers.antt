@@ -1,8 +1,7 @@
-use Rattle.std.proofs.Common.{◌≡◌, ℕ, ◌==◌, ◌∙◌, Option, Some, None, List, ap, sym, arith, subst, vec_len, vec_capacity, length}
+use Rattle.std.proofs.Common.{◌≡◌, ◌==◌, ◌∙◌, Some, None, List, ap, sym, arith}
 use Rattle.std.specs.List.{position}
 use Rattle.mq_state.specs.QueueShown.{QueueShown}
 use Rattle.mq_state.specs.Queues.{without_queue}
-use Rattle.mq_state.specs.Pool.{Pool}
 use Rattle.mq_state.proofs.QueueLines.{position-here}
 use Rattle.mq_state.proofs.Pooling.{without-removed, without-none, pool-removed}
 use Rattle.mq_state.proofs.queues.remove.Goals as goal
@@ -30,5 +29,5 @@ loop-i-preserved c =
 pub returns-clause-items : goal.returns-clause-items
 returns-clause-items c =
     let queues : List QueueShown = c.loop-i.queues.items in
-    let none : position (λ (x : QueueShown). x.place == c.args.q) queues ≡ None = ap (position (λ (x : QueueShown). x.place == c.args.q)) (sym c.deref.ensures.value) ∙ sym c.index_of.ensures ∙ c.in_default.is in
+    let none : position (λ (x : QueueShown). x.place == c.args.q) queues ≡ None = ap (position (λ (x : QueueShown). x.place == c.args.q)) (sym c.deref.ensures.value) ∙ sym c.first_at.ensures ∙ c.in_default.is in
     sym (without-none queues c.args.q none) ∙ c.loop-i.invariant.0

@@ -1,4 +1,4 @@
-use Rattle.std.proofs.Common.{◌≡◌, ℕ, ◌≤◌, length, vec_len, vec_capacity}
+use Rattle.std.proofs.Common.{◌≡◌, ℕ, ◌≤◌, vec_len, vec_capacity}
 use Rattle.mq_state.specs.Queues.{without_queue}
 use Rattle.mq_state.specs.Pool.{Pool}
 use Rattle.mq_state.proofs.queues.remove.Given as goal

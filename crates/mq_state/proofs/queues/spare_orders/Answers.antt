@@ -1,4 +1,4 @@
-use Rattle.std.proofs.Common.{◌≡◌, ◌≤◌, ◌∷◌, ◌∙◌, [], ap, sym, arith, subst, length, length-append}
+use Rattle.std.proofs.Common.{◌∷◌, ◌∙◌, [], ap, sym, arith, subst, length, length-append}
 use Rattle.std.specs.List.{All}
 use Rattle.std.proofs.lemmas.List.Elements.{All-push}
 use Rattle.mq_state.specs.Pool.{IsSpare}

@@ -23,7 +23,7 @@ pub store-requires : goal.store-requires
 store-requires g c = (
   c.set_marks-seat.ensures.own.0 ∙ c.put_in.ensures.own.0 ∙ ap (λ (l : LockId). l.table) c.requires.lock,
   omega (arith, c.args.self.now.shape),
-  leaves_ready _ _ _ _ _ _ _ _ c.set_marks-seat.ensures.ready (shows_after g.S.Logged.items g.S.Logged.fixed g.S.Logged.owner g.S.Logged.is_answered c.put_in.new.seat.me c.set_marks-seat.result.me c.set_marks-seat.ensures.view c.set_marks-seat.ensures.shows),
+  leaves_ready _ _ _ _ _ _ _ _ c.set_marks-seat.ensures.ready (shows_after g.S.Logged.items g.S.Logged.fixed g.S.Logged.author g.S.Logged.is_answered c.put_in.new.seat.me c.set_marks-seat.result.me c.set_marks-seat.ensures.view c.set_marks-seat.ensures.shows),
 )
 
 pub store-requires-2 : goal.store-requires-2

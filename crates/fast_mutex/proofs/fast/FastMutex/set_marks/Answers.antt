@@ -40,7 +40,7 @@ loop-old-preserved g c =
     let size : 33 - k ≡ suc (32 - k) = omega (arith, c.args.self.now.shape) in
     let old_bit = bits_step in_found k (32 - k) (33 - k) c.loop-old.old size c.loop-old.invariant.before in
     let new_bit = bits_step in_given k (32 - k) (33 - k) c.loop-old.new size c.loop-old.invariant.after in
-    let step : ((c.if-old-new.seat.table_id ≡ c.args.seat.table_id) × (c.if-old-new.seat.id ≡ c.args.seat.id)) × IsMarking g.S.Logged.items g.S.Logged.fixed g.S.Logged.owner g.S.Logged.is_answered c.args.seat.me (k + 1) c.if-old-new.seat.me = elim c.if-old-new.branch [
+    let step : ((c.if-old-new.seat.table_id ≡ c.args.seat.table_id) × (c.if-old-new.seat.id ≡ c.args.seat.id)) × IsMarking g.S.Logged.items g.S.Logged.fixed g.S.Logged.author g.S.Logged.is_answered c.args.seat.me (k + 1) c.if-old-new.seat.me = elim c.if-old-new.branch [
       | then-old-new w ↦ (
         (ap (λ z. z.table_id) w.seat-is ∙ w.set_mark-seat.ensures.own.0 ∙ c.loop-old.invariant.own.0, ap (λ z. z.id) w.seat-is ∙ w.set_mark-seat.ensures.own.1 ∙ c.loop-old.invariant.own.1),
         marking_stored _ _ _ _ _ _ _ k c.loop-old.invariant.marking (ap (λ z. z.me) w.seat-is ∙ w.set_mark-seat.ensures.view),

@@ -8,7 +8,7 @@ use Rattle.fast_mutex.proofs.fast.FastMutex.set_marks.Given as goal
 abbrev pub invariant-loop-old : goal.invariant-loop-old
 invariant-loop-old g l = record {
   own : (l.seat.table_id ≡ l.fn.seat.table_id) × (l.seat.id ≡ l.fn.seat.id);
-  marking : IsMarking g.S.Logged.items g.S.Logged.fixed g.S.Logged.owner g.S.Logged.is_answered l.fn.seat.me l.process l.seat.me;
+  marking : IsMarking g.S.Logged.items g.S.Logged.fixed g.S.Logged.author g.S.Logged.is_answered l.fn.seat.me l.process l.seat.me;
   low : 1 ≤ l.process;
   high : l.process ≤ l.self.count + 1;
   before : l.old ≡ answer_bits (λ p. g.S.Logged.is_answered p l.fn.seat.me.0.found) l.process (33 - l.process);

@@ -2,7 +2,7 @@ use Rattle.std.proofs.Common.{◌≡◌, ◌≤◌, ◌∙◌, ap, sym, subst, [
 use Rattle.std.specs.List.{All}
 use Rattle.std.proofs.lemmas.List.Elements.{All-same, All-map, All-weaker}
 use Rattle.fast_mutex.specs.Items.{Grows}
-use Rattle.mq.specs.Calls.{owner, fixed_of, bounds_in}
+use Rattle.mq.specs.Calls.{author, fixed_of, bounds_in}
 use Rattle.mq.proofs.Calling.{fixed-n}
 use Rattle.mq.proofs.Seats.{all-unmap}
 use Rattle.mq.proofs.system.Mq.finish.Goals as goal
@@ -14,8 +14,8 @@ finish-requires g c =
 
 pub returns-clause-grows : goal.returns-clause-grows
 returns-clause-grows g c =
-    All-same (λ t. Grows owner t.number t.left c.into_journal.result.records []) _ _ (sym c.seats_of.ensures.items)
-    (All-map (λ t. Grows owner t.number t.left c.into_journal.result.records []) g.L.Lock.ticket c.seats_of.result.items (rw c.into_journal.ensures.value c.in-Ok.ensures.grows))
+    All-same (λ t. Grows author t.number t.left c.into_journal.result.records []) _ _ (sym c.seats_of.ensures.items)
+    (All-map (λ t. Grows author t.number t.left c.into_journal.result.records []) g.L.Lock.ticket c.seats_of.result.items (rw c.into_journal.ensures.value c.in-Ok.ensures.grows))
 
 pub returns-clause-processes : goal.returns-clause-processes
 returns-clause-processes g c =

@@ -2,7 +2,7 @@ use Rattle.std.proofs.Common.{◌≡◌, ◌∙◌, ℕ, Option, Some, None, ap,
 use Rattle.mq_model.specs.Record.{Past}
 use Rattle.mq_model.specs.Descriptors.{held, alive}
 use Rattle.mq_model.specs.Messages.{is_in}
-use Rattle.mq_model.specs.Answer.{Legal}
+use Rattle.mq_model.specs.Legality.{Legal}
 use Rattle.mq_model.specs.Owners.{held_in}
 use Rattle.mq_model.specs.declared.entries.Description.{Description}
 use Rattle.mq_model.proofs.HeldQueues.{held-alive}

@@ -1,9 +1,13 @@
-use Rattle.std.proofs.Common.{ℕ, ◌∙◌, ap, length}
+use Rattle.std.proofs.Common.{ℕ, ◌∙◌, sym, ap, subst, length}
 use Rattle.std.specs.Option.{option_map}
 use Rattle.mq_state.specs.Order.{best_slot}
-use Rattle.mq_state.specs.Queues.{slots_in, registration_in}
+use Rattle.mq_state.specs.Queues.{slots_in, registration_in, HaveRisingPlaces}
 use Rattle.mq_state.proofs.Reading.{count-read, best-read, registration-read}
+use Rattle.mq_state.proofs.Rising.{rising-places}
 use Rattle.mq_state.proofs.tables.Tables.line.Goals as goal
+
+pub line-requires : goal.line-requires
+line-requires c = subst HaveRisingPlaces (sym c.deref.ensures.value) (rising-places c.args.journal.now.records c.args.self.now.queues.items c.requires.mirror.existing)
 
 pub returns-clause-count : goal.returns-clause-count
 returns-clause-count c = c.line.ensures.count ∙ ap (λ xs. length (slots_in xs c.args.q)) c.deref.ensures.value ∙ count-read c.args.journal.now.records c.args.self.now.queues.items c.requires.mirror.existing c.args.q c.requires.alive

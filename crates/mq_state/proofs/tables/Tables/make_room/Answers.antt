@@ -1,4 +1,4 @@
-use Rattle.std.proofs.Common.{◌≡◌, ◌+◌, ◌∙◌, ◌≤◌, length, sym, ap, inr, refl, arith, true, false}
+use Rattle.std.proofs.Common.{◌≡◌, ◌+◌, ◌∙◌, length, sym, inr, refl, arith, true, false}
 use Rattle.mq_model.specs.Bounds.{open_waits, exceeds}
 use Rattle.mq_model.specs.Record.{payload_bytes}
 use Rattle.mq_state.proofs.Bounded.{unbounded, waits-open, not-both}

@@ -12,8 +12,8 @@ returns-in-Some-clause-pool g pooled =
     let some : g.args.fresh ≡ Some o = g.in-Some.is in
     let start : PoolWithin t.bounds g.args.fresh t.queues.items t.spares.items (vec_capacity t.queues) (vec_capacity t.spares) = rw (g.note_notices.ensures.bounds, g.note_notices.ensures.queues, g.note_notices.ensures.spares) pooled in
     let with_one : PoolWithin t.bounds (Some o) t.queues.items t.spares.items (vec_capacity t.queues) (vec_capacity t.spares) = rw some at start in
-    pool-within t.bounds (Some o) None t.queues.items g.add.new.queues.items t.spares.items g.note.new.spares.items (vec_capacity t.queues) (vec_capacity t.spares) (vec_capacity g.add.new.queues) (vec_capacity g.note.new.spares)
-    (λ w. pool-fresh g.note.new.queues.items g.add.new.queues.items g.note.new.spares.items g.len-here.result o (vec_capacity g.note.new.queues) (vec_capacity g.add.new.queues) (vec_capacity g.note.new.spares) g.add.ensures.items g.add.ensures.capacity (g.note.ensures.pool 63 w.0, w.1))
+    pool-within t.bounds (Some o) None t.queues.items g.add.new.queues.items t.spares.items g.note-found.new.spares.items (vec_capacity t.queues) (vec_capacity t.spares) (vec_capacity g.add.new.queues) (vec_capacity g.note-found.new.spares)
+    (λ w. pool-fresh g.note-found.new.queues.items g.add.new.queues.items g.note-found.new.spares.items g.len-here.result o (vec_capacity g.note-found.new.queues) (vec_capacity g.add.new.queues) (vec_capacity g.note-found.new.spares) g.add.ensures.items g.add.ensures.capacity (g.note-found.ensures.pool 63 w.0, w.1))
     with_one
 
 pub returns-in_default-clause-queues : goal.returns-in_default-clause-queues
@@ -23,4 +23,4 @@ returns-in_default-clause-queues g =
     let prio = g.admitted_priority-prio.ensures in
     let owners = g.deref.ensures.value in
     let before : g.note_notices.new.self.queues.items ≡ g.args.self.now.queues.items = ap (λ v. v.items) g.note_notices.ensures.queues in
-    g.note.ensures.items ∙ rw none (λ i. noted_queues (owners i) (here i) g.args.entry g.args.q (prio i) (before i))
+    g.note-found.ensures.items ∙ rw none (λ i. noted_queues (owners i) (here i) g.args.entry g.args.q (prio i) (before i))

@@ -13,6 +13,7 @@ use Rattle.mq_state.proofs.WaitsNoted.{length-noted}
 use Rattle.mq_state.proofs.NoticeRoom.{notice-room-keeps, room-to-notify}
 use Rattle.mq_state.proofs.Arriving.{IsInOrderIn, line-order}
 use Rattle.mq_state.proofs.Bounded.{brought-one}
+use Rattle.mq_state.proofs.Rising.{rising-places}
 use Rattle.mq_state.proofs.tables.Tables.note_next.Goals as goal
 
 pub note-requires-clause-numbers : goal.note-requires-clause-numbers
@@ -36,6 +37,9 @@ note-requires-clause-order c =
     let order : IsInOrderIn c.args.self.now.queues.items q (length past) e prio =
     line-order past c.requires.tables.legal c.args.self.now.queues.items c.requires.tables.mirror.existing e.process e.call e.reply c.args.payload.now q prio (legal_says past (record { entry = e; payload = c.args.payload.now }) c.requires.next) (entry-on past e.process e.call e.reply c.args.payload.now c.requires.next) in
     subst (λ k. IsInOrderIn c.args.self.now.queues.items k (length past) e prio) (sym c.entry_queue-q.ensures) order
+
+pub note-requires-clause-rising : goal.note-requires-clause-rising
+note-requires-clause-rising c = rising-places c.args.journal.now.records c.args.self.now.queues.items c.requires.tables.mirror.existing
 
 pub note-requires-clause-notice_room : goal.note-requires-clause-notice_room
 note-requires-clause-notice_room c = λ n is. room-to-notify c.args.self.now.queues.items c.args.self.now.inboxes.items c.requires.tables.notice_room c.entry_queue-q.result n is

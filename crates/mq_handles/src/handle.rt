@@ -1,0 +1,49 @@
+//! A handle as C keeps it.
+ghost use Rattle.std.specs.Prelude.{◌≡◌, is_some};
+
+use crate::member::Member;
+use crate::seal::Seal;
+use std::alloc::Global;
+
+/// A process that C holds. A handle of zeros is empty.
+#[repr(C)]
+#[derive(Drop)]
+pub struct Handle {
+    seal: Seal,
+    full: bool,
+    ghost fullness: { full ≡ is_some seal.member },
+}
+
+impl Handle {
+    ghost use Rattle.std.specs.Prelude.{◌≡◌, Some, None, IfSome, IfNone};
+    ghost use Rattle.mq_handles.specs.Systems.{is_empty};
+
+    /// Whether it has no process.
+    pub fn is_empty(&self) -> bool
+        ensures { result ≡ is_empty self.now }
+    {
+        !self.full
+    }
+
+    /// Takes the member out, where there is one.
+    pub fn take(&mut self, alloc: Global) -> Option<Box<Member>>
+        ensures some { IfSome result (λ member. self.old.seal.member ≡ Some member.value) }
+        ensures none { IfNone result (self.old.seal.member ≡ None) }
+        ensures empty { self.new.seal.member ≡ None }
+    {
+        if !self.full {
+            return None;
+        }
+        self.full = false;
+        Some(self.seal.take(alloc))
+    }
+
+    /// Puts a member in.
+    pub fn put(&mut self, member: Box<Member>)
+        requires { self.old.seal.member ≡ None }
+        ensures { self.new.seal.member ≡ Some member.value }
+    {
+        self.seal = Seal::of(member);
+        self.full = true;
+    }
+}

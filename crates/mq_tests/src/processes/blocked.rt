@@ -1,0 +1,32 @@
+//! Waits with a deadline that are begun and not waited for, and who is blocked meanwhile.
+use super::after;
+use super::steps::{Ask, CREATE, OPEN, Step, Told};
+use fast_mutex::FastMutex;
+use mq::{Collected, Guarded, Received};
+
+const RECEIVED: Received = Received { len: 1, prio: 0 };
+
+// A process is blocked from the call that waits to the entry that names its wait, and not only to its collect.
+const STEPS: [Step; 15] = [
+    (1, Ask::Open(CREATE, 1), Told::Opened(0)),
+    (2, Ask::Open(OPEN, 1), Told::Opened(0)),
+    (1, Ask::AreBlocked(&[1]), Told::Is(false)),
+    (1, Ask::StartTimedReceive(0), Told::Waits),
+    (1, Ask::AreBlocked(&[1]), Told::Is(true)),
+    (2, Ask::AreBlocked(&[1, 2]), Told::Is(false)),
+    (2, Ask::StartTimedSend(0, b"a", 0), Told::Done),
+    (1, Ask::AreBlocked(&[1]), Told::Is(false)),
+    (1, Ask::Collect, Told::Came(Some(Collected::Got(RECEIVED)))),
+    (2, Ask::StartTimedSend(0, b"b", 0), Told::Done),
+    (2, Ask::StartTimedSend(0, b"c", 0), Told::Waits),
+    (1, Ask::AreBlocked(&[2]), Told::Is(true)),
+    (1, Ask::StartTimedReceive(0), Told::Got(RECEIVED)),
+    (2, Ask::AreBlocked(&[2]), Told::Is(false)),
+    (2, Ask::Collect, Told::Came(Some(Collected::Sent))),
+];
+
+#[test]
+fn a_process_is_blocked_until_an_entry_names_its_wait(rt: HostRuntime) {
+    let journal = after::<FastMutex<Guarded>, _>(&rt, rt.alloc(), &STEPS);
+    assert_eq!(&rt; journal.expect(&rt, "memory").len(), 9);
+}
