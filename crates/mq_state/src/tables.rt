@@ -18,7 +18,7 @@ use crate::prefixes::Prefix;
 use crate::queues::Queue;
 use crate::{buffers, notices, queues};
 use mq_model::bounds::Bounds;
-use mq_model::entries::{Call, Entry, Reply};
+use mq_model::entries::{Call, Description, Entry, Reply};
 use mq_model::owners::Owner;
 use mq_model::{limits, owners, registrations};
 use mq_slots::Slots;
@@ -90,15 +90,11 @@ impl Tables {
     }
 
     // The queue of the descriptor that a call names, or the place of its entry.
-    #[inline(always)]
     fn descriptor_queue(&self, journal: &Prefix<'_>, p: u32, d: u32) -> u64
         requires mirror { Mirrors journal.now self.now }
         ensures { result ≡ unwrap_or (option_map (λ h. h.queue) (held journal.now.records p d)) (length journal.now.records) }
     {
-        match owners::held(&self.owners, p, d) {
-            Some(h) => h.queue,
-            None => journal.len(),
-        }
+        queue_of(journal, owners::held(&self.owners, p, d))
     }
 
     // The queue that a name is bound to, or the place of the entry.
@@ -207,6 +203,17 @@ impl Tables {
         if let Some(slots) = fresh {
             queues::add(&mut self.queues, here, slots);
         }
+    }
+}
+
+// The queue that a descriptor stands for, or where it stands for none, the place of the entry.
+#[inline(always)]
+fn queue_of(journal: &Prefix<'_>, held: Option<Description>) -> u64
+    ensures { result ≡ unwrap_or (option_map (λ h. h.queue) held) (length journal.now.records) }
+{
+    match held {
+        Some(h) => h.queue,
+        None => journal.len(),
     }
 }
 

@@ -17,7 +17,7 @@ ghost use Rattle.mq_state.specs.Pool.{IsPooled};
 ghost use Rattle.mq_state.specs.Kept.{AreThoseOf, SaysSame, IsKeptBy, HasEntryRoom, MayCall, IsCalled, IsRoomRefused, NeedsJust};
 
 use crate::prefixes::Prefix;
-use crate::tables::Tables;
+use crate::tables::{Tables, queue_of};
 use crate::{buffers, notices, queues};
 use mq_model::entries::{Attr, Call, Deadline, Entry, OpenFlags, Reply};
 use mq_model::faults::Fault;
@@ -106,15 +106,17 @@ impl Tables {
         self.waits
     }
 
-    // Notes the next entry of a journal, with its payload.
+    // Notes the next entry of a journal, made on queue q, with its payload.
     #[inline(always)]
     pub(crate) fn note_next(
         &mut self,
         journal: &Prefix<'_>,
         entry: Entry,
         payload: &[u8],
+        q: u64,
         fresh: Option<Slots>,
     )
+        requires queue { q ≡ entry_queue journal.now.records entry.process entry.call payload.now }
         requires tables { AreThoseOf journal.now.records self.old }
         requires next { IsLegalNext journal.now.records (record { entry = entry; payload = payload.now }) }
         requires at_most { entry.process ≤ self.old.n }
@@ -128,7 +130,6 @@ impl Tables {
         ensures n { self.new.n ≡ self.old.n }
         ensures bounds { self.new.bounds ≡ self.old.bounds }
     {
-        let q = self.entry_queue(journal, entry.process, entry.call, payload);
         self.note(journal, entry, q, fresh);
     }
 
@@ -149,13 +150,22 @@ impl Tables {
     {
         self.make_notice_room(entry.process, entry.call, entry.reply)?;
         let fresh = self.fresh_slots(entry.call, entry.reply)?;
-        self.note_next(journal, entry, payload, fresh);
+        let q = self.entry_queue(journal, entry.process, entry.call, payload);
+        self.note_next(journal, entry, payload, q, fresh);
         Ok(())
     }
 
-    // Appends the entry of a call that gets its reply, with its payload.
+    // Appends the entry of a call on queue q that gets its reply, with its payload.
     #[inline(always)]
-    fn append(&mut self, journal: &mut Journal, entry: Entry, payload: &[u8], fresh: Option<Slots>)
+    fn append(
+        &mut self,
+        journal: &mut Journal,
+        entry: Entry,
+        payload: &[u8],
+        q: u64,
+        fresh: Option<Slots>,
+    )
+        requires queue { q ≡ entry_queue journal.old.records entry.process entry.call payload.now }
         requires kept { IsKeptBy journal.old self.old }
         requires next { IsLegalNext journal.old.records (record { entry = entry; payload = payload.now }) }
         requires at_most { entry.process ≤ self.old.n }
@@ -171,11 +181,11 @@ impl Tables {
         ensures n { self.new.n ≡ self.old.n }
         ensures bounds { self.new.bounds ≡ self.old.bounds }
     {
-        self.note_next(&Prefix::whole(journal), entry, payload, fresh);
+        self.note_next(&Prefix::whole(journal), entry, payload, q, fresh);
         journal.push(entry, payload);
     }
 
-    // Appends the entry of a call that was given these bytes, with its reply.
+    // Appends the entry of a call on queue q that was given these bytes, with its reply.
     #[inline(always)]
     fn record(
         &mut self,
@@ -184,8 +194,10 @@ impl Tables {
         call: Call,
         reply: Reply,
         given: &[u8],
+        q: u64,
         fresh: Option<Slots>,
     )
+        requires queue { q ≡ entry_queue journal.old.records p call given.now }
         requires kept { IsKeptBy journal.old self.old }
         requires process { (1 ≤ p) × (p ≤ self.old.n) }
         requires turn { IsTrue (may_call journal.old.records p call) }
@@ -208,7 +220,7 @@ impl Tables {
             call,
             reply,
         };
-        self.append(journal, entry, payload_of(call, reply, given), fresh);
+        self.append(journal, entry, payload_of(call, reply, given), q, fresh);
     }
 
     // Settles a call that neither waits nor creates or registers anything: makes room for its entry, and appends it.
@@ -233,7 +245,8 @@ impl Tables {
         if let Err(fault) = self.make_room(journal, 1, given.len(), given.len()) {
             return Reply::Refused(fault);
         }
-        self.record(journal, p, call, reply, given, None);
+        let q = self.entry_queue(&Prefix::whole(journal), p, call, given);
+        self.record(journal, p, call, reply, given, q, None);
         reply
     }
 
@@ -317,7 +330,8 @@ impl Tables {
         let Ok(fresh) = self.fresh_slots(call, reply) else {
             return Reply::Refused(Fault::NoMemory);
         };
-        self.record(journal, p, call, reply, name, fresh);
+        let q = self.entry_queue(&Prefix::whole(journal), p, call, name);
+        self.record(journal, p, call, reply, name, q, fresh);
         reply
     }
 
@@ -389,7 +403,8 @@ impl Tables {
         if self.make_notice_room(p, call, reply).is_err() {
             return Reply::Refused(Fault::NoMemory);
         }
-        self.record(journal, p, call, reply, &[], None);
+        let q = self.entry_queue(&Prefix::whole(journal), p, call, &[]);
+        self.record(journal, p, call, reply, &[], q, None);
         reply
     }
 
@@ -413,7 +428,9 @@ impl Tables {
         reply: Reply,
         bytes: &[u8],
         most: usize,
+        q: u64,
     ) -> Reply
+        requires queue { q ≡ entry_queue journal.old.records p call bytes.now }
         requires may_call { MayCall journal.old self.old p }
         requires sends { is_send call ≡ true }
         requires length { length_sent call ≡ length bytes.now }
@@ -428,7 +445,7 @@ impl Tables {
         if let Err(fault) = self.make_room(journal, 2, most, kept.len()) {
             return Reply::Refused(fault);
         }
-        self.record(journal, p, call, reply, bytes, None);
+        self.record(journal, p, call, reply, bytes, q, None);
         reply
     }
 
@@ -440,16 +457,13 @@ impl Tables {
         ensures refused { (fault : Fault) → result ≡ Reply.Refused fault → fault ≢ Fault.NoMemory → journal.new.byte_room ≡ journal.old.byte_room }
     {
         let len = bytes.len() as u64;
-        let reply = self.reply_to_send(&Prefix::whole(journal), p, d, prio, len);
+        let past = Prefix::whole(journal);
+        let held = self.held(&past, p, d);
+        let q = queue_of(&past, held);
+        let reply = self.reply_to_send(&past, held, prio, len);
+        let call = Call::MqSend { d, prio, len };
         let most = bytes_kept(reply, bytes);
-        self.settle_send(
-            journal,
-            p,
-            Call::MqSend { d, prio, len },
-            reply,
-            bytes,
-            most,
-        )
+        self.settle_send(journal, p, call, reply, bytes, most, q)
     }
 
     /// A send with a deadline (`mq_timedsend`).
@@ -468,7 +482,10 @@ impl Tables {
         ensures refused { (fault : Fault) → result ≡ Reply.Refused fault → fault ≢ Fault.NoMemory → journal.new.byte_room ≡ journal.old.byte_room }
     {
         let len = bytes.len() as u64;
-        let plain = self.reply_to_send(&Prefix::whole(journal), p, d, prio, len);
+        let past = Prefix::whole(journal);
+        let held = self.held(&past, p, d);
+        let q = queue_of(&past, held);
+        let plain = self.reply_to_send(&past, held, prio, len);
         let reply = ladder::timed(until, now, plain);
         let call = Call::MqTimedSend {
             d,
@@ -477,7 +494,7 @@ impl Tables {
             until,
             now,
         };
-        self.settle_send(journal, p, call, reply, bytes, bytes_kept(plain, bytes))
+        self.settle_send(journal, p, call, reply, bytes, bytes_kept(plain, bytes), q)
     }
 
     // Settles a receive: makes room for its entry, fills the front of the buffer where it gets a message, and appends it.
@@ -489,7 +506,9 @@ impl Tables {
         call: Call,
         reply: Reply,
         buf: &mut [u8],
+        q: u64,
     ) -> Reply
+        requires queue { q ≡ entry_queue journal.old.records p call [] }
         requires may_call { MayCall journal.old self.old p }
         requires receives { is_receive call ≡ true }
         requires room { room_of call ≡ length buf.old }
@@ -501,7 +520,7 @@ impl Tables {
             return Reply::Refused(fault);
         }
         buffers::fill(journal, reply, buf);
-        self.record(journal, p, call, reply, &[], None);
+        self.record(journal, p, call, reply, &[], q, None);
         reply
     }
 
@@ -513,8 +532,11 @@ impl Tables {
         ensures buffer { buf.new ≡ filled journal.old.records result buf.old }
     {
         let room = buf.len() as u64;
-        let reply = self.reply_to_receive(&Prefix::whole(journal), p, d, room);
-        self.settle_receive(journal, p, Call::MqReceive { d, room }, reply, buf)
+        let past = Prefix::whole(journal);
+        let held = self.held(&past, p, d);
+        let q = queue_of(&past, held);
+        let reply = self.reply_to_receive(&past, held, room);
+        self.settle_receive(journal, p, Call::MqReceive { d, room }, reply, buf, q)
     }
 
     /// A receive with a deadline (`mq_timedreceive`).
@@ -532,7 +554,10 @@ impl Tables {
         ensures buffer { buf.new ≡ filled journal.old.records result buf.old }
     {
         let room = buf.len() as u64;
-        let found = self.reply_to_receive(&Prefix::whole(journal), p, d, room);
+        let past = Prefix::whole(journal);
+        let held = self.held(&past, p, d);
+        let q = queue_of(&past, held);
+        let found = self.reply_to_receive(&past, held, room);
         let reply = ladder::timed(until, now, found);
         let call = Call::MqTimedReceive {
             d,
@@ -540,7 +565,7 @@ impl Tables {
             until,
             now,
         };
-        self.settle_receive(journal, p, call, reply, buf)
+        self.settle_receive(journal, p, call, reply, buf, q)
     }
 
     /// The open wait of process p with the place of the entry that answers it, if one does.
@@ -579,12 +604,14 @@ impl Tables {
         ensures n { self.new.n ≡ self.old.n }
         ensures bounds { self.new.bounds ≡ self.old.bounds }
     {
+        let q = journal.len();
         self.record(
             journal,
             p,
             Call::Collect,
             Reply::Collected { by },
             &[],
+            q,
             None,
         );
     }
@@ -611,7 +638,8 @@ impl Tables {
             return false;
         }
         let reply = Reply::Withdrawn { wait: wait.place };
-        self.record(journal, p, Call::Withdraw { now }, reply, &[], None);
+        let q = journal.len();
+        self.record(journal, p, Call::Withdraw { now }, reply, &[], q, None);
         true
     }
 }

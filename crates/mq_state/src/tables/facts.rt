@@ -5,7 +5,7 @@ ghost use Rattle.mq_model.specs.Names.{attributes, bound_queue};
 ghost use Rattle.mq_model.specs.Descriptors.{held, lowest_free, alive};
 ghost use Rattle.mq_model.specs.Messages.{is_in, present, best, least};
 ghost use Rattle.mq_model.specs.Notices.{registered};
-ghost use Rattle.mq_model.specs.Legality.{Legal, may_call, reply_to, reply_to_attributes, open_facts, send_facts, receive_facts, status_facts};
+ghost use Rattle.mq_model.specs.Legality.{Legal, may_call, reply_to, reply_to_attributes, reply_to_send, reply_to_receive, open_facts, send_facts, receive_facts, status_facts};
 ghost use Rattle.mq_model.specs.Owners.{waiting, waits_count};
 ghost use Rattle.mq_model.specs.Waits.{open_wait, wait_deadline, answered_by};
 ghost use Rattle.mq_state.specs.Kept.{Mirrors, AreThoseOf};
@@ -56,7 +56,7 @@ fn registration_place(registration: Option<Registration>) -> Option<u64>
 impl Tables {
     // What process p holds under descriptor d: a queue that exists.
     #[inline(always)]
-    fn held(&self, journal: &Prefix<'_>, p: u32, d: u32) -> Option<Description>
+    pub(crate) fn held(&self, journal: &Prefix<'_>, p: u32, d: u32) -> Option<Description>
         requires mirror { Mirrors journal.now self.now }
         requires legal { Legal journal.now.records }
         ensures held { result ≡ held journal.now.records p d }
@@ -238,23 +238,23 @@ impl Tables {
         }
     }
 
-    // The reply to a send.
+    // The reply to a send on a descriptor that is this.
     #[inline(always)]
     pub(crate) fn reply_to_send(
         &self,
         journal: &Prefix<'_>,
-        p: u32,
-        d: u32,
+        held: Option<Description>,
         prio: u32,
         len: u64,
     ) -> Reply
         requires mirror { Mirrors journal.now self.now }
         requires legal { Legal journal.now.records }
+        requires alive { IfSome held (λ h. IsTrue (is_in (alive journal.now.records) h.queue)) }
         requires few { self.now.n ≤ 32 }
         requires waits { self.now.waits ≡ waits_count self.now.owners.items }
-        ensures { result ≡ reply_to journal.now.records p (Call.MqSend d prio len) [] }
+        ensures { result ≡ reply_to_send journal.now.records held prio len }
     {
-        match self.held(journal, p, d) {
+        match held {
             Some(h) => ladder::send(prio, len, Some(self.send_facts(journal, h))),
             None => ladder::send(prio, len, None),
         }
@@ -280,16 +280,22 @@ impl Tables {
         }
     }
 
-    // The reply to a receive.
+    // The reply to a receive on a descriptor that is this.
     #[inline(always)]
-    pub(crate) fn reply_to_receive(&self, journal: &Prefix<'_>, p: u32, d: u32, room: u64) -> Reply
+    pub(crate) fn reply_to_receive(
+        &self,
+        journal: &Prefix<'_>,
+        held: Option<Description>,
+        room: u64,
+    ) -> Reply
         requires mirror { Mirrors journal.now self.now }
         requires legal { Legal journal.now.records }
+        requires alive { IfSome held (λ h. IsTrue (is_in (alive journal.now.records) h.queue)) }
         requires few { self.now.n ≤ 32 }
         requires waits { self.now.waits ≡ waits_count self.now.owners.items }
-        ensures { result ≡ reply_to journal.now.records p (Call.MqReceive d room) [] }
+        ensures { result ≡ reply_to_receive journal.now.records held room }
     {
-        match self.held(journal, p, d) {
+        match held {
             Some(h) => ladder::receive(room, Some(self.receive_facts(journal, h))),
             None => ladder::receive(room, None),
         }
@@ -351,21 +357,38 @@ impl Tables {
             Call::MqOpen { flags, attr } => self.reply_to_open(journal, p, name, flags, attr),
             Call::MqClose { d } => self.reply_to_close(journal, p, d),
             Call::MqUnlink => self.reply_to_unlink(journal, p, name),
-            Call::MqSend { d, prio, len } => self.reply_to_send(journal, p, d, prio, len),
-            Call::MqReceive { d, room } => self.reply_to_receive(journal, p, d, room),
+            Call::MqSend { d, prio, len } => self.reply_to_send(
+                journal,
+                self.held(journal, p, d),
+                prio,
+                len,
+            ),
+            Call::MqReceive { d, room } => self.reply_to_receive(
+                journal,
+                self.held(journal, p, d),
+                room,
+            ),
             Call::MqTimedSend {
                 d,
                 prio,
                 len,
                 until,
                 now,
-            } => ladder::timed(until, now, self.reply_to_send(journal, p, d, prio, len)),
+            } => ladder::timed(
+                until,
+                now,
+                self.reply_to_send(journal, self.held(journal, p, d), prio, len),
+            ),
             Call::MqTimedReceive {
                 d,
                 room,
                 until,
                 now,
-            } => ladder::timed(until, now, self.reply_to_receive(journal, p, d, room)),
+            } => ladder::timed(
+                until,
+                now,
+                self.reply_to_receive(journal, self.held(journal, p, d), room),
+            ),
             Call::MqGetattr { d } => self.reply_to_attributes(journal, p, d),
             Call::MqSetattr { d, nonblock: _ } => self.reply_to_attributes(journal, p, d),
             Call::MqNotify { d, value } => self.reply_to_notify(journal, p, d, value),
