@@ -3,7 +3,7 @@
  * A handle (yak_process) holds one process of a system of 1 to 32 processes that share queues. Each call makes one call of its process,
  * or says why not, and never waits. `static inline` functions below wait, by calling again and yielding the processor.
  *
- * What a call answers:
+ * What a call returns:
  *   YAK_DONE (0)      it was made and is done;
  *   1 to 13           it was refused, by the fault of that number (yak_fault);
  *   YAK_RETRY         the process did not come inside by this try: try again, after others have run;
@@ -20,7 +20,7 @@
  * YAK_JOURNALFULL stands in the journal as a call that was refused. Where a call is not YAK_DONE, what it would write is as it was.
  *
  * A handle that a call left with YAK_RETRY is on its way into the lock, and keeps others out until a call on it is through: go on
- * trying any call on it until the answer is another. A handle must not be forgotten in that state.
+ * trying any call on it until one returns another number. A handle must not be forgotten in that state.
  *
  * What a program owes, and no call can check:
  *   - a handle begins as zeros (YAK_PROCESS_EMPTY) and is changed by these calls alone; it is not copied while it is in use;
@@ -170,7 +170,7 @@ uint32_t yak_answered(yak_process *process);
 uint32_t yak_collect(yak_process *process, uint8_t *buf, size_t len, yak_message *message);
 
 /* Ends the open wait, whose deadline has passed at the moment `now`: as yak_collect where it is answered, and else the wait is withdrawn,
- * and the answer is YAK_TIMEDOUT. */
+ * and YAK_TIMEDOUT is returned. */
 uint32_t yak_end_wait(yak_process *process, uint8_t *buf, size_t len, yak_message *message, const yak_moment *now);
 
 /* Checks the journal of the system from its first entry on, inside the lock: YAK_DONE, since it is the history of one thread's queues.

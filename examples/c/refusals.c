@@ -1,4 +1,4 @@
-/* Each call of <mqueue.h> with each of its errors, and the answers of the calls on handles that have no errno. */
+/* Each call of <mqueue.h> with each of its errors, and the numbers from calls on handles that have no errno. */
 #define YAKYROMBE_IMPLEMENTATION
 #include <mqueue.h>
 

@@ -1,5 +1,5 @@
 /* Many threads on one queue, by the calls of <mqueue.h>: usage: threads PROCESSES ROUNDS, an even number of processes from 2 to 32, half of
- * which send and half receive, ROUNDS messages each. Then a receive that another thread answers, and an unlink while others hold. */
+ * which send and half receive, ROUNDS messages each. Then a receive whose wait another thread answers, and an unlink while others hold. */
 #define YAKYROMBE_IMPLEMENTATION
 #include <mqueue.h>
 

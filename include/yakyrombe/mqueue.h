@@ -44,7 +44,7 @@ static inline void yak_attach(yak_process *process)
     yak_attached = process;
 }
 
-/* -1 with errno for what a call answered, or 0 where it is done. */
+/* -1 with errno for what a call returned, or 0 where it is done. */
 static inline int yak_result(uint32_t answer)
 {
     static const int errors[] = {

@@ -11,8 +11,8 @@ const FIRST_SLEEP: u64 = 20;
 
 const LONGEST_SLEEP: u64 = 1_000;
 
-/// Waits that grow: a few spins, then yields, then sleeps, each twice the one before, up to a millisecond. A call that is
-/// answered soon hears of it at once, and one that stays blocked leaves the processor to others.
+/// Waits that grow: a few spins, then yields, then sleeps, each twice the one before, up to a millisecond. A call
+/// whose wait is answered soon hears of it at once, and one that stays blocked leaves the processor to others.
 #[derive(Drop)]
 pub(crate) struct Pause {
     backoff: Backoff,

@@ -1,4 +1,4 @@
-//! What each call is answered by the entries before a place: the facts that its reply depends on, read off the tables and the
+//! The reply to each call, by the entries before a place: the facts that it depends on, read off the tables and the
 //! entries, and the reply that the ladder of `mq_model` gives to them. Facts that no reply depends on are not read.
 #![tactic(auto, using(mq_model::proofs::Prefixes::prefixes))]
 
@@ -258,7 +258,7 @@ fn held_created(journal: &Journal, k: u64, tables: &Tables, p: u32, d: u32) -> O
     tables::held(journal, k, tables, p, d)
 }
 
-// What a call at place `k` is answered.
+// The reply to a call at place `k`.
 pub(crate) fn reply_to(
     journal: &Journal,
     k: u64,

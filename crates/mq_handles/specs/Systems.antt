@@ -18,7 +18,7 @@ pub record Made (bounds : Option Bounds) (handles : List Handle) : Type 0 where
   pub bounds_are : bounds_in lock.fixed ≡ bounds
   pub processes : map process_in handles ≡ map (λ (t : Ticket Record). Some t) (tickets_from lock 1 (length handles))
 
--- the making answers 0 and made it, or 24 where a handle was not empty, 5 where there are not 1 to 32, or 11 for want of memory, and
+-- the making gives 0 and made it, or 24 where a handle was not empty, 5 where there are not 1 to 32, or 11 for want of memory, and
 -- then the handles are as they were
 abbrev pub Makes : Option Bounds → List Handle → List Handle → ℕ → Type 0
 Makes bounds old new code =

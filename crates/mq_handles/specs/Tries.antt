@@ -18,7 +18,7 @@ TriesWith kept call old new Waiting = (new ≡ old) × (IsFree old → ⊥) × k
 abbrev pub Tries : {R : Type 0} → (Ticket Record → Ticket Record → R → Type 0) → Ticket Record → Ticket Record → Tried R → Type 0
 Tries call old new t = TriesWith (Unit {0}) call old new t
 
--- the try of an export on a handle that has this process, or none, and has that one after it: what it answers is what `says` gives
+-- the try of an export on a handle that has this process, or none, and has that one after it: what it returns is what `says` gives
 -- of the try, or, where the handle is empty, of none
 abbrev pub GivesWith : {R A : Type 0} → Type 0 → (Ticket Record → Ticket Record → R → Type 0) → (Option (Tried R) → A) → Option (Ticket Record) → Option (Ticket Record) → A → Type 0
 GivesWith kept call says None None code = (code ≡ says None) × kept

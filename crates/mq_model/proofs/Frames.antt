@@ -86,7 +86,7 @@ answered_by-none (r ∷ past) p e = split (r.entry.process == p)
     (λ t. rw t refl)
     (λ n. let old : open_wait past p ≡ None = rw n at e in rw (n, old) (answered_by-none past p old))
 
--- which process a reply answers
+-- the process whose wait a reply answers
 pub answered_by-step : (past : Past) (r : Record) → open_wait past r.entry.process ≡ None → (k : ℕ) → answered_by (r ∷ past) k ≡ (if names_wait r.entry.reply (open_wait past k) then Some (length past) else answered_by past k)
 answered_by-step past r none k = split (r.entry.process == k)
     (λ t. let same : r.entry.process ≡ k = eqb-true _ _ t in let free : open_wait past k ≡ None = rw same at none in rw (t, free) (sym (answered_by-none past k free)))

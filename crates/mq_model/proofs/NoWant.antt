@@ -1,4 +1,4 @@
--- No call is answered that memory was wanting, or that the journal is full: that is no matter of the journal.
+-- No reply says that memory was wanting, or that the journal is full: that is no matter of the journal.
 use Rattle.std.proofs.Common.{◌≡◌, ◌≢◌, ℕ, Bool, true, false, ◌&&◌, ◌==◌, not, List, length, Option, Some, None, is_some, is_none, if◌then◌else◌, sym, subst}
 use Rattle.std.specs.Prelude.{nat_le, int_lt, pos}
 use Rattle.mq_model.specs.Record.{Past}

@@ -24,7 +24,7 @@ with_nonblock nonblock h = record { queue = h.queue; access = h.access; nonblock
 abbrev pub opened_queue : Past → List ℕ → Bool → Queue
 opened_queue past name created = if created then length past else unwrap_or (bound_queue past name) 0
 
--- what descriptor d is after an open that answered e
+-- what descriptor d is after an open that gave e
 abbrev pub after_open : Past → Call → List ℕ → Descriptor → Bool → Descriptor → Option Description → Option Description
 after_open past (MqOpen flags attr) name e created d before = if e == d then Some (description (opened_queue past name created) flags) else before
 after_open past _ name e created d before = before
@@ -46,7 +46,7 @@ held_after past call name Done d before = after_close call d before
 held_after past call name (Attrs status) d before = after_setattr call d before
 held_after past call name _ d before = before
 
--- the description that process p holds under descriptor d: that of the latest open that answered d, with the flag of the
+-- the description that process p holds under descriptor d: that of the latest open that gave d, with the flag of the
 -- latest setattr after it, and none if d was closed since
 abbrev pub held : Past → Process → Descriptor → Option Description
 held [] p d = None

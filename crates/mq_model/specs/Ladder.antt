@@ -1,4 +1,4 @@
--- What each call is answered, from the facts that its reply depends on: the cases of the standard, in their order.
+-- The reply to each call, from the facts that it depends on: the cases of the standard, in their order.
 use Rattle.std.specs.Prelude.{ℕ, pos, Bool, true, false, ◌&&◌, not, ◌==◌, nat_le, Option, Some, None, is_some, is_none, if◌then◌else◌, int_lt, int_le}
 use Rattle.std.specs.Option.{unwrap_or}
 use Rattle.mq_model.specs.Limits.{most_queues, most_priorities}

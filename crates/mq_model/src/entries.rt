@@ -264,7 +264,7 @@ impl Call {
     }
 }
 
-/// What a call was answered. A place is the number of a record in the journal, from 0: it names a message (the place of its
+/// What a call gives. A place is the number of a record in the journal, from 0: it names a message (the place of its
 /// send), a wait (the place of the call that blocked) and a registration (the place of its notify).
 #[derive(Clone, Copy, Debug, PartialEq, Eq)]
 pub enum Reply {

@@ -37,8 +37,8 @@ use std::time::Clock;
 /// nothing is written. `RunFault::Output`: a write failed; the replies of the phases before are written, and of what it was to
 /// write a front part. `RunFault::NoMemory`: a growth outside a call, or a thread, was refused; the replies of the phases before
 /// are written, and nothing of that phase.
-/// `RunFault::Deadlock`: in a phase all processes that are not through with their calls wait, and nothing answers them; the replies of
-/// the phases before are written, and nothing of that phase.
+/// `RunFault::Deadlock`: in a phase all processes that are not through with their calls wait, and nothing answers these waits; the replies
+/// of the phases before are written, and nothing of that phase.
 pub fn run_script<L, S, R, W, G>(
     rt: &S,
     alloc: Global,

@@ -63,7 +63,7 @@ best-is xs b best = find-only (λ a. list_all (goes_first a) xs) xs b best.there
       | inr n ↦ absurd (not-back b m (best.first m there n) (of-all (goes_first m) xs passes b best.there))
     ])
 
--- what `best` of the slots answers
+-- what `best` of the slots gives
 pub best-found : (xs : List (ℕ × ℕ)) (o : Option (ℕ × ℕ)) → (IsNone o ↔ (xs ≡ [])) → IfSome o (λ m. IsBest xs m) → o ≡ best_slot xs
 best-found xs None none best = let empty : xs ≡ [] = none.0 refl in rw empty refl
 best-found xs (Some m) none best = sym (best-is xs m best)

@@ -1,7 +1,7 @@
 //! The queues of one thread, with the journal of the calls made on them.
 //!
 //! Each call is made by a process p from 1 to n that has no open wait, appends exactly one entry, the call with the reply
-//! that the definitions give, and returns that reply. A call that is answered `Refused(NoMemory)` or `Refused(JournalFull)` has no
+//! that the definitions give, and returns that reply. A call that replies `Refused(NoMemory)` or `Refused(JournalFull)` has no
 //! entry and changes nothing. The first comes only where a growth was refused, and never with bounds; the second only with bounds, and
 //! exactly where the call finds the journal full.
 ghost use Rattle.std.specs.Prelude.{◌≡◌, ◌≢◌, ◌<◌, ◌≤◌, ◌+◌, IfOk, IfSome, IsSome, IsTrue, ◌↔◌, Some, None, length, [], All, true, false, ◌&&◌, is_none};

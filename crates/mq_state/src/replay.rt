@@ -1,5 +1,5 @@
 //! Whether a journal is legal, and where and why it is not, in time nearly linear in its length: the tables of the queues say what
-//! each call is answered, and note each entry.
+//! each call replies, and note each entry.
 ghost use Rattle.std.specs.Prelude.{◌≡◌, ◌↔◌, IfOk, IfSome, None};
 ghost use Rattle.mq_model.specs.Legality.{Legal, IsLegalNext};
 ghost use Rattle.mq_state.specs.Kept.{AreThoseOf};
@@ -23,7 +23,7 @@ pub enum Cause {
     Turn,
     /// The payload is not the name, or the message, that belongs to the call and its reply.
     Payload,
-    /// The call is answered with this reply, and not with that of the entry.
+    /// The call gives this reply, and not that of the entry.
     Reply(Reply),
 }
 

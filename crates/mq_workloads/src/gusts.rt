@@ -246,7 +246,7 @@ fn serve<L: Look<Guarded>, R: Wait + Clock>(
     let _ = process.close(rt, mq, d);
 }
 
-// A send or a receive that may wait, and what it came to. It is given up where nobody answers it.
+// A send or a receive that may wait, and what it came to. It is given up where nobody answers its wait.
 fn start<L: Look<Guarded>, R: Wait>(rt: &R, mq: &Mq<L>, process: &mut Process<L>, dice: &mut Dice)
     requires ready { IsReady mq.now process.old }
     ensures made { process.new.lock ≡ mq.now }

@@ -80,7 +80,7 @@ const REPLIES: [(u32, Reply); 17] = [
 ];
 
 #[test]
-fn each_call_that_never_waits_answers(rt: HostRuntime) {
+fn each_call_that_never_waits_replies(rt: HostRuntime) {
     let journal = after::<FastMutex<Guarded>, _>(&rt, rt.alloc(), &EACH_CALL);
     expect_journal(&rt, &journal.expect(&rt, "memory"), &REPLIES);
 }

@@ -4,7 +4,7 @@ use Rattle.mq.specs.Blocked.{is_blocked}
 use Rattle.mq.specs.Calls.{Calls}
 use Rattle.mq_runner.proofs.settling.await_blocked.Given as goal
 
--- the last question, and its answer
+-- the last question, and what it was told
 abbrev pub invariant-questions : goal.invariant-questions
 invariant-questions g l = record {
   can : (goal.iterator-questions g).can_next l.iterator';
