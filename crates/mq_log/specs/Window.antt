@@ -1,6 +1,7 @@
 -- The part of a journal that a picture shows.
 use Rattle.std.specs.Prelude.{ℕ, ◌≡◌, ◌+◌, ◌-◌, min, nat_lt, List, Option, if◌then◌else◌, length}
 use Rattle.std.specs.Io.KnownBytes as known
+use Rattle.lines.specs.Output.{AppendsPart}
 use Rattle.mq_model.specs.Record.{Past}
 use Rattle.mq_journal.specs.Fitting.{AllFit}
 use Rattle.mq_journal.specs.Text.{journal_text}
@@ -25,3 +26,10 @@ pub record Draws (bytes : List ℕ) (window : Window) (old new : Option (List �
   pub fits : AllFit past
   pub text : bytes ≡ journal_text past
   pub written : known.Appends old new (picture_text past (first_shown window (length past)) (count_shown window (length past)))
+
+-- bytes are the text of a journal; known bytes have grown by a front part of such a picture
+pub record DrawsInPart (bytes : List ℕ) (window : Window) (old new : Option (List ℕ)) : Type 0 where
+  pub past : Past
+  pub fits : AllFit past
+  pub text : bytes ≡ journal_text past
+  pub written : AppendsPart old new (picture_text past (first_shown window (length past)) (count_shown window (length past)))

@@ -1,8 +1,8 @@
 //! A journal, from its bytes to a picture of it.
 ghost use Rattle.std.specs.Prelude.{◌≡◌, ◌+◌, ℕ, List, IsErrOf, OnOk, Some, take};
 ghost use Rattle.mq_journal.specs.JournalFault.{StopsAt};
-ghost use Rattle.mq_log.specs.Window.{Draws};
-ghost use Rattle.mq_log.specs.declared.fault.LogFault.TheVariants.{BadLine, Input, NoMemory};
+ghost use Rattle.mq_log.specs.Window.{Draws, DrawsInPart};
+ghost use Rattle.mq_log.specs.declared.fault.LogFault.TheVariants.{BadLine, Input, NoMemory, Output};
 
 use crate::check::MOST_BYTES;
 use crate::fault::LogFault;
@@ -27,6 +27,8 @@ pub fn draw_journal<R: Read, W: Write>(
         OnOk result (Draws (take (MOST_BYTES + 1) all) window (W.contents output.old) (W.contents output.new)) }
     ensures bad_line { (all : List ℕ) (line : ℕ) → R.remaining input.old ≡ Some all →
         IsErrOf result (BadLine line) → StopsAt line (take (MOST_BYTES + 1) all) }
+    ensures output { (all : List ℕ) → R.remaining input.old ≡ Some all →
+        IsErrOf result Output → DrawsInPart (take (MOST_BYTES + 1) all) window (W.contents output.old) (W.contents output.new) }
     ensures input { IsErrOf result Input → W.contents output.new ≡ W.contents output.old }
     ensures no_memory { IsErrOf result NoMemory → W.contents output.new ≡ W.contents output.old }
     ensures unwritten { (line : ℕ) → IsErrOf result (BadLine line) → W.contents output.new ≡ W.contents output.old }
