@@ -7,7 +7,7 @@ use Rattle.mq_model.specs.Record.{Past}
 use Rattle.mq_model.specs.Deadlines.{deadline_of}
 use Rattle.mq_model.specs.Waits.{open_wait, answered_by}
 use Rattle.mq_model.specs.Legality.{may_call}
-use Rattle.mq_model.specs.Owners.{wait_in, wait_kind, with_wait, waiter_in, waits_count, pending_in, OwnersMirror}
+use Rattle.mq_model.specs.Owners.{wait_in, wait_kind, waiter_in, waits_count, pending_in, OwnersMirror}
 use Rattle.mq_model.specs.OwnersNoted.{noted, noted_open, noted_done, noted_attributes, with_answer_at}
 use Rattle.mq_model.specs.declared.owners.OpenWait.{OpenWait}
 use Rattle.mq_model.specs.declared.owners.Owner.{Owner}
@@ -21,7 +21,7 @@ use Rattle.mq_model.proofs.OpenWaits.{withdrawn-open}
 use Rattle.mq_model.proofs.OwnersKeep.{turn-none}
 use Rattle.mq_model.proofs.OwnerLines.{length-with_slot, length-with_wait, length-with_answer, waits_count-with_slot, waits_count-with_wait, waits_count-with_answer, waits_count-no_wait, no-wait}
 use Rattle.mq_state.specs.Kept.{HasEntryRoom}
-use Rattle.mq_state.specs.Tables.{moves_waits}
+use Rattle.mq_state.specs.Tables.{begins_wait, ends_wait, MovesOwnWait}
 use Rattle.mq_model.specs.declared.owners.WaitKind.{WaitKind}
 
 answer-at-length : (owners : List Owner) (o : Option ℕ) (here : ℕ) → length (with_answer_at owners o here) ≡ length owners
@@ -70,18 +70,18 @@ attributes-waits owners p (MqSetattr d nonblock) = waits_count-with_slot owners 
 attributes-waits owners p call = refl
 
 -- a reply by which no wait begins or ends
-pub waits-quiet : (owners : List Owner) (here p : ℕ) (call : Call) (reply : Reply) (q : ℕ) → moves_waits reply ≡ false → waits_count (noted owners here p call reply q) ≡ waits_count owners
-waits-quiet owners here p call (Opened d created) q e = open-waits owners p call d q
-waits-quiet owners here p call Done q e = done-waits owners p call
-waits-quiet owners here p call (Attrs s) q e = attributes-waits owners p call
-waits-quiet owners here p call Waits q e = absurd (cc)
-waits-quiet owners here p call (Collected b) q e = absurd (cc)
-waits-quiet owners here p call (Withdrawn b) q e = absurd (cc)
-waits-quiet owners here p call (Handed w) q e = answer-at-waits owners (waiter_in owners w) here
-waits-quiet owners here p call (Got m a n) q e = answer-at-waits owners (option_and_then (waiter_in owners) a) here
-waits-quiet owners here p call (Queued n) q e = refl
-waits-quiet owners here p call (Notice v) q e = refl
-waits-quiet owners here p call (Refused f) q e = refl
+pub waits-quiet : (owners : List Owner) (here p : ℕ) (call : Call) (reply : Reply) (q : ℕ) → begins_wait reply ≡ false → ends_wait reply ≡ false → waits_count (noted owners here p call reply q) ≡ waits_count owners
+waits-quiet owners here p call (Opened d created) q e f = open-waits owners p call d q
+waits-quiet owners here p call Done q e f = done-waits owners p call
+waits-quiet owners here p call (Attrs s) q e f = attributes-waits owners p call
+waits-quiet owners here p call Waits q e f = absurd (cc)
+waits-quiet owners here p call (Collected b) q e f = absurd (cc)
+waits-quiet owners here p call (Withdrawn b) q e f = absurd (cc)
+waits-quiet owners here p call (Handed w) q e f = answer-at-waits owners (waiter_in owners w) here
+waits-quiet owners here p call (Got m a n) q e f = answer-at-waits owners (option_and_then (waiter_in owners) a) here
+waits-quiet owners here p call (Queued n) q e f = refl
+waits-quiet owners here p call (Notice v) q e f = refl
+waits-quiet owners here p call (Refused fault) q e f = refl
 
 pub waits-few : (owners : List Owner) → waits_count owners ≤ length owners
 unfolding waits_count
@@ -115,27 +115,17 @@ answered-waits past p by e = cases (open_wait past p) refl
     cases None is = absurd (let bad : None ≡ Some by = sym (answered_by-none past p is) ∙ e in cc)
     cases (Some w) is = (w, is)
 
--- there is room for the collect entries after the entry
-pub waits-noted : (past : Past) (owners : List Owner) → OwnersMirror past owners → (p : ℕ) (call : Call) (reply : Reply) (q room : ℕ) → Says past p call reply → IsTrue (may_call past p call) → p < length owners → HasEntryRoom reply (waits_count owners) room →
-    waits_count (noted owners (length past) p call reply q) + 1 ≤ room
-waits-noted past owners m p call (Opened d created) q room says turn lt has = let e = open-waits owners p call d q in omega (arith, e)
-waits-noted past owners m p call Done q room says turn lt has = let e = done-waits owners p call in omega (arith, e)
-waits-noted past owners m p call (Attrs s) q room says turn lt has = let e = attributes-waits owners p call in omega (arith, e)
-waits-noted past owners m p call Waits q room says turn lt has =
-    let free : open_wait past p ≡ None = turn-none past p call Waits says turn refl in
-    let none : wait_in owners p ≡ None = no-wait (wait_in owners p) (m.waits p ∙ free) in
-    let e = waits_count-with_wait owners p (record { place = length past; queue = q; kind = wait_kind call; until = deadline_of call }) lt none in omega (arith, e)
-waits-noted past owners m p call (Collected b) q room says turn lt has = by call says turn
+-- in a legal journal a process begins a wait where it has none, and ends one that it has
+pub own-wait : (past : Past) (owners : List Owner) → OwnersMirror past owners → (p : ℕ) (call : Call) (reply : Reply) → Says past p call reply → IsTrue (may_call past p call) → MovesOwnWait reply (wait_in owners p)
+own-wait past owners m p call Waits says turn = no-wait (wait_in owners p) (m.waits p ∙ turn-none past p call Waits says turn refl)
+own-wait past owners m p call (Collected b) says turn = by call says turn
   where
-    by : (call : Call) → Says past p call (Collected b) → IsTrue (may_call past p call) → waits_count (with_wait owners p None) + 1 ≤ room
+    by : (call : Call) → Says past p call (Collected b) → IsTrue (may_call past p call) → (w : OpenWait) × (wait_in owners p ≡ Some w)
     by Collect says turn = collected (answered_by past p) refl turn
       where
-        collected : (o : Option ℕ) → answered_by past p ≡ o → IsTrue (may_call past p Collect) → waits_count (with_wait owners p None) + 1 ≤ room
+        collected : (o : Option ℕ) → answered_by past p ≡ o → IsTrue (may_call past p Collect) → (w : OpenWait) × (wait_in owners p ≡ Some w)
         collected None is turn = absurd (let bad : false ≡ true = rw is at turn in cc)
-        collected (Some k) is turn =
-            let w = answered-waits past p k is in
-            let x = waits-here past owners m p w.0 w.1 in
-            let e = waits_count-no_wait owners p x.0 x.1 in omega (arith, e)
+        collected (Some k) is turn = let w = answered-waits past p k is in waits-here past owners m p w.0 w.1
     by (MqOpen flags attr) says turn = absurd says
     by (MqClose d) says turn = absurd says.0
     by MqUnlink says turn = absurd says
@@ -148,10 +138,53 @@ waits-noted past owners m p call (Collected b) q room says turn lt has = by call
     by (MqNotify d value) says turn = absurd says
     by NextNotice says turn = absurd (cc)
     by (Withdraw now) says turn = absurd (cc)
-waits-noted past owners m p call (Withdrawn w) q room says turn lt has =
-    let open_at = (withdrawn-open past p call w says turn).0 in
-    let x = waits-here past owners m p w open_at in
-    let e = waits_count-no_wait owners p x.0 x.1 in omega (arith, e)
+own-wait past owners m p call (Withdrawn w) says turn = waits-here past owners m p w (withdrawn-open past p call w says turn).0
+own-wait past owners m p call (Opened d created) says turn = tt
+own-wait past owners m p call Done says turn = tt
+own-wait past owners m p call (Attrs s) says turn = tt
+own-wait past owners m p call (Handed w) says turn = tt
+own-wait past owners m p call (Got k a n) says turn = tt
+own-wait past owners m p call (Queued n) says turn = tt
+own-wait past owners m p call (Notice v) says turn = tt
+own-wait past owners m p call (Refused f) says turn = tt
+
+-- one more waits after a wait begins
+pub waits-begun : (owners : List Owner) (here p : ℕ) (call : Call) (reply : Reply) (q : ℕ) → begins_wait reply ≡ true → MovesOwnWait reply (wait_in owners p) → p < length owners → waits_count (noted owners here p call reply q) ≡ waits_count owners + 1
+waits-begun owners here p call Waits q e own lt = waits_count-with_wait owners p (record { place = here; queue = q; kind = wait_kind call; until = deadline_of call }) lt own
+waits-begun owners here p call (Opened d created) q e own lt = absurd (cc)
+waits-begun owners here p call Done q e own lt = absurd (cc)
+waits-begun owners here p call (Attrs s) q e own lt = absurd (cc)
+waits-begun owners here p call (Collected b) q e own lt = absurd (cc)
+waits-begun owners here p call (Withdrawn b) q e own lt = absurd (cc)
+waits-begun owners here p call (Handed w) q e own lt = absurd (cc)
+waits-begun owners here p call (Got m a n) q e own lt = absurd (cc)
+waits-begun owners here p call (Queued n) q e own lt = absurd (cc)
+waits-begun owners here p call (Notice v) q e own lt = absurd (cc)
+waits-begun owners here p call (Refused f) q e own lt = absurd (cc)
+
+-- one fewer waits after a wait ends
+pub waits-ended : (owners : List Owner) (here p : ℕ) (call : Call) (reply : Reply) (q : ℕ) → ends_wait reply ≡ true → MovesOwnWait reply (wait_in owners p) → waits_count (noted owners here p call reply q) + 1 ≡ waits_count owners
+waits-ended owners here p call (Collected b) q e own = waits_count-no_wait owners p own.0 own.1
+waits-ended owners here p call (Withdrawn b) q e own = waits_count-no_wait owners p own.0 own.1
+waits-ended owners here p call Waits q e own = absurd (cc)
+waits-ended owners here p call (Opened d created) q e own = absurd (cc)
+waits-ended owners here p call Done q e own = absurd (cc)
+waits-ended owners here p call (Attrs s) q e own = absurd (cc)
+waits-ended owners here p call (Handed w) q e own = absurd (cc)
+waits-ended owners here p call (Got m a n) q e own = absurd (cc)
+waits-ended owners here p call (Queued n) q e own = absurd (cc)
+waits-ended owners here p call (Notice v) q e own = absurd (cc)
+waits-ended owners here p call (Refused f) q e own = absurd (cc)
+
+-- there is room for the collect entries after the entry
+pub waits-noted : (past : Past) (owners : List Owner) → OwnersMirror past owners → (p : ℕ) (call : Call) (reply : Reply) (q room : ℕ) → Says past p call reply → IsTrue (may_call past p call) → p < length owners → HasEntryRoom reply (waits_count owners) room →
+    waits_count (noted owners (length past) p call reply q) + 1 ≤ room
+waits-noted past owners m p call (Opened d created) q room says turn lt has = let e = open-waits owners p call d q in omega (arith, e)
+waits-noted past owners m p call Done q room says turn lt has = let e = done-waits owners p call in omega (arith, e)
+waits-noted past owners m p call (Attrs s) q room says turn lt has = let e = attributes-waits owners p call in omega (arith, e)
+waits-noted past owners m p call Waits q room says turn lt has = let e = waits-begun owners (length past) p call Waits q refl (own-wait past owners m p call Waits says turn) lt in omega (arith, e)
+waits-noted past owners m p call (Collected b) q room says turn lt has = let e = waits-ended owners (length past) p call (Collected b) q refl (own-wait past owners m p call (Collected b) says turn) in omega (arith, e)
+waits-noted past owners m p call (Withdrawn w) q room says turn lt has = let e = waits-ended owners (length past) p call (Withdrawn w) q refl (own-wait past owners m p call (Withdrawn w) says turn) in omega (arith, e)
 waits-noted past owners m p call (Handed w) q room says turn lt has = let e = answer-at-waits owners (waiter_in owners w) (length past) in omega (arith, e)
 waits-noted past owners m p call (Got k a n) q room says turn lt has = let e = answer-at-waits owners (option_and_then (waiter_in owners) a) (length past) in omega (arith, e)
 waits-noted past owners m p call (Queued n) q room says turn lt has = has

@@ -12,6 +12,7 @@ use Rattle.mq_model.specs.declared.entries.Reply.TheVariants.{Got, Done, Waits, 
 use Rattle.mq_model.specs.Record.{Past}
 use Rattle.mq_model.specs.Notices.{notices, notified, gives_notice}
 use Rattle.mq_model.specs.Owners.{OwnersMirror}
+use Rattle.mq_model.specs.declared.owners.OpenWait.{OpenWait}
 use Rattle.mq_model.specs.declared.owners.Owner.{Owner}
 use Rattle.mq_state.specs.QueueShown.{QueueShown}
 use Rattle.mq_state.specs.InboxShown.{InboxShown}
@@ -38,12 +39,23 @@ entry_queue past p (MqOpen flags attr) name = unwrap_or (bound_queue past name) 
 entry_queue past p MqUnlink name = unwrap_or (bound_queue past name) (length past)
 entry_queue past p call name = unwrap_or (called_queue past p call) (length past)
 
--- a wait begins or ends
-abbrev pub moves_waits : Reply → Bool
-moves_waits Waits = true
-moves_waits (Collected by) = true
-moves_waits (Withdrawn wait) = true
-moves_waits _ = false
+-- a wait begins
+abbrev pub begins_wait : Reply → Bool
+begins_wait Waits = true
+begins_wait _ = false
+
+-- a wait ends
+abbrev pub ends_wait : Reply → Bool
+ends_wait (Collected by) = true
+ends_wait (Withdrawn wait) = true
+ends_wait _ = false
+
+-- a process that waits already begins no wait, and one that does not wait ends none
+abbrev pub MovesOwnWait : Reply → Option OpenWait → Type 0
+MovesOwnWait Waits wait = wait ≡ None
+MovesOwnWait (Collected by) wait = (w : OpenWait) × (wait ≡ Some w)
+MovesOwnWait (Withdrawn k) wait = (w : OpenWait) × (wait ≡ Some w)
+MovesOwnWait _ wait = Unit {0}
 
 -- the priority of the send that a reply admits
 abbrev pub admitted_priority : Past → Reply → ℕ

@@ -172,7 +172,9 @@ impl Tables {
         requires order { (x : QueueShown) → queue_in (map (reregistered q (length journal.now.records) entry) self.old.queues.items) q ≡ Some x → IsInOrder (length journal.now.records) entry.call entry.reply (admitted_priority journal.now.records entry.reply) x }
         requires notice_room { (n : Registration) → registration_in self.old.queues.items q ≡ Some n → 0 < room_in self.old.inboxes.items n.process }
         requires brings { BringsOrder entry.call entry.reply (vec_len self.old.queues) (vec_capacity self.old.queues) fresh }
+        requires few { length self.old.owners.items ≤ 33 }
         requires waits { self.old.waits ≡ waits_count self.old.owners.items }
+        requires own { MovesOwnWait entry.reply (wait_in self.old.owners.items entry.process) }
         requires rising { HaveRisingPlaces self.old.queues.items }
         ensures waits { self.new.waits ≡ waits_count self.new.owners.items }
         ensures n { self.new.n ≡ self.old.n }
@@ -259,7 +261,8 @@ fn free_owners(alloc: Global, count: usize) -> Result<Vec<Owner>, AllocError>
     Ok(owners)
 }
 
-ghost use Rattle.mq_state.specs.Tables.{moves_waits};
+ghost use Rattle.mq_state.specs.Tables.{begins_wait, ends_wait, MovesOwnWait};
+ghost use Rattle.mq_model.specs.Owners.{wait_in};
 ghost use Rattle.mq_model.specs.OwnersNoted.{noted, FitsSlots};
 
 // Notes in the table of processes an entry made on queue q, and gives how many wait after it, where so many waited before it.
@@ -267,24 +270,38 @@ ghost use Rattle.mq_model.specs.OwnersNoted.{noted, FitsSlots};
 fn note_owners(owners: &mut [Owner], waits: usize, here: u64, entry: Entry, q: u64) -> usize
     requires process { entry.process < length owners.old }
     requires numbers { FitsSlots entry.call entry.reply }
+    requires few { length owners.old ≤ 33 }
     requires waits { waits ≡ waits_count owners.old }
+    requires own { MovesOwnWait entry.reply (wait_in owners.old entry.process) }
     ensures owners { owners.new ≡ noted owners.old here entry.process entry.call entry.reply q }
     ensures waits { result ≡ waits_count owners.new }
 {
     owners::note(owners, here, entry, q);
-    if !moves_waits(entry.reply) {
-        return waits;
+    if begins_wait(entry.reply) {
+        return waits + 1;
     }
-    owners::open_waits(owners)
+    if ends_wait(entry.reply) {
+        return waits - 1;
+    }
+    waits
 }
 
-// A wait begins or ends.
 #[inline(always)]
-fn moves_waits(reply: Reply) -> bool
-    ensures { result ≡ moves_waits reply }
+fn begins_wait(reply: Reply) -> bool
+    ensures { result ≡ begins_wait reply }
 {
     match reply {
-        Reply::Waits | Reply::Collected { .. } | Reply::Withdrawn { .. } => true,
+        Reply::Waits => true,
+        _ => false,
+    }
+}
+
+#[inline(always)]
+fn ends_wait(reply: Reply) -> bool
+    ensures { result ≡ ends_wait reply }
+{
+    match reply {
+        Reply::Collected { .. } | Reply::Withdrawn { .. } => true,
         _ => false,
     }
 }

@@ -9,7 +9,7 @@ use Rattle.mq_state.specs.QueueShown.{QueueShown}
 use Rattle.mq_state.specs.Queues.{noted_queues, registration_in}
 use Rattle.mq_state.proofs.QueuesNoted.{HasRoomIn, line-room}
 use Rattle.mq_state.proofs.TablesKeep.{entry-on, queued-free, tables-keep}
-use Rattle.mq_state.proofs.WaitsNoted.{length-noted}
+use Rattle.mq_state.proofs.WaitsNoted.{length-noted, own-wait}
 use Rattle.mq_state.proofs.NoticeRoom.{notice-room-keeps, room-to-notify}
 use Rattle.mq_state.proofs.Arriving.{IsInOrderIn, line-order}
 use Rattle.mq_state.proofs.Bounded.{brought-one}
@@ -37,6 +37,15 @@ note-requires-clause-order c =
     let order : IsInOrderIn c.args.self.now.queues.items q (length past) e prio =
     line-order past c.requires.tables.legal c.args.self.now.queues.items c.requires.tables.mirror.existing e.process e.call e.reply c.args.payload.now q prio (legal_says past (record { entry = e; payload = c.args.payload.now }) c.requires.next) (entry-on past e.process e.call e.reply c.args.payload.now c.requires.next) in
     subst (λ k. IsInOrderIn c.args.self.now.queues.items k (length past) e prio) (sym c.requires.queue) order
+
+pub note-requires-clause-few : goal.note-requires-clause-few
+note-requires-clause-few c = let few = c.requires.tables.few in let count = c.requires.tables.mirror.owner_count in omega (arith, few, count)
+
+pub note-requires-clause-own : goal.note-requires-clause-own
+note-requires-clause-own c =
+    let past = c.args.journal.now.records in
+    let e = c.args.entry in
+    own-wait past c.args.self.now.owners.items c.requires.tables.mirror.lines e.process e.call e.reply (legal_says past (record { entry = e; payload = c.args.payload.now }) c.requires.next) c.requires.next.turn
 
 pub note-requires-clause-rising : goal.note-requires-clause-rising
 note-requires-clause-rising c = rising-places c.args.journal.now.records c.args.self.now.queues.items c.requires.tables.mirror.existing
