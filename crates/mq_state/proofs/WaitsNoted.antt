@@ -21,7 +21,7 @@ use Rattle.mq_model.proofs.OpenWaits.{withdrawn-open}
 use Rattle.mq_model.proofs.OwnersKeep.{turn-none}
 use Rattle.mq_model.proofs.OwnerLines.{length-with_slot, length-with_wait, length-with_answer, waits_count-with_slot, waits_count-with_wait, waits_count-with_answer, waits_count-no_wait, no-wait}
 use Rattle.mq_state.specs.Kept.{HasEntryRoom}
-use Rattle.mq_state.specs.Tables.{begins_wait, ends_wait, MovesOwnWait}
+use Rattle.mq_state.specs.Tables.{begins_wait, moves_waits, MovesOwnWait}
 use Rattle.mq_model.specs.declared.owners.WaitKind.{WaitKind}
 
 answer-at-length : (owners : List Owner) (o : Option ℕ) (here : ℕ) → length (with_answer_at owners o here) ≡ length owners
@@ -70,18 +70,18 @@ attributes-waits owners p (MqSetattr d nonblock) = waits_count-with_slot owners 
 attributes-waits owners p call = refl
 
 -- a reply by which no wait begins or ends
-pub waits-quiet : (owners : List Owner) (here p : ℕ) (call : Call) (reply : Reply) (q : ℕ) → begins_wait reply ≡ false → ends_wait reply ≡ false → waits_count (noted owners here p call reply q) ≡ waits_count owners
-waits-quiet owners here p call (Opened d created) q e f = open-waits owners p call d q
-waits-quiet owners here p call Done q e f = done-waits owners p call
-waits-quiet owners here p call (Attrs s) q e f = attributes-waits owners p call
-waits-quiet owners here p call Waits q e f = absurd (cc)
-waits-quiet owners here p call (Collected b) q e f = absurd (cc)
-waits-quiet owners here p call (Withdrawn b) q e f = absurd (cc)
-waits-quiet owners here p call (Handed w) q e f = answer-at-waits owners (waiter_in owners w) here
-waits-quiet owners here p call (Got m a n) q e f = answer-at-waits owners (option_and_then (waiter_in owners) a) here
-waits-quiet owners here p call (Queued n) q e f = refl
-waits-quiet owners here p call (Notice v) q e f = refl
-waits-quiet owners here p call (Refused fault) q e f = refl
+pub waits-quiet : (owners : List Owner) (here p : ℕ) (call : Call) (reply : Reply) (q : ℕ) → moves_waits reply ≡ false → waits_count (noted owners here p call reply q) ≡ waits_count owners
+waits-quiet owners here p call (Opened d created) q e = open-waits owners p call d q
+waits-quiet owners here p call Done q e = done-waits owners p call
+waits-quiet owners here p call (Attrs s) q e = attributes-waits owners p call
+waits-quiet owners here p call Waits q e = absurd (cc)
+waits-quiet owners here p call (Collected b) q e = absurd (cc)
+waits-quiet owners here p call (Withdrawn b) q e = absurd (cc)
+waits-quiet owners here p call (Handed w) q e = answer-at-waits owners (waiter_in owners w) here
+waits-quiet owners here p call (Got m a n) q e = answer-at-waits owners (option_and_then (waiter_in owners) a) here
+waits-quiet owners here p call (Queued n) q e = refl
+waits-quiet owners here p call (Notice v) q e = refl
+waits-quiet owners here p call (Refused fault) q e = refl
 
 pub waits-few : (owners : List Owner) → waits_count owners ≤ length owners
 unfolding waits_count
@@ -163,18 +163,18 @@ waits-begun owners here p call (Notice v) q e own lt = absurd (cc)
 waits-begun owners here p call (Refused f) q e own lt = absurd (cc)
 
 -- one fewer waits after a wait ends
-pub waits-ended : (owners : List Owner) (here p : ℕ) (call : Call) (reply : Reply) (q : ℕ) → ends_wait reply ≡ true → MovesOwnWait reply (wait_in owners p) → waits_count (noted owners here p call reply q) + 1 ≡ waits_count owners
-waits-ended owners here p call (Collected b) q e own = waits_count-no_wait owners p own.0 own.1
-waits-ended owners here p call (Withdrawn b) q e own = waits_count-no_wait owners p own.0 own.1
-waits-ended owners here p call Waits q e own = absurd (cc)
-waits-ended owners here p call (Opened d created) q e own = absurd (cc)
-waits-ended owners here p call Done q e own = absurd (cc)
-waits-ended owners here p call (Attrs s) q e own = absurd (cc)
-waits-ended owners here p call (Handed w) q e own = absurd (cc)
-waits-ended owners here p call (Got m a n) q e own = absurd (cc)
-waits-ended owners here p call (Queued n) q e own = absurd (cc)
-waits-ended owners here p call (Notice v) q e own = absurd (cc)
-waits-ended owners here p call (Refused f) q e own = absurd (cc)
+pub waits-ended : (owners : List Owner) (here p : ℕ) (call : Call) (reply : Reply) (q : ℕ) → moves_waits reply ≡ true → begins_wait reply ≡ false → MovesOwnWait reply (wait_in owners p) → waits_count (noted owners here p call reply q) + 1 ≡ waits_count owners
+waits-ended owners here p call (Collected b) q e f own = waits_count-no_wait owners p own.0 own.1
+waits-ended owners here p call (Withdrawn b) q e f own = waits_count-no_wait owners p own.0 own.1
+waits-ended owners here p call Waits q e f own = absurd (cc)
+waits-ended owners here p call (Opened d created) q e f own = absurd (cc)
+waits-ended owners here p call Done q e f own = absurd (cc)
+waits-ended owners here p call (Attrs s) q e f own = absurd (cc)
+waits-ended owners here p call (Handed w) q e f own = absurd (cc)
+waits-ended owners here p call (Got m a n) q e f own = absurd (cc)
+waits-ended owners here p call (Queued n) q e f own = absurd (cc)
+waits-ended owners here p call (Notice v) q e f own = absurd (cc)
+waits-ended owners here p call (Refused fault) q e f own = absurd (cc)
 
 -- there is room for the collect entries after the entry
 pub waits-noted : (past : Past) (owners : List Owner) → OwnersMirror past owners → (p : ℕ) (call : Call) (reply : Reply) (q room : ℕ) → Says past p call reply → IsTrue (may_call past p call) → p < length owners → HasEntryRoom reply (waits_count owners) room →
@@ -183,8 +183,8 @@ waits-noted past owners m p call (Opened d created) q room says turn lt has = le
 waits-noted past owners m p call Done q room says turn lt has = let e = done-waits owners p call in omega (arith, e)
 waits-noted past owners m p call (Attrs s) q room says turn lt has = let e = attributes-waits owners p call in omega (arith, e)
 waits-noted past owners m p call Waits q room says turn lt has = let e = waits-begun owners (length past) p call Waits q refl (own-wait past owners m p call Waits says turn) lt in omega (arith, e)
-waits-noted past owners m p call (Collected b) q room says turn lt has = let e = waits-ended owners (length past) p call (Collected b) q refl (own-wait past owners m p call (Collected b) says turn) in omega (arith, e)
-waits-noted past owners m p call (Withdrawn w) q room says turn lt has = let e = waits-ended owners (length past) p call (Withdrawn w) q refl (own-wait past owners m p call (Withdrawn w) says turn) in omega (arith, e)
+waits-noted past owners m p call (Collected b) q room says turn lt has = let e = waits-ended owners (length past) p call (Collected b) q refl refl (own-wait past owners m p call (Collected b) says turn) in omega (arith, e)
+waits-noted past owners m p call (Withdrawn w) q room says turn lt has = let e = waits-ended owners (length past) p call (Withdrawn w) q refl refl (own-wait past owners m p call (Withdrawn w) says turn) in omega (arith, e)
 waits-noted past owners m p call (Handed w) q room says turn lt has = let e = answer-at-waits owners (waiter_in owners w) (length past) in omega (arith, e)
 waits-noted past owners m p call (Got k a n) q room says turn lt has = let e = answer-at-waits owners (option_and_then (waiter_in owners) a) (length past) in omega (arith, e)
 waits-noted past owners m p call (Queued n) q room says turn lt has = has

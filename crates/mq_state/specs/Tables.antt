@@ -39,16 +39,17 @@ entry_queue past p (MqOpen flags attr) name = unwrap_or (bound_queue past name) 
 entry_queue past p MqUnlink name = unwrap_or (bound_queue past name) (length past)
 entry_queue past p call name = unwrap_or (called_queue past p call) (length past)
 
+-- a wait begins or ends
+abbrev pub moves_waits : Reply → Bool
+moves_waits Waits = true
+moves_waits (Collected by) = true
+moves_waits (Withdrawn wait) = true
+moves_waits _ = false
+
 -- a wait begins
 abbrev pub begins_wait : Reply → Bool
 begins_wait Waits = true
 begins_wait _ = false
-
--- a wait ends
-abbrev pub ends_wait : Reply → Bool
-ends_wait (Collected by) = true
-ends_wait (Withdrawn wait) = true
-ends_wait _ = false
 
 -- a process that waits already begins no wait, and one that does not wait ends none
 abbrev pub MovesOwnWait : Reply → Option OpenWait → Type 0

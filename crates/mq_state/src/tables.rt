@@ -261,7 +261,7 @@ fn free_owners(alloc: Global, count: usize) -> Result<Vec<Owner>, AllocError>
     Ok(owners)
 }
 
-ghost use Rattle.mq_state.specs.Tables.{begins_wait, ends_wait, MovesOwnWait};
+ghost use Rattle.mq_state.specs.Tables.{begins_wait, moves_waits, MovesOwnWait};
 ghost use Rattle.mq_model.specs.Owners.{wait_in};
 ghost use Rattle.mq_model.specs.OwnersNoted.{noted, FitsSlots};
 
@@ -277,13 +277,24 @@ fn note_owners(owners: &mut [Owner], waits: usize, here: u64, entry: Entry, q: u
     ensures waits { result ≡ waits_count owners.new }
 {
     owners::note(owners, here, entry, q);
+    if !moves_waits(entry.reply) {
+        return waits;
+    }
     if begins_wait(entry.reply) {
         return waits + 1;
     }
-    if ends_wait(entry.reply) {
-        return waits - 1;
+    waits - 1
+}
+
+// A wait begins or ends.
+#[inline(always)]
+fn moves_waits(reply: Reply) -> bool
+    ensures { result ≡ moves_waits reply }
+{
+    match reply {
+        Reply::Waits | Reply::Collected { .. } | Reply::Withdrawn { .. } => true,
+        _ => false,
     }
-    waits
 }
 
 #[inline(always)]
@@ -292,16 +303,6 @@ fn begins_wait(reply: Reply) -> bool
 {
     match reply {
         Reply::Waits => true,
-        _ => false,
-    }
-}
-
-#[inline(always)]
-fn ends_wait(reply: Reply) -> bool
-    ensures { result ≡ ends_wait reply }
-{
-    match reply {
-        Reply::Collected { .. } | Reply::Withdrawn { .. } => true,
         _ => false,
     }
 }
