@@ -8,6 +8,8 @@ use Rattle.mq_model.specs.Descriptors.{is_place}
 use Rattle.mq_model.specs.Waits.{named_wait, names_wait, open_wait, is_answered}
 use Rattle.mq_model.specs.declared.entries.Reply.{Reply}
 use Rattle.mq_model.proofs.Places.{split}
+use Rattle.mq_model.proofs.Frames.{answered_by-none}
+use Rattle.mq_state.specs.Buffers.{waiting_room}
 use Rattle.mq.specs.Calls.{author}
 
 -- the list found is the first records of the one that is left
@@ -20,6 +22,14 @@ found-first p places left now g e =
 pub found-few : (p places : ℕ) (left now : Past) → GrowsBy author p left now → places ≡ length left → places ≤ length now
 found-few p places left now g e =
     let long : length now ≡ length g.behind + length left = ap length g.is ∙ length-append g.behind left in omega arith
+
+-- without an open wait nothing is answered
+pub unanswered : (past : Past) (p : ℕ) → waiting_room past p ≡ None → is_answered past p ≡ false
+unanswered past p none = by (open_wait past p) refl
+  where
+    by : (o : Option ℕ) → open_wait past p ≡ o → is_answered past p ≡ false
+    by None is = rw (answered_by-none past p is) refl
+    by (Some w) is = absurd (let bad = rw is at none in cc)
 
 no-place : (o : Option ℕ) → is_some o ≡ false → (w : ℕ) → is_place w o ≡ false
 no-place None e w = refl

@@ -8,7 +8,7 @@ ghost use Rattle.mq.specs.Calls.{OneCall, ReceiveCall, Exits};
 ghost use Rattle.mq.specs.Says.{open_says, done_says, attributes_says, notice_says, start_send_says, start_receive_says};
 ghost use Rattle.mq_handles.specs.Tries.{Gives, GivesWith};
 ghost use Rattle.mq_handles.specs.Endings.{GivesEnd, GivesLook};
-ghost use Rattle.mq_handles.specs.Handles.{process_in};
+ghost use Rattle.mq_handles.specs.Handles.{process_in, under_way_in};
 ghost use Rattle.mq_handles.specs.Codes.{told, code_of, written, given_code, given, notice_code, notice_given, sent_code, got_code, message_got, attributes_got, end_code, end_message};
 
 use mq::Status;
@@ -282,7 +282,8 @@ pub extern "C" fn yak_end_wait(
 /// Looks from outside the lock whether the open wait is answered, which takes one load.
 #[unsafe(no_mangle)]
 pub extern "C" fn yak_answered(alloc: Global, process: &mut Handle) -> u32
-    ensures { GivesLook (process_in process.old) (process_in process.new) result }
+    ensures look { GivesLook (under_way_in process.old) (process_in process.old) (process_in process.new) result }
+    ensures under_way { under_way_in process.new ≡ under_way_in process.old }
 {
     let Some(mut member) = process.take(alloc) else {
         return EMPTY;

@@ -1,6 +1,7 @@
 //! The making of a system, and the end of a handle, as C asks for them.
 ghost use Rattle.std.specs.Prelude.{◌≡◌, Some, None};
 ghost use Rattle.mq_handles.specs.Handles.{process_in};
+ghost use Rattle.mq_handles.specs.Codes.{freed_code};
 ghost use Rattle.mq_handles.specs.Systems.{Makes};
 
 use mq_handles::handle::Handle;
@@ -30,11 +31,12 @@ pub extern "C" fn yak_bounded(
     system::bounded(alloc, processes, entries, bytes)
 }
 
-/// Empties a handle. Its process is lost: what it holds stays held, and where it was on its way into the lock it can keep all others
+/// Empties a handle: 0, or 18 where it was empty. Its process is lost: what it holds stays held, and where it was on its way into the lock it can keep all others
 /// out for good.
 #[unsafe(no_mangle)]
 pub extern "C" fn yak_free(alloc: Global, process: &mut Handle) -> u32
     ensures empty { process_in process.new ≡ None }
+    ensures code { result ≡ freed_code (process_in process.old) }
 {
     system::free(alloc, process)
 }

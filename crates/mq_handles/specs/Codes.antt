@@ -1,5 +1,7 @@
 -- The numbers that exports code, with what they write. Those of faults are their own, 1 to 13.
 use Rattle.std.specs.Prelude.{ℕ, Bool, true, false, Option, Some, None, Result, Ok, Err}
+use Rattle.fast_mutex.specs.Items.{Ticket}
+use Rattle.mq_model.specs.Record.{Record}
 use Rattle.mq_model.specs.Fault.{number_of}
 use Rattle.mq_model.specs.declared.faults.Fault.{Fault}
 use Rattle.mq_model.specs.declared.faults.Fault.TheVariants.{TimedOut}
@@ -99,3 +101,8 @@ end_message before (Some Short) = before
 end_message before (Some TooEarly) = before
 end_message before (Some Withdrawn) = before
 end_message before None = before
+
+-- of the end of a handle that has this process, or none
+abbrev pub freed_code : Option (Ticket Record) → ℕ
+freed_code (Some process) = 0
+freed_code None = 18

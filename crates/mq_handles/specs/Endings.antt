@@ -1,9 +1,9 @@
 -- What the try of a call leaves that ends an open wait.
-use Rattle.std.specs.Prelude.{ℕ, ◌≡◌, ◌≢◌, ◌<◌, true, false, List, length, Option, Some, None, IfSome}
+use Rattle.std.specs.Prelude.{ℕ, ◌≡◌, ◌≢◌, ◌<◌, Bool, true, false, List, length, Option, Some, None, IfSome, IsSome}
 use Rattle.fast_mutex.specs.Items.{Ticket}
 use Rattle.mq_model.specs.Record.{Record}
 use Rattle.mq_model.specs.Deadlines.{is_over}
-use Rattle.mq_model.specs.Waits.{wait_deadline}
+use Rattle.mq_model.specs.Waits.{wait_deadline, is_answered}
 use Rattle.mq_model.specs.declared.entries.Deadline.{Deadline}
 use Rattle.mq_state.specs.Buffers.{waiting_room}
 use Rattle.mq.specs.Calls.{Collects, StillWaits, WithdrawsAt}
@@ -33,12 +33,13 @@ GivesEnd at says (Some old) (Some new) before after code = (e : Ending) × Ends 
 GivesEnd at says None (Some new) before after code = ⊥
 GivesEnd at says (Some old) None before after code = ⊥
 
--- a look from outside: nothing has changed but what the process was told
-abbrev pub Looks : Ticket Record → Ticket Record → Looked → Type 0
-Looks old new Answered = (new ≡ record old { told = new.told }) × (new.told ≡ true)
-Looks old new NotYet = new ≡ record old { told = new.told }
-Looks old new UnderWay = new ≡ record old { told = new.told }
-Looks old new NoWait = (new ≡ old) × (waiting_room old.left old.number ≡ None)
+-- a look from outside at a process at rest or under way: nothing has changed, but that one at rest whose wait is answered was told so.
+-- Where it was not, it had not been told before, and the journal that it last left does not answer its wait
+abbrev pub Looks : Bool → Ticket Record → Ticket Record → Looked → Type 0
+Looks under_way old new NoWait = (new ≡ old) × (waiting_room old.left old.number ≡ None)
+Looks under_way old new UnderWay = (new ≡ old) × IsSome (waiting_room old.left old.number) × (under_way ≡ true)
+Looks under_way old new Answered = (new ≡ record old { told = true }) × IsSome (waiting_room old.left old.number) × (under_way ≡ false)
+Looks under_way old new NotYet = (new ≡ old) × IsSome (waiting_room old.left old.number) × (under_way ≡ false) × (is_answered old.left old.number ≡ false) × (old.told ≡ false)
 
 abbrev pub look_code : Option Looked → ℕ
 look_code None = 18
@@ -47,8 +48,8 @@ look_code (Some UnderWay) = 16
 look_code (Some NotYet) = 17
 look_code (Some NoWait) = 20
 
-abbrev pub GivesLook : Option (Ticket Record) → Option (Ticket Record) → ℕ → Type 0
-GivesLook None None code = code ≡ look_code None
-GivesLook (Some old) (Some new) code = (l : Looked) × Looks old new l × (code ≡ look_code (Some l))
-GivesLook None (Some new) code = ⊥
-GivesLook (Some old) None code = ⊥
+abbrev pub GivesLook : Bool → Option (Ticket Record) → Option (Ticket Record) → ℕ → Type 0
+GivesLook under_way None None code = code ≡ look_code None
+GivesLook under_way (Some old) (Some new) code = (l : Looked) × Looks under_way old new l × (code ≡ look_code (Some l))
+GivesLook under_way None (Some new) code = ⊥
+GivesLook under_way (Some old) None code = ⊥

@@ -274,7 +274,7 @@ impl Member {
     ghost use Rattle.std.specs.Option.{option_map};
     ghost use Rattle.mq_model.specs.Record.{record_at};
     ghost use Rattle.mq.specs.Calls.{Calls};
-    ghost use Rattle.mq_handles.specs.Standings.{ticket_of};
+    ghost use Rattle.mq_handles.specs.Standings.{ticket_of, is_under_way};
     ghost use Rattle.mq_handles.specs.Endings.{Ends, Looks};
 
     /// Tries to check the journal: `None` where the process has not come inside yet.
@@ -301,7 +301,8 @@ impl Member {
 
     /// Looks from outside whether the open wait is answered.
     pub fn answered(&mut self) -> Looked
-        ensures { Looks (ticket_of self.old.standing) (ticket_of self.new.standing) result }
+        ensures look { Looks (is_under_way self.old.standing) (ticket_of self.old.standing) (ticket_of self.new.standing) result }
+        ensures under_way { is_under_way self.new.standing ≡ is_under_way self.old.standing }
     {
         if waiting(&self.standing).is_none() {
             return Looked::NotWaiting;

@@ -58,6 +58,10 @@ struct Line<'a> {
 }
 
 impl<'a> Write for Line<'a> {
+    ghost use Rattle.std.specs.Prelude.{◌≡◌, ◌++◌, take};
+
+    ghost write_str_gives = { λ old part new. take new.len new.text.now ≡ take old.len old.text.now ++ part };
+
     fn write_str(&mut self, part: &str) -> fmt::Result {
         for byte in part.as_bytes() {
             if self.len >= self.text.len() {

@@ -1,7 +1,7 @@
 //! Where a process stands between two tries.
-ghost use Rattle.std.specs.Prelude.{◌≡◌, true, is_some, Some, IfSome, IfNone};
+ghost use Rattle.std.specs.Prelude.{◌≡◌, true, is_some, IfSome, IfNone};
 ghost use Rattle.mq_state.specs.Buffers.{waiting_room};
-ghost use Rattle.mq_handles.specs.Standings.{ticket_of};
+ghost use Rattle.mq_handles.specs.Standings.{ticket_of, is_under_way, LooksAt};
 
 use mq::{FastApproach, FastArrived, FastMq, FastProcess};
 
@@ -57,12 +57,13 @@ pub fn settle(standing: &mut Option<Standing>, process: FastProcess)
     *standing = Some(Standing::AtRest(process));
 }
 
-/// What one look from outside tells of the open wait of a process: nothing of one that is under way.
+/// What one look from outside tells of the open wait of a process: at rest what [`FastProcess::answered`] gives, and nothing of one
+/// that is under way.
 pub fn look(mq: &FastMq, standing: &mut Option<Standing>) -> Option<bool>
     requires some { is_some standing.old ≡ true }
     requires made { (ticket_of standing.old).lock ≡ mq.now }
-    ensures same { ticket_of standing.new ≡ record (ticket_of standing.old) { told = (ticket_of standing.new).told } }
-    ensures told { result ≡ Some true → (ticket_of standing.new).told ≡ true }
+    ensures look { LooksAt (is_under_way standing.old) (ticket_of standing.old) (ticket_of standing.new) result }
+    ensures under_way { is_under_way standing.new ≡ is_under_way standing.old }
     ensures some { is_some standing.new ≡ true }
 {
     match standing {

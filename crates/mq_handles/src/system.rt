@@ -9,6 +9,7 @@ ghost use Rattle.mq_model.specs.declared.faults.Fault.TheVariants.{Invalid, NoMe
 ghost use Rattle.mq.specs.Calls.{bounds_in};
 ghost use Rattle.mq_handles.specs.Standings.{ticket_of};
 ghost use Rattle.mq_handles.specs.Handles.{process_in};
+ghost use Rattle.mq_handles.specs.Codes.{freed_code};
 ghost use Rattle.mq_handles.specs.Systems.{Makes, is_empty};
 
 use crate::handle::Handle;
@@ -52,10 +53,11 @@ pub fn bounded(alloc: Global, processes: &mut [Handle], entries: u64, bytes: u64
     }
 }
 
-/// Empties a handle. Its process is lost: what it holds stays held, and where it was on its way into the lock it can keep all others
+/// Empties a handle: `DONE`, or `EMPTY` where it was. Its process is lost: what it holds stays held, and where it was on its way into the lock it can keep all others
 /// out for good.
 pub fn free(alloc: Global, process: &mut Handle) -> u32
     ensures empty { process_in process.new ≡ None }
+    ensures code { result ≡ freed_code (process_in process.old) }
 {
     match process.take(alloc) {
         Some(_) => DONE,

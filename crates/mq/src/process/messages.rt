@@ -15,6 +15,7 @@ use std::time::Clock;
 impl<L: Look<Guarded>> Process<L> {
     ghost use Rattle.std.specs.Prelude.{◌≡◌, ◌≢◌, ◌≤◌, ◌||◌, Bool, true, false, Some, None, IsSome, IfSome, IfNone, IfOk, Ok, length, []};
     ghost use Rattle.mq_model.specs.Legality.{Legal};
+    ghost use Rattle.mq_model.specs.Waits.{is_answered};
     ghost use Rattle.mq_model.specs.declared.entries.Call.{Call};
     ghost use Rattle.mq_state.specs.Buffers.{waiting_room};
     ghost use Rattle.mq.specs.Says.{start_send_says, start_receive_says, FitsIn};
@@ -133,11 +134,15 @@ impl<L: Look<Guarded>> Process<L> {
     }
 
     /// Whether the open wait is answered, by one look from outside the lock, which never waits. Where it is true, the next
-    /// `collect` is Some. It is false without an open wait.
+    /// `collect` is Some. It is false without an open wait, and true where the journal that the process last left answers the wait,
+    /// or where it was true before in that wait.
+    #[tactic(auto, using(crate::proofs::Answering::unanswered))]
     pub fn answered(&mut self, mq: &Mq<L>) -> bool
         requires made { self.old.lock ≡ mq.now }
         ensures ticket { self.new ≡ record self.old { told = self.old.told || result } }
         ensures free { waiting_room self.old.left self.old.number ≡ None → result ≡ false }
+        ensures left { is_answered self.old.left self.old.number ≡ true → result ≡ true }
+        ensures again { self.old.told ≡ true → IsSome (waiting_room self.old.left self.old.number) → result ≡ true }
     {
         if self.waits.is_none() {
             return false;
