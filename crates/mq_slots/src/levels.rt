@@ -2,11 +2,24 @@
 ghost use Rattle.std.specs.Prelude.{◌≡◌, ℕ, ◌+◌, ◌<◌, ◌≤◌, [], ◌∷◌, length, vec_len, vec_capacity};
 ghost use Rattle.mq_slots.specs.Levels.{level_at, last_from, noted, dropped, IsRising};
 
-/// A priority in use: the slot of its newest message.
+/// A priority in use: the slot of its newest message. It is small, for the levels above it move where one is put among them.
 #[derive(Clone, Copy, Debug, PartialEq, Eq)]
 pub struct Level {
-    pub prio: u32,
-    pub last: u32,
+    pub prio: u16,
+    pub last: u16,
+}
+
+// The level of a priority and its last slot.
+#[inline(always)]
+fn small(prio: u32, last: u32) -> Level
+    requires prio { prio < 65536 }
+    requires last { last < 65536 }
+    ensures { result ≡ record { prio = prio; last = last } }
+{
+    Level {
+        prio: prio as u16,
+        last: last as u16,
+    }
 }
 
 /// How many levels are of a lower priority: the index of the level of this priority or of the next higher one.
@@ -20,7 +33,7 @@ pub fn find_level(levels: &[Level], prio: u32) -> usize
     let mut high = levels.len();
     while low < high {
         let middle = low + (high - low) / 2;
-        if levels[middle].prio < prio {
+        if u32::from(levels[middle].prio) < prio {
             low = middle + 1;
         } else {
             high = middle;
@@ -35,7 +48,7 @@ pub fn last_from(levels: &[Level], at: usize) -> u32
     ensures { result ≡ last_from levels.now at }
 {
     if at < levels.len() {
-        levels[at].last
+        u32::from(levels[at].last)
     } else {
         0
     }
@@ -46,18 +59,20 @@ pub fn last_from(levels: &[Level], at: usize) -> u32
 pub fn note_level(levels: &mut Vec<Level>, at: usize, prio: u32, last: u32)
     requires within { at ≤ vec_len levels.old }
     requires room { vec_len levels.old < vec_capacity levels.old }
+    requires prio { prio < 65536 }
+    requires last { last < 65536 }
     ensures items { levels.new.items ≡ noted levels.old.items at prio last }
     ensures capacity { vec_capacity levels.old ≤ vec_capacity levels.new }
 {
     if at >= levels.len() {
-        levels.push_reserved(Level { prio, last });
+        levels.push_reserved(small(prio, last));
         return;
     }
-    if levels[at].prio == prio {
-        levels[at].last = last;
+    if u32::from(levels[at].prio) == prio {
+        levels[at] = small(prio, last);
         return;
     }
-    let Ok(()) = levels.insert(at, Level { prio, last }) else {
+    let Ok(()) = levels.insert(at, small(prio, last)) else {
         unreachable!()
     };
 }
@@ -69,7 +84,7 @@ pub fn drop_level(levels: &mut Vec<Level>, slot: u32)
     ensures capacity { vec_capacity levels.old ≤ vec_capacity levels.new }
 {
     let len = levels.len();
-    if len > 0 && levels[len - 1].last == slot {
+    if len > 0 && u32::from(levels[len - 1].last) == slot {
         let _ = levels.pop();
     }
 }
