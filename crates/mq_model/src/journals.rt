@@ -1,23 +1,19 @@
 //! The journal.
+ghost use Rattle.mq_model.specs.Stored.{needs, record_of};
 ghost use Rattle.std.specs.Prelude.{◌≡◌, ◌+◌, ◌<◌, ◌≤◌, [], ◌∷◌, ◌++◌, length, OnOk, IsOk, vec_len, vec_capacity};
 
-use crate::entries::Entry;
+use crate::entries::{Call, Entry};
+use crate::stored::{Stored, store_call, store_reply, stored_call, stored_reply};
 use std::alloc::{AllocError, Global};
 use std::marker::Model;
-
-/// An entry, and where its payload lies among the payload bytes.
-#[derive(Clone, Copy, Debug)]
-struct Stored {
-    entry: Entry,
-    start: usize,
-    end: usize,
-}
 
 /// The list of all calls that were made, with their replies and payloads. The place of an entry is its position, from 0. A
 /// payload is the whole name of an open or unlink, the message of a send that was not refused, and empty otherwise.
 #[derive(Debug, Drop)]
 pub struct Journal {
     stored: Vec<Stored>,
+    // the calls that do not fit into a stored entry
+    apart: Vec<Call>,
     bytes: Vec<u8>,
 }
 
@@ -34,6 +30,7 @@ impl Model for Journal {
 }
 
 // Adds bytes after the others, in room that is there, which none at all leave as it was.
+#[inline(always)]
 fn add_bytes(bytes: &mut Vec<u8>, more: &[u8])
     requires { vec_len bytes.old + length more.now ≤ vec_capacity bytes.old }
     ensures items { bytes.new.items ≡ bytes.old.items ++ more.now }
@@ -47,6 +44,20 @@ fn add_bytes(bytes: &mut Vec<u8>, more: &[u8])
     let _ = bytes.extend_from_slice(more);
 }
 
+// The entry that is stored so.
+#[inline(always)]
+fn entry_of(apart: &[Call], stored: Stored) -> Entry
+    requires start { stored.start ≤ stored.end }
+    requires apart { needs stored.call ≤ length apart.now }
+    ensures { result ≡ (record_of apart.now [] stored).entry }
+{
+    Entry {
+        process: stored.process,
+        call: stored_call(apart, stored.call, stored.end - stored.start),
+        reply: stored_reply(stored.reply),
+    }
+}
+
 impl Journal {
     ghost use Rattle.std.specs.Prelude.{Some, ◌^◌, IfOk};
     ghost use Rattle.std.specs.Option.{option_map};
@@ -58,6 +69,7 @@ impl Journal {
     {
         Journal {
             stored: Vec::new(alloc),
+            apart: Vec::new(alloc),
             bytes: Vec::new(alloc),
         }
     }
@@ -69,6 +81,7 @@ impl Journal {
     {
         Ok(Journal {
             stored: Vec::with_capacity(alloc, entries)?,
+            apart: Vec::with_capacity(alloc, entries)?,
             bytes: Vec::with_capacity(alloc, bytes)?,
         })
     }
@@ -84,6 +97,7 @@ impl Journal {
         ensures enough { bytes ≤ self.old.byte_room → self.new.byte_room ≡ self.old.byte_room }
     {
         self.stored.reserve(entries)?;
+        self.apart.reserve(entries)?;
         if bytes > self.bytes.capacity() - self.bytes.len() {
             self.bytes.reserve(bytes)?;
         }
@@ -91,6 +105,7 @@ impl Journal {
     }
 
     /// Adds an entry with its payload after all others, in room that was reserved. Takes no memory.
+    #[inline(always)]
     pub fn push(&mut self, entry: Entry, payload: &[u8])
         requires entry_room { 0 < self.old.entry_room }
         requires byte_room { length payload.now ≤ self.old.byte_room }
@@ -102,7 +117,15 @@ impl Journal {
         let start = self.bytes.len();
         add_bytes(&mut self.bytes, payload);
         let end = self.bytes.len();
-        self.stored.push_reserved(Stored { entry, start, end });
+        let call = store_call(&mut self.apart, entry.call, payload.len());
+        let reply = store_reply(entry.reply);
+        self.stored.push_reserved(Stored {
+            process: entry.process,
+            call,
+            reply,
+            start,
+            end,
+        });
     }
 
     /// How many entries there are.
@@ -122,6 +145,7 @@ impl Journal {
     }
 
     /// The entry at a place, or `None` at the length and beyond.
+    #[inline(always)]
     pub fn entry(&self, place: u64) -> Option<Entry>
         ensures { result ≡ option_map (λ r. r.entry) (record_at self.now.records place) }
     {
@@ -129,10 +153,11 @@ impl Journal {
             return None;
         }
         let s = self.stored[place as usize];
-        Some(s.entry)
+        Some(entry_of(&self.apart, s))
     }
 
     /// The payload of the entry at a place, or `None` at the length and beyond.
+    #[inline(always)]
     pub fn payload(&self, place: u64) -> Option<&[u8]>
         ensures { option_map (λ p. p.now) result ≡ option_map (λ r. r.payload) (record_at self.now.records place) }
     {
@@ -149,6 +174,6 @@ impl Journal {
         ensures { first (place + 1) self.now.records ≡ record { entry = result.0; payload = result.1.now } ∷ first place self.now.records }
     {
         let s = self.stored[place as usize];
-        (s.entry, &self.bytes[s.start..s.end])
+        (entry_of(&self.apart, s), &self.bytes[s.start..s.end])
     }
 }

@@ -13,3 +13,4 @@ pub mod names;
 pub mod owners;
 pub mod registrations;
 pub mod replies;
+mod stored;
