@@ -8,6 +8,7 @@ use Rattle.mq_model.specs.Notices.{registration_of, registration_after, only_if,
 use Rattle.mq_model.specs.Legality.{Legal, IsLegalNext}
 use Rattle.mq_model.specs.declared.owners.Owner.{Owner}
 use Rattle.mq_model.specs.declared.entries.Entry.{Entry}
+use Rattle.mq_model.specs.declared.entries.Attr.{Attr}
 use Rattle.mq_model.specs.declared.entries.Registration.{Registration}
 use Rattle.mq_model.specs.declared.entries.Call.{Call}
 use Rattle.mq_model.specs.declared.entries.Call.TheVariants.{MqOpen, MqClose, MqUnlink, MqSend, MqReceive, MqGetattr, MqSetattr, MqNotify, NextNotice, Collect, MqTimedSend, MqTimedReceive, Withdraw}
@@ -127,16 +128,16 @@ registrations-released owners freed queues q p = split (freed && not (is_named_i
     (λ t. rw t (registrations-without queues q p))
     (λ n. rw n (omega arith))
 
-registrations-fresh : (brought : Option Held) (here : ℕ) (queues : List QueueShown) (p : ℕ) → registrations_in (with_fresh brought here queues) p ≡ registrations_in queues p
+registrations-fresh : (brought : Option Held) (given : Attr) (here : ℕ) (queues : List QueueShown) (p : ℕ) → registrations_in (with_fresh brought given here queues) p ≡ registrations_in queues p
 unfolding registrations_in
-registrations-fresh None here queues p = refl
-registrations-fresh (Some o) here queues p = let e = sum_by_push (λ (y : QueueShown). one_if (is_of p y.registration)) queues (fresh here o.cap) in omega (arith, e)
+registrations-fresh None given here queues p = refl
+registrations-fresh (Some o) given here queues p = let e = sum_by_push (λ (y : QueueShown). one_if (is_of p y.registration)) queues (fresh here o.cap given) in omega (arith, e)
 
 -- but for the registrations that the entry makes and ends no process has more
-noted-fewer : (brought : Option Held) (owners : List Owner) (here : ℕ) (e : Entry) (q prio : ℕ) (queues : List QueueShown) (p : ℕ) → registrations_in (with_fresh brought here (noted_queues owners here e q prio queues)) p ≤ registrations_in (map (reregistered q here e) queues) p
-noted-fewer brought owners here e q prio queues p =
+noted-fewer : (brought : Option Held) (given : Attr) (owners : List Owner) (here : ℕ) (e : Entry) (q prio : ℕ) (queues : List QueueShown) (p : ℕ) → registrations_in (with_fresh brought given here (noted_queues owners here e q prio queues)) p ≤ registrations_in (map (reregistered q here e) queues) p
+noted-fewer brought given owners here e q prio queues p =
     let lines : List QueueShown = map (reregistered q here e) queues in
-    let a = registrations-fresh brought here (noted_queues owners here e q prio queues) p in
+    let a = registrations-fresh brought given here (noted_queues owners here e q prio queues) p in
     let b = registrations-released owners (may_free e.call e.reply) (changed (renewed here e.call e.reply prio) lines q) q p in
     let c = registrations-changed (renewed here e.call e.reply prio) lines q p (λ x. renewed-registration here e.call e.reply prio x) in
     omega (arith, a, b, c)
@@ -247,11 +248,11 @@ lines-room past legal queues m p call reply payload next inboxes after has kept 
 -- the tables after an entry have room for the notice of each registration, where there was room for the one that it makes
 pub notice-room-keeps : (past : Past) → Legal past → (queues : List QueueShown) → QueuesMirror past queues → (p : ℕ) (call : Call) (reply : Reply) (payload : List ℕ) → IsLegalNext past (rec p call reply payload) → (inboxes after : List InboxShown) →
     HasNoticeRoom queues inboxes → KeepsRoom queues inboxes after (entry_queue past p call payload) reply → HasRoomToRegister queues inboxes p call reply →
-    (brought : Option Held) (owners : List Owner) (prio : ℕ) →
-    HasNoticeRoom (with_fresh brought (length past) (noted_queues owners (length past) (record { process = p; call = call; reply = reply }) (entry_queue past p call payload) prio queues)) after
-notice-room-keeps past legal queues m p call reply payload next inboxes after has kept room brought owners prio k =
+    (brought : Option Held) (given : Attr) (owners : List Owner) (prio : ℕ) →
+    HasNoticeRoom (with_fresh brought given (length past) (noted_queues owners (length past) (record { process = p; call = call; reply = reply }) (entry_queue past p call payload) prio queues)) after
+notice-room-keeps past legal queues m p call reply payload next inboxes after has kept room brought given owners prio k =
     let lines = lines-room past legal queues m p call reply payload next inboxes after has kept room k in
-    let fewer = noted-fewer brought owners (length past) (record { process = p; call = call; reply = reply }) (entry_queue past p call payload) prio queues k in
+    let fewer = noted-fewer brought given owners (length past) (record { process = p; call = call; reply = reply }) (entry_queue past p call payload) prio queues k in
     omega (arith, lines, fewer)
 
 -- a registration has room for its notice

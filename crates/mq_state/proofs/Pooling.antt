@@ -3,6 +3,7 @@ use Rattle.std.proofs.Common.{◌≡◌, ℕ, zero, suc, ◌+◌, ◌<◌, ◌�
 use Rattle.std.specs.List.{All, filter, position, remove}
 use Rattle.std.proofs.lemmas.List.{length-map}
 use Rattle.std.proofs.lemmas.List.Elements.{All-nil, All-cons, All-head, All-tail, All-push}
+use Rattle.mq_model.specs.declared.entries.Attr.{Attr}
 use Rattle.mq_model.proofs.Places.{split}
 use Rattle.mq_model.specs.declared.bounds.Bounds.{Bounds}
 use Rattle.mq_model.specs.declared.entries.Entry.{Entry}
@@ -113,15 +114,15 @@ pool-removed {m} {a} {b} queues i d spares after o lt cap pool kept =
 
 -- a queue is created ------------------------------------------------------------------------------------------------------
 
-pub pool-fresh : (queues after : List QueueShown) (spares : List Held) (here : ℕ) (o : Held) (a a' b : ℕ) → after ≡ queues ++ fresh here o.cap ∷ [] → a' ≡ a → PoolWith (Some o) queues spares a b → PoolWith None after spares a' b
-pool-fresh queues after spares here o a a' b is same with_one =
+pub pool-fresh : (queues after : List QueueShown) (spares : List Held) (here : ℕ) (given : Attr) (o : Held) (a a' b : ℕ) → after ≡ queues ++ fresh here o.cap given ∷ [] → a' ≡ a → PoolWith (Some o) queues spares a b → PoolWith None after spares a' b
+pool-fresh queues after spares here given o a a' b is same with_one =
     let pool = with_one.0 in
     let count = pool.count in
     let fit = pool.queues_fit in
-    let long : length after ≡ length queues + 1 = ap length is ∙ length-append queues (fresh here o.cap ∷ []) in
+    let long : length after ≡ length queues + 1 = ap length is ∙ length-append queues (fresh here o.cap given ∷ []) in
     record {
       spare = pool.spare;
-      wide = subst (All Wide) (sym is) (All-push Wide queues (fresh here o.cap) pool.wide with_one.1);
+      wide = subst (All Wide) (sym is) (All-push Wide queues (fresh here o.cap given) pool.wide with_one.1);
       count = omega (arith, count, long);
       most = omega arith;
       queues_fit = omega (arith, fit, same);

@@ -143,6 +143,13 @@ renewed-cap here MqUnlink Done prio x = refl
 renewed-cap here call Done prio x = refl
 renewed-cap here call reply prio x = refl
 
+pub renewed-attributes : (here : ℕ) (call : Call) (reply : Reply) (prio : ℕ) (x : QueueShown) → (renewed here call reply prio x).attributes ≡ x.attributes
+renewed-attributes here call (Got m None n) prio x = refl
+renewed-attributes here call (Got m (Some w) n) prio x = refl
+renewed-attributes here MqUnlink Done prio x = refl
+renewed-attributes here call Done prio x = refl
+renewed-attributes here call reply prio x = refl
+
 pub renewed-few : (here : ℕ) (call : Call) (reply : Reply) (prio : ℕ) (x : QueueShown) → HasRoom reply x → length x.slots ≤ x.cap → length (renewed here call reply prio x).slots ≤ x.cap
 renewed-few here call (Queued n) prio x room few = omega (arith, room)
 renewed-few here call (Got m None n) prio x room few = omega (arith, length-without m x.slots, few)

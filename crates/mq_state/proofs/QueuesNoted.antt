@@ -36,7 +36,7 @@ use Rattle.mq_slots.specs.Messages.{without as without_place}
 use Rattle.mq_state.specs.QueueShown.{QueueShown}
 use Rattle.mq_state.specs.Queues.{queue_in, is_named_in, changed, without_queue, renewed, HasRoom, reregistered, may_free, noted_queues, fresh, slots_of, LineMirror, QueuesMirror}
 use Rattle.mq_state.proofs.QueueLines.{queue_in-changed, places-changed, queue_in-map, places-map, queue_in-place, inside-queue_in, queue_in-without, places-without, queue_in-push, places-push}
-use Rattle.mq_state.proofs.QueuesKeep.{rec, alive-below, in-reverse, line-alive, EntryOn, registration-on, renewed-registration, renewed-place, int-room, renewed-cap, renewed-few, line_after, presence, same-slots, slots_of-without, length-slots_of}
+use Rattle.mq_state.proofs.QueuesKeep.{rec, alive-below, in-reverse, line-alive, EntryOn, registration-on, renewed-registration, renewed-place, int-room, renewed-cap, renewed-attributes, renewed-few, line_after, presence, same-slots, slots_of-without, length-slots_of}
 
 renewed-named : (here : ℕ) (call : Call) (reply : Reply) (prio : ℕ) (x : QueueShown) → unlinks call reply ≡ false → (renewed here call reply prio x).named ≡ x.named
 renewed-named here MqUnlink Done prio x e = absurd (let bad : true ≡ false = e in cc)
@@ -143,6 +143,7 @@ line-keeps past legal p call reply payload q prio next on x m lt room =
           ∙ ap (λ n. int_le (attributes (r ∷ past) x.place).maxmsg (pos n)) (renewed-cap (length past) call reply prio y)
           ∙ ap (λ (a : Attr). int_le a.maxmsg (pos y.cap)) same_attributes ∙ m.room;
       few = subst (λ n. length z.slots ≤ n) (sym (renewed-cap (length past) call reply prio y)) (renewed-few (length past) call reply prio y (room here) m.few);
+      attributes = renewed-attributes (length past) call reply prio y ∙ m.attributes ∙ sym same_attributes ∙ ap (attributes (r ∷ past)) (sym place);
     } in
     subst P (sym (when-true (q == x.place) z y t)) line)
     (λ n. let ne : q ≢ x.place = eqb-false _ _ n in
@@ -153,6 +154,7 @@ line-keeps past legal p call reply payload q prio next on x m lt room =
       slots = same-slots past r x.place x m.slots (there.elsewhere x.place lt (λ e. ne (sym e)));
       room = ap (λ (a : Attr). int_le a.maxmsg (pos x.cap)) same_attributes ∙ m.room;
       few = m.few;
+      attributes = m.attributes ∙ sym same_attributes;
     } in
     subst P (sym (when-false (q == x.place) z y n)) line)
 
@@ -396,19 +398,19 @@ registered-later (r ∷ past) legal q le =
 -- the table of queues with the queue that an open creates
 pub noted-queues-creates : (past : Past) → Legal past → (owners : List Owner) (queues : List QueueShown) → QueuesMirror past queues → (p : ℕ) (flags : OpenFlags) (attr : Option Attr) (d : ℕ) (payload : List ℕ) (q prio cap : ℕ) → IsLegalNext past (rec p (MqOpen flags attr) (Opened d true) payload) →
     q ≡ length past → int_le (attributes_given (MqOpen flags attr)).maxmsg (pos cap) ≡ true →
-    QueuesMirror (rec p (MqOpen flags attr) (Opened d true) payload ∷ past) (noted_queues owners (length past) (record { process = p; call = MqOpen flags attr; reply = Opened d true }) q prio queues ++ fresh (length past) cap ∷ [])
+    QueuesMirror (rec p (MqOpen flags attr) (Opened d true) payload ∷ past) (noted_queues owners (length past) (record { process = p; call = MqOpen flags attr; reply = Opened d true }) q prio queues ++ fresh (length past) cap (attributes_given (MqOpen flags attr)) ∷ [])
 noted-queues-creates past legal owners queues m p flags attr d payload q prio cap next here roomy =
     let r : Record = rec p (MqOpen flags attr) (Opened d true) payload in
     let e : Entry = record { process = p; call = MqOpen flags attr; reply = Opened d true } in
     let lines = lines_after q (length past) e prio queues in
     let facts : OpenedFacts past p payload d true = opened-says past p flags attr payload d true next.reply in
-    let y : QueueShown = fresh (length past) cap in
+    let y : QueueShown = fresh (length past) cap (attributes_given (MqOpen flags attr)) in
     record {
       places = places-push lines y ∙ ap (λ xs. xs ++ length past ∷ []) (lines-places q (length past) e prio queues ∙ m.places) ∙ sym (reverse-cons (length past) (alive past)) ∙ ap reverse (sym (alive-new past p flags attr payload d facts));
       lines = λ k z found. by k z (queue_in-push lines y k z found);
     }
   where
-    new-line : LineMirror (rec p (MqOpen flags attr) (Opened d true) payload ∷ past) (fresh (length past) cap)
+    new-line : LineMirror (rec p (MqOpen flags attr) (Opened d true) payload ∷ past) (fresh (length past) cap (attributes_given (MqOpen flags attr)))
     new-line =
         let r : Record = rec p (MqOpen flags attr) (Opened d true) payload in
         record {
@@ -417,12 +419,13 @@ noted-queues-creates past legal owners queues m p flags attr d payload q prio ca
           slots = sym (ap (slots_of (r ∷ past)) (present-later past legal (length past) (omega arith)));
           room = ap (λ (a : Attr). int_le a.maxmsg (pos cap)) (newest r) ∙ roomy;
           few = omega arith;
+          attributes = sym (newest r);
         }
       where
         newest : (r : Record) → attributes (r ∷ past) (length past) ≡ attributes_given r.entry.call
         newest r = rw (eq-eqb (length past) (length past) refl) refl
 
-    by : (k : ℕ) (z : QueueShown) → (queue_in (lines_after q (length past) (record { process = p; call = MqOpen flags attr; reply = Opened d true }) prio queues) k ≡ Some z) ⊎ (z ≡ fresh (length past) cap) → LineMirror (rec p (MqOpen flags attr) (Opened d true) payload ∷ past) z
+    by : (k : ℕ) (z : QueueShown) → (queue_in (lines_after q (length past) (record { process = p; call = MqOpen flags attr; reply = Opened d true }) prio queues) k ≡ Some z) ⊎ (z ≡ fresh (length past) cap (attributes_given (MqOpen flags attr))) → LineMirror (rec p (MqOpen flags attr) (Opened d true) payload ∷ past) z
     by k z (inl found) = lines-keep past legal queues m p (MqOpen flags attr) (Opened d true) payload q prio next here (λ x f. tt) k z found
     by k z (inr same) = subst (LineMirror (rec p (MqOpen flags attr) (Opened d true) payload ∷ past)) (sym same) new-line
 

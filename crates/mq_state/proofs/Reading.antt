@@ -7,7 +7,7 @@ use Rattle.std.proofs.lemmas.Bool.{and_parts, false_from_ne_true}
 use Rattle.std.proofs.lemmas.Slice.Eq.{bytes_eq-Decides}
 use Rattle.std.proofs.lemmas.Grind.{common_steps}
 use Rattle.mq_model.specs.Record.{Past}
-use Rattle.mq_model.specs.Names.{creates, bound_queue, name_of}
+use Rattle.mq_model.specs.Names.{attributes, creates, bound_queue, name_of}
 use Rattle.mq_model.specs.Descriptors.{lowest_free, lowest_held, alive, created, is_named, descriptor_numbers}
 use Rattle.mq_model.specs.Messages.{is_in, present, best, goes_first}
 use Rattle.mq_model.specs.Notices.{registered}
@@ -19,7 +19,7 @@ use Rattle.mq_model.proofs.Best.{find-test}
 use Rattle.mq_model.proofs.Alive.{bound-name, named-bound, bound-named}
 use Rattle.mq_state.specs.Order.{best_slot, goes_first as slot_first}
 use Rattle.mq_state.specs.QueueShown.{QueueShown}
-use Rattle.mq_state.specs.Queues.{queue_in, slots_in, registration_in, bound_in, slot_of, slots_of, QueuesMirror}
+use Rattle.mq_state.specs.Queues.{queue_in, slots_in, registration_in, attributes_in, bound_in, slot_of, slots_of, QueuesMirror}
 use Rattle.mq_state.proofs.QueueLines.{queue_in-place}
 use Rattle.mq_state.proofs.QueuesKeep.{alive-line, length-slots_of, in-append, in-reverse, reverse-cons}
 use Rattle.mq_state.proofs.QueuesNoted.{bound-alive}
@@ -42,6 +42,10 @@ read-registration : (queues : List QueueShown) (q : ℕ) (x : QueueShown) → qu
 unfolding registration_in
 read-registration queues q x e = rw e refl
 
+read-attributes : (queues : List QueueShown) (q : ℕ) (x : QueueShown) → queue_in queues q ≡ Some x → attributes_in queues q ≡ x.attributes
+unfolding attributes_in
+read-attributes queues q x e = rw e refl
+
 pub slots-read : (past : Past) (queues : List QueueShown) → QueuesMirror past queues → (q : ℕ) → is_in (alive past) q ≡ true → slots_in queues q ≡ slots_of past (present past q)
 slots-read past queues m q h =
     let x = alive-line past queues m q h in
@@ -54,6 +58,11 @@ pub registration-read : (past : Past) (queues : List QueueShown) → QueuesMirro
 registration-read past queues m q h =
     let x = alive-line past queues m q h in
     read-registration queues q x.0 x.1 ∙ (m.lines q x.0 x.1).registration ∙ ap (registered past) (queue_in-place queues q x.0 x.1)
+
+pub attributes-read : (past : Past) (queues : List QueueShown) → QueuesMirror past queues → (q : ℕ) → is_in (alive past) q ≡ true → attributes_in queues q ≡ attributes past q
+attributes-read past queues m q h =
+    let x = alive-line past queues m q h in
+    read-attributes queues q x.0 x.1 ∙ (m.lines q x.0 x.1).attributes ∙ ap (attributes past) (queue_in-place queues q x.0 x.1)
 
 -- the best slot is that of the best message
 all-slots : (past : Past) (m : ℕ) (xs : List ℕ) → list_all (slot_first (slot_of past m)) (slots_of past xs) ≡ list_all (goes_first past m) xs

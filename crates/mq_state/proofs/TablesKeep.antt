@@ -2,7 +2,7 @@
 use Rattle.std.proofs.Common.{◌≡◌, ℕ, ◌≤◌, ◌==◌, Bool, true, false, ◌&&◌, not, List, [], ◌∷◌, ◌++◌, length, drop, Option, Some, None, is_some, if◌then◌else◌, refl, sym, ◌∙◌, ap, subst, arith}
 use Rattle.std.specs.Option.{option_map, unwrap_or}
 use Rattle.mq_model.specs.Record.{Past}
-use Rattle.mq_model.specs.Names.{creates, bound_queue}
+use Rattle.mq_model.specs.Names.{creates, bound_queue, attributes_given}
 use Rattle.mq_model.specs.Descriptors.{held, called_queue, opened_queue, alive}
 use Rattle.mq_model.specs.Messages.{is_in, present, is_full, priority}
 use Rattle.mq_model.specs.Notices.{registered, registered_place, notified, gives_notice, notices}
@@ -300,12 +300,12 @@ notifies-alive past legal p call (Refused f) payload next e = absurd (cc)
 -- the tables after an entry, as the code leaves them
 pub record IsNotedBy (past : Past) (e : Entry) (q : ℕ) (brought : Option Held) (owners after_owners : List Owner) (queues after_queues : List QueueShown) (inboxes after_inboxes : List InboxShown) : Type 0 where
   pub owners_are : after_owners ≡ noted owners (length past) e.process e.call e.reply q
-  pub queues_are : after_queues ≡ with_fresh brought (length past) (noted_queues after_owners (length past) e q (admitted_priority past e.reply) queues)
+  pub queues_are : after_queues ≡ with_fresh brought (attributes_given e.call) (length past) (noted_queues after_owners (length past) e q (admitted_priority past e.reply) queues)
   pub inbox_count : length after_inboxes ≡ length inboxes
   pub inboxes_are : (k : ℕ) → notices_in after_inboxes k ≡ noted_values e.process (registration_in queues q) e.reply k (notices_in inboxes k)
 
 creates-open : (past : Past) → Legal past → (owners : List Owner) (queues : List QueueShown) → QueuesMirror past queues → (p : ℕ) (call : Call) (reply : Reply) (payload : List ℕ) (q prio : ℕ) (len capacity : ℕ) (o : Held) → IsLegalNext past (rec p call reply payload) → EntryOn past p call payload reply q prio → creates call reply ≡ true → IsFresh call len capacity o →
-    QueuesMirror (rec p call reply payload ∷ past) (noted_queues owners (length past) (record { process = p; call = call; reply = reply }) q prio queues ++ fresh (length past) o.cap ∷ [])
+    QueuesMirror (rec p call reply payload ∷ past) (noted_queues owners (length past) (record { process = p; call = call; reply = reply }) q prio queues ++ fresh (length past) o.cap (attributes_given call) ∷ [])
 creates-open past legal owners queues m p (MqOpen flags attr) (Opened d true) payload q prio len capacity o next on c f = noted-queues-creates past legal owners queues m p flags attr d payload q prio o.cap next on f.roomy
 creates-open past legal owners queues m p (MqOpen flags attr) (Opened d false) payload q prio len capacity o next on c f = absurd (let bad : false ≡ true = c in cc)
 creates-open past legal owners queues m p (MqClose e) (Opened d true) payload q prio len capacity o next on c f = absurd (let bad : false ≡ true = c in cc)
@@ -367,7 +367,7 @@ tables-keep past legal n owners after_owners queues after_queues inboxes after_i
     }
   where
     queues-by : (brought : Option Held) → BringsOrder call reply len capacity brought → OwnersMirror (rec p call reply payload ∷ past) after_owners → EntryOn past p call payload reply (entry_queue past p call payload) (admitted_priority past reply) →
-        QueuesMirror (rec p call reply payload ∷ past) (with_fresh brought (length past) (noted_queues after_owners (length past) (record { process = p; call = call; reply = reply }) (entry_queue past p call payload) (admitted_priority past reply) queues))
+        QueuesMirror (rec p call reply payload ∷ past) (with_fresh brought (attributes_given call) (length past) (noted_queues after_owners (length past) (record { process = p; call = call; reply = reply }) (entry_queue past p call payload) (admitted_priority past reply) queues))
     queues-by None brings lines on = noted-queues-keeps past legal after_owners queues m.existing p call reply payload (entry_queue past p call payload) (admitted_priority past reply) next on room lines brings
     queues-by (Some o) brings lines on = creates-open past legal after_owners queues m.existing p call reply payload (entry_queue past p call payload) (admitted_priority past reply) len capacity o next on brings.0 brings.1
 

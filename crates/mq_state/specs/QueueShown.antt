@@ -1,11 +1,13 @@
 use Rattle.std.specs.Prelude.{ℕ, Bool, List, Option}
+use Rattle.mq_model.specs.declared.entries.Attr.{Attr}
 use Rattle.mq_model.specs.declared.entries.Registration.{Registration}
 
 -- what a queue of the table shows: the place of the open that created it, whether it is still bound to its name, the
--- registration that stands on it, its messages, the last to enter first, and how many it has room for
+-- registration that stands on it, its messages, the last to enter first, how many it has room for, and its attributes
 pub record QueueShown : Type 0 where
   pub place : ℕ
   pub named : Bool
   pub registration : Option Registration
   pub slots : List (ℕ × ℕ)
   pub cap : ℕ
+  pub attributes : Attr

@@ -5,13 +5,14 @@ use Rattle.std.specs.List.{find, filter, count_by, Contains}
 use Rattle.std.specs.Str.{bytes_eq}
 use Rattle.std.specs.Option.{option_map, option_and_then, unwrap_or}
 use Rattle.mq_model.specs.Record.{Past}
-use Rattle.mq_model.specs.Names.{attributes, name_of}
+use Rattle.mq_model.specs.Names.{attributes, default_attributes, name_of}
 use Rattle.mq_model.specs.Descriptors.{alive, is_named}
 use Rattle.mq_model.specs.Messages.{is_in, present, priority, priority_given}
 use Rattle.mq_model.specs.Notices.{registered, registration_after}
 use Rattle.mq_model.specs.Ladder.{is_of}
 use Rattle.mq_model.specs.Owners.{is_held_in}
 use Rattle.mq_model.specs.declared.owners.Owner.{Owner}
+use Rattle.mq_model.specs.declared.entries.Attr.{Attr}
 use Rattle.mq_model.specs.declared.entries.Registration.{Registration}
 use Rattle.mq_model.specs.declared.entries.Entry.{Entry}
 use Rattle.mq_model.specs.declared.entries.Call.{Call}
@@ -30,6 +31,9 @@ slots_in queues q = unwrap_or (option_map (λ x. x.slots) (queue_in queues q)) [
 
 unfoldable pub registration_in : List QueueShown → ℕ → Option Registration
 registration_in queues q = option_and_then (λ x. x.registration) (queue_in queues q)
+
+unfoldable pub attributes_in : List QueueShown → ℕ → Attr
+attributes_in queues q = unwrap_or (option_map (λ x. x.attributes) (queue_in queues q)) default_attributes
 
 -- how many queues process p is registered on
 unfoldable pub registrations_in : List QueueShown → ℕ → ℕ
@@ -62,13 +66,13 @@ without_queue queues q = filter (λ x. not (x.place == q)) queues
 -- one line after an entry -------------------------------------------------------------------------------------------------
 
 abbrev pub with_slot : ℕ × ℕ → QueueShown → QueueShown
-with_slot s x = record { place = x.place; named = x.named; registration = x.registration; slots = s ∷ x.slots; cap = x.cap }
+with_slot s x = record { place = x.place; named = x.named; registration = x.registration; slots = s ∷ x.slots; cap = x.cap; attributes = x.attributes }
 
 abbrev pub without_slot : ℕ → QueueShown → QueueShown
-without_slot m x = record { place = x.place; named = x.named; registration = x.registration; slots = without m x.slots; cap = x.cap }
+without_slot m x = record { place = x.place; named = x.named; registration = x.registration; slots = without m x.slots; cap = x.cap; attributes = x.attributes }
 
 abbrev pub unnamed : QueueShown → QueueShown
-unnamed x = record { place = x.place; named = false; registration = x.registration; slots = x.slots; cap = x.cap }
+unnamed x = record { place = x.place; named = false; registration = x.registration; slots = x.slots; cap = x.cap; attributes = x.attributes }
 
 abbrev pub admitting : Option ℕ → ℕ → QueueShown → QueueShown
 admitting None prio x = x
@@ -123,7 +127,7 @@ IsInOrder here call _ prio x = Unit {0}
 
 -- any line: its registration, where the entry's call is made on queue q
 abbrev pub reregistered : ℕ → ℕ → Entry → QueueShown → QueueShown
-reregistered q here e x = record { place = x.place; named = x.named; registration = registration_after (q == x.place) here e x.registration; slots = x.slots; cap = x.cap }
+reregistered q here e x = record { place = x.place; named = x.named; registration = registration_after (q == x.place) here e x.registration; slots = x.slots; cap = x.cap; attributes = x.attributes }
 
 abbrev pub frees : Call → Bool
 frees (MqClose d) = true
@@ -144,8 +148,8 @@ noted_queues owners here e q prio queues =
     released owners (may_free e.call e.reply) (changed (renewed here e.call e.reply prio) (map (reregistered q here e) queues) q) q
 
 -- a queue that was just created
-abbrev pub fresh : ℕ → ℕ → QueueShown
-fresh here cap = record { place = here; named = true; registration = None; slots = []; cap = cap }
+abbrev pub fresh : ℕ → ℕ → Attr → QueueShown
+fresh here cap given = record { place = here; named = true; registration = None; slots = []; cap = cap; attributes = given }
 
 -- the table says what the definitions say of the journal -----------------------------------------------------------------
 
@@ -161,6 +165,7 @@ pub record LineMirror (past : Past) (x : QueueShown) : Type 0 where
   pub slots : x.slots ≡ slots_of past (present past x.place)
   pub room : int_le (attributes past x.place).maxmsg (pos x.cap) ≡ true
   pub few : length x.slots ≤ x.cap
+  pub attributes : x.attributes ≡ attributes past x.place
 
 pub record QueuesMirror (past : Past) (queues : List QueueShown) : Type 0 where
   pub places : map (λ x. x.place) queues ≡ reverse (alive past)

@@ -4,6 +4,7 @@ use Rattle.std.specs.Option.{unwrap_or}
 use Rattle.mq_model.specs.Names.{bound_queue, creates, attributes_given, are_within_limits}
 use Rattle.mq_model.specs.Descriptors.{called_queue}
 use Rattle.mq_model.specs.Messages.{priority}
+use Rattle.mq_model.specs.declared.entries.Attr.{Attr}
 use Rattle.mq_model.specs.declared.entries.Registration.{Registration}
 use Rattle.mq_model.specs.declared.entries.Call.{Call}
 use Rattle.mq_model.specs.declared.entries.Call.TheVariants.{MqOpen, MqUnlink, MqNotify}
@@ -102,6 +103,6 @@ abbrev pub noted_values : ℕ → Option Registration → Reply → ℕ → List
 noted_values process registered reply p values =
     if gives_notice reply && process == p then drop 1 (notified_values registered reply p values) else notified_values registered reply p values
 
-abbrev pub with_fresh : Option Held → ℕ → List QueueShown → List QueueShown
-with_fresh None here queues = queues
-with_fresh (Some o) here queues = queues ++ fresh here o.cap ∷ []
+abbrev pub with_fresh : Option Held → Attr → ℕ → List QueueShown → List QueueShown
+with_fresh None given here queues = queues
+with_fresh (Some o) given here queues = queues ++ fresh here o.cap given ∷ []

@@ -3,13 +3,14 @@ ghost use Rattle.std.specs.Prelude.{◌≡◌, ◌<◌, ◌^◌, ◌==◌, ◌++
 ghost use Rattle.std.specs.Option.{option_map};
 ghost use Rattle.std.specs.Str.{bytes_eq};
 ghost use Rattle.mq_model.specs.Names.{name_of, are_within_limits};
-ghost use Rattle.mq_state.specs.Queues.{queue_in, slots_in, registration_in, is_named_in, bound_in, changed, renewed, renewed_done, HasRoom, IsInOrder, reregistered, without_queue, fresh, frees, may_free, released, noted_queues, touches_line, HaveRisingPlaces};
+ghost use Rattle.mq_state.specs.Queues.{queue_in, slots_in, registration_in, attributes_in, is_named_in, bound_in, changed, renewed, renewed_done, HasRoom, IsInOrder, reregistered, without_queue, fresh, frees, may_free, released, noted_queues, touches_line, HaveRisingPlaces};
 ghost use Rattle.mq_state.specs.QueueShown.{QueueShown};
 ghost use Rattle.mq_state.specs.Order.{best_slot, slots_for};
 ghost use Rattle.mq_state.specs.Pool.{Pool, IsSpare, emptied};
 
 use crate::prefixes::Prefix;
 use mq_model::entries::{Attr, Call, Entry, Registration, Reply};
+use mq_model::ladder::DEFAULT_ATTRIBUTES;
 use mq_model::owners::Owner;
 use mq_model::{limits, owners, registrations};
 use mq_slots::Slots;
@@ -22,6 +23,7 @@ pub struct Queue {
     place: u64,
     named: bool,
     registration: Option<Registration>,
+    attributes: Attr,
     slots: Slots,
 }
 
@@ -39,14 +41,15 @@ impl Queue {
     ghost use Rattle.mq_state.specs.Queues.{with_slot, without_slot, unnamed, IsNewest, IsNextAt, IsInOrder};
 
     /// A queue that was just created at a place.
-    pub fn new(place: u64, slots: Slots) -> Queue
+    pub fn new(place: u64, attributes: Attr, slots: Slots) -> Queue
         requires { slots.messages ≡ [] }
-        ensures { result ≡ fresh place slots.cap }
+        ensures { result ≡ fresh place slots.cap attributes }
     {
         Queue {
             place,
             named: true,
             registration: None,
+            attributes,
             slots,
         }
     }
@@ -70,6 +73,13 @@ impl Queue {
         ensures { result ≡ self.now.registration }
     {
         self.registration
+    }
+
+    /// The limits of the queue.
+    pub fn attributes(&self) -> Attr
+        ensures { result ≡ self.now.attributes }
+    {
+        self.attributes
     }
 
     /// How many messages are present.
@@ -226,16 +236,17 @@ pub fn find_from(queues: &[Queue], q: u64, hint: usize) -> Option<&Queue>
     }
 }
 
-/// What the line of a queue says: how many messages are present, which is received next, and the registration that stands.
+/// What the line of a queue says: its limits, how many messages are present, which is received next, and the registration that stands.
 #[derive(Clone, Copy, Debug)]
 pub struct LineFacts {
+    pub attributes: Attr,
     pub count: usize,
     pub best: Option<(u32, u64)>,
     pub registration: Option<Registration>,
 }
 
 /// The line of queue q, found once, perhaps at this index.
-#[tactic(auto, unfolding(crate::specs::Queues::slots_in, crate::specs::Queues::registration_in))]
+#[tactic(auto, unfolding(crate::specs::Queues::slots_in, crate::specs::Queues::registration_in, crate::specs::Queues::attributes_in))]
 #[inline(always)]
 pub fn line(queues: &[Queue], q: u64, hint: usize) -> LineFacts
     requires { HaveRisingPlaces queues.now }
@@ -243,14 +254,17 @@ pub fn line(queues: &[Queue], q: u64, hint: usize) -> LineFacts
     ensures bound { result.count < 2 ^ 63 }
     ensures best { result.best ≡ best_slot (slots_in queues.now q) }
     ensures registration { result.registration ≡ registration_in queues.now q }
+    ensures attributes { result.attributes ≡ attributes_in queues.now q }
 {
     match find_from(queues, q, hint) {
         None => LineFacts {
+            attributes: DEFAULT_ATTRIBUTES,
             count: 0,
             best: None,
             registration: None,
         },
         Some(x) => LineFacts {
+            attributes: x.attributes(),
             count: x.len(),
             best: x.best(),
             registration: x.registration(),
@@ -459,14 +473,14 @@ pub fn note(
     found
 }
 
-/// Adds the queue that the entry at place `here` creates, in room that is there.
-pub fn add(queues: &mut Vec<Queue>, here: u64, slots: Slots)
+/// Adds the queue that the entry at place `here` creates with these limits, in room that is there.
+pub fn add(queues: &mut Vec<Queue>, here: u64, attributes: Attr, slots: Slots)
     requires empty { slots.messages ≡ [] }
     requires room { vec_len queues.old < vec_capacity queues.old }
-    ensures items { queues.new.items ≡ queues.old.items ++ fresh here slots.cap ∷ [] }
+    ensures items { queues.new.items ≡ queues.old.items ++ fresh here slots.cap attributes ∷ [] }
     ensures capacity { vec_capacity queues.new ≡ vec_capacity queues.old }
 {
-    queues.push_reserved(Queue::new(here, slots));
+    queues.push_reserved(Queue::new(here, attributes, slots));
 }
 
 /// So many orders, each with room for the messages of any queue.

@@ -5,7 +5,7 @@ ghost use Rattle.mq_model.specs.Descriptors.{held};
 ghost use Rattle.mq_model.specs.Notices.{gives_notice};
 ghost use Rattle.mq_model.specs.Owners.{waits_count, free_owner};
 ghost use Rattle.std.specs.Option.{option_map, unwrap_or};
-ghost use Rattle.mq_model.specs.Names.{bound_queue};
+ghost use Rattle.mq_model.specs.Names.{bound_queue, attributes_given};
 ghost use Rattle.mq_state.specs.Tables.{entry_queue, admitted_priority};
 ghost use Rattle.mq_state.specs.Kept.{Mirrors, notice_room};
 ghost use Rattle.mq_state.specs.Pool.{order_count};
@@ -20,7 +20,7 @@ use crate::{buffers, notices, queues};
 use mq_model::bounds::Bounds;
 use mq_model::entries::{Call, Description, Entry, Reply};
 use mq_model::owners::Owner;
-use mq_model::{limits, owners, registrations};
+use mq_model::{ladder, limits, owners, registrations};
 use mq_slots::Slots;
 use std::alloc::{AllocError, Global};
 
@@ -181,7 +181,7 @@ impl Tables {
         ensures bounds { self.new.bounds ≡ self.old.bounds }
         ensures pool { IsPooled fresh self.old → IsPooled None self.new }
         ensures owners { self.new.owners.items ≡ noted self.old.owners.items (length journal.now.records) entry.process entry.call entry.reply q }
-        ensures queues { self.new.queues.items ≡ with_fresh fresh (length journal.now.records) (noted_queues self.new.owners.items (length journal.now.records) entry q (admitted_priority journal.now.records entry.reply) self.old.queues.items) }
+        ensures queues { self.new.queues.items ≡ with_fresh fresh (attributes_given entry.call) (length journal.now.records) (noted_queues self.new.owners.items (length journal.now.records) entry q (admitted_priority journal.now.records entry.reply) self.old.queues.items) }
         ensures count { length self.new.inboxes.items ≡ length self.old.inboxes.items }
         ensures inboxes { (k : ℕ) → notices_in self.new.inboxes.items k ≡ noted_values entry.process (registration_in self.old.queues.items q) entry.reply k (notices_in self.old.inboxes.items k) }
         ensures notice_room { (k : ℕ) → room_in self.old.inboxes.items k ≤ room_in self.new.inboxes.items k + notices_brought (registration_in self.old.queues.items q) entry.reply k }
@@ -203,7 +203,12 @@ impl Tables {
         );
         set_hint(&mut self.hints, q, found);
         if let Some(slots) = fresh {
-            queues::add(&mut self.queues, here, slots);
+            queues::add(
+                &mut self.queues,
+                here,
+                ladder::attributes_given(entry.call),
+                slots,
+            );
         }
     }
 }

@@ -43,6 +43,7 @@ pub fn open<L: Look<Guarded>, R: Wait>(
 }
 
 /// Sends a message of 16 bytes.
+#[inline(always)]
 pub fn send<L: Look<Guarded>, R: Wait + Clock>(
     rt: &R,
     mq: &Mq<L>,
@@ -57,6 +58,7 @@ pub fn send<L: Look<Guarded>, R: Wait + Clock>(
 }
 
 /// Receives a message.
+#[inline(always)]
 pub fn receive<L: Look<Guarded>, R: Wait + Clock>(
     rt: &R,
     mq: &Mq<L>,

@@ -449,9 +449,29 @@ impl Tables {
         reply
     }
 
-    /// A send of a message (`mq_send`).
+    /// A send of a message (`mq_send`). Most are queued and notify nobody: these the compiler knows apart from the others.
     #[inline(always)]
     pub fn send(&mut self, journal: &mut Journal, p: u32, d: u32, bytes: &[u8], prio: u32) -> Reply
+        requires { MayCall journal.old self.old p }
+        ensures called { IsCalled journal.old journal.new self.old self.new p (Call.MqSend d prio (length bytes.now)) bytes.now result }
+        ensures refused { (fault : Fault) → result ≡ Reply.Refused fault → fault ≢ Fault.NoMemory → journal.new.byte_room ≡ journal.old.byte_room }
+    {
+        let len = bytes.len() as u64;
+        let past = Prefix::whole(journal);
+        let held = self.held(&past, p, d);
+        let q = queue_of(&past, held);
+        match self.reply_to_send(&past, held, prio, len) {
+            Reply::Queued { notified: None } => {
+                let call = Call::MqSend { d, prio, len };
+                let reply = Reply::Queued { notified: None };
+                self.settle_send(journal, p, call, reply, bytes, bytes.len(), q)
+            }
+            _ => self.any_send(journal, p, d, bytes, prio),
+        }
+    }
+
+    // Any send without a deadline, apart.
+    fn any_send(&mut self, journal: &mut Journal, p: u32, d: u32, bytes: &[u8], prio: u32) -> Reply
         requires { MayCall journal.old self.old p }
         ensures called { IsCalled journal.old journal.new self.old self.new p (Call.MqSend d prio (length bytes.now)) bytes.now result }
         ensures refused { (fault : Fault) → result ≡ Reply.Refused fault → fault ≢ Fault.NoMemory → journal.new.byte_room ≡ journal.old.byte_room }
@@ -524,9 +544,36 @@ impl Tables {
         reply
     }
 
-    /// A receive (`mq_receive`).
+    /// A receive (`mq_receive`). Most get a message, admit none and notify nobody: these the compiler knows apart from the others.
     #[inline(always)]
     pub fn receive(&mut self, journal: &mut Journal, p: u32, d: u32, buf: &mut [u8]) -> Reply
+        requires { MayCall journal.old self.old p }
+        ensures called { IsCalled journal.old journal.new self.old self.new p (Call.MqReceive d (length buf.old)) [] result }
+        ensures buffer { buf.new ≡ filled journal.old.records result buf.old }
+    {
+        let room = buf.len() as u64;
+        let past = Prefix::whole(journal);
+        let held = self.held(&past, p, d);
+        let q = queue_of(&past, held);
+        match self.reply_to_receive(&past, held, room) {
+            Reply::Got {
+                place,
+                admitted: None,
+                notified: None,
+            } => {
+                let reply = Reply::Got {
+                    place,
+                    admitted: None,
+                    notified: None,
+                };
+                self.settle_receive(journal, p, Call::MqReceive { d, room }, reply, buf, q)
+            }
+            _ => self.any_receive(journal, p, d, buf),
+        }
+    }
+
+    // Any receive without a deadline, apart.
+    fn any_receive(&mut self, journal: &mut Journal, p: u32, d: u32, buf: &mut [u8]) -> Reply
         requires { MayCall journal.old self.old p }
         ensures called { IsCalled journal.old journal.new self.old self.new p (Call.MqReceive d (length buf.old)) [] result }
         ensures buffer { buf.new ≡ filled journal.old.records result buf.old }

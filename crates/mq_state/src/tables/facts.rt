@@ -15,23 +15,9 @@ use crate::prefixes::Prefix;
 use crate::queues::{self, LineFacts};
 use crate::tables::Tables;
 use mq_model::entries::{Attr, Call, Deadline, Description, OpenFlags, Registration, Reply};
-use mq_model::ladder::{
-    DEFAULT_ATTRIBUTES, NotifyFacts, OpenFacts, ReceiveFacts, SendFacts, StatusFacts,
-    attributes_given,
-};
+use mq_model::ladder::{NotifyFacts, OpenFacts, ReceiveFacts, SendFacts, StatusFacts};
 use mq_model::owners::WaitKind;
 use mq_model::{ladder, owners};
-
-// `maxmsg` and `msgsize` of queue q, as the journal has them.
-#[inline(always)]
-fn attributes(journal: &Prefix<'_>, q: u64) -> Attr
-    ensures { result ≡ attributes journal.now.records q }
-{
-    match journal.entry(q) {
-        Some(entry) => attributes_given(entry.call),
-        None => DEFAULT_ATTRIBUTES,
-    }
-}
 
 // The place of a message.
 fn message_place(message: Option<(u32, u64)>) -> Option<u64>
@@ -89,7 +75,7 @@ impl Tables {
         self.queues.len() as u64
     }
 
-    // What the table says of queue q: its messages, and the registration that stands.
+    // What the table says of queue q: its limits, its messages, and the registration that stands.
     #[inline(always)]
     fn line(&self, journal: &Prefix<'_>, q: u64) -> LineFacts
         requires mirror { Mirrors journal.now self.now }
@@ -98,6 +84,7 @@ impl Tables {
         ensures bound { result.count < 2 ^ 63 }
         ensures best { option_map (λ m. m.1) result.best ≡ best journal.now.records q }
         ensures registered { result.registration ≡ registered journal.now.records q }
+        ensures attributes { result.attributes ≡ attributes journal.now.records q }
     {
         queues::line(&self.queues, q, self.hint(q))
     }
@@ -171,10 +158,11 @@ impl Tables {
         ensures facts { result ≡ status_facts journal.now.records h }
         ensures bound { result.count < 2 ^ 63 }
     {
+        let line = self.line(journal, h.queue);
         StatusFacts {
             description: h,
-            attributes: attributes(journal, h.queue),
-            count: self.line(journal, h.queue).count as u64,
+            attributes: line.attributes,
+            count: line.count as u64,
         }
     }
 
@@ -231,7 +219,7 @@ impl Tables {
         let line = self.line(journal, h.queue);
         SendFacts {
             description: h,
-            attributes: attributes(journal, h.queue),
+            attributes: line.attributes,
             count: line.count as u64,
             waiting: self.first_wait(journal, h.queue, WaitKind::Receive),
             registered: registration_place(line.registration),
@@ -272,7 +260,7 @@ impl Tables {
         let line = self.line(journal, h.queue);
         ReceiveFacts {
             description: h,
-            attributes: attributes(journal, h.queue),
+            attributes: line.attributes,
             count: line.count as u64,
             best: message_place(line.best),
             waiting: self.first_wait(journal, h.queue, WaitKind::Send),

@@ -3,6 +3,7 @@ use Rattle.mq_model.specs.Record.{Record}
 use Rattle.mq_model.specs.OwnersNoted.{noted}
 use Rattle.mq_model.proofs.LegalReplies.{legal_says}
 use Rattle.mq_model.proofs.OwnersKeep.{noted-fits}
+use Rattle.mq_model.specs.Names.{attributes_given}
 use Rattle.mq_state.specs.Tables.{TablesMirror, entry_queue, admitted_priority, noted_values, with_fresh, notices_brought, HasNoticeRoom}
 use Rattle.mq_state.specs.Inboxes.{notices_in, room_in}
 use Rattle.mq_state.specs.QueueShown.{QueueShown}
@@ -70,8 +71,8 @@ returns-clause-tables c =
     let r : Record = record { entry = e; payload = payload } in
     let count = c.requires.tables.mirror.owner_count in
     let owners : after.owners.items ≡ noted before.owners.items (length past) e.process e.call e.reply q = c.note.ensures.owners ∙ ap (noted before.owners.items (length past) e.process e.call e.reply) c.requires.queue in
-    let queues : after.queues.items ≡ with_fresh c.args.fresh (length past) (noted_queues after.owners.items (length past) e q (admitted_priority past e.reply) before.queues.items) =
-    c.note.ensures.queues ∙ ap (λ k. with_fresh c.args.fresh (length past) (noted_queues after.owners.items (length past) e k (admitted_priority past e.reply) before.queues.items)) c.requires.queue in
+    let queues : after.queues.items ≡ with_fresh c.args.fresh (attributes_given e.call) (length past) (noted_queues after.owners.items (length past) e q (admitted_priority past e.reply) before.queues.items) =
+    c.note.ensures.queues ∙ ap (λ k. with_fresh c.args.fresh (attributes_given e.call) (length past) (noted_queues after.owners.items (length past) e k (admitted_priority past e.reply) before.queues.items)) c.requires.queue in
     let mirror : TablesMirror (r ∷ past) before.n after.owners.items after.queues.items after.inboxes.items =
     tables-keep past c.requires.tables.legal before.n before.owners.items after.owners.items before.queues.items after.queues.items before.inboxes.items after.inboxes.items c.requires.tables.mirror
     e.process e.call e.reply payload (vec_len before.queues) (vec_capacity before.queues) c.args.fresh c.requires.next c.requires.at_most c.requires.brings
@@ -91,5 +92,5 @@ returns-clause-tables c =
       notice_room = subst (λ (xs : List QueueShown). HasNoticeRoom xs after.inboxes.items) (sym queues)
           (notice-room-keeps past c.requires.tables.legal before.queues.items c.requires.tables.mirror.existing e.process e.call e.reply payload c.requires.next before.inboxes.items after.inboxes.items c.requires.tables.notice_room
           (λ k. subst (λ j. room_in before.inboxes.items k ≤ room_in after.inboxes.items k + notices_brought (registration_in before.queues.items j) e.reply k) c.requires.queue (c.note.ensures.notice_room k))
-          c.requires.registration c.args.fresh after.owners.items (admitted_priority past e.reply));
+          c.requires.registration c.args.fresh (attributes_given e.call) after.owners.items (admitted_priority past e.reply));
     }
