@@ -168,8 +168,9 @@ fn wait_kind(call: Call) -> WaitKind
     }
 }
 
+/// The place of process p's open wait, if it is a send, or receive, on queue q that no entry answers.
 #[tactic(auto, unfolding(crate::specs::Owners::pending_in))]
-fn pending(owners: &[Owner], p: u32, q: u64, kind: WaitKind) -> Option<u64>
+pub fn pending(owners: &[Owner], p: u32, q: u64, kind: WaitKind) -> Option<u64>
     ensures { result ≡ pending_in owners.now p q kind }
 {
     match wait(owners, p) {

@@ -1,8 +1,8 @@
 -- A message that was accepted fits the buffers of its queue.
 use Rattle.std.proofs.Common.{◌≡◌, ℕ, ◌<◌, ◌≤◌, ◌==◌, true, false, ◌&&◌, ◌||◌, not, List, [], ◌∷◌, length, Option, Some, None, if◌then◌else◌, refl, sym, ◌∙◌, ap, subst, arith, eqb-true, eq-eqb, ne_eqb}
+use Rattle.std.proofs.lemmas.Bool.{and_parts, eqb-false}
 use Rattle.std.specs.Prelude.{ℤ, int_lt, pos, negsuc}
 use Rattle.std.specs.Option.{option_map, unwrap_or}
-use Rattle.std.proofs.lemmas.Bool.{and_parts}
 use Rattle.std.proofs.lemmas.Bool.Decides.{nat_tests}
 use Rattle.mq_model.specs.Record.{Record, Past, record_at}
 use Rattle.mq_model.specs.Names.{attributes}
@@ -21,7 +21,10 @@ use Rattle.mq_model.proofs.LegalReplies.{legal_says}
 use Rattle.mq_model.proofs.Frames.{record_at-older, attributes-older}
 use Rattle.mq_model.proofs.Steps.{if_in-inside}
 use Rattle.mq_model.proofs.Presence.{sent_to, present-admitted}
-use Rattle.mq_model.proofs.NamedWaits.{least-in}
+use Rattle.mq_model.proofs.NamedWaits.{blocks, blocked-cases, least-in}
+use Rattle.mq_model.specs.Owners.{blocked}
+use Rattle.mq_model.specs.declared.owners.WaitKind.{WaitKind}
+use Rattle.mq_model.specs.declared.owners.WaitKind.TheVariants.{Send, Receive}
 use Rattle.mq_model.proofs.OpenWaits.{open_wait-process}
 use Rattle.mq_model.proofs.Prefixes.{record_at-below}
 use Rattle.mq_model.proofs.HeldQueues.{called-alive}
@@ -228,12 +231,16 @@ reply-fits past legal p call reply is receives = by reply (subst (Says past p ca
 
 -- what answers a waiting receive -----------------------------------------------------------------------------------------
 
-blocked-on-below : (past : Past) → Legal past → (q w : ℕ) → is_in (blocked_receives past q) w ≡ true → q < length past
-blocked-on-below [] legal q w h = absurd (cc)
-blocked-on-below (s ∷ past) legal q w h = split (blocks_receive s.entry.call s.entry.reply && is_on past s.entry q)
-    (λ t. let parts = and_parts (blocks_receive s.entry.call s.entry.reply) (is_on past s.entry q) t in
+-- a call blocks on a queue that was created before
+pub blocked-on-below : (past : Past) → Legal past → (kind : WaitKind) (q w : ℕ) → is_in (blocked past kind q) w ≡ true → q < length past
+blocked-on-below [] legal Send q w h = absurd (cc)
+blocked-on-below [] legal Receive q w h = absurd (cc)
+blocked-on-below (s ∷ past) legal kind q w h = split (length past == w)
+    (λ e. split (blocks kind s.entry.call s.entry.reply && is_on past s.entry q)
+    (λ t. let parts = and_parts (blocks kind s.entry.call s.entry.reply) (is_on past s.entry q) t in
     let lt = on-alive (called_queue past s.entry.process s.entry.call) refl parts.1 in omega (arith, lt))
-    (λ f. let lt = blocked-on-below past legal.0 q w (rw f at h) in omega (arith, lt))
+    (λ f. let lt = blocked-on-below past legal.0 kind q w ((blocked-cases past s kind q w h).0 (eqb-true _ _ e) f) in omega (arith, lt)))
+    (λ n. let lt = blocked-on-below past legal.0 kind q w ((blocked-cases past s kind q w h).1 (eqb-false _ _ n)) in omega (arith, lt))
   where
     on-alive : (o : Option ℕ) → called_queue past s.entry.process s.entry.call ≡ o → is_place q (called_queue past s.entry.process s.entry.call) ≡ true → q < length past
     on-alive None is t = absurd (let bad : false ≡ true = rw is at t in cc)
@@ -294,7 +301,7 @@ blocked-receive (s ∷ past) legal q w h = split (blocks_receive s.entry.call s.
     (λ f. older (rw f at h) (blocked-receive past legal.0 q w (rw f at h)))
   where
     older : is_in (blocked_receives past q) w ≡ true → IsReceiveOn past q w → IsReceiveOn (s ∷ past) q w
-    older h x = receive-older past s q w (blocked-on-below past legal.0 q w h) x
+    older h x = receive-older past s q w (blocked-on-below past legal.0 Receive q w h) x
 
 open_wait-below : (past : Past) (p w : ℕ) → open_wait past p ≡ Some w → w < length past
 open_wait-below past p w e = by (record_at past w) refl (open_wait-process past p w e)

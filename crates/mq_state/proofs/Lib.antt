@@ -10,6 +10,8 @@ pub mod InboxLines
 pub mod NoticeRoom
 pub mod TablesKeep
 pub mod WaitsNoted
+pub mod WaitBits
+pub mod WaitsKnown
 pub mod Starting
 pub mod Fitting
 pub mod Collecting

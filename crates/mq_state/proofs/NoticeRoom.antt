@@ -23,7 +23,8 @@ use Rattle.mq_state.specs.QueueShown.{QueueShown}
 use Rattle.mq_state.specs.InboxShown.{InboxShown}
 use Rattle.mq_state.specs.Inboxes.{room_in}
 use Rattle.mq_model.specs.Ladder.{is_of}
-use Rattle.mq_state.specs.Queues.{queue_in, registration_in, registrations_in, changed, without_queue, reregistered, renewed, released, may_free, noted_queues, fresh, is_named_in, QueuesMirror}
+use Rattle.mq_state.specs.WaitBits.{wait_bits, waits_noted}
+use Rattle.mq_state.specs.Queues.{queue_in, with_waiting, registration_in, registrations_in, changed, without_queue, reregistered, renewed, released, may_free, noted_queues, fresh, is_named_in, QueuesMirror}
 use Rattle.mq_model.specs.Owners.{is_held_in}
 use Rattle.mq_state.specs.Tables.{HasNoticeRoom, HasRoomToRegister, entry_queue, notices_brought, with_fresh}
 use Rattle.mq_state.proofs.QueuesKeep.{rec, renewed-registration}
@@ -258,3 +259,8 @@ notice-room-keeps past legal queues m p call reply payload next inboxes after ha
 -- a registration has room for its notice
 pub room-to-notify : (queues : List QueueShown) (inboxes : List InboxShown) → HasNoticeRoom queues inboxes → (q : ℕ) (n : Registration) → registration_in queues q ≡ Some n → 0 < room_in inboxes n.process
 room-to-notify queues inboxes has q n stands = let counts = registered-counts queues q n stands in omega (arith, counts, has n.process)
+
+-- who waits is noted
+pub notice-room-waiting : (moved : Option ℕ) (owners : List Owner) (queues : List QueueShown) (inboxes : List InboxShown) → HasNoticeRoom queues inboxes → HasNoticeRoom (waits_noted moved owners queues) inboxes
+notice-room-waiting None owners queues inboxes has = has
+notice-room-waiting (Some q) owners queues inboxes has = λ p. let same = registrations-changed (with_waiting (wait_bits q owners)) queues q p (λ x. refl) in let room = has p in omega (arith, same, room)

@@ -11,7 +11,9 @@ use Rattle.mq_model.specs.declared.entries.Call.{Call}
 use Rattle.mq_model.specs.declared.entries.Reply.{Reply}
 use Rattle.mq_slots.specs.Held.{Held}
 use Rattle.mq_state.specs.QueueShown.{QueueShown}
-use Rattle.mq_state.specs.Queues.{changed, reregistered, renewed, without_queue, fresh}
+use Rattle.mq_model.specs.declared.owners.Owner.{Owner}
+use Rattle.mq_state.specs.WaitBits.{wait_bits, waits_noted}
+use Rattle.mq_state.specs.Queues.{changed, with_waiting, reregistered, renewed, without_queue, fresh}
 use Rattle.mq_state.specs.Pool.{Pool, PoolWith, PoolWithin, IsSpare, emptied, order_count}
 use Rattle.mq_state.proofs.QueuesKeep.{renewed-cap}
 use Rattle.mq_state.proofs.QueueLines.{position-here, position-nowhere}
@@ -33,28 +35,41 @@ pool-map q here e queues pool = record {
   spares_fit = pool.spares_fit;
 }
 
-wide-changed : (here : ℕ) (call : Call) (reply : Reply) (prio : ℕ) (queues : List QueueShown) (q : ℕ) → All Wide queues → All Wide (changed (renewed here call reply prio) queues q)
-wide-changed here call reply prio [] q all = All-nil Wide
-wide-changed here call reply prio (x ∷ queues) q all =
+wide-changed : (f : QueueShown → QueueShown) → ((x : QueueShown) → (f x).cap ≡ x.cap) → (queues : List QueueShown) (q : ℕ) → All Wide queues → All Wide (changed f queues q)
+wide-changed f same [] q all = All-nil Wide
+wide-changed f same (x ∷ queues) q all =
     let head = All-head Wide x queues all in
     let tail = All-tail Wide x queues all in
     split (x.place == q)
-    (λ t. rw t (All-cons Wide (renewed here call reply prio x) queues (subst (λ n. 4096 ≤ n) (sym (renewed-cap here call reply prio x)) head) tail))
-    (λ n. rw n (All-cons Wide x (changed (renewed here call reply prio) queues q) head (wide-changed here call reply prio queues q tail)))
+    (λ t. rw t (All-cons Wide (f x) queues (subst (λ n. 4096 ≤ n) (sym (same x)) head) tail))
+    (λ n. rw n (All-cons Wide x (changed f queues q) head (wide-changed f same queues q tail)))
 
 length-changed : (f : QueueShown → QueueShown) (queues : List QueueShown) (q : ℕ) → length (changed f queues q) ≡ length queues
 length-changed f [] q = refl
 length-changed f (x ∷ queues) q = split (x.place == q) (λ t. rw t refl) (λ n. rw n (ap suc (length-changed f queues q)))
 
-pub pool-changed : {m a b : ℕ} {spares : List Held} (here : ℕ) (call : Call) (reply : Reply) (prio : ℕ) (queues : List QueueShown) (q : ℕ) → Pool m queues spares a b → Pool m (changed (renewed here call reply prio) queues q) spares a b
-pool-changed here call reply prio queues q pool = record {
+pool-kept : {m a b : ℕ} {spares : List Held} (f : QueueShown → QueueShown) → ((x : QueueShown) → (f x).cap ≡ x.cap) → (queues : List QueueShown) (q : ℕ) → Pool m queues spares a b → Pool m (changed f queues q) spares a b
+pool-kept f same queues q pool = record {
   spare = pool.spare;
-  wide = wide-changed here call reply prio queues q pool.wide;
-  count = let long = length-changed (renewed here call reply prio) queues q in let count = pool.count in omega (arith, long, count);
+  wide = wide-changed f same queues q pool.wide;
+  count = let long = length-changed f queues q in let count = pool.count in omega (arith, long, count);
   most = pool.most;
   queues_fit = pool.queues_fit;
   spares_fit = pool.spares_fit;
 }
+
+pub pool-changed : {m a b : ℕ} {spares : List Held} (here : ℕ) (call : Call) (reply : Reply) (prio : ℕ) (queues : List QueueShown) (q : ℕ) → Pool m queues spares a b → Pool m (changed (renewed here call reply prio) queues q) spares a b
+pool-changed here call reply prio queues q pool = pool-kept (renewed here call reply prio) (renewed-cap here call reply prio) queues q pool
+
+-- who waits is noted
+pub pool-waiting : {m a b : ℕ} {spares : List Held} (moved : Option ℕ) (owners : List Owner) (queues : List QueueShown) → Pool m queues spares a b → Pool m (waits_noted moved owners queues) spares a b
+pool-waiting None owners queues pool = pool
+pool-waiting (Some q) owners queues pool = pool-kept (with_waiting (wait_bits q owners)) (λ x. refl) queues q pool
+
+pub pooled-waiting : (bounds : Option Bounds) (moved : Option ℕ) (owners : List Owner) (queues after : List QueueShown) (spares : List Held) (room after_room spare_room : ℕ) → after ≡ waits_noted moved owners queues → after_room ≡ room →
+    PoolWithin bounds None queues spares room spare_room → PoolWithin bounds None after spares after_room spare_room
+pooled-waiting None moved owners queues after spares room after_room spare_room is same pool = tt
+pooled-waiting (Some bounds) moved owners queues after spares room after_room spare_room is same pool = rw (is, same) (pool-waiting moved owners queues pool)
 
 -- one queue is removed ----------------------------------------------------------------------------------------------------
 

@@ -128,7 +128,7 @@ places-map f (x ∷ queues) stays = rw (stays x) (ap (λ rest. x.place ∷ rest)
 pub map-untouched : (q here : ℕ) (e : Entry) → ((on : Bool) (here : ℕ) (before : Option Registration) → registration_after on here e before ≡ before) → (queues : List QueueShown) → queues ≡ map (reregistered q here e) queues
 map-untouched q here e same [] = refl
 map-untouched q here e same (x ∷ queues) =
-    ap (λ r. (let y : QueueShown = record { place = x.place; named = x.named; registration = r; slots = x.slots; cap = x.cap; attributes = x.attributes } in y) ∷ queues) (sym (same (q == x.place) here x.registration))
+    ap (λ r. (let y : QueueShown = record { place = x.place; named = x.named; registration = r; slots = x.slots; cap = x.cap; attributes = x.attributes; waiting = x.waiting } in y) ∷ queues) (sym (same (q == x.place) here x.registration))
     ∙ ap (λ rest. reregistered q here e x ∷ rest) (map-untouched q here e same queues)
 
 -- one more line of a loop that maps

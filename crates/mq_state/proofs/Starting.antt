@@ -10,6 +10,7 @@ use Rattle.mq_state.specs.InboxShown.{InboxShown}
 use Rattle.mq_state.specs.Inboxes.{notices_in}
 use Rattle.mq_state.specs.Queues.{queue_in}
 use Rattle.mq_state.specs.Tables.{TablesMirror}
+use Rattle.mq_state.specs.WaitBits.{KnowWaits}
 
 no-queue : (q : ℕ) (x : QueueShown) → queue_in [] q ≡ Some x → None ≡ Some x
 unfolding queue_in
@@ -27,3 +28,6 @@ mirrors-new n owners inboxes is count none = record {
 pub waits_count-new : (m : ℕ) → waits_count (replicate m free_owner) ≡ 0
 unfolding waits_count
 waits_count-new m = sum_by-replicate _ m free_owner ∙ omega arith
+
+pub knows-new : (owners : List Owner) → KnowWaits owners []
+knows-new owners = λ q x e. absurd (let none : None ≡ Some x = no-queue q x e in cc)

@@ -14,6 +14,7 @@ use Rattle.mq_state.specs.Pool.{IsPooled}
 use Rattle.mq_state.specs.InboxShown.{InboxShown}
 use Rattle.mq_state.specs.Inboxes.{notices_in, room_in}
 use Rattle.mq_state.specs.Tables.{TablesMirror, AreAtMost, HasNoticeRoom}
+use Rattle.mq_state.specs.WaitBits.{KnowWaits}
 use Rattle.mq_state.specs.declared.tables.Tables.{Tables}
 
 -- what a `Books` shows: its records, the latest first, how many processes it has, the bounds of its journal, and for how many more
@@ -28,12 +29,14 @@ pub record Kept : Type 0 where
 abbrev pub Mirrors : Shown → Tables → Type 0
 Mirrors j t = TablesMirror j.records t.n t.owners.items t.queues.items t.inboxes.items
 
--- the tables are those of these records, which are legal, and have room for the notice of each registration
+-- the tables are those of these records, which are legal, the lines of the queues know who waits, and there is room for the notice of
+-- each registration
 pub record AreThoseOf (past : Past) (t : Tables) : Type 0 where
   pub legal : Legal past
   pub few : t.n ≤ 32
   pub mirror : TablesMirror past t.n t.owners.items t.queues.items t.inboxes.items
   pub waits : t.waits ≡ waits_count t.owners.items
+  pub known : KnowWaits t.owners.items t.queues.items
   pub notice_room : HasNoticeRoom t.queues.items t.inboxes.items
 
 -- tables that say the same, with as much room for notices at least
@@ -61,14 +64,15 @@ abbrev pub HasRoomWithin : Option Bounds → Shown → Type 0
 HasRoomWithin None j = Unit {0}
 HasRoomWithin (Some b) j = (b.entries ≤ length j.records + j.entry_room) × (b.bytes ≤ payload_bytes j.records + j.byte_room)
 
--- the journal is legal and has entries of the first n processes alone, the tables are those of the journal, and there is
--- room for the entry that ends each open wait, for the notice of each registration, and for all that the bounds allow
+-- the journal is legal and has entries of the first n processes alone, the tables are those of the journal, the lines of the queues know
+-- who waits, and there is room for the entry that ends each open wait, for the notice of each registration, and for all that the bounds allow
 pub record IsKeptBy (j : Shown) (t : Tables) : Type 0 where
   pub legal : Legal j.records
   pub few : t.n ≤ 32
   pub processes : AreAtMost t.n j.records
   pub mirror : Mirrors j t
   pub waits : t.waits ≡ waits_count t.owners.items
+  pub known : KnowWaits t.owners.items t.queues.items
   pub room : waits_count t.owners.items ≤ j.entry_room
   pub notice_room : HasNoticeRoom t.queues.items t.inboxes.items
   pub bounded : HasRoomWithin t.bounds j

@@ -3,7 +3,8 @@ use Rattle.mq_model.specs.declared.entries.Attr.{Attr}
 use Rattle.mq_model.specs.declared.entries.Registration.{Registration}
 
 -- what a queue of the table shows: the place of the open that created it, whether it is still bound to its name, the
--- registration that stands on it, its messages, the last to enter first, how many it has room for, and its attributes
+-- registration that stands on it, its messages, the last to enter first, how many it has room for, its attributes, and as bits of a number
+-- which processes wait on it
 pub record QueueShown : Type 0 where
   pub place : ℕ
   pub named : Bool
@@ -11,3 +12,4 @@ pub record QueueShown : Type 0 where
   pub slots : List (ℕ × ℕ)
   pub cap : ℕ
   pub attributes : Attr
+  pub waiting : ℕ

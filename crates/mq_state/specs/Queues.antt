@@ -35,6 +35,9 @@ registration_in queues q = option_and_then (λ x. x.registration) (queue_in queu
 unfoldable pub attributes_in : List QueueShown → ℕ → Attr
 attributes_in queues q = unwrap_or (option_map (λ x. x.attributes) (queue_in queues q)) default_attributes
 
+unfoldable pub waiting_in : List QueueShown → ℕ → ℕ
+waiting_in queues q = unwrap_or (option_map (λ x. x.waiting) (queue_in queues q)) 0
+
 -- how many queues process p is registered on
 unfoldable pub registrations_in : List QueueShown → ℕ → ℕ
 registrations_in queues p = count_by (λ x. is_of p x.registration) queues
@@ -66,13 +69,16 @@ without_queue queues q = filter (λ x. not (x.place == q)) queues
 -- one line after an entry -------------------------------------------------------------------------------------------------
 
 abbrev pub with_slot : ℕ × ℕ → QueueShown → QueueShown
-with_slot s x = record { place = x.place; named = x.named; registration = x.registration; slots = s ∷ x.slots; cap = x.cap; attributes = x.attributes }
+with_slot s x = record { place = x.place; named = x.named; registration = x.registration; slots = s ∷ x.slots; cap = x.cap; attributes = x.attributes; waiting = x.waiting }
 
 abbrev pub without_slot : ℕ → QueueShown → QueueShown
-without_slot m x = record { place = x.place; named = x.named; registration = x.registration; slots = without m x.slots; cap = x.cap; attributes = x.attributes }
+without_slot m x = record { place = x.place; named = x.named; registration = x.registration; slots = without m x.slots; cap = x.cap; attributes = x.attributes; waiting = x.waiting }
 
 abbrev pub unnamed : QueueShown → QueueShown
-unnamed x = record { place = x.place; named = false; registration = x.registration; slots = x.slots; cap = x.cap; attributes = x.attributes }
+unnamed x = record { place = x.place; named = false; registration = x.registration; slots = x.slots; cap = x.cap; attributes = x.attributes; waiting = x.waiting }
+
+abbrev pub with_waiting : ℕ → QueueShown → QueueShown
+with_waiting bits x = record { place = x.place; named = x.named; registration = x.registration; slots = x.slots; cap = x.cap; attributes = x.attributes; waiting = bits }
 
 abbrev pub admitting : Option ℕ → ℕ → QueueShown → QueueShown
 admitting None prio x = x
@@ -127,7 +133,7 @@ IsInOrder here call _ prio x = Unit {0}
 
 -- any line: its registration, where the entry's call is made on queue q
 abbrev pub reregistered : ℕ → ℕ → Entry → QueueShown → QueueShown
-reregistered q here e x = record { place = x.place; named = x.named; registration = registration_after (q == x.place) here e x.registration; slots = x.slots; cap = x.cap; attributes = x.attributes }
+reregistered q here e x = record { place = x.place; named = x.named; registration = registration_after (q == x.place) here e x.registration; slots = x.slots; cap = x.cap; attributes = x.attributes; waiting = x.waiting }
 
 abbrev pub frees : Call → Bool
 frees (MqClose d) = true
@@ -149,7 +155,7 @@ noted_queues owners here e q prio queues =
 
 -- a queue that was just created
 abbrev pub fresh : ℕ → ℕ → Attr → QueueShown
-fresh here cap given = record { place = here; named = true; registration = None; slots = []; cap = cap; attributes = given }
+fresh here cap given = record { place = here; named = true; registration = None; slots = []; cap = cap; attributes = given; waiting = 0 }
 
 -- the table says what the definitions say of the journal -----------------------------------------------------------------
 

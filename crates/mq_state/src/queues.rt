@@ -3,7 +3,7 @@ ghost use Rattle.std.specs.Prelude.{◌≡◌, ◌<◌, ◌^◌, ◌==◌, ◌++
 ghost use Rattle.std.specs.Option.{option_map};
 ghost use Rattle.std.specs.Str.{bytes_eq};
 ghost use Rattle.mq_model.specs.Names.{name_of, are_within_limits};
-ghost use Rattle.mq_state.specs.Queues.{queue_in, slots_in, registration_in, attributes_in, is_named_in, bound_in, changed, renewed, renewed_done, HasRoom, IsInOrder, reregistered, without_queue, fresh, frees, may_free, released, noted_queues, touches_line, HaveRisingPlaces};
+ghost use Rattle.mq_state.specs.Queues.{queue_in, slots_in, registration_in, attributes_in, is_named_in, bound_in, changed, renewed, renewed_done, HasRoom, IsInOrder, reregistered, without_queue, fresh, frees, may_free, released, noted_queues, touches_line, waiting_in, with_waiting, HaveRisingPlaces};
 ghost use Rattle.mq_state.specs.QueueShown.{QueueShown};
 ghost use Rattle.mq_state.specs.Order.{best_slot, slots_for};
 ghost use Rattle.mq_state.specs.Pool.{Pool, IsSpare, emptied};
@@ -25,6 +25,8 @@ pub struct Queue {
     registration: Option<Registration>,
     attributes: Attr,
     slots: Slots,
+    // the processes with an open wait on the queue, that of process p being the bit of 2^p
+    waiting: u64,
 }
 
 impl Model for Queue {
@@ -51,6 +53,7 @@ impl Queue {
             registration: None,
             attributes,
             slots,
+            waiting: 0,
         }
     }
 
@@ -73,6 +76,19 @@ impl Queue {
         ensures { result ≡ self.now.registration }
     {
         self.registration
+    }
+
+    /// The processes that wait on the queue, as bits.
+    pub fn waiting(&self) -> u64
+        ensures { result ≡ self.now.waiting }
+    {
+        self.waiting
+    }
+
+    fn set_waiting(&mut self, bits: u64)
+        ensures { self.new ≡ with_waiting bits self.old }
+    {
+        self.waiting = bits;
     }
 
     /// The limits of the queue.
@@ -236,17 +252,19 @@ pub fn find_from(queues: &[Queue], q: u64, hint: usize) -> Option<&Queue>
     }
 }
 
-/// What the line of a queue says: its limits, how many messages are present, which is received next, and the registration that stands.
+/// What the line of a queue says: its limits, how many messages are present, which is received next, the registration that stands, and
+/// as bits which processes wait.
 #[derive(Clone, Copy, Debug)]
 pub struct LineFacts {
     pub attributes: Attr,
     pub count: usize,
     pub best: Option<(u32, u64)>,
     pub registration: Option<Registration>,
+    pub waiting: u64,
 }
 
 /// The line of queue q, found once, perhaps at this index.
-#[tactic(auto, unfolding(crate::specs::Queues::slots_in, crate::specs::Queues::registration_in, crate::specs::Queues::attributes_in))]
+#[tactic(auto, unfolding(crate::specs::Queues::slots_in, crate::specs::Queues::registration_in, crate::specs::Queues::attributes_in, crate::specs::Queues::waiting_in))]
 #[inline(always)]
 pub fn line(queues: &[Queue], q: u64, hint: usize) -> LineFacts
     requires { HaveRisingPlaces queues.now }
@@ -255,6 +273,7 @@ pub fn line(queues: &[Queue], q: u64, hint: usize) -> LineFacts
     ensures best { result.best ≡ best_slot (slots_in queues.now q) }
     ensures registration { result.registration ≡ registration_in queues.now q }
     ensures attributes { result.attributes ≡ attributes_in queues.now q }
+    ensures waiting { result.waiting ≡ waiting_in queues.now q }
 {
     match find_from(queues, q, hint) {
         None => LineFacts {
@@ -262,12 +281,14 @@ pub fn line(queues: &[Queue], q: u64, hint: usize) -> LineFacts
             count: 0,
             best: None,
             registration: None,
+            waiting: 0,
         },
         Some(x) => LineFacts {
             attributes: x.attributes(),
             count: x.len(),
             best: x.best(),
             registration: x.registration(),
+            waiting: x.waiting(),
         },
     }
 }
@@ -471,6 +492,15 @@ pub fn note(
     let found = note_lines(queues, here, entry, q, prio, hint);
     release(owners, may_free(entry), queues, spares, q);
     found
+}
+
+/// Notes in the line of queue q, if there is one, which processes wait on it.
+pub fn set_waiting(queues: &mut [Queue], q: u64, bits: u64)
+    ensures { queues.new ≡ changed (with_waiting bits) queues.old q }
+{
+    if let Some(i) = first_at(queues, q) {
+        queues[i].set_waiting(bits);
+    }
 }
 
 /// Adds the queue that the entry at place `here` creates with these limits, in room that is there.

@@ -12,6 +12,7 @@ ghost use Rattle.mq_state.specs.Pool.{order_count};
 
 mod calls;
 mod facts;
+mod waiting;
 
 use crate::notices::Inbox;
 use crate::prefixes::Prefix;
@@ -47,12 +48,14 @@ const HINTS: usize = 64;
 impl Tables {
     ghost use Rattle.mq_state.specs.Tables.{TablesMirror, HasNoticeRoom};
     ghost use Rattle.mq_state.specs.Kept.{HasNotices};
+    ghost use Rattle.mq_state.specs.WaitBits.{KnowWaits};
     ghost use Rattle.mq_state.specs.Pool.{IsPooled};
 
     /// The tables of n processes that have nothing, with no queue. With bounds they have room for all that the bounds allow.
     pub fn new(alloc: Global, n: u32, bounds: Option<Bounds>) -> Result<Tables, AllocError>
         requires { n ≤ 32 }
         ensures empty { IfOk result (λ t. (t.n ≡ n) × TablesMirror [] t.n t.owners.items t.queues.items t.inboxes.items × (waits_count t.owners.items ≡ 0) × (t.waits ≡ 0) × HasNoticeRoom t.queues.items t.inboxes.items) }
+        ensures known { IfOk result (λ t. KnowWaits t.owners.items t.queues.items) }
         ensures bounds { IfOk result (λ t. t.bounds ≡ bounds) }
         ensures notices { IfOk result (λ t. HasNotices bounds 0 n t.inboxes.items) }
         ensures pool { IfOk result (IsPooled None) }

@@ -17,7 +17,7 @@ ghost use Rattle.mq_state.specs.Pool.{IsPooled};
 ghost use Rattle.mq_state.specs.Kept.{AreThoseOf, SaysSame, IsKeptBy, HasEntryRoom, MayCall, IsCalled, IsRoomRefused, NeedsJust};
 
 use crate::prefixes::Prefix;
-use crate::tables::{Tables, queue_of};
+use crate::tables::{Tables, queue_of, waiting};
 use crate::{buffers, notices, queues};
 use mq_model::entries::{Attr, Call, Deadline, Entry, OpenFlags, Reply};
 use mq_model::faults::Fault;
@@ -130,7 +130,9 @@ impl Tables {
         ensures n { self.new.n ≡ self.old.n }
         ensures bounds { self.new.bounds ≡ self.old.bounds }
     {
+        let moved = waiting::moved_queue(&self.owners, entry, q);
         self.note(journal, entry, q, fresh);
+        self.note_waiting(moved);
     }
 
     // Makes the room that the next entry of a journal needs, and notes it with its payload. The tables have no bounds.

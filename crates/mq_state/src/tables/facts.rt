@@ -3,12 +3,13 @@ ghost use Rattle.std.specs.Prelude.{◌≡◌, ◌<◌, ◌≤◌, ◌^◌, IfSo
 ghost use Rattle.std.specs.Option.{option_map};
 ghost use Rattle.mq_model.specs.Names.{attributes, bound_queue};
 ghost use Rattle.mq_model.specs.Descriptors.{held, lowest_free, alive};
-ghost use Rattle.mq_model.specs.Messages.{is_in, present, best, least};
+ghost use Rattle.mq_model.specs.Messages.{is_in, present, best};
 ghost use Rattle.mq_model.specs.Notices.{registered};
 ghost use Rattle.mq_model.specs.Legality.{Legal, may_call, reply_to, reply_to_attributes, reply_to_send, reply_to_receive, open_facts, send_facts, receive_facts, status_facts};
-ghost use Rattle.mq_model.specs.Owners.{waiting, waits_count};
 ghost use Rattle.mq_model.specs.Waits.{open_wait, wait_deadline, answered_by};
 ghost use Rattle.mq_state.specs.Kept.{Mirrors, AreThoseOf};
+ghost use Rattle.mq_state.specs.Queues.{waiting_in};
+ghost use Rattle.mq_state.specs.WaitBits.{KnowWaits};
 
 use crate::notices;
 use crate::prefixes::Prefix;
@@ -85,26 +86,9 @@ impl Tables {
         ensures best { option_map (λ m. m.1) result.best ≡ best journal.now.records q }
         ensures registered { result.registration ≡ registered journal.now.records q }
         ensures attributes { result.attributes ≡ attributes journal.now.records q }
+        ensures waiting { result.waiting ≡ waiting_in self.now.queues.items q }
     {
         queues::line(&self.queues, q, self.hint(q))
-    }
-
-    // The place of the send, or receive, that waits the longest on queue q.
-    #[inline(always)]
-    fn first_wait(&self, journal: &Prefix<'_>, q: u64, kind: WaitKind) -> Option<u64>
-        requires mirror { Mirrors journal.now self.now }
-        requires legal { Legal journal.now.records }
-        requires few { self.now.n ≤ 32 }
-        requires waits { self.now.waits ≡ waits_count self.now.owners.items }
-        ensures { result ≡ least (waiting journal.now.records kind q) }
-    {
-        if self.waits == 0 {
-            return None;
-        }
-        match owners::first_wait(&self.owners, q, kind) {
-            None => None,
-            Some((_, place)) => Some(place),
-        }
     }
 }
 
@@ -213,7 +197,7 @@ impl Tables {
         requires legal { Legal journal.now.records }
         requires alive { IsTrue (is_in (alive journal.now.records) h.queue) }
         requires few { self.now.n ≤ 32 }
-        requires waits { self.now.waits ≡ waits_count self.now.owners.items }
+        requires known { KnowWaits self.now.owners.items self.now.queues.items }
         ensures { result ≡ send_facts journal.now.records h }
     {
         let line = self.line(journal, h.queue);
@@ -221,7 +205,7 @@ impl Tables {
             description: h,
             attributes: line.attributes,
             count: line.count as u64,
-            waiting: self.first_wait(journal, h.queue, WaitKind::Receive),
+            waiting: self.first_wait(journal, h.queue, WaitKind::Receive, line.waiting),
             registered: registration_place(line.registration),
         }
     }
@@ -239,7 +223,7 @@ impl Tables {
         requires legal { Legal journal.now.records }
         requires alive { IfSome held (λ h. IsTrue (is_in (alive journal.now.records) h.queue)) }
         requires few { self.now.n ≤ 32 }
-        requires waits { self.now.waits ≡ waits_count self.now.owners.items }
+        requires known { KnowWaits self.now.owners.items self.now.queues.items }
         ensures { result ≡ reply_to_send journal.now.records held prio len }
     {
         match held {
@@ -254,7 +238,7 @@ impl Tables {
         requires legal { Legal journal.now.records }
         requires alive { IsTrue (is_in (alive journal.now.records) h.queue) }
         requires few { self.now.n ≤ 32 }
-        requires waits { self.now.waits ≡ waits_count self.now.owners.items }
+        requires known { KnowWaits self.now.owners.items self.now.queues.items }
         ensures { result ≡ receive_facts journal.now.records h }
     {
         let line = self.line(journal, h.queue);
@@ -263,7 +247,7 @@ impl Tables {
             attributes: line.attributes,
             count: line.count as u64,
             best: message_place(line.best),
-            waiting: self.first_wait(journal, h.queue, WaitKind::Send),
+            waiting: self.first_wait(journal, h.queue, WaitKind::Send, line.waiting),
             registered: registration_place(line.registration),
         }
     }
@@ -280,7 +264,7 @@ impl Tables {
         requires legal { Legal journal.now.records }
         requires alive { IfSome held (λ h. IsTrue (is_in (alive journal.now.records) h.queue)) }
         requires few { self.now.n ≤ 32 }
-        requires waits { self.now.waits ≡ waits_count self.now.owners.items }
+        requires known { KnowWaits self.now.owners.items self.now.queues.items }
         ensures { result ≡ reply_to_receive journal.now.records held room }
     {
         match held {

@@ -195,7 +195,7 @@ fn orders_of_queues_that_are_gone_serve_queues_to_come(rt: HostRuntime) -> Resul
 
 #[test]
 fn memory_is_told_before_it_is_taken(rt: HostRuntime) {
-    assert_eq!(rt; memory_of(1, 0, 0), Some(5_257_456));
-    assert_eq!(rt; memory_of(4, 1_000_000, 1_000_000), Some(166_260_480));
+    assert_eq!(rt; memory_of(1, 0, 0), Some(5_257_968));
+    assert_eq!(rt; memory_of(4, 1_000_000, 1_000_000), Some(166_260_992));
     assert_eq!(rt; memory_of(1, u64::MAX, 0), None);
 }

@@ -46,6 +46,7 @@ returns-clause-kept c =
       processes = subst (λ (xs : Past). AreAtMost after.n xs) (sym records) (subst (λ (n : ℕ). AreAtMost n (r ∷ past)) (sym c.note_next.ensures.n) (All-cons (λ (x : Record). x.entry.process ≤ before.n) r past c.requires.at_most c.requires.kept.processes));
       mirror = those.mirror;
       waits = those.waits;
+      known = those.known;
       room = omega (arith, waits, room, pushed);
       notice_room = those.notice_room;
       bounded = subst (λ (o : Option Bounds). HasRoomWithin o c.push.new.self) (sym c.note_next.ensures.bounds)

@@ -1,17 +1,18 @@
-use Rattle.std.proofs.Common.{◌≡◌, ◌∙◌, sym, ap, subst, List, refl}
-use Rattle.mq_model.specs.Owners.{IsFirstWait, pending_in, waits_count}
-use Rattle.mq_state.proofs.WaitsNoted.{none-pending}
-use Rattle.mq_model.specs.declared.owners.Owner.{Owner}
-use Rattle.mq_model.proofs.Pending.{least-pending, no-pending}
+use Rattle.std.proofs.Common.{◌≡◌, ◌∙◌, sym}
+use Rattle.mq_model.proofs.Pending.{no-pending}
+use Rattle.mq_state.specs.WaitBits.{wait_bits}
+use Rattle.mq_state.proofs.WaitBits.{nobody-waits}
+use Rattle.mq_state.proofs.WaitsKnown.{bits-known}
 use Rattle.mq_state.proofs.tables.Tables.first_wait.Goals as goal
 
-pub returns-then-self-eq0 : goal.returns-then-self-eq0
-returns-then-self-eq0 c =
-    let none : waits_count c.args.self.now.owners.items ≡ 0 = sym c.requires.waits ∙ c.if-self-eq0.true in
-    sym (no-pending c.args.journal.now.records c.args.self.now.owners.items c.requires.mirror.lines c.requires.legal c.args.q c.args.kind (λ k. none-pending c.args.self.now.owners.items none k c.args.q c.args.kind))
+pub returns-then-bits-eq0 : goal.returns-then-bits-eq0
+returns-then-bits-eq0 c =
+    let t = c.args.self.now in
+    let past = c.args.journal.now.records in
+    let none : wait_bits c.args.q t.owners.items ≡ 0 = sym (c.requires.line ∙ bits-known past t.owners.items t.queues.items c.requires.mirror.existing c.requires.known c.args.q c.requires.alive) ∙ c.if-bits-eq0.true in
+    sym (no-pending past t.owners.items c.requires.mirror.lines c.requires.legal c.args.q c.args.kind (nobody-waits t.owners.items c.args.q c.args.kind none))
 
-pub returns-in-None : goal.returns-in-None
-returns-in-None c = sym (no-pending c.args.journal.now.records c.args.self.now.owners.items c.requires.mirror.lines c.requires.legal c.args.q c.args.kind (λ k. ap (λ xs. pending_in xs k c.args.q c.args.kind) (sym c.deref.ensures.value) ∙ c.in-None.ensures.none refl k))
-
-pub returns-in-Some : goal.returns-in-Some
-returns-in-Some c = sym (least-pending c.args.journal.now.records c.args.self.now.owners.items c.requires.mirror.lines c.requires.legal c.args.q c.args.kind c.in-Some.field-0-0 c.in-Some.place (subst (λ (xs : List Owner). IsFirstWait xs c.args.q c.args.kind c.in-Some.field-0-0 c.in-Some.place) c.deref.ensures.value c.in-Some.ensures.some))
+pub first_of-requires-clause-line : goal.first_of-requires-clause-line
+first_of-requires-clause-line c =
+    let t = c.args.self.now in
+    c.requires.line ∙ bits-known c.args.journal.now.records t.owners.items t.queues.items c.requires.mirror.existing c.requires.known c.args.q c.requires.alive

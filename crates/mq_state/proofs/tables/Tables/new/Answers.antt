@@ -5,7 +5,8 @@ use Rattle.mq_state.proofs.Pooling.{pool-made}
 use Rattle.mq_model.specs.Owners.{waits_count}
 use Rattle.mq_state.specs.QueueShown.{QueueShown}
 use Rattle.mq_state.specs.Tables.{TablesMirror}
-use Rattle.mq_state.proofs.Starting.{mirrors-new, waits_count-new}
+use Rattle.mq_state.specs.WaitBits.{KnowWaits}
+use Rattle.mq_state.proofs.Starting.{mirrors-new, knows-new, waits_count-new}
 use Rattle.mq_state.proofs.tables.Tables.new.Goals as goal
 
 pub returns-clause-empty : goal.returns-clause-empty
@@ -24,3 +25,6 @@ returns-clause-pool c =
     let spares_fit = c.in_ok-spares.ensures.room in
     pool-made c.args.bounds c.in_ok-queues.queues.items c.in_ok-spares.spares.items (vec_capacity c.in_ok-queues.queues) (vec_capacity c.in_ok-spares.spares) c.in_ok-queues.ensures.items c.in_ok-spares.ensures.spare (c.in_ok-spares.ensures.count ∙ orders)
     (omega (arith, orders, queues_fit)) (omega (arith, orders, spares_fit))
+
+pub returns-clause-known : goal.returns-clause-known
+returns-clause-known c = subst (KnowWaits c.in_ok-owners.owners.items) (sym c.in_ok-queues.ensures.items) (knows-new c.in_ok-owners.owners.items)
