@@ -7,21 +7,19 @@ use native.Mathlib.Decide.{ℕ_discrete}
 use lib.ListN.{get_elem?}
 use Rattle.std.proofs.lemmas.Bool.{eqb-true}
 use Rattle.atomic_table.specs.Table.{State, Me, step, keeps, takes, gives, opening, Allows, Splits, Joins, Final, Seen}
-use Rattle.atomic_table.specs.Seated.{TableId}
-use Rattle.atomic_table.specs.declared.shared.Seat.{Seat}
 use Rattle.atomic_table.proofs.Lists.{set_here, set_else, at_longer, at_snoc}
 use Rattle.lamport_core.specs.State.{IsProcess}
 use Rattle.lamport_core.specs.Safe.{moved_to}
 use Rattle.lamport_core.specs.Line.{IsCounted}
 use Rattle.lamport_core.specs.declared.At.{At}
 use Rattle.lamport_core.specs.declared.At.TheVariants.{Rest, Start, SetX, TestY, BackB, AwaitY, SetY, TestX, SlowB, Scan, SlowY, SlowAwait, Leaving}
-use Rattle.fast_mutex.specs.Items.{new_ticket, Grows, GrowsBy}
-use Rattle.fast_mutex.specs.Word.{Claim, Fixed, IsGood, lock_id, new_claims, last_left, sum_over, times}
+use Rattle.fast_mutex.specs.Items.{Grows, GrowsBy}
+use Rattle.fast_mutex.specs.Seats.{Claim, Fixed, IsGood, Deals, new_claims, last_left, sum_over, times, first_view, view_of_others, view_of_first, joint_view}
 use Rattle.fast_mutex.specs.Marks.{flag, mark_in, has, answer_bits, Course, Marked}
-use Rattle.fast_mutex.specs.declared.word.view.About.{About}
+use Rattle.fast_mutex.specs.declared.seats.About.{About}
 use Rattle.fast_mutex.specs.declared.fast.view.Plan.{Plan}
 use Rattle.fast_mutex.specs.declared.fast.view.View.{View}
-use Rattle.fast_mutex.specs.Fast.{is_inside, IsSafeWorld, seat_view, plan_of, no_plan, number_in, view_told, view_planned, view_marked, list_in, Comes, MayCome, Shows, IsReady, IsLook, IsMark, view_of_first, view_of_others, joint_view, spent_view, first_view, Stands, Fits, KeepsRule, stores_line, loads_line, tests_line, after_store, after_load, point_admitted, point_refused, word_stored, value_stored, word_loaded, IsStore, IsLoad, IsTest, view_left, IsLeave, ticket_of, slots_at}
+use Rattle.fast_mutex.specs.Fast.{is_inside, IsSafeWorld, seat_view, plan_of, no_plan, number_in, view_told, view_planned, view_marked, list_in, Comes, MayCome, Shows, IsReady, IsLook, IsMark, resting, Stands, Fits, KeepsRule, stores_line, loads_line, tests_line, after_store, after_load, point_admitted, point_refused, word_stored, value_stored, word_loaded, IsStore, IsLoad, IsTest, view_left, IsLeave, slots_at}
 use Rattle.fast_mutex.proofs.Sums.{views_stay, in_length, once_same, total_same, sum_over-set, one_in_sum, two_in_sum, times_here, times_other, sum_over-append, times-append, each-append, new_claims_once, length-new_claims, grows_none}
 use Rattle.fast_mutex.proofs.WordKeeps.{good_new_claims, good_more, good_grows}
 use Rattle.fast_mutex.proofs.FastWorld.{moved_here, moved_else, inside_point, not_true, raises_rest, raises_start, lowers_back, lowers_slow, lowers_leaving, sets_x, sets_y, leaves_world, loads_test_y, loads_await_y, loads_slow_await, loads_flag, admits_fast, refuses_fast, admits_slow, refuses_slow, others_outside, found_nobody, starting_world, sets_mark, mark_loaded}
@@ -41,7 +39,7 @@ module _ {S I : Type 0} (shows : S → List I) (fixes : S → List ℕ) (author 
   On = Stands shows fixes author answered about
 
   abbrev Good : Fixed → List I → Claim I → Type 0
-  Good = IsGood shows fixes author about
+  Good = IsGood fixes author about
 
   abbrev pub Stays : Type 0
   Stays = (p : ℕ) (more before : List I) → All (λ x. author x ≢ p) more → answered p before ≡ true → answered p (more ++ before) ≡ true
@@ -285,11 +283,11 @@ module _ {S I : Type 0} (shows : S → List I) (fixes : S → List ℕ) (author 
   leaves slots id k p found fixed l more plan st is adds same shown s r len at small = (seat Leaving k (shows st) fixed (shows st) more no_plan, gives, tt, left_home s r id k p found fixed l more plan st is adds same shown at, record { inside = is; on = (refl, refl, refl); stores = refl; goes = refl })
 
   -- the one seat of a new table
-  only_first : (id : ℕ) (v : View I) → get_elem? (first_view {I = I} fixes about ∷ []) id ≡ some v → v ≡ first_view fixes about
+  only_first : (id : ℕ) (v : View I) → get_elem? (first_view (resting {I = I}) fixes about ∷ []) id ≡ some v → v ≡ first_view resting fixes about
   only_first zero v e = sym (some-injective _ _ e)
   only_first (suc id) v e = absurd (some-ne-none v (sym e))
 
-  total_new : sum_over many (first_view {I = I} fixes about ∷ []) ≡ about.count
+  total_new : sum_over many (first_view (resting {I = I}) fixes about ∷ []) ≡ about.count
   total_new = let h = length-new_claims I 1 about.count in omega arith
 
   new_claims_rest : (k n : ℕ) → Each (λ (c : Claim I). Rest ≡ Rest) (new_claims k n)
@@ -301,9 +299,9 @@ module _ {S I : Type 0} (shows : S → List I) (fixes : S → List ℕ) (author 
   new_claims_stand (suc n) = (refl, new_claims_rest 2 n)
 
   -- the table that `new` makes
-  pub starts : ((p : ℕ) → answered p [] ≡ false) → (n : ℕ) (st : S) (slots : List (Opt S)) → n ≡ about.count → n ≤ 32 → slots ≡ Some st ∷ [] → about.state.value ≡ st → shows st ≡ [] → Rule (opening (take (2 * n + 2) (replicate 66 0)) slots (first_view fixes about))
+  pub starts : ((p : ℕ) → answered p [] ≡ false) → (n : ℕ) (st : S) (slots : List (Opt S)) → n ≡ about.count → n ≤ 32 → slots ≡ Some st ∷ [] → about.state.value ≡ st → shows st ≡ [] → Rule (opening (take (2 * n + 2) (replicate 66 0)) slots (first_view resting fixes about))
   starts nobody n st slots count few filled same none_yet =
-      let course : Course I = record { now = []; next = []; done = []; marks = replicate about.count 0 } in subst (λ xs. Rule (opening (take (2 * n + 2) (replicate 66 0)) xs (first_view fixes about))) (sym filled) record {
+      let course : Course I = record { now = []; next = []; done = []; marks = replicate about.count 0 } in subst (λ xs. Rule (opening (take (2 * n + 2) (replicate 66 0)) xs (first_view resting fixes about))) (sym filled) record {
         at = λ _. Rest;
         course = course;
         world = let P : ℕ → Type 0 = λ m. IsSafeWorld m (take (2 * n + 2) (replicate 66 0)) (replicate m 0) (λ _. Rest) in subst P count (starting_world n few);
@@ -441,11 +439,11 @@ module _ {S I : Type 0} (shows : S → List I) (fixes : S → List ℕ) (author 
       )
 
   -- the first claim goes to a new seat
-  splits : (id : ℕ) (found : List I) (fixed : Fixed) (c : Claim I) (cs : List (Claim I)) (plan : Plan I) → Splits Rule id (seat_view Rest found fixed (c ∷ cs) plan) (view_of_others (seat_view Rest found fixed (c ∷ cs) plan)) (view_of_first (seat_view Rest found fixed (c ∷ cs) plan))
-  splits id found fixed c cs plan s r at =
-      let v : View I = seat_view Rest found fixed (c ∷ cs) plan in
-      let l : View I = seat_view Rest found fixed cs no_plan in
-      let h : View I = seat_view Rest found fixed (c ∷ []) no_plan in
+  splits : (id : ℕ) (fixed : Fixed) (c : Claim I) (cs : List (Claim I)) → Splits Rule id (seat_view Rest [] fixed (c ∷ cs) no_plan) (seat_view Rest [] fixed cs no_plan) (seat_view Rest [] fixed (c ∷ []) no_plan)
+  splits id fixed c cs s r at =
+      let v : View I = seat_view Rest [] fixed (c ∷ cs) no_plan in
+      let l : View I = seat_view Rest [] fixed cs no_plan in
+      let h : View I = seat_view Rest [] fixed (c ∷ []) no_plan in
       let mine : Fit r.at r.course v = r.seats id v at in
       let fit_l : Fit r.at r.course l = record { stands = all_rest r.at cs mine.stands.1; found = λ e. absurd (cc); planned = λ e. absurd (cc); told = λ _ t. absurd (cc); good = mine.good.1 } in
       let fit_h : Fit r.at r.course h = record { stands = (mine.stands.0, tt); found = λ e. absurd (cc); planned = λ e. absurd (cc); told = λ _ t. absurd (cc); good = (mine.good.0, tt) } in
@@ -465,10 +463,11 @@ module _ {S I : Type 0} (shows : S → List I) (fixes : S → List ℕ) (author 
 
   -- one seat takes in the claims of another
   joins : (id : ℕ) (found : List I) (fixed : Fixed) (cs : List (Claim I)) (plan : Plan I) (other : ℕ) (found' : List I) (ds : List (Claim I)) (plan' : Plan I)
-      → Joins Rule id (seat_view Rest found fixed cs plan) other (seat_view Rest found' fixed ds plan') (joint_view (seat_view Rest found fixed cs plan) (seat_view Rest found' fixed ds plan')) spent_view
+      → Joins Rule id (seat_view Rest found fixed cs plan) other (seat_view Rest found' fixed ds plan') (seat_view Rest [] fixed (ds ++ cs) no_plan) (seat_view Rest [] (0, []) [] no_plan)
   joins id found fixed cs plan other found' ds plan' s r at apart that =
       let v : View I = seat_view Rest found fixed cs plan in
-      let b : View I = seat_view Rest found fixed (ds ++ cs) no_plan in
+      let b : View I = seat_view Rest [] fixed (ds ++ cs) no_plan in
+      let spent : View I = seat_view Rest [] (0, []) [] no_plan in
       let d : View I = seat_view Rest found' fixed ds plan' in
       let vs : List (View I) = set s.views id b in
       let mine : Fit r.at r.course v = r.seats id v at in
@@ -482,7 +481,7 @@ module _ {S I : Type 0} (shows : S → List I) (fixes : S → List ℕ) (author 
         told = λ _ t. absurd (cc);
         good = each-append (Good fixed r.course.now) ds cs theirs.good mine.good;
       } in
-      let fit_spent : Fit r.at r.course spent_view = record { stands = refl; found = λ e. absurd (cc); planned = λ e. absurd (cc); told = λ _ t. absurd (cc); good = tt } in
+      let fit_spent : Fit r.at r.course spent = record { stands = refl; found = λ e. absurd (cc); planned = λ e. absurd (cc); told = λ _ t. absurd (cc); good = tt } in
       record {
         at = r.at;
         world = r.world;
@@ -492,10 +491,10 @@ module _ {S I : Type 0} (shows : S → List I) (fixes : S → List ℕ) (author 
         idle = r.idle;
         marked = r.marked;
         away = λ i z. let a = r.away i z in let first : get_elem? vs a.1 ≡ some a.2 = still_inside s.views id a.1 v b a.2 refl a.4 at a.3 in
-            (a.0, a.1, a.2, still_inside vs other a.1 d spent_view a.2 refl a.4 that first, a.4);
-        seats = views_stay (Fit r.at r.course) vs other spent_view fit_spent (λ j x n g. views_stay (Fit r.at r.course) s.views id b fit (λ i y m h. r.seats i y h) j x g);
-        once = λ k. let a = sum_over-set (claimed k) s.views id v b at in let e = sum_over-set (claimed k) vs other d spent_view that in let t = times-append k ds cs in let o = r.once k in omega arith;
-        total = let a = sum_over-set many s.views id v b at in let e = sum_over-set many vs other d spent_view that in let t = length-append ds cs in let o = r.total in omega arith;
+            (a.0, a.1, a.2, still_inside vs other a.1 d spent a.2 refl a.4 that first, a.4);
+        seats = views_stay (Fit r.at r.course) vs other spent fit_spent (λ j x n g. views_stay (Fit r.at r.course) s.views id b fit (λ i y m h. r.seats i y h) j x g);
+        once = λ k. let a = sum_over-set (claimed k) s.views id v b at in let e = sum_over-set (claimed k) vs other d spent that in let t = times-append k ds cs in let o = r.once k in omega arith;
+        total = let a = sum_over-set many s.views id v b at in let e = sum_over-set many vs other d spent that in let t = length-append ds cs in let o = r.total in omega arith;
       }
 
   some_claim : (at : ℕ → At) (p : At) (cs : List (Claim I)) → On at p cs → is_inside p ≡ true → 1 ≤ length cs
@@ -637,24 +636,14 @@ module _ {S I : Type 0} (shows : S → List I) (fixes : S → List ℕ) (author 
       let H : List I → Type 0 = λ l. Shows answered me.0.fixed.0 me.0.found me.0.plan l in
       leaves_at slots id (number_in me.0.claims) me me.0.found me.0.fixed (last_left me.0.claims) me.0.plan me.0.at st (ready_is me r) r.inside (subst G given r.adds) r.full.2 (subst H given shown)
 
-  pub splits_at : (id : ℕ) (v : View I) (found : List I) (fixed : Fixed) (c : Claim I) (cs : List (Claim I)) (plan : Plan I) → v ≡ seat_view Rest found fixed (c ∷ cs) plan → Splits Rule id v (view_of_others v) (view_of_first v)
-  splits_at id v found fixed c cs plan e = let P : View I → Type 0 = λ w. Splits Rule id w (view_of_others w) (view_of_first w) in subst P (sym e) (splits id found fixed c cs plan)
-
-  pub joins_at : (id : ℕ) (v : View I) (other : ℕ) (w : View I) (found found' : List I) (fixed : Fixed) (cs ds : List (Claim I)) (plan plan' : Plan I) → v ≡ seat_view Rest found fixed cs plan → w ≡ seat_view Rest found' fixed ds plan' → Joins Rule id v other w (joint_view v w) spent_view
-  joins_at id v other w found found' fixed cs ds plan plan' e d = let P : View I → View I → Type 0 = λ x y. Joins Rule id x other y (joint_view x y) spent_view in
-      subst (λ x. P x w) (sym e) (subst (λ y. P (seat_view Rest found fixed cs plan) y) (sym d) (joins id found fixed cs plan other found' ds plan'))
-
-  pub ends_at : (id : ℕ) (v : View I) (found : List I) (fixed : Fixed) (cs : List (Claim I)) (plan : Plan I) (ws : List ℕ) (xs : List (Opt S)) → v ≡ seat_view Rest found fixed cs plan → about.count ≤ length cs → Final (Seen Rule id v) ws xs
-      → (st : S) × (get_elem? xs 0 ≡ some (Some st)) × (fixes st ≡ fixes about.state.value) × Each (λ (c : Claim I). Grows author c.0 c.1 (shows st) []) cs
-  ends_at id v found fixed cs plan ws xs e all fin = let P : View I → Type 0 = λ x. Final (Seen Rule id x) ws xs in ends id found fixed cs plan ws xs all (subst P e fin)
-
-  pub finishes : (id : ℕ) (v : View I) (found : List I) (fixed : Fixed) (cs : List (Claim I)) (plan : Plan I) (ws : List ℕ) (xs : List (Opt S)) (result : S) → v ≡ seat_view Rest found fixed cs plan → about.count ≤ length cs → Final (Seen Rule id v) ws xs
-      → get_elem? xs 0 ≡ some (Some result) → (fixes result ≡ fixes about.state.value) × Each (λ (c : Claim I). Grows author c.0 c.1 (shows result) []) cs
-  finishes id v found fixed cs plan ws xs result e all fin got = let r = ends_at id v found fixed cs plan ws xs e all fin in
-      let st : S = r.0 in
-      let both : some (Some st) ≡ some (Some result) = sym r.1 ∙ got in
-      let same : st ≡ result = cc in
-      let P : S → Type 0 = λ x. (fixes x ≡ fixes about.state.value) × Each (λ (c : Claim I). Grows author c.0 c.1 (shows x) []) cs in subst P same (r.2, r.3)
+  -- seats at rest are dealt and joined
+  pub fast_deals : Deals resting shows fixes author about Rule
+  fast_deals = record {
+    splits = λ id v f c cs e. let P : View I → Type 0 = λ x. Splits Rule id x (view_of_others resting x) (view_of_first resting x) in subst P (sym e) (splits id f c cs);
+    joins = λ id v other w f cs ds e d. let P : View I → View I → Type 0 = λ x y. Joins Rule id x other y (joint_view resting x y) (resting {I = I}).blank in
+        subst (λ x. P x w) (sym e) (subst (λ y. P (seat_view Rest v.found f cs v.plan) y) (sym d) (joins id v.found f cs v.plan other w.found ds w.plan));
+    ends = λ id v f cs ws xs e all fin. let P : View I → Type 0 = λ x. Final (Seen Rule id x) ws xs in ends id v.found f cs v.plan ws xs all (subst P e fin);
+  }
 
 -- a scan is at the flag of a process
 pub scan_process : (n j steps : ℕ) (p : At) → IsCounted n p steps → p ≡ Scan j → IsProcess n j
@@ -727,22 +716,3 @@ module _ {S I : Type 0} where
   -- the seat that has stored words s
   pub planned_is : (me me' : Me (Opt S) (View I)) (v : View I) (slots : List (ℕ × Opt S)) → me ≡ (v, slots) → me' ≡ (view_planned me'.0.plan me.0, me.1) → me' ≡ (view_planned me'.0.plan v, slots)
   planned_is me me' v slots e a = a ∙ ap (λ (m : Me (Opt S) (View I)). (view_planned me'.0.plan m.0, m.1)) e
-
-  -- the view of a seat that is alone
-  pub alone_is : (me : Me (Opt S) (View I)) (found : List I) (fixed wanted : Fixed) (k : ℕ) (l : List I) (plan : Plan I) → me ≡ (seat_view Rest found fixed ((k, l) ∷ []) plan, []) → fixed ≡ wanted → me ≡ (seat_view Rest me.0.found wanted me.0.claims me.0.plan, [])
-  alone_is me found fixed wanted k l plan e same = let Q : Me (Opt S) (View I) → Type 0 = λ m. m ≡ (seat_view Rest m.0.found wanted m.0.claims m.0.plan, []) in
-      subst Q (sym e) (ap (λ (f : Fixed). (seat_view Rest found f ((k, l) ∷ []) plan, [])) same)
-
-  pub joined_is : (me me' after : Me (Opt S) (View I)) (fixed : Fixed) → me ≡ (seat_view Rest me.0.found fixed me.0.claims me.0.plan, []) → after ≡ (joint_view me.0 me'.0, me.1) → after ≡ (seat_view Rest after.0.found fixed after.0.claims after.0.plan, [])
-  joined_is me me' after fixed e a = let Q : Me (Opt S) (View I) → Type 0 = λ m. m ≡ (seat_view Rest m.0.found fixed m.0.claims m.0.plan, []) in
-      let f : me.0.fixed ≡ fixed = ap (λ (m : Me (Opt S) (View I)). m.0.fixed) e in
-      let n : me.1 ≡ [] = ap (λ (m : Me (Opt S) (View I)). m.1) e in
-      subst Q (sym a) (λ i. (seat_view Rest me.0.found (f i) (me'.0.claims ++ me.0.claims) no_plan, n i))
-
-  -- the ticket of a seat that has left nothing
-  pub last_ticket : (s : Seat (Opt S) (View I)) (z : TableId) (found : List I) (fixed : Fixed) (k n : ℕ) → s.table_id ≡ z → s.me ≡ (seat_view Rest found fixed (new_claims k (suc n)) no_plan, []) → ticket_of k s ≡ new_ticket (lock_id z fixed) k
-  last_ticket s z found fixed k n own me =
-      let f : s.me.0.fixed ≡ fixed = ap (λ (m : Me (Opt S) (View I)). m.0.fixed) me in
-      let l : last_left s.me.0.claims ≡ [] = ap (λ (m : Me (Opt S) (View I)). last_left m.0.claims) me in
-      let t : s.me.0.plan.told ≡ false = ap (λ (m : Me (Opt S) (View I)). m.0.plan.told) me in
-      λ i. record { lock = lock_id (own i) (f i); number = k; left = l i; told = t i }

@@ -1,5 +1,6 @@
 pub mod Sums
 pub mod Stays
+pub mod SeatsKeep
 pub mod WordKeeps
 pub mod FastWorld
 pub mod MarksKeep

@@ -8,7 +8,7 @@ use lib.ListN.{get_elem?}
 use Rattle.atomic_table.proofs.Lists.{at_set}
 use Rattle.std.proofs.lemmas.List.Elements.{filter-append, recursion_from_All}
 use Rattle.fast_mutex.specs.Items.{items_of, Grows, GrowsBy}
-use Rattle.fast_mutex.specs.Word.{Claim, sum_over, times, new_claims}
+use Rattle.fast_mutex.specs.Seats.{Claim, sum_over, times, new_claims}
 
 module _ {V : Type 0} (f : V → ℕ) where
   pub sum_over-set : (l : List V) (i : ℕ) (a b : V) → get_elem? l i ≡ some a → sum_over f (set l i b) + f a ≡ sum_over f l + f b

@@ -1,7 +1,7 @@
 -- The rule of Lamport's lock, and what each step on its words tells.
 -- The words are x, y and the flags b[1] to b[n]. Words and points are a world that keeps the condition of
 -- `lamport_core`, and the state is at home exactly where no process is inside.
-use Rattle.std.specs.Prelude.{◌≡◌, ◌≢◌, ◌==◌, ◌||◌, ◌⊎◌, ℕ, zero, suc, ◌+◌, ◌≤◌, Bool, true, false, cond, List, [], ◌∷◌, ◌++◌, length, slice_index, Option as Opt, Some, None}
+use Rattle.std.specs.Prelude.{◌≡◌, ◌≢◌, ◌==◌, ◌||◌, ◌⊎◌, ℕ, zero, suc, ◌+◌, ◌≤◌, Bool, true, false, cond, List, [], ◌∷◌, ◌++◌, length, slice_index, Option as Opt, Some, None, refl}
 use Rattle.std.specs.List.{AllByRecursion as Each}
 use Rattle.std.specs.Coded.{×_prop, le_prop, Coded-set, coded_ℕ}
 use mathlib.Core.Option.{none, some}
@@ -15,9 +15,9 @@ use Rattle.lamport_core.specs.Line.{IsCounted}
 use Rattle.lamport_core.specs.declared.At.{At}
 use Rattle.lamport_core.specs.declared.At.TheVariants.{Rest, Start, SetX, TestY, BackB, AwaitY, SetY, TestX, SlowB, Scan, SlowY, SlowAwait, Fast, Slow, Leaving}
 use Rattle.fast_mutex.specs.Items.{Ticket, Grows, GrowsBy}
-use Rattle.fast_mutex.specs.Word.{Claim, Fixed, IsGood, lock_id, made_with, new_claims, first_claim, other_claims, claims_after, last_left, sum_over, times}
+use Rattle.fast_mutex.specs.Seats.{Claim, Fixed, IsGood, Resting, lock_id, made_with, claims_after, last_left, sum_over, times}
 use Rattle.fast_mutex.specs.Marks.{flag, mark_in, has, Course, Marked}
-use Rattle.fast_mutex.specs.declared.word.view.About.{About}
+use Rattle.fast_mutex.specs.declared.seats.About.{About}
 use Rattle.fast_mutex.specs.declared.fast.view.Plan.{Plan}
 use Rattle.fast_mutex.specs.declared.fast.view.View.{View}
 
@@ -73,29 +73,24 @@ module _ {I : Type 0} where
   abbrev pub view_planned : Plan I → View I → View I
   view_planned plan v = seat_view v.at v.found v.fixed v.claims plan
 
-  -- a seat splits: one goes on with the first claim, one with the others
-  abbrev pub view_of_first : View I → View I
-  view_of_first v = seat_view Rest v.found v.fixed (first_claim v.claims) no_plan
-
-  abbrev pub view_of_others : View I → View I
-  view_of_others v = seat_view Rest v.found v.fixed (other_claims v.claims) no_plan
-
-  -- one seat takes in another, which is then spent
-  abbrev pub joint_view : View I → View I → View I
-  joint_view v w = seat_view Rest v.found v.fixed (w.claims ++ v.claims) no_plan
-
-  abbrev pub spent_view : View I
-  spent_view = seat_view Rest [] (0, []) [] no_plan
+  -- of seats at rest
+  abbrev pub resting : Resting (View I) I
+  resting = record {
+    fixed = λ v. v.fixed;
+    claims = λ v. v.claims;
+    told = λ v. v.plan.told;
+    rest = λ v fixed claims. seat_view Rest v.found fixed claims v.plan;
+    blank = seat_view Rest [] (0, []) [] no_plan;
+    rest_fixed = λ v f cs. refl;
+    rest_claims = λ v f cs. refl;
+    rest_again = λ v f g cs ds. refl;
+    fresh_told = λ f cs. refl;
+  }
 
   -- the number of the seat
   abbrev pub number_in : List (Claim I) → ℕ
   number_in [] = 0
   number_in (c ∷ cs) = c.0
-
-module _ {S I : Type 0} (fixes : S → List ℕ) where
-  -- the first seat has the claims of all
-  abbrev pub first_view : About S → View I
-  first_view about = seat_view Rest [] (made_with fixes about) (new_claims 1 about.count) no_plan
 
 -- the rule
 module _ {S I : Type 0} (shows : S → List I) (fixes : S → List ℕ) (author : I → ℕ) (answered : ℕ → List I → Bool) (about : About S) where
@@ -111,7 +106,7 @@ module _ {S I : Type 0} (shows : S → List I) (fixes : S → List ℕ) (author 
     pub found : is_inside v.at ≡ true → v.found ≡ course.now
     pub planned : is_inside v.at ≡ true → (v.plan.next ≡ course.next) × (v.plan.stored ≡ course.done)
     pub told : is_inside v.at ≡ false → v.plan.told ≡ true → mark_in course.marks (number_in v.claims) ≡ 1
-    pub good : Each (IsGood shows fixes author about v.fixed course.now) v.claims
+    pub good : Each (IsGood fixes author about v.fixed course.now) v.claims
 
   -- the list to come is the current one, or that with items of the process inside in front
   abbrev pub Comes : (ℕ → At) → Course I → Type 0

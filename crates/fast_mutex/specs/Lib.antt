@@ -1,4 +1,5 @@
 pub mod Items
+pub mod Seats
 pub mod Word
 pub mod Marks
 pub mod Fast

@@ -3,19 +3,20 @@
 //!
 //! Of n processes, word 0 is x, word 1 is y, word i + 1 is the flag b[i] of process i, 1 where it is true, and word
 //! n + 1 + i is s[i], 1 where the wait of process i is answered. The state lies in the one slot of the table.
-ghost use Rattle.std.specs.Prelude.{◌≡◌, ◌<◌, ◌≤◌, ◌+◌, ◌-◌, ◌*◌, ◌||◌, ◌⊎◌, ◌^◌, ◌↔◌, ℕ, List, [], ◌∷◌, true, false, Some, None, map, length, suc, vec_len, vec_capacity, IfOk, IfErr, IsOk};
+ghost use Rattle.std.specs.Prelude.{◌≡◌, ◌<◌, ◌≤◌, ◌+◌, ◌-◌, ◌*◌, ◌||◌, ◌⊎◌, ◌↔◌, [], ◌∷◌, true, false, Some, None, map, length, IfOk, IfErr, IsOk};
 ghost use Rattle.std.specs.List.{All};
 ghost use Rattle.lamport_core.specs.Line.{IsLine, IsCounted, one_more, pass_steps};
 ghost use Rattle.lamport_core.specs.declared.At.TheVariants.{Rest, Start, SetX, TestY, BackB, AwaitY, SetY, TestX, SlowB, Scan, SlowY, SlowAwait, Fast, Slow, Leaving};
-ghost use Rattle.fast_mutex.specs.Items.{new_ticket, tickets_from, Grows, GrowsBy};
-ghost use Rattle.fast_mutex.specs.Word.{last_left, lock_id, made_with, new_claims, HasGrown};
+ghost use Rattle.fast_mutex.specs.Items.{tickets_from, Grows, GrowsBy};
+ghost use Rattle.fast_mutex.specs.Seats.{first_view, last_left, lock_id, made_with};
+ghost use Rattle.fast_mutex.specs.Word.{HasGrown};
 ghost use Rattle.fast_mutex.specs.Marks.{flag, answer_bits};
-ghost use Rattle.fast_mutex.specs.Fast.{seat_view, no_plan, view_planned, view_marked, list_in, IsReady, Shows, first_view, is_inside, slots_at, state_shown, state_at, counted_prop, ticket_of, stay_of, IsSeatOf};
+ghost use Rattle.fast_mutex.specs.Fast.{seat_view, view_planned, view_marked, list_in, IsReady, Shows, resting, is_inside, slots_at, state_shown, state_at, counted_prop, ticket_of, stay_of, IsSeatOf};
 
 use crate::lock::Missing;
 use crate::logged::Logged;
-use crate::slot::{furnish, put_in, take_out, take_state};
-use crate::word::About;
+use crate::seats::{About, LockSeat, close, deal};
+use crate::slot::{furnish, put_in, take_out};
 use atomic_table::{Seat, Table};
 use lamport_core::At;
 use std::alloc::{AllocError, Global};
@@ -24,7 +25,7 @@ use std::snapshot::Snapshot;
 mod rule;
 mod view;
 
-use rule::{DealsFirst, FastRule, Leaves, Loads, Looks, Marks, Stores, TakesIn, Tests};
+use rule::{FastRule, Leaves, Loads, Looks, Marks, Stores, Tests};
 use view::View;
 
 const X: usize = 0;
@@ -45,13 +46,7 @@ pub struct FastMutex<S: Logged> {
 }
 
 /// The right of one process to enter a `FastMutex`. The process is at rest.
-#[derive(Drop)]
-pub struct FastSeat<S: Logged> {
-    number: u32,
-    seat: Seat<Option<S>, View<S::Item>>,
-    ghost range: { (1 ≤ number) × (number ≤ seat.me.0.fixed.0) },
-    ghost alone: { seat.me ≡ (seat_view Rest seat.me.0.found seat.me.0.fixed ((number, last_left seat.me.0.claims) ∷ []) seat.me.0.plan, []) },
-}
+pub type FastSeat<S> = LockSeat<S, View<<S as Logged>::Item>>;
 
 /// An entry that is taken step by step. It holds the state once it is inside, for `FastMutex::admitted`. One that is
 /// dropped can keep all others out, as one that is not taken further.
@@ -294,7 +289,7 @@ impl<S: Logged> FastMutex<S> {
         ensures steps { result.steps ≡ 0 }
         ensures ticket { ticket_of result.number result.seat ≡ ticket_of seat.number seat.seat }
     {
-        let FastSeat { number, seat } = seat;
+        let LockSeat { number, seat } = seat;
         Walk {
             number,
             at: At::Rest,
@@ -448,7 +443,7 @@ impl<S: Logged> FastMutex<S> {
         self.table.shared.store::<Leaves<S>>(&mut seat, Y, 0);
         let flag = number as usize + 1;
         self.table.shared.store::<Stores>(&mut seat, flag, 0);
-        FastSeat { number, seat }
+        LockSeat { number, seat }
     }
 
     pub(crate) fn at_of(inside: &FastInside<S>) -> At
@@ -482,7 +477,7 @@ impl<S: Logged> FastMutex<S> {
         requires count { (1 ≤ count) × (count ≤ 32) }
         requires empty { S.items state ≡ [] }
         ensures made { IfOk result (λ r. made_with S.fixed r.0.table.shared.key ≡ (count, S.fixed state)) }
-        ensures first { IfOk result (λ r. (r.1.table_id ≡ r.0.table.shared.table_id) × (r.1.me ≡ (first_view S.fixed r.0.table.shared.key, []))) }
+        ensures first { IfOk result (λ r. (r.1.table_id ≡ r.0.table.shared.table_id) × (r.1.me ≡ (first_view resting S.fixed r.0.table.shared.key, []))) }
         ensures back { IfErr result (λ r. r.0 ≡ state) }
     {
         let about = About {
@@ -494,37 +489,7 @@ impl<S: Logged> FastMutex<S> {
         Ok((FastMutex { table, count }, first))
     }
 
-    // Deals a seat of its own to the first of the processes that `first` stands for.
-    fn deal_one(&self, first: &mut TableSeat<S>, number: u32) -> FastSeat<S>
-        requires own { first.old.table_id ≡ self.now.table.shared.table_id }
-        requires number { (1 ≤ number) × (number ≤ self.now.count) }
-        requires claims { first.old.me ≡ (seat_view Rest [] (made_with S.fixed self.now.table.shared.key) (new_claims number (suc (self.now.count - number))) no_plan, []) }
-        ensures own { first.new.table_id ≡ first.old.table_id }
-        ensures claims { first.new.me ≡ (seat_view Rest [] (made_with S.fixed self.now.table.shared.key) (new_claims (number + 1) (self.now.count - number)) no_plan, []) }
-        ensures ticket { ticket_of result.number result.seat ≡ new_ticket (lock_id self.now.table.shared.table_id (made_with S.fixed self.now.table.shared.key)) number }
-    {
-        let seat = self.table.shared.split_seat::<DealsFirst>(first);
-        FastSeat { number, seat }
-    }
-
-    // Deals a seat to each process.
-    fn deal(&self, mut first: TableSeat<S>, mut seats: Vec<FastSeat<S>>) -> Vec<FastSeat<S>>
-        requires first { (first.table_id ≡ self.now.table.shared.table_id) × (first.me ≡ (first_view S.fixed self.now.table.shared.key, [])) }
-        requires room { (vec_len seats ≡ 0) × (self.now.count ≤ vec_capacity seats) }
-        ensures tickets { map (λ s. ticket_of s.number s.seat) result.items ≡ tickets_from (lock_id self.now.table.shared.table_id (made_with S.fixed self.now.table.shared.key)) 1 self.now.count }
-    {
-        let count = self.count;
-        for number in 1..count {
-            let seat = self.deal_one(&mut first, number);
-            seats.push_reserved(seat);
-        }
-        seats.push_reserved(FastSeat {
-            number: count,
-            seat: first,
-        });
-        seats
-    }
-
+    #[tactic(auto, using(crate::proofs::FastKeeps::fast_deals))]
     pub(crate) fn make(
         alloc: Global,
         n: u32,
@@ -542,7 +507,7 @@ impl<S: Logged> FastMutex<S> {
         };
         match FastMutex::furnish(alloc, n, state) {
             Ok((lock, first)) => {
-                let seats = lock.deal(first, seats);
+                let seats = deal(&lock.table.shared, n, first, seats);
                 Ok((lock, seats))
             }
             Err(refused) => {
@@ -552,41 +517,7 @@ impl<S: Logged> FastMutex<S> {
         }
     }
 
-    // Joins the seats to one that stands for all their processes.
-    fn join_all(&self, mut seats: Vec<FastSeat<S>>) -> TableSeat<S>
-        requires some { 0 < vec_len seats }
-        requires own { All (λ s. IsSeatOf S.fixed self.now.table.shared.table_id self.now.table.shared.key s.seat) seats.items }
-        ensures own { result.table_id ≡ self.now.table.shared.table_id }
-        ensures claims { result.me ≡ (seat_view Rest result.me.0.found (made_with S.fixed self.now.table.shared.key) (map (λ s. (s.number, last_left s.seat.me.0.claims)) seats.items) result.me.0.plan, []) }
-    {
-        let Some(
-            FastSeat {
-                number: _,
-                seat: mut all,
-            },
-        ) = seats.pop()
-        else {
-            unreachable!()
-        };
-        while let Some(FastSeat { number: _, seat }) = seats.pop() {
-            self.table.shared.join_seat::<TakesIn>(&mut all, seat);
-        }
-        seats.destroy_empty();
-        all
-    }
-
-    // With all seats nobody is inside, so the state is at home.
-    fn close(self, seats: Vec<FastSeat<S>>) -> S
-        requires all { self.count ≤ vec_len seats }
-        requires own { All (λ s. IsSeatOf S.fixed self.table.shared.table_id self.table.shared.key s.seat) seats.items }
-        ensures fixed { S.fixed result ≡ S.fixed self.table.shared.key.state.value }
-        ensures grows { All (λ s. Grows S.author s.number (last_left s.seat.me.0.claims) (S.items result) []) seats.items }
-    {
-        let all = self.join_all(seats);
-        let FastMutex { table, count: _ } = self;
-        take_state(table.close_with(all))
-    }
-
+    #[tactic(auto, using(crate::proofs::FastKeeps::fast_deals))]
     pub(crate) fn gather(
         self,
         seats: Vec<FastSeat<S>>,
@@ -603,6 +534,7 @@ impl<S: Logged> FastMutex<S> {
                 parts: seats,
             });
         }
-        Ok(self.close(seats))
+        let FastMutex { table, count: _ } = self;
+        Ok(close(table, seats))
     }
 }

@@ -6,6 +6,7 @@ mod fast;
 mod fast_lock;
 mod lock;
 mod logged;
+mod seats;
 mod slot;
 mod word;
 

@@ -1,8 +1,8 @@
-//! The rule of the words, what each kind of step tells, and how seats split and join.
+//! The rule of the words, and what each kind of step tells.
 use super::view::View;
 use crate::logged::Logged;
-use crate::word::About;
-use atomic_table::{Join, Play, Split, TableRule};
+use crate::seats::About;
+use atomic_table::{Play, TableRule};
 use std::marker::PhantomData;
 
 pub struct FastRule<S> {
@@ -10,11 +10,12 @@ pub struct FastRule<S> {
 }
 
 impl<S: Logged> TableRule<Option<S>, View<S::Item>, About<S>> for FastRule<S> {
-    ghost use Rattle.fast_mutex.specs.Fast.{KeepsRule, first_view};
+    ghost use Rattle.fast_mutex.specs.Seats.{first_view};
+    ghost use Rattle.fast_mutex.specs.Fast.{KeepsRule, resting};
 
     ghost holds = { KeepsRule S.items S.fixed S.author S.is_answered };
 
-    ghost first = { first_view S.fixed };
+    ghost first = { first_view resting S.fixed };
 }
 
 /// A store of x, of y := i or of the own flag.
@@ -77,26 +78,4 @@ impl<S: Logged> Play<Option<S>, View<S::Item>> for Leaves<S> {
     ghost use Rattle.fast_mutex.specs.Fast.{IsLeave};
 
     ghost then = { IsLeave S.items };
-}
-
-/// A new seat gets the first claim.
-pub struct DealsFirst;
-
-impl<I> Split<View<I>> for DealsFirst {
-    ghost use Rattle.fast_mutex.specs.Fast.{view_of_others, view_of_first};
-
-    ghost left = { view_of_others };
-
-    ghost right = { view_of_first };
-}
-
-/// A seat takes in the claims of another.
-pub struct TakesIn;
-
-impl<I> Join<View<I>> for TakesIn {
-    ghost use Rattle.fast_mutex.specs.Fast.{joint_view, spent_view};
-
-    ghost both = { joint_view };
-
-    ghost spent = { spent_view };
 }

@@ -1,4 +1,5 @@
 //! What a seat at the table knows. No value of `View` is made.
+use crate::seats::RestView;
 use lamport_core::At;
 use std::collections::LinkedList;
 
@@ -21,4 +22,10 @@ pub struct View<I> {
     /// The number of this seat with the list that it last left, and those of the seats joined to it.
     pub claims: LinkedList<(u64, LinkedList<I>)>,
     pub plan: Plan<I>,
+}
+
+impl<I> RestView<I> for View<I> {
+    ghost use Rattle.fast_mutex.specs.Fast.{resting};
+
+    ghost resting = { resting };
 }

@@ -1,6 +1,6 @@
 use Rattle.std.proofs.Common.{arith, ◌≡◌, ◌∙◌, ◌∷◌, [], Some, ap, sym}
 use Rattle.fast_mutex.specs.Items.{LockId}
-use Rattle.fast_mutex.specs.Word.{lock_id}
+use Rattle.fast_mutex.specs.Seats.{lock_id}
 use Rattle.fast_mutex.specs.Marks.{answer_bits}
 use Rattle.fast_mutex.specs.Fast.{list_in}
 use Rattle.fast_mutex.proofs.FastKeeps.{ready_from, shows_after, leaves_ready, planned_is, lowers_leaving_at, left_is}

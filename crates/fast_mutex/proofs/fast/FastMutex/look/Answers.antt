@@ -1,5 +1,5 @@
 use Rattle.std.proofs.Common.{arith, ◌≡◌, ◌+◌, ap}
-use Rattle.fast_mutex.specs.Word.{lock_id, last_left}
+use Rattle.fast_mutex.specs.Seats.{lock_id, last_left}
 use Rattle.fast_mutex.specs.Items.{LockId}
 use Rattle.fast_mutex.proofs.FastKeeps.{looks_at}
 use Rattle.fast_mutex.proofs.fast.FastMutex.look.Goals as goal

@@ -1,7 +1,7 @@
 use Rattle.std.proofs.Common.{arith, ◌≡◌, ◌+◌, ◌-◌, ◌∙◌, ℕ, suc, refl, sym, ap}
 use Rattle.fast_mutex.specs.Items.{LockId}
 use Rattle.fast_mutex.specs.Marks.{flag}
-use Rattle.fast_mutex.specs.Word.{lock_id}
+use Rattle.fast_mutex.specs.Seats.{lock_id}
 use Rattle.fast_mutex.specs.Fast.{list_in}
 use Rattle.fast_mutex.proofs.MarksKeep.{bits_step, bits_next, flag_same}
 use Rattle.fast_mutex.proofs.FastKeeps.{IsMarking, marking_none, marking_same, marking_stored, marking_all}
