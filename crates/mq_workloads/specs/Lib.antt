@@ -1,4 +1,1 @@
-pub mod Faults
-pub mod Grammar
 pub mod Ready
-pub mod Usage

@@ -3,12 +3,12 @@ ghost use Rattle.std.specs.Prelude.{◌≡◌, OnOk};
 ghost use Rattle.mq_workloads.specs.Ready.{IsReady};
 
 use crate::calls::{open, receive, send};
-use crate::fault::WorkFault;
 use crate::made::make;
 use fast_mutex::Look;
 use mq::{Guarded, Mq, Process};
 use mq_model::bounds::Bounds;
 use mq_model::journals::Journal;
+use mq_requests::fault::WorkFault;
 use std::alloc::Global;
 use std::sync::Wait;
 use std::time::{Clock, Duration, Instant};

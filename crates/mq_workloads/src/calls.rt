@@ -2,12 +2,12 @@
 ghost use Rattle.std.specs.Prelude.{◌≡◌, OnOk};
 ghost use Rattle.mq_workloads.specs.Ready.{IsReady};
 
-use crate::fault::WorkFault;
 use crossbeam_utils::Backoff;
 use fast_mutex::Look;
 use mq::{Guarded, Mq, Process};
 use mq_model::entries::{Access, Attr, OpenFlags};
 use mq_model::names::Name;
+use mq_requests::fault::WorkFault;
 use std::sync::Wait;
 use std::time::Clock;
 

@@ -3,13 +3,13 @@ ghost use Rattle.std.specs.Prelude.{◌≡◌};
 ghost use Rattle.std.specs.List.{All};
 ghost use Rattle.mq_workloads.specs.Ready.{IsReady};
 
-use crate::fault::WorkFault;
 use crate::gate::Gate;
 use crate::made::make;
 use crate::members::{Part, start_members};
 use fast_mutex::Look;
 use mq::{Guarded, Mq, Process};
 use mq_model::bounds::Bounds;
+use mq_requests::fault::WorkFault;
 use std::alloc::Global;
 use std::sync::Wait;
 use std::thread;

@@ -5,13 +5,13 @@ ghost use Rattle.mq_workloads.specs.Ready.{IsReady};
 
 use crate::alone::{DEPTH, pairs};
 use crate::calls::{open, send_surely};
-use crate::fault::WorkFault;
 use crate::gate::Gate;
 use crate::made::make;
 use crate::members::{Part, QUEUE, start_members};
 use fast_mutex::Look;
 use mq::{Guarded, Mq, Process};
 use mq_model::bounds::Bounds;
+use mq_requests::fault::WorkFault;
 use std::alloc::Global;
 use std::sync::Wait;
 use std::thread;

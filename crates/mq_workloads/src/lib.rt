@@ -1,23 +1,22 @@
-//! Workloads of message queue calls, named by a line and measured.
+//! Workloads of message queue calls, carried out and measured.
 #![tactic(auto)]
 
 mod alone;
 mod calls;
 mod crowd;
 mod dice;
-mod fault;
 mod gate;
 mod gusts;
 mod idle;
 mod made;
+mod measuring;
 mod members;
 mod replays;
 mod report;
-mod run;
 mod storm;
 mod tally;
 mod wide;
-mod workload;
 
-pub use fault::{BenchFault, WorkFault};
-pub use run::run_line;
+pub use measuring::measure;
+pub use report::{Besides, Measured, line_of, title_of};
+pub use tally::Tally;

@@ -2,10 +2,10 @@
 ghost use Rattle.std.specs.Prelude.{◌≡◌, IfOk};
 ghost use Rattle.fast_mutex.specs.Items.{tickets_from};
 
-use crate::fault::WorkFault;
 use fast_mutex::Look;
 use mq::{Guarded, Mq, Process};
 use mq_model::bounds::Bounds;
+use mq_requests::fault::WorkFault;
 use std::alloc::Global;
 
 /// A system of so many processes, whose journal has these bounds.

@@ -5,10 +5,10 @@ ghost use Rattle.mq_workloads.specs.Ready.{IsReady};
 
 use crate::alone::DEPTH;
 use crate::calls::{open, receive_surely, send_surely};
-use crate::fault::WorkFault;
 use crate::gate::Gate;
 use fast_mutex::Look;
 use mq::{Guarded, Mq, Process};
+use mq_requests::fault::WorkFault;
 use std::sync::Wait;
 use std::thread::Scope;
 use std::time::Clock;

@@ -4,12 +4,12 @@ ghost use Rattle.mq_model.specs.Legality.{Legal};
 
 use crate::alone::DEPTH;
 use crate::calls::{MESSAGE, MESSAGE_SIZE};
-use crate::fault::WorkFault;
 use mq_model::bounds::Bounds;
 use mq_model::entries::{Access, Attr, OpenFlags, Reply};
 use mq_model::journals::Journal;
 use mq_model::limits::PROCESSES;
 use mq_model::names::Name;
+use mq_requests::fault::WorkFault;
 use mq_state::books::Books;
 use mq_state::replay::replay;
 use std::alloc::{AllocError, Global};

@@ -1,8 +1,8 @@
 //! The line of a result.
 use crate::tally::{Tally, tally_of, text_of};
-use crate::workload::Workload;
 use mq_model::entries::Entry;
 use mq_model::journals::Journal;
+use mq_requests::workload::Workload;
 use std::alloc::{AllocError, Global};
 use std::time::Duration;
 

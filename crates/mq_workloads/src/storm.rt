@@ -5,13 +5,13 @@ ghost use Rattle.mq_model.specs.Legality.{Legal};
 ghost use Rattle.mq_workloads.specs.Ready.{IsReady};
 
 use crate::dice::Dice;
-use crate::fault::WorkFault;
 use crate::gusts;
 use crate::made::make;
 use fast_mutex::Look;
 use mq::{Guarded, Monotonic, Mq, Process};
 use mq_model::bounds::Bounds;
 use mq_model::journals::Journal;
+use mq_requests::fault::WorkFault;
 use std::alloc::Global;
 use std::sync::Wait;
 use std::thread::{Threads, map_vec};

@@ -5,11 +5,11 @@ ghost use Rattle.mq_workloads.specs.Ready.{IsReady};
 
 use crate::alone::{DEPTH, pairs};
 use crate::calls::open;
-use crate::fault::WorkFault;
 use crate::made::make;
 use fast_mutex::Look;
 use mq::{Guarded, Mq, Process};
 use mq_model::bounds::Bounds;
+use mq_requests::fault::WorkFault;
 use std::alloc::Global;
 use std::sync::Wait;
 use std::time::{Clock, Duration, Instant};

@@ -4,7 +4,7 @@
 #[cfg(test)]
 mod tests;
 
-use mq_workloads::run_line;
+use mq_bench::run_line;
 use std::io;
 use std::process::ExitCode;
 

@@ -1,5 +1,6 @@
 //! Each workload with small sizes, and lines that are refused.
-use mq_workloads::{BenchFault, WorkFault, run_line};
+use mq_bench::run_line;
+use mq_requests::fault::{BenchFault, WorkFault};
 use std::alloc::Global;
 use std::sync::Wait;
 use std::thread::Threads;

@@ -3,55 +3,29 @@ use Rattle.std.specs.Prelude.{ℕ, Bool, not, ◌&&◌, ◌==◌, ◌*◌, ◌%�
 use Rattle.std.specs.List.{list_any}
 use Rattle.std.specs.Str.{bytes_eq}
 use Rattle.lines.specs.Words.{◌>>=◌, Word, count_written, words_of}
-use Rattle.mq_workloads.specs.declared.workload.Workload.{Workload}
-use Rattle.mq_workloads.specs.declared.workload.Workload.TheVariants as workload
-use Rattle.mq_workloads.specs.declared.workload.Request.{Request}
-use Rattle.mq_workloads.specs.declared.workload.Request.TheVariants as request
-use Rattle.mq_workloads.specs.declared.workload.Name.{Name}
-use Rattle.mq_workloads.specs.declared.workload.Name.TheVariants as name
+use Rattle.mq_requests.specs.declared.workload.Workload.{Workload}
+use Rattle.mq_requests.specs.declared.workload.Workload.TheVariants as workload
+use Rattle.mq_requests.specs.declared.workload.Request.{Request}
+use Rattle.mq_requests.specs.declared.workload.Request.TheVariants as request
+use Rattle.mq_requests.specs.declared.workload.Name.{Name}
+use Rattle.mq_requests.specs.declared.workload.Name.TheVariants as name
 
 -- rounds and entries: at most ten million
 abbrev pub rounds_written : Word → Option ℕ
 rounds_written word = count_written 10000000 word
 
--- what the words after each name write
-abbrev pub pair_written : List Word → Option Workload
-pair_written (rounds ∷ []) = do
-  rounds ← rounds_written rounds
-  Some (workload.Pair rounds)
-pair_written words = None
+-- the one word after the names that take rounds or entries alone
+abbrev pub rounds_alone : List Word → Option ℕ
+rounds_alone (rounds ∷ []) = rounds_written rounds
+rounds_alone words = None
 
--- at most ten million messages in all rounds
+-- what the words after each other name write: at most ten million messages in all rounds
 abbrev pub deep_written : List Word → Option Workload
 deep_written (depth ∷ rounds ∷ []) = do
   depth ← count_written 4096 depth
   rounds ← rounds_written rounds
   if nat_le (depth * rounds) 10000000 then Some (workload.Deep depth rounds) else None
 deep_written words = None
-
-abbrev pub wide_written : List Word → Option Workload
-wide_written (rounds ∷ []) = do
-  rounds ← rounds_written rounds
-  Some (workload.Wide rounds)
-wide_written words = None
-
-abbrev pub ping_pong_written : List Word → Option Workload
-ping_pong_written (rounds ∷ []) = do
-  rounds ← rounds_written rounds
-  Some (workload.PingPong rounds)
-ping_pong_written words = None
-
-abbrev pub stream_written : List Word → Option Workload
-stream_written (rounds ∷ []) = do
-  rounds ← rounds_written rounds
-  Some (workload.Stream rounds)
-stream_written words = None
-
-abbrev pub check_written : List Word → Option Workload
-check_written (entries ∷ []) = do
-  entries ← rounds_written entries
-  Some (workload.Check entries)
-check_written words = None
 
 -- one process where none is named
 abbrev pub replay_written : List Word → Option Workload
@@ -110,16 +84,26 @@ name_written word = find (λ name. bytes_eq word (name_text name)) names
 
 -- the workload that a name and the words after it write
 abbrev pub workload_written : Name → List Word → Option Workload
-workload_written name.Pair = pair_written
-workload_written name.Deep = deep_written
-workload_written name.Wide = wide_written
-workload_written name.PingPong = ping_pong_written
-workload_written name.Stream = stream_written
-workload_written name.Check = check_written
-workload_written name.Replay = replay_written
-workload_written name.Crowd = crowd_written
-workload_written name.Idle = idle_written
-workload_written name.Storm = storm_written
+workload_written name.Pair words = do
+  rounds ← rounds_alone words
+  Some (workload.Pair rounds)
+workload_written name.Deep words = deep_written words
+workload_written name.Wide words = do
+  rounds ← rounds_alone words
+  Some (workload.Wide rounds)
+workload_written name.PingPong words = do
+  rounds ← rounds_alone words
+  Some (workload.PingPong rounds)
+workload_written name.Stream words = do
+  rounds ← rounds_alone words
+  Some (workload.Stream rounds)
+workload_written name.Check words = do
+  entries ← rounds_alone words
+  Some (workload.Check entries)
+workload_written name.Replay words = replay_written words
+workload_written name.Crowd words = crowd_written words
+workload_written name.Idle words = idle_written words
+workload_written name.Storm words = storm_written words
 
 -- a workload in a system with bounds: how many entries, how many payload bytes, and the workload
 abbrev pub bounded_written : List Word → Option Request

@@ -1,8 +1,8 @@
 //! Why a run ended without a result.
 ghost use Rattle.std.specs.Prelude.{◌≡◌, Some};
-ghost use Rattle.mq_workloads.specs.declared.fault.BenchFault.TheVariants.{Failed, Output};
-ghost use Rattle.mq_workloads.specs.declared.fault.WorkFault.TheVariants.{NoMemory};
-ghost use Rattle.mq_workloads.specs.Faults.{exit_status, fault_text, of_read_fault, work_fault_text};
+ghost use Rattle.mq_requests.specs.declared.fault.BenchFault.TheVariants.{Failed, Output};
+ghost use Rattle.mq_requests.specs.declared.fault.WorkFault.TheVariants.{NoMemory};
+ghost use Rattle.mq_requests.specs.Faults.{exit_status, fault_text, of_read_fault, work_fault_text};
 
 use lines::input::ReadFault;
 use lines::output::WriteFailed;

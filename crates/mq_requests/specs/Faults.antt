@@ -2,11 +2,11 @@
 use Rattle.std.specs.Prelude.{◌≡◌, ℕ, List, codes, Option, Some, None, Result, Ok, Err}
 use Rattle.lines.specs.declared.input.ReadFault.{ReadFault}
 use Rattle.lines.specs.declared.input.ReadFault.TheVariants as read
-use Rattle.mq_workloads.specs.declared.fault.BenchFault.{BenchFault}
-use Rattle.mq_workloads.specs.declared.fault.BenchFault.TheVariants.{BadLine, Input, Output, Failed}
-use Rattle.mq_workloads.specs.declared.fault.WorkFault.{WorkFault}
-use Rattle.mq_workloads.specs.declared.fault.WorkFault.TheVariants.{NoMemory, NoThread, NoClock, Refused}
-use Rattle.mq_workloads.specs.declared.workload.Request.{Request}
+use Rattle.mq_requests.specs.declared.fault.BenchFault.{BenchFault}
+use Rattle.mq_requests.specs.declared.fault.BenchFault.TheVariants.{BadLine, Input, Output, Failed}
+use Rattle.mq_requests.specs.declared.fault.WorkFault.{WorkFault}
+use Rattle.mq_requests.specs.declared.fault.WorkFault.TheVariants.{NoMemory, NoThread, NoClock, Refused}
+use Rattle.mq_requests.specs.declared.workload.Request.{Request}
 
 abbrev pub work_fault_text : WorkFault → List ℕ
 work_fault_text NoMemory = codes "no memory"
@@ -40,9 +40,10 @@ IsRefusal (Err Input) = Unit {0}
 IsRefusal (Err (Failed NoMemory)) = Unit {0}
 IsRefusal result = ⊥
 
--- what reading came to is what the line asks for, unless memory ran out
+-- what reading came to is what the line asks for, unless a read failed or memory ran out
 abbrev pub Reads : Option Request → Result Request BenchFault → Type 0
 Reads asked (Ok request) = asked ≡ Some request
 Reads asked (Err BadLine) = asked ≡ None
+Reads asked (Err Input) = Unit {0}
 Reads asked (Err (Failed NoMemory)) = Unit {0}
 Reads asked (Err other) = ⊥

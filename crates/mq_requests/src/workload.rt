@@ -1,7 +1,7 @@
 //! What a run is asked for, and the words that write it.
 ghost use Rattle.std.specs.Prelude.{◌≡◌, ◌≤◌, ◌*◌, map, IfSome};
 ghost use Rattle.lines.specs.Words.{count_written};
-ghost use Rattle.mq_workloads.specs.Grammar.{request_written, bounded_written, workload_written, pair_written, deep_written, wide_written, ping_pong_written, stream_written, check_written, replay_written, crowd_written, idle_written, storm_written, name_written};
+ghost use Rattle.mq_requests.specs.Grammar.{request_written, bounded_written, workload_written, rounds_alone, deep_written, replay_written, crowd_written, idle_written, storm_written, name_written};
 
 use lines::words::count_of;
 use mq_model::bounds::Bounds;
@@ -80,7 +80,7 @@ const NAMES: [Name; 10] = [
 ];
 
 impl Name {
-    ghost use Rattle.mq_workloads.specs.Grammar.{name_text};
+    ghost use Rattle.mq_requests.specs.Grammar.{name_text};
 
     /// The word of the name.
     pub fn text(self) -> &'static [u8]
@@ -144,12 +144,22 @@ fn workload_of(name: Name, arguments: &[&[u8]]) -> Option<Workload>
     ensures { result ≡ workload_written name (map (λ word. word.now) arguments.now) }
 {
     match name {
-        Name::Pair => pair_of(arguments),
+        Name::Pair => Some(Workload::Pair {
+            rounds: rounds_alone(arguments)?,
+        }),
         Name::Deep => deep_of(arguments),
-        Name::Wide => wide_of(arguments),
-        Name::PingPong => ping_pong_of(arguments),
-        Name::Stream => stream_of(arguments),
-        Name::Check => check_of(arguments),
+        Name::Wide => Some(Workload::Wide {
+            rounds: rounds_alone(arguments)?,
+        }),
+        Name::PingPong => Some(Workload::PingPong {
+            rounds: rounds_alone(arguments)?,
+        }),
+        Name::Stream => Some(Workload::Stream {
+            rounds: rounds_alone(arguments)?,
+        }),
+        Name::Check => Some(Workload::Check {
+            entries: rounds_alone(arguments)?,
+        }),
         Name::Replay => replay_of(arguments),
         Name::Crowd => crowd_of(arguments),
         Name::Idle => idle_of(arguments),
@@ -157,13 +167,12 @@ fn workload_of(name: Name, arguments: &[&[u8]]) -> Option<Workload>
     }
 }
 
-fn pair_of(arguments: &[&[u8]]) -> Option<Workload>
-    ensures { result ≡ pair_written (map (λ word. word.now) arguments.now) }
+// The one word after the names that take rounds or entries alone.
+fn rounds_alone(arguments: &[&[u8]]) -> Option<u32>
+    ensures { result ≡ rounds_alone (map (λ word. word.now) arguments.now) }
 {
     match arguments {
-        [rounds] => Some(Workload::Pair {
-            rounds: count_of(MOST_ROUNDS, rounds)?,
-        }),
+        [rounds] => count_of(MOST_ROUNDS, rounds),
         _ => None,
     }
 }
@@ -180,50 +189,6 @@ fn deep_of(arguments: &[&[u8]]) -> Option<Workload>
             }
             Some(Workload::Deep { depth, rounds })
         }
-        _ => None,
-    }
-}
-
-fn wide_of(arguments: &[&[u8]]) -> Option<Workload>
-    ensures { result ≡ wide_written (map (λ word. word.now) arguments.now) }
-{
-    match arguments {
-        [rounds] => Some(Workload::Wide {
-            rounds: count_of(MOST_ROUNDS, rounds)?,
-        }),
-        _ => None,
-    }
-}
-
-fn ping_pong_of(arguments: &[&[u8]]) -> Option<Workload>
-    ensures { result ≡ ping_pong_written (map (λ word. word.now) arguments.now) }
-{
-    match arguments {
-        [rounds] => Some(Workload::PingPong {
-            rounds: count_of(MOST_ROUNDS, rounds)?,
-        }),
-        _ => None,
-    }
-}
-
-fn stream_of(arguments: &[&[u8]]) -> Option<Workload>
-    ensures { result ≡ stream_written (map (λ word. word.now) arguments.now) }
-{
-    match arguments {
-        [rounds] => Some(Workload::Stream {
-            rounds: count_of(MOST_ROUNDS, rounds)?,
-        }),
-        _ => None,
-    }
-}
-
-fn check_of(arguments: &[&[u8]]) -> Option<Workload>
-    ensures { result ≡ check_written (map (λ word. word.now) arguments.now) }
-{
-    match arguments {
-        [entries] => Some(Workload::Check {
-            entries: count_of(MOST_ROUNDS, entries)?,
-        }),
         _ => None,
     }
 }
