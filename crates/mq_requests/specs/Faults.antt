@@ -1,5 +1,7 @@
 -- Why a run ended without a result: what is printed, and the exit status.
 use Rattle.std.specs.Prelude.{◌≡◌, ℕ, List, codes, Option, Some, None, Result, Ok, Err}
+use Rattle.mq_model.specs.declared.faults.Fault.{Fault}
+use Rattle.mq_model.specs.declared.faults.Fault.TheVariants as fault
 use Rattle.lines.specs.declared.input.ReadFault.{ReadFault}
 use Rattle.lines.specs.declared.input.ReadFault.TheVariants as read
 use Rattle.mq_requests.specs.declared.fault.BenchFault.{BenchFault}
@@ -27,6 +29,11 @@ exit_status BadLine = 2
 exit_status Input = 3
 exit_status Output = 3
 exit_status (Failed fault) = 4
+
+-- why a workload ends in which a call was refused
+abbrev pub of_fault : Fault → WorkFault
+of_fault fault.NoMemory = NoMemory
+of_fault refused = Refused
 
 -- why a run ends whose input was not read to its end
 abbrev pub of_read_fault : ReadFault → BenchFault

@@ -1,8 +1,8 @@
 //! Why a run ended without a result.
 ghost use Rattle.std.specs.Prelude.{◌≡◌, Some};
 ghost use Rattle.mq_requests.specs.declared.fault.BenchFault.TheVariants.{Failed, Output};
-ghost use Rattle.mq_requests.specs.declared.fault.WorkFault.TheVariants.{NoMemory};
-ghost use Rattle.mq_requests.specs.Faults.{exit_status, fault_text, of_read_fault, work_fault_text};
+ghost use Rattle.mq_requests.specs.declared.fault.WorkFault.TheVariants.{NoClock, NoMemory};
+ghost use Rattle.mq_requests.specs.Faults.{exit_status, fault_text, of_fault, of_read_fault, work_fault_text};
 
 use lines::input::ReadFault;
 use lines::output::WriteFailed;
@@ -83,12 +83,16 @@ impl Error for WorkFault {}
 impl Error for BenchFault {}
 
 impl From<AllocError> for WorkFault {
+    ghost from_gives = { λ _ fault. fault ≡ NoMemory };
+
     fn from(_refused: AllocError) -> WorkFault {
         WorkFault::NoMemory
     }
 }
 
 impl From<Fault> for WorkFault {
+    ghost from_gives = { λ refused fault. fault ≡ of_fault refused };
+
     fn from(fault: Fault) -> WorkFault {
         match fault {
             Fault::NoMemory => WorkFault::NoMemory,
@@ -98,6 +102,8 @@ impl From<Fault> for WorkFault {
 }
 
 impl From<io::Error> for WorkFault {
+    ghost from_gives = { λ _ fault. fault ≡ NoClock };
+
     fn from(_refused: io::Error) -> WorkFault {
         WorkFault::NoClock
     }

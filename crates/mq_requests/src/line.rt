@@ -1,6 +1,7 @@
 //! The line of a run, from the bytes of its input.
-ghost use Rattle.std.specs.Prelude.{◌≡◌, ◌+◌, ℕ, List, IsErrOf, OnOk, Some, take};
+ghost use Rattle.std.specs.Prelude.{◌≡◌, ◌+◌, ℕ, List, OnErr, OnOk, Some, take};
 ghost use Rattle.std.specs.Io.KnownBytes.{Appends};
+ghost use Rattle.lines.specs.Output.{AppendsTooLittle};
 ghost use Rattle.mq_requests.specs.Faults.{Reads};
 ghost use Rattle.mq_requests.specs.Grammar.{is_one_line, request_read, without_feed};
 ghost use Rattle.mq_requests.specs.Usage.{usage_text};
@@ -45,7 +46,8 @@ pub fn read_request<R: Read>(alloc: Global, input: &mut R) -> Result<Request, Be
 
 /// Writes the usage. `WriteFailed`: a write failed, which may have written a part.
 pub fn write_usage<W: Write>(output: &mut W) -> Result<(), WriteFailed>
-    ensures { OnOk result (Appends (W.contents output.old) (W.contents output.new) usage_text) }
+    ensures whole { OnOk result (Appends (W.contents output.old) (W.contents output.new) usage_text) }
+    ensures failed { OnErr result (AppendsTooLittle (W.contents output.old) (W.contents output.new) usage_text) }
 {
     write_all(output, usage())
 }
