@@ -8,7 +8,7 @@ use lines::words::{integer, number, small_number};
 use mq_model::entries::{Access, Attr, Deadline, OpenFlags};
 
 /// A call of a script. `T` holds the bytes of names and messages: in a program, a slice of the script.
-#[derive(Clone, Copy, Debug, PartialEq, Eq)]
+#[derive(Clone, Copy)]
 pub enum Command<T> {
     Open {
         name: T,

@@ -16,7 +16,7 @@ const MOST_PROCESSES: u32 = 32;
 const SECOND: i64 = 1_000_000_000;
 
 /// A call with its process, the line that it stands in, counted from 1, and the clock of its phase.
-#[derive(Clone, Copy, Debug, PartialEq, Eq)]
+#[derive(Clone, Copy)]
 pub struct ScriptCall<T> {
     pub process: u32,
     pub line: u64,
@@ -25,7 +25,7 @@ pub struct ScriptCall<T> {
 }
 
 /// The time of a phase that is being read.
-#[derive(Clone, Copy, Debug, PartialEq, Eq)]
+#[derive(Clone, Copy)]
 pub struct PhaseTime {
     /// The moment that its clocks give.
     pub moment: Deadline,
@@ -34,7 +34,7 @@ pub struct PhaseTime {
 }
 
 /// What a line writes. `C` is a call with its process.
-#[derive(Clone, Copy, Debug, PartialEq, Eq)]
+#[derive(Clone, Copy)]
 pub enum Line<C> {
     /// Nothing: an empty line, or a comment.
     Skipped,

@@ -58,7 +58,7 @@ pub fn read_script<'s>(alloc: Global, text: &'s [u8]) -> Result<Script<'s>, Scri
 }
 
 /// How much of a script was read, and the time of the phase.
-#[derive(Clone, Copy, Debug, PartialEq, Eq)]
+#[derive(Clone, Copy)]
 pub struct Place {
     pub lines: u64,
     pub bytes: u64,

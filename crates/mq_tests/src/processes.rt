@@ -2,7 +2,6 @@
 ghost use Rattle.std.specs.Prelude.{◌≡◌, None, IfSome, length, []};
 ghost use Rattle.mq.specs.Calls.{IsFree};
 
-use crate::refusals::say_refused;
 use fast_mutex::{FastMutex, Look};
 use mq::{Guarded, Mq, Process, verdict};
 use mq_checker::checker::check_history;
@@ -10,6 +9,7 @@ use mq_model::entries::{Received, Reply};
 use mq_model::faults::Fault;
 use mq_model::journals::Journal;
 use mq_state::collected::Collected;
+use refusals::say_refused;
 use std::alloc::Global;
 use std::io::Print;
 use std::process::Abort;

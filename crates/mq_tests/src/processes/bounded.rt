@@ -2,12 +2,12 @@
 ghost use Rattle.std.specs.Prelude.{◌≡◌, [], IfSome};
 
 use super::steps::{Ask, CREATE, Step, Told, asked_once};
-use crate::refusals::{refuse_all, say_refused};
 use fast_mutex::{FastMutex, Look};
 use mq::{Guarded, Mq, Process};
 use mq_model::entries::{Received, Status};
 use mq_model::faults::Fault;
 use mq_model::journals::Journal;
+use refusals::{refuse_all, say_refused};
 use std::alloc::Global;
 use std::io::Print;
 use std::process::Abort;

@@ -3,13 +3,13 @@ ghost use Rattle.std.specs.Prelude.{◌≡◌};
 
 use super::steps::{Ask, CREATE, Told, asked, asked_once};
 use super::{Pair, finish, make_pair, room};
-use crate::refusals::say_refused;
 use fast_mutex::{FastMutex, Look};
 use mq::{Guarded, Mq, Process};
 use mq_checker::checker::check_history;
 use mq_model::entries::{Call, Reply};
 use mq_model::faults::Fault;
 use mq_model::journals::Journal;
+use refusals::say_refused;
 use std::alloc::Global;
 use std::io::Print;
 use std::process::Abort;

@@ -1,12 +1,12 @@
 //! The calls of processes that take no memory, while every growth may be refused from outside.
 use super::steps::{Ask, CREATE, OPEN, Step, Told, expect_steps};
 use super::{CREATED, OPENED, Pair, expect_journal, finish, make_pair, room};
-use crate::refusals::refuse_all;
 use fast_mutex::{FastMutex, Look};
 use mq::Guarded;
 use mq_model::entries::{Received, Reply};
 use mq_model::journals::Journal;
 use mq_state::collected::Collected;
+use refusals::refuse_all;
 use std::alloc::Global;
 use std::io::Print;
 use std::process::Abort;

@@ -3,13 +3,13 @@ ghost use Rattle.std.specs.Prelude.{◌≡◌, None};
 ghost use Rattle.mq.specs.Calls.{IsFree};
 
 use super::deadlines::{LATER, START, Ticks};
-use crate::refusals::say_refused;
 use fast_mutex::Look;
 use mq::{Guarded, Monotonic, Mq, Process};
 use mq_model::entries::{Access, Attr, OpenFlags, Received, Status};
 use mq_model::faults::Fault;
 use mq_model::names::Name;
 use mq_state::collected::Collected;
+use refusals::say_refused;
 use std::io::Print;
 use std::process::Abort;
 use std::sync::Wait;

@@ -7,7 +7,6 @@ ghost use Rattle.mq.specs.Calls.{IsFree};
 use super::deadlines::{LATER, START};
 use super::steps::CREATE;
 use super::{CREATED, OPENED, Pair, expect_journal, finish, make_pair, room};
-use crate::refusals::say_refused;
 use fast_mutex::{FastMutex, Look};
 use mq::{Arrived, Guarded, Mq, Process};
 use mq_model::entries::{Attr, Deadline, Entry, Received, Reply};
@@ -15,6 +14,7 @@ use mq_model::faults::Fault;
 use mq_model::journals::Journal;
 use mq_model::names::Name;
 use mq_state::collected::Collected;
+use refusals::say_refused;
 use std::alloc::Global;
 use std::io::Print;
 

@@ -1,0 +1,204 @@
+//! Lamport's lock in one thread: two processes in turn, and their entries step by step in a fixed order.
+ghost use Rattle.std.specs.Prelude.{◌≡◌, ◌∷◌, []};
+ghost use Rattle.fast_mutex.specs.Fast.{ticket_of, IsSeatOf};
+
+use super::{Notes, Stay, in_turn, lock_for, no_notes};
+use fast_mutex::{FastMutex, FastSeat, Lock, Path, Walk};
+use lamport_core::At;
+use refusals::refuse_all;
+use std::alloc::{AllocError, Global};
+use std::io::Print;
+use std::process::Abort;
+use std::test::Fail;
+
+// One step of an entry, which is not yet inside.
+fn step<A: Abort>(rt: &A, lock: &FastMutex<Notes>, walk: Walk<Notes>) -> Walk<Notes>
+    requires { IsSeatOf (λ s. s.title ∷ []) lock.now.table.shared.table_id lock.now.table.shared.key walk.seat }
+    ensures { ticket_of result.number result.seat ≡ ticket_of walk.number walk.seat }
+{
+    match FastMutex::at(&walk) {
+        At::Fast | At::Slow => panic!(rt; "the entry is inside"),
+        _ => {}
+    }
+    lock.step(walk)
+}
+
+// A step of process 1 or 2 for each number of the schedule, in turn.
+fn by_schedule<A: Abort>(
+    rt: &A,
+    lock: &FastMutex<Notes>,
+    one: Walk<Notes>,
+    two: Walk<Notes>,
+    schedule: &[u32],
+) -> (Walk<Notes>, Walk<Notes>)
+    requires one { IsSeatOf (λ s. s.title ∷ []) lock.now.table.shared.table_id lock.now.table.shared.key one.seat }
+    requires two { IsSeatOf (λ s. s.title ∷ []) lock.now.table.shared.table_id lock.now.table.shared.key two.seat }
+    ensures one { ticket_of result.0.number result.0.seat ≡ ticket_of one.number one.seat }
+    ensures two { ticket_of result.1.number result.1.seat ≡ ticket_of two.number two.seat }
+{
+    let mut one = one;
+    let mut two = two;
+    for i in schedule {
+        if *i == 1 {
+            one = step(rt, lock, one);
+        } else {
+            two = step(rt, lock, two);
+        }
+    }
+    (one, two)
+}
+
+// So many steps of one process.
+fn alone<A: Abort>(rt: &A, lock: &FastMutex<Notes>, walk: Walk<Notes>, steps: u32) -> Walk<Notes>
+    requires { IsSeatOf (λ s. s.title ∷ []) lock.now.table.shared.table_id lock.now.table.shared.key walk.seat }
+    ensures { ticket_of result.number result.seat ≡ ticket_of walk.number walk.seat }
+{
+    let mut walk = walk;
+    for _ in 0..steps {
+        walk = step(rt, lock, walk);
+    }
+    walk
+}
+
+// A stay of an entry that has come in, at the point, by the path and with the steps that are wanted.
+fn stay<A: Abort>(
+    rt: &A,
+    lock: &FastMutex<Notes>,
+    walk: Walk<Notes>,
+    wanted: (At, Path, u64),
+) -> FastSeat<Notes>
+    requires { IsSeatOf (λ s. s.title ∷ []) lock.now.table.shared.table_id lock.now.table.shared.key walk.seat }
+    ensures { (ticket_of result.number result.seat).lock ≡ (ticket_of walk.number walk.seat).lock }
+{
+    let at = FastMutex::at(&walk);
+    match at {
+        At::Fast | At::Slow => {}
+        _ => panic!(rt; "the entry is not inside"),
+    }
+    let (inside, notes) = FastMutex::admitted(walk);
+    let path = <FastMutex<Notes> as Lock<Notes>>::path(&inside);
+    let steps = <FastMutex<Notes> as Lock<Notes>>::steps(&inside);
+    assert_eq!(rt; (at, path, steps), wanted);
+    lock.leave(inside, notes)
+}
+
+// The entries of two processes in a fixed order: steps by a schedule and where they lead, twice; then the stay of the entry that
+// is inside, so many steps of the other, and its stay.
+#[derive(Clone, Copy)]
+struct Plan {
+    before: &'static [u32],
+    between: (At, At),
+    then: &'static [u32],
+    behind: (At, At),
+    first: u32,
+    first_stay: (At, Path, u64),
+    alone: u32,
+    second_stay: (At, Path, u64),
+}
+
+// The rest of a plan, from where one entry is inside: its stay, the steps and the stay of the other, and the end.
+fn expect_stays<A: Abort>(
+    rt: &A,
+    lock: FastMutex<Notes>,
+    mut seats: Vec<FastSeat<Notes>>,
+    inside: Walk<Notes>,
+    other: Walk<Notes>,
+    plan: Plan,
+)
+    requires taken { seats.items ≡ [] }
+    requires inside { IsSeatOf (λ s. s.title ∷ []) lock.table.shared.table_id lock.table.shared.key inside.seat }
+    requires other { IsSeatOf (λ s. s.title ∷ []) lock.table.shared.table_id lock.table.shared.key other.seat }
+{
+    let first = stay(rt, &lock, inside, plan.first_stay);
+    let other = alone(rt, &lock, other, plan.alone);
+    let second = stay(rt, &lock, other, plan.second_stay);
+    let (Ok(()), Ok(())) = (seats.push(first), seats.push(second)) else {
+        panic!(rt; "room for two seats")
+    };
+    let Ok(notes) = lock.finish(seats) else {
+        panic!(rt; "all seats")
+    };
+    assert_eq!(rt; notes.title, 7);
+}
+
+fn expect_plan<A: Abort + Print>(rt: &A, alloc: Global, plan: Plan) -> Result<(), AllocError> {
+    let notes = no_notes(rt, alloc, 7, 0)?;
+    let Some((lock, mut seats)) = lock_for::<FastMutex<Notes>, A>(rt, alloc, 2, notes) else {
+        panic!(rt; "no memory")
+    };
+    refuse_all(rt, alloc);
+    let (Some(two), Some(one)) = (seats.pop(), seats.pop()) else {
+        panic!(rt; "two seats")
+    };
+    let (one, two) = (lock.begin(one), lock.begin(two));
+    let (one, two) = by_schedule(rt, &lock, one, two, plan.before);
+    assert_eq!(rt; (FastMutex::at(&one), FastMutex::at(&two)), plan.between);
+    let (one, two) = by_schedule(rt, &lock, one, two, plan.then);
+    assert_eq!(rt; (FastMutex::at(&one), FastMutex::at(&two)), plan.behind);
+    if plan.first == 1 {
+        expect_stays(rt, lock, seats, one, two, plan);
+    } else {
+        expect_stays(rt, lock, seats, two, one, plan);
+    }
+    Ok(())
+}
+
+// Process 2 turns back at y and waits while process 1 goes in by the slow path.
+#[test]
+fn slow_entry_goes_first_and_the_other_begins_again(rt: HostRuntime) -> Result<(), Fail> {
+    let plan = Plan {
+        before: &[],
+        between: (At::Rest, At::Rest),
+        then: &[1, 1, 1, 2, 2, 1, 1, 2, 2, 1, 1, 1, 1],
+        behind: (At::Slow, At::AwaitY),
+        first: 1,
+        first_stay: (At::Slow, Path::Slow, 9),
+        alone: 6,
+        second_stay: (At::Fast, Path::Fast, 5),
+    };
+    expect_plan(&rt, rt.alloc(), plan)?;
+    Ok(())
+}
+
+// Both processes load y while it is 0. An exchange of y in place of that load would let process 1 take y there, and
+// turn process 2 back.
+#[test]
+fn both_pass_the_gate_and_the_second_goes_first(rt: HostRuntime) -> Result<(), Fail> {
+    let plan = Plan {
+        before: &[1, 1, 1, 2, 2, 2],
+        between: (At::SetY, At::SetY),
+        then: &[1, 1, 2, 2, 1, 1, 1],
+        behind: (At::Scan(2), At::Fast),
+        first: 2,
+        first_stay: (At::Fast, Path::Fast, 5),
+        alone: 8,
+        second_stay: (At::Fast, Path::Fast, 5),
+    };
+    expect_plan(&rt, rt.alloc(), plan)?;
+    Ok(())
+}
+
+#[test]
+fn lamports_lock_hands_its_state_over_in_turn(rt: HostRuntime) {
+    let turns = in_turn::<FastMutex<Notes>, _>(&rt, rt.alloc()).expect(&rt, "memory");
+    let (path, steps) = (Path::Fast, 5);
+    assert_eq!(rt;
+        turns.first,
+        Stay {
+            latest: None,
+            path,
+            steps
+        }
+    );
+    assert_eq!(rt;
+        turns.second,
+        Stay {
+            latest: Some((1, 10)),
+            path,
+            steps
+        }
+    );
+    assert_eq!(rt; turns.third, Some((2, 20)));
+    assert_eq!(rt; turns.notes.title, 7);
+    assert_eq!(rt; turns.notes.items.as_slice(), [(1, 10), (2, 20)].as_slice());
+}
