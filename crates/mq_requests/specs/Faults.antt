@@ -54,3 +54,10 @@ Reads asked (Err BadLine) = asked ≡ None
 Reads asked (Err Input) = Unit {0}
 Reads asked (Err (Failed NoMemory)) = Unit {0}
 Reads asked (Err other) = ⊥
+
+-- what a text that was read came to: no read can fail any more
+abbrev pub IsOfText : Result Request BenchFault → Type 0
+IsOfText (Ok request) = Unit {0}
+IsOfText (Err BadLine) = Unit {0}
+IsOfText (Err (Failed NoMemory)) = Unit {0}
+IsOfText (Err other) = ⊥

@@ -2,7 +2,7 @@
 ghost use Rattle.std.specs.Prelude.{◌≡◌, ◌+◌, ℕ, List, OnErr, OnOk, Some, take};
 ghost use Rattle.std.specs.Io.KnownBytes.{Appends};
 ghost use Rattle.lines.specs.Output.{AppendsTooLittle};
-ghost use Rattle.mq_requests.specs.Faults.{Reads};
+ghost use Rattle.mq_requests.specs.Faults.{IsOfText, Reads};
 ghost use Rattle.mq_requests.specs.Grammar.{is_one_line, request_read, without_feed};
 ghost use Rattle.mq_requests.specs.Usage.{usage_text};
 
@@ -61,7 +61,8 @@ fn usage() -> &'static [u8]
 
 // What an input asks for.
 fn request_in(alloc: Global, text: &[u8]) -> Result<Request, BenchFault>
-    ensures { Reads (request_read text.now) result }
+    ensures asked { Reads (request_read text.now) result }
+    ensures read { IsOfText result }
 {
     if text.len() > MOST_BYTES || !is_one_line(text) {
         return Err(BenchFault::BadLine);
