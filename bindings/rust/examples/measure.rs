@@ -1,0 +1,70 @@
+//! `pair N` and `crowd P N`, as `tools/peers/yak_queue.c` has them: what an operation costs from Rust.
+
+use std::env;
+use std::process::exit;
+use std::sync::Barrier;
+use std::thread;
+use std::time::Instant;
+use yakyrombe::{Descriptor, Error, OpenOptions, Process, System};
+
+const MESSAGE: &[u8; 16] = b"sixteen bytes ..";
+const QUEUE: OpenOptions = OpenOptions::read_write().create().limits(10, 16);
+
+fn main() -> Result<(), Error> {
+    let words: Vec<String> = env::args().skip(1).collect();
+    let words: Vec<&str> = words.iter().map(String::as_str).collect();
+    let number = |word: &str| word.parse::<u32>().ok().filter(|&number| number > 0);
+    let nanoseconds = match words[..] {
+        ["pair", rounds] => number(rounds).map(pair),
+        ["crowd", members, rounds] => number(members).zip(number(rounds)).map(|(members, rounds)| crowd(members, rounds)),
+        _ => None,
+    };
+    let Some(nanoseconds) = nanoseconds else {
+        eprintln!("pair N or crowd P N");
+        exit(2);
+    };
+    println!("{:.1} ns each", nanoseconds?);
+    Ok(())
+}
+
+fn pair(rounds: u32) -> Result<f64, Error> {
+    let (mut process, queue) = opened(System::new(1)?.remove(0))?;
+    let start = Instant::now();
+    for _ in 0..rounds {
+        process.send(queue, MESSAGE, 0)?;
+        process.receive(queue, &mut [0; 16])?;
+    }
+    Ok(start.elapsed().as_nanos() as f64 / 2.0 / f64::from(rounds))
+}
+
+fn crowd(members: u32, rounds: u32) -> Result<f64, Error> {
+    let processes = System::new(members as usize)?;
+    let barrier = Barrier::new(members as usize + 1);
+    let mut start = Instant::now();
+    thread::scope(|scope| {
+        let members: Vec<_> = processes.into_iter().map(|process| scope.spawn(|| take_part(process, rounds, &barrier))).collect();
+        barrier.wait();
+        start = Instant::now();
+        members.into_iter().try_for_each(|member| member.join().expect("no member panics"))
+    })?;
+    Ok(start.elapsed().as_nanos() as f64 / f64::from(members) / f64::from(rounds))
+}
+
+fn opened(mut process: Process) -> Result<(Process, Descriptor), Error> {
+    let queue = process.open("/q", QUEUE)?;
+    Ok((process, queue))
+}
+
+// Those with even numbers receive, the others send.
+fn take_part(process: Process, rounds: u32, barrier: &Barrier) -> Result<(), Error> {
+    let (mut process, queue) = opened(process)?;
+    barrier.wait();
+    for _ in 0..rounds {
+        if process.number() % 2 == 0 {
+            process.receive(queue, &mut [0; 16])?;
+        } else {
+            process.send(queue, MESSAGE, 0)?;
+        }
+    }
+    Ok(())
+}
