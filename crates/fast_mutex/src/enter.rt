@@ -7,6 +7,9 @@ use crate::logged::Logged;
 use crossbeam_utils::Backoff;
 use std::sync::Wait;
 
+/// How often a wait looks, with pauses that grow up to 32 spins, before it sleeps.
+pub(crate) const MOST_SPINS: u32 = 6;
+
 /// The entry that waits, which each lock has. It stands apart from `Lock`, so that code that never waits can use a lock.
 pub trait Enter<S: Logged>: Lock<S> {
     /// Takes the walk on until it has come in, which waits until nobody else is inside.
@@ -23,6 +26,10 @@ pub trait Enter<S: Logged>: Lock<S> {
         ensures grows { Grows S.author (Self.ticket seat).number (Self.ticket seat).left (S.items result.1) [] }
         ensures told { (Self.ticket seat).told ≡ true → S.is_answered (Self.ticket seat).number (S.items result.1) ≡ true }
         ensures number { (1 ≤ (Self.ticket seat).number) × ((Self.ticket seat).number ≤ (Self.id self.now).count) };
+
+    /// Wakes who sleeps until this process has left, or until its last stay answered a wait. Where nobody sleeps it is a few loads.
+    /// Who is not woken so looks again after some milliseconds.
+    fn wake(&self, seat: &Self::Seat);
 }
 
 impl<S: Logged, L: Lock<S>> Enter<S> for L {
@@ -38,6 +45,12 @@ impl<S: Logged, L: Lock<S>> Enter<S> for L {
     fn enter<R: Wait>(&self, rt: &R, seat: L::Seat) -> (L::Inside, S) {
         L::admitted(self.come_in(rt, self.begin(seat)))
     }
+
+    #[inline(always)]
+    fn wake(&self, seat: &L::Seat) {
+        self.bells()
+            .ring_after(L::number(seat), L::answered_by(seat));
+    }
 }
 
 // The walk that has to wait lies in places of its own, so that one that has come in is never more than the registers that hold it.
@@ -52,8 +65,9 @@ fn wait_apart<S: Logged, L: Lock<S>, R: Wait>(lock: &L, rt: &R, walk: L::Walk) -
     waited
 }
 
-// Step by step. It backs off after a step that left the walk where it was, longer each time, and begins anew with the back-off once
-// the walk has moved. It stands apart, so that the way of an entry that meets nobody has no more than that needs.
+// Step by step. After a step that left the walk where it was it spins, longer each time, and after some of these it sleeps until it is
+// woken; once the walk has moved it begins anew. It never yields: beside a busy thread a yield costs that thread's whole slice.
+// It stands apart, so that the way of an entry that meets nobody has no more than that needs.
 #[inline(never)]
 fn wait_in<S: Logged, L: Lock<S>, R: Wait>(lock: &L, rt: &R, mut walk: L::Walk) -> L::Walk
     requires { (L.walking walk).lock ≡ L.id lock.now }
@@ -61,6 +75,7 @@ fn wait_in<S: Logged, L: Lock<S>, R: Wait>(lock: &L, rt: &R, mut walk: L::Walk) 
     ensures inside { L.is_in result ≡ true }
 {
     let backoff = Backoff::new();
+    let mut spins = 0;
     for _ in rt.forever() {
         if L::is_admitted(&walk) {
             return walk;
@@ -69,8 +84,13 @@ fn wait_in<S: Logged, L: Lock<S>, R: Wait>(lock: &L, rt: &R, mut walk: L::Walk) 
         walk = next;
         if has_moved {
             backoff.reset();
+            spins = 0;
+        } else if spins < MOST_SPINS {
+            backoff.spin();
+            spins += 1;
         } else {
-            backoff.snooze();
+            lock.bells().ring(L::own_bell(&walk));
+            lock.bells().rest(rt, L::bell(&walk));
         }
     }
     unreachable!()

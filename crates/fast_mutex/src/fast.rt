@@ -13,6 +13,7 @@ ghost use Rattle.fast_mutex.specs.Word.{HasGrown};
 ghost use Rattle.fast_mutex.specs.Marks.{flag, answer_bits};
 ghost use Rattle.fast_mutex.specs.Fast.{seat_view, view_planned, view_marked, list_in, IsReady, Shows, resting, is_inside, slots_at, state_shown, state_at, counted_prop, ticket_of, stay_of, IsSeatOf};
 
+use crate::bells::Bells;
 use crate::lock::Missing;
 use crate::logged::Logged;
 use crate::seats::{About, LockSeat, close, deal};
@@ -42,6 +43,7 @@ type TableSeat<S> = Seat<Option<S>, View<<S as Logged>::Item>>;
 pub struct FastMutex<S: Logged> {
     table: Table<Option<S>, View<S::Item>, About<S>, FastRule<S>, Global>,
     count: u32,
+    bells: Bells,
     ghost shape: { (table.shared.table_id.words ≡ 2 * count + 2) × (table.shared.table_id.slots ≡ 1) × (count ≡ table.shared.key.count) × (1 ≤ count) × (count ≤ 32) },
 }
 
@@ -289,7 +291,11 @@ impl<S: Logged> FastMutex<S> {
         ensures steps { result.steps ≡ 0 }
         ensures ticket { ticket_of result.number result.seat ≡ ticket_of seat.number seat.seat }
     {
-        let LockSeat { number, seat } = seat;
+        let LockSeat {
+            number,
+            answered: _,
+            seat,
+        } = seat;
         Walk {
             number,
             at: At::Rest,
@@ -420,6 +426,26 @@ impl<S: Logged> FastMutex<S> {
     }
 }
 
+// What threads sleep on. It is no word of the table, and no step of the algorithm.
+impl<S: Logged> FastMutex<S> {
+    pub(crate) fn bells(&self) -> &Bells {
+        &self.bells
+    }
+
+    // A walk waits at y, or at the flag that its scan has come to.
+    pub(crate) fn bell_of(walk: &Walk<S>) -> u32 {
+        match walk.at {
+            At::Scan(j) => Bells::of_flag(j),
+            _ => Bells::of_y(),
+        }
+    }
+
+    // That of its flag, which it lowers on its way to where it waits.
+    pub(crate) fn own_bell_of(walk: &Walk<S>) -> u32 {
+        Bells::of_flag(walk.number)
+    }
+}
+
 // The bodies of the lock's calls, which `fast_lock` names.
 impl<S: Logged> FastMutex<S> {
     // the words s that change, y := 0, and then b[i] := false
@@ -443,7 +469,11 @@ impl<S: Logged> FastMutex<S> {
         self.table.shared.store::<Leaves<S>>(&mut seat, Y, 0);
         let flag = number as usize + 1;
         self.table.shared.store::<Stores>(&mut seat, flag, 0);
-        LockSeat { number, seat }
+        LockSeat {
+            number,
+            answered: after & !answers,
+            seat,
+        }
     }
 
     pub(crate) fn at_of(inside: &FastInside<S>) -> At
@@ -472,6 +502,7 @@ impl<S: Logged> FastMutex<S> {
     fn furnish(
         alloc: Global,
         count: u32,
+        bells: Bells,
         state: S,
     ) -> Result<(FastMutex<S>, TableSeat<S>), (S, AllocError)>
         requires count { (1 ≤ count) × (count ≤ 32) }
@@ -486,7 +517,14 @@ impl<S: Logged> FastMutex<S> {
         };
         let words = [0u64; 66];
         let (table, first) = furnish(alloc, &words[..2 * count as usize + 2], &about, state)?;
-        Ok((FastMutex { table, count }, first))
+        Ok((
+            FastMutex {
+                table,
+                count,
+                bells,
+            },
+            first,
+        ))
     }
 
     #[tactic(auto, using(crate::proofs::FastKeeps::fast_deals))]
@@ -505,7 +543,14 @@ impl<S: Logged> FastMutex<S> {
             Ok(seats) => seats,
             Err(failed) => return Err((state, failed)),
         };
-        match FastMutex::furnish(alloc, n, state) {
+        let bells = match Bells::new(alloc) {
+            Ok(bells) => bells,
+            Err(failed) => {
+                seats.destroy_empty();
+                return Err((state, failed));
+            }
+        };
+        match FastMutex::furnish(alloc, n, bells, state) {
             Ok((lock, first)) => {
                 let seats = deal(&lock.table.shared, n, first, seats);
                 Ok((lock, seats))
@@ -534,7 +579,11 @@ impl<S: Logged> FastMutex<S> {
                 parts: seats,
             });
         }
-        let FastMutex { table, count: _ } = self;
+        let FastMutex {
+            table,
+            count: _,
+            bells: _,
+        } = self;
         Ok(close(table, seats))
     }
 }

@@ -7,6 +7,7 @@ ghost use Rattle.fast_mutex.specs.Word.{lock_id, made_with};
 ghost use Rattle.fast_mutex.specs.Fast.{is_inside, ticket_of, stay_of};
 ghost use Rattle.fast_mutex.specs.declared.lock.Path.TheVariants.{Fast};
 
+use crate::bells::Bells;
 use crate::fast::{FastInside, FastMutex, FastSeat, Walk};
 use crate::lock::{Lock, Look, Missing, Path};
 use crate::logged::Logged;
@@ -95,6 +96,24 @@ impl<S: Logged + Drop> Lock<S> for FastMutex<S> {
     #[inline(always)]
     fn leave(&self, inside: FastInside<S>, state: S) -> FastSeat<S> {
         self.depart(inside, state)
+    }
+
+    #[inline(always)]
+    fn bells(&self) -> &Bells {
+        FastMutex::bells(self)
+    }
+
+    fn bell(walk: &Walk<S>) -> u32 {
+        FastMutex::bell_of(walk)
+    }
+
+    fn own_bell(walk: &Walk<S>) -> u32 {
+        FastMutex::own_bell_of(walk)
+    }
+
+    #[inline(always)]
+    fn answered_by(seat: &FastSeat<S>) -> u32 {
+        seat.answered
     }
 
     fn finish(self, seats: Vec<FastSeat<S>>) -> Result<S, Missing<FastMutex<S>, FastSeat<S>>>

@@ -1,6 +1,8 @@
 //! Locks that hand a state from process to process, and say what each finds when it enters.
 #![tactic(auto)]
 
+mod await_answer;
+mod bells;
 mod enter;
 mod fast;
 mod fast_lock;
@@ -10,6 +12,8 @@ mod seats;
 mod slot;
 mod word;
 
+pub use await_answer::AwaitAnswer;
+pub use bells::Bells;
 pub use enter::Enter;
 pub use fast::{FastInside, FastMutex, FastSeat, Walk};
 pub use lock::{Lock, Look, Missing, Path};

@@ -3,6 +3,7 @@ ghost use Rattle.std.specs.Prelude.{◌≡◌, ◌≤◌, ◌↔◌, ◌||◌, �
 ghost use Rattle.std.specs.List.{All};
 ghost use Rattle.fast_mutex.specs.Items.{LockId, Ticket, tickets_from, Grows, GrowsBy};
 
+use crate::bells::Bells;
 use crate::logged::Logged;
 use std::alloc::{AllocError, Global};
 
@@ -105,6 +106,18 @@ pub trait Lock<S: Logged>: Sized + Drop {
         requires fixed { S.fixed state ≡ (id self.now).fixed }
         requires grows { GrowsBy S.author (stay inside).number (stay inside).left (S.items state) }
         ensures { ticket result ≡ record (stay inside) { left = S.items state; told = false } };
+
+    /// The words that threads sleep on, beside those of the lock.
+    fn bells(&self) -> &Bells;
+
+    /// Which of them a walk sleeps on that a step did not move.
+    fn bell(walk: &Self::Walk) -> u32;
+
+    /// Which of them others sleep on that wait for this walk.
+    fn own_bell(walk: &Self::Walk) -> u32;
+
+    /// Whose waits the last stay of this process answered, that of process p by bit p - 1: whom [`Enter::wake`](crate::Enter) wakes. A hint.
+    fn answered_by(seat: &Self::Seat) -> u32;
 
     /// Ends the lock and takes the state: with all seats outside nobody is inside. It never waits, and takes no memory.
     fn finish(self, seats: Vec<Self::Seat>) -> Result<S, Missing<Self, Self::Seat>>

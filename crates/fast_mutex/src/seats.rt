@@ -28,6 +28,8 @@ pub trait RestView<I> {
 #[derive(Drop)]
 pub struct LockSeat<S: Logged, V: RestView<S::Item>> {
     pub(crate) number: u32,
+    // whose waits the last stay answered, that of process p by bit p - 1
+    pub(crate) answered: u32,
     pub(crate) seat: Seat<Option<S>, V>,
     ghost range: { (1 ≤ number) × (number ≤ (V.resting.fixed seat.me.0).0) },
     ghost alone: { IsAlone V.resting number seat.me },
@@ -75,7 +77,11 @@ fn deal_one<S: Logged, V: RestView<S::Item>, R: TableRule<Option<S>, V, About<S>
     ensures ticket { ticket_of V.resting result.number result.seat ≡ new_ticket (lock_id shared.now.table_id (made_with S.fixed shared.now.key)) number }
 {
     let seat = shared.split_seat::<DealsFirst<S::Item>>(first);
-    LockSeat { number, seat }
+    LockSeat {
+        number,
+        answered: 0,
+        seat,
+    }
 }
 
 /// Deals a seat to each process, from the seat that has the numbers of all.
@@ -98,6 +104,7 @@ pub(crate) fn deal<S: Logged, V: RestView<S::Item>, R: TableRule<Option<S>, V, A
     }
     seats.push_reserved(LockSeat {
         number: count,
+        answered: 0,
         seat: first,
     });
     seats
@@ -118,13 +125,21 @@ fn join_all<S: Logged, V: RestView<S::Item>, R: TableRule<Option<S>, V, About<S>
     let Some(
         LockSeat {
             number: _,
+            answered: _,
             seat: mut all,
         },
     ) = seats.pop()
     else {
         unreachable!()
     };
-    while let Some(LockSeat { number: _, seat }) = seats.pop() {
+    while let Some(
+        LockSeat {
+            number: _,
+            answered: _,
+            seat,
+        },
+    ) = seats.pop()
+    {
         shared.join_seat::<TakesIn<S::Item>>(&mut all, seat);
     }
     seats.destroy_empty();

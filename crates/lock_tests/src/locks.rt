@@ -130,63 +130,122 @@ fn lock_for<L: Lock<Notes>, R: Print>(
     }
 }
 
-/// What two processes saw in turn, and the notes at the end.
-#[derive(Drop)]
-struct Turns {
-    first: Stay,
-    second: Stay,
-    third: Option<(u32, u32)>,
-    notes: Notes,
+// One stay, which adds a note and sees this.
+fn expect_stay<L: Lock<Notes>, R: Wait + Abort>(
+    rt: &R,
+    lock: &L,
+    seat: L::Seat,
+    value: u32,
+    wanted: Stay,
+) -> L::Seat
+    requires { (L.ticket seat).lock ≡ L.id lock.now }
+    ensures { (L.ticket result).lock ≡ L.id lock.now }
+{
+    let (seat, stay) = add(rt, lock, seat, value);
+    assert_eq!(rt; stay.expect(rt, "room for a note"), wanted);
+    seat
 }
 
-/// Process 1 adds 10, process 2 adds 20, `finish` lacks a seat, process 1 looks once more, and `finish` has both seats.
-fn in_turn<L: Lock<Notes>, R: Wait + Print>(rt: &R, alloc: Global) -> Option<Turns> {
-    let notes = no_notes(rt, alloc, 7, 2).ok()?;
-    let (lock, mut seats) = lock_for::<L, R>(rt, alloc, 2, notes)?;
-    refuse_all(rt, alloc);
-    let (two, one) = (seats.pop()?, seats.pop()?);
-    let (one, first) = add(rt, &lock, one, 10);
-    let (two, second) = add(rt, &lock, two, 20);
-    seats.push(one).ok()?;
+// Process 1 adds 10, and process 2 adds 20, each by this path and in so many steps. Gives their seats, that of process 1 first.
+fn expect_two_stays<L: Lock<Notes>, R: Wait + Abort>(
+    rt: &R,
+    lock: &L,
+    seats: &mut Vec<L::Seat>,
+    path: Path,
+    steps: u64,
+) -> (L::Seat, L::Seat)
+    requires { map L.ticket seats.old.items ≡ tickets_from (L.id lock.now) 1 2 }
+    ensures taken { seats.new.items ≡ [] }
+    ensures one { (L.ticket result.0).lock ≡ L.id lock.now }
+    ensures two { (L.ticket result.1).lock ≡ L.id lock.now }
+{
+    let two = seats.pop().expect(rt, "two seats");
+    let one = seats.pop().expect(rt, "two seats");
+    let latest = None;
+    let one = expect_stay(
+        rt,
+        lock,
+        one,
+        10,
+        Stay {
+            latest,
+            path,
+            steps,
+        },
+    );
+    let latest = Some((1, 10));
+    let two = expect_stay(
+        rt,
+        lock,
+        two,
+        20,
+        Stay {
+            latest,
+            path,
+            steps,
+        },
+    );
+    (one, two)
+}
+
+// With both seats `finish` gives the notes of both processes.
+fn expect_notes<L: Lock<Notes>, R: Abort>(
+    rt: &R,
+    lock: L,
+    mut seats: Vec<L::Seat>,
+    one: L::Seat,
+    two: L::Seat,
+)
+    requires taken { seats.items ≡ [] }
+    requires one { (L.ticket one).lock ≡ L.id lock }
+    requires two { (L.ticket two).lock ≡ L.id lock }
+{
+    seats.push(one).ok().expect(rt, "room for two seats");
+    seats.push(two).ok().expect(rt, "room for two seats");
+    let notes = lock.finish(seats).ok().expect(rt, "all seats");
+    assert_eq!(rt; notes.title, 7);
+    assert_eq!(rt; notes.items.as_slice(), [(1, 10), (2, 20)].as_slice());
+}
+
+// `finish` lacks the seat of process 2, and hands all back: process 1 looks once more, and then both seats are there.
+fn expect_end<L: Lock<Notes>, R: Wait + Abort>(
+    rt: &R,
+    lock: L,
+    mut seats: Vec<L::Seat>,
+    one: L::Seat,
+    two: L::Seat,
+)
+    requires taken { seats.items ≡ [] }
+    requires one { (L.ticket one).lock ≡ L.id lock }
+    requires two { (L.ticket two).lock ≡ L.id lock }
+{
+    seats.push(one).ok().expect(rt, "room for two seats");
     let Err(Missing { whole, mut parts }) = lock.finish(seats) else {
-        return None;
+        panic!(rt; "a seat is missing")
     };
-    let one = parts.pop()?;
-    let (one, third) = look(rt, &whole, one);
-    parts.push(one).ok()?;
-    parts.push(two).ok()?;
-    let notes = whole.finish(parts).ok()?;
-    Some(Turns {
-        first: first.ok()?,
-        second: second.ok()?,
-        third,
-        notes,
-    })
+    let one = parts.pop().expect(rt, "one seat");
+    let (one, latest) = look(rt, &whole, one);
+    assert_eq!(rt; latest, Some((2, 20)));
+    expect_notes(rt, whole, parts, one, two);
+}
+
+// Two processes in turn, each by this path and in so many steps.
+fn expect_turns<L: Lock<Notes>, R: Wait + Print + Abort>(
+    rt: &R,
+    alloc: Global,
+    path: Path,
+    steps: u64,
+) {
+    let notes = no_notes(rt, alloc, 7, 2).expect(rt, "memory");
+    let (lock, mut seats) = lock_for::<L, R>(rt, alloc, 2, notes).expect(rt, "memory");
+    refuse_all(rt, alloc);
+    let (one, two) = expect_two_stays(rt, &lock, &mut seats, path, steps);
+    expect_end(rt, lock, seats, one, two);
 }
 
 #[test]
 fn a_word_lock_hands_its_state_over_in_turn(rt: HostRuntime) {
-    let turns = in_turn::<WordLock<Notes>, _>(&rt, rt.alloc()).expect(&rt, "memory");
-    let (path, steps) = (Path::Fast, 1);
-    assert_eq!(rt;
-        turns.first,
-        Stay {
-            latest: None,
-            path,
-            steps
-        }
-    );
-    assert_eq!(rt;
-        turns.second,
-        Stay {
-            latest: Some((1, 10)),
-            path,
-            steps
-        }
-    );
-    assert_eq!(rt; turns.third, Some((2, 20)));
-    assert_eq!(rt; turns.notes.title, 7);
-    assert_eq!(rt; turns.notes.items.as_slice(), [(1, 10), (2, 20)].as_slice());
+    expect_turns::<WordLock<Notes>, _>(&rt, rt.alloc(), Path::Fast, 1);
 }
 
 /// As many stays of one process, which adds the values from 0 on.
@@ -203,14 +262,17 @@ fn add_many<L: Lock<Notes>, R: Wait>(rt: &R, lock: &L, seat: L::Seat, stays: u32
 }
 
 /// The notes of two threads, each with as many stays of a process.
-fn in_two_threads<R: Wait + Threads + Print + Sync>(
+fn in_two_threads<R: Wait + Threads + Print + Abort + Sync>(
     rt: &R,
     alloc: Global,
     stays: u32,
-) -> Option<Notes> {
-    let notes = no_notes(rt, alloc, 7, 2 * stays as usize).ok()?;
-    let (lock, mut seats) = lock_for::<WordLock<Notes>, R>(rt, alloc, 2, notes)?;
-    let (two, one) = (seats.pop()?, seats.pop()?);
+) -> Notes {
+    let notes = no_notes(rt, alloc, 7, 2 * stays as usize).expect(rt, "memory");
+    let (lock, mut seats) = lock_for::<WordLock<Notes>, R>(rt, alloc, 2, notes).expect(
+        rt, "memory",
+    );
+    let two = seats.pop().expect(rt, "two seats");
+    let one = seats.pop().expect(rt, "two seats");
     let (one, two) = join(
         rt,
         || -> WordSeat<Notes>
@@ -222,23 +284,15 @@ fn in_two_threads<R: Wait + Threads + Print + Sync>(
             ensures { (ticket_of result.number result.seat).lock ≡ lock_id lock.table.shared.table_id (made_with (λ s. s.title ∷ []) lock.table.shared.key) }
         { add_many(rt, &lock, two, stays) },
     );
-    seats.push(one).ok()?;
-    seats.push(two).ok()?;
-    lock.finish(seats).ok()
+    seats.push(one).ok().expect(rt, "room for two seats");
+    seats.push(two).ok().expect(rt, "room for two seats");
+    lock.finish(seats).ok().expect(rt, "all seats")
 }
 
 #[test]
 fn two_threads_lose_no_note_of_a_word_lock(rt: HostRuntime) {
-    let notes = in_two_threads(&rt, rt.alloc(), 1000).expect(&rt, "memory");
-    assert_eq!(rt; notes.items.len(), 2000);
-    for process in 1..=2 {
-        let values = notes
-            .items
-            .iter()
-            .filter(|note| note.0 == process)
-            .map(|note| note.1);
-        assert!(rt; values.eq(0..1000), "of process {process}");
-    }
+    let notes = in_two_threads(&rt, rt.alloc(), threads::STAYS);
+    threads::expect_all(&rt, &notes, 2);
 }
 
 // A lock for each number of processes, which has as many seats.

@@ -96,27 +96,45 @@ fn lock_for_two<L: Look<Bell>, R: Print>(rt: &R, alloc: Global) -> Option<(L, Ve
     }
 }
 
-/// Process 1 looks before the ring, twice after it, and once it has heard it.
-fn looks<L: Look<Bell>, R: Wait + Abort + Print>(rt: &R, alloc: Global) -> Option<[bool; 5]> {
-    let (lock, mut seats) = lock_for_two::<L, R>(rt, alloc)?;
-    refuse_all(rt, alloc);
-    let (mut two, mut one) = (seats.pop()?, seats.pop()?);
+/// Process 1 looks before the ring, twice after it, and once it has heard it. Process 2 looks after the ring.
+fn expect_looks<L: Look<Bell>, R: Wait + Abort>(
+    rt: &R,
+    lock: &L,
+    mut one: L::Seat,
+    mut two: L::Seat,
+) -> (L::Seat, L::Seat)
+    requires one { (L.ticket one).lock ≡ L.id lock.now }
+    requires two { (L.ticket two).lock ≡ L.id lock.now }
+    ensures one { (L.ticket result.0).lock ≡ L.id lock.now }
+    ensures two { (L.ticket result.1).lock ≡ L.id lock.now }
+{
     let before = lock.answered(&mut one);
-    two = visit(rt, &lock, two);
+    two = visit(rt, lock, two);
     let after = lock.answered(&mut one);
     let again = lock.answered(&mut one);
     let other = lock.answered(&mut two);
-    one = visit(rt, &lock, one);
+    one = visit(rt, lock, one);
     let heard = lock.answered(&mut one);
-    seats.push(one).ok()?;
-    seats.push(two).ok()?;
-    let bell = lock.finish(seats).ok()?;
+    assert_eq!(rt;
+        [before, after, again, other, heard],
+        [false, true, true, false, false]
+    );
+    (one, two)
+}
+
+fn expect_heard<L: Look<Bell>, R: Wait + Abort + Print>(rt: &R, alloc: Global) {
+    let (lock, mut seats) = lock_for_two::<L, R>(rt, alloc).expect(rt, "memory");
+    refuse_all(rt, alloc);
+    let two = seats.pop().expect(rt, "two seats");
+    let one = seats.pop().expect(rt, "two seats");
+    let (one, two) = expect_looks(rt, &lock, one, two);
+    seats.push(one).ok().expect(rt, "room for two seats");
+    seats.push(two).ok().expect(rt, "room for two seats");
+    let bell = lock.finish(seats).ok().expect(rt, "all seats");
     assert!(rt; bell.heard);
-    Some([before, after, again, other, heard])
 }
 
 #[test]
 fn a_look_is_true_from_the_ring_until_it_is_heard(rt: HostRuntime) {
-    let seen = looks::<FastMutex<Bell>, _>(&rt, rt.alloc()).expect(&rt, "memory");
-    assert_eq!(rt; seen, [false, true, true, false, false]);
+    expect_heard::<FastMutex<Bell>, _>(&rt, rt.alloc());
 }

@@ -11,19 +11,19 @@ use std::process::Abort;
 use std::sync::Wait;
 use std::thread::{Threads, map_vec};
 
-const STAYS: u32 = 1000;
+pub const STAYS: u32 = 1000;
 
 /// The notes of so many threads over the lock of one word.
-fn over_word_lock<R: Wait + Threads + Print + Sync>(
+fn over_word_lock<R: Wait + Threads + Print + Abort + Sync>(
     rt: &R,
     alloc: Global,
     threads: u32,
-) -> Option<Notes>
+) -> Notes
     requires { (1 ≤ threads) × (threads ≤ 32) }
 {
-    let notes = no_notes(rt, alloc, 7, threads as usize * STAYS as usize).ok()?;
+    let notes = no_notes(rt, alloc, 7, threads as usize * STAYS as usize).expect(rt, "memory");
     let Ok((lock, seats)) = WordLock::new(alloc, threads, notes) else {
-        return None;
+        panic!(rt; "memory")
     };
     let seats = map_vec(
         rt,
@@ -33,21 +33,22 @@ fn over_word_lock<R: Wait + Threads + Print + Sync>(
             ensures { (ticket_of result.number result.seat).lock ≡ lock_id lock.table.shared.table_id (made_with (λ s. s.title ∷ []) lock.table.shared.key) }
         { add_many(rt, &lock, seat, STAYS) },
     )
-    .ok()?;
-    lock.finish(seats).ok()
+    .ok()
+    .expect(rt, "memory");
+    lock.finish(seats).ok().expect(rt, "all seats")
 }
 
 /// The notes of so many threads over Lamport's lock.
-fn over_fast_mutex<R: Wait + Threads + Print + Sync>(
+fn over_fast_mutex<R: Wait + Threads + Print + Abort + Sync>(
     rt: &R,
     alloc: Global,
     threads: u32,
-) -> Option<Notes>
+) -> Notes
     requires { (1 ≤ threads) × (threads ≤ 32) }
 {
-    let notes = no_notes(rt, alloc, 7, threads as usize * STAYS as usize).ok()?;
+    let notes = no_notes(rt, alloc, 7, threads as usize * STAYS as usize).expect(rt, "memory");
     let Ok((lock, seats)) = FastMutex::new(alloc, threads, notes) else {
-        return None;
+        panic!(rt; "memory")
     };
     let seats = map_vec(
         rt,
@@ -57,12 +58,13 @@ fn over_fast_mutex<R: Wait + Threads + Print + Sync>(
             ensures { IsSeatOf (λ s. s.title ∷ []) lock.table.shared.table_id lock.table.shared.key result.seat }
         { add_many(rt, &lock, seat, STAYS) },
     )
-    .ok()?;
-    lock.finish(seats).ok()
+    .ok()
+    .expect(rt, "memory");
+    lock.finish(seats).ok().expect(rt, "all seats")
 }
 
 // Each process's notes are all there, in its order.
-fn expect_all<A: Abort>(rt: &A, notes: &Notes, threads: u32)
+pub fn expect_all<A: Abort>(rt: &A, notes: &Notes, threads: u32)
     requires { threads ≤ 32 }
 {
     assert_eq!(rt; notes.items.len(), threads as usize * STAYS as usize);
@@ -78,18 +80,18 @@ fn expect_all<A: Abort>(rt: &A, notes: &Notes, threads: u32)
 
 #[test]
 fn eight_threads_lose_no_note_of_a_word_lock(rt: HostRuntime) {
-    let notes = over_word_lock(&rt, rt.alloc(), 8).expect(&rt, "memory");
+    let notes = over_word_lock(&rt, rt.alloc(), 8);
     expect_all(&rt, &notes, 8);
 }
 
 #[test]
 fn two_threads_lose_no_note_of_lamports_lock(rt: HostRuntime) {
-    let notes = over_fast_mutex(&rt, rt.alloc(), 2).expect(&rt, "memory");
+    let notes = over_fast_mutex(&rt, rt.alloc(), 2);
     expect_all(&rt, &notes, 2);
 }
 
 #[test]
 fn eight_threads_lose_no_note_of_lamports_lock(rt: HostRuntime) {
-    let notes = over_fast_mutex(&rt, rt.alloc(), 8).expect(&rt, "memory");
+    let notes = over_fast_mutex(&rt, rt.alloc(), 8);
     expect_all(&rt, &notes, 8);
 }

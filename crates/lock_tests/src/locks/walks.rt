@@ -1,15 +1,16 @@
 //! Lamport's lock in one thread: two processes in turn, and their entries step by step in a fixed order.
-ghost use Rattle.std.specs.Prelude.{◌≡◌, ◌∷◌, []};
+ghost use Rattle.std.specs.Prelude.{◌≡◌, ◌∷◌, [], map};
 ghost use Rattle.fast_mutex.specs.Fast.{ticket_of, IsSeatOf};
+ghost use Rattle.fast_mutex.specs.Items.{tickets_from};
+ghost use Rattle.fast_mutex.specs.Word.{lock_id, made_with};
 
-use super::{Notes, Stay, in_turn, lock_for, no_notes};
+use super::{Notes, expect_turns, lock_for, no_notes};
 use fast_mutex::{FastMutex, FastSeat, Lock, Path, Walk};
 use lamport_core::At;
 use refusals::refuse_all;
-use std::alloc::{AllocError, Global};
+use std::alloc::Global;
 use std::io::Print;
 use std::process::Abort;
-use std::test::Fail;
 
 // One step of an entry, which is not yet inside.
 fn step<A: Abort>(rt: &A, lock: &FastMutex<Notes>, walk: Walk<Notes>) -> Walk<Notes>
@@ -112,40 +113,65 @@ fn expect_stays<A: Abort>(
     let first = stay(rt, &lock, inside, plan.first_stay);
     let other = alone(rt, &lock, other, plan.alone);
     let second = stay(rt, &lock, other, plan.second_stay);
-    let (Ok(()), Ok(())) = (seats.push(first), seats.push(second)) else {
-        panic!(rt; "room for two seats")
-    };
-    let Ok(notes) = lock.finish(seats) else {
-        panic!(rt; "all seats")
-    };
+    seats.push(first).ok().expect(rt, "room for two seats");
+    seats.push(second).ok().expect(rt, "room for two seats");
+    let notes = lock.finish(seats).ok().expect(rt, "all seats");
     assert_eq!(rt; notes.title, 7);
 }
 
-fn expect_plan<A: Abort + Print>(rt: &A, alloc: Global, plan: Plan) -> Result<(), AllocError> {
-    let notes = no_notes(rt, alloc, 7, 0)?;
-    let Some((lock, mut seats)) = lock_for::<FastMutex<Notes>, A>(rt, alloc, 2, notes) else {
-        panic!(rt; "no memory")
-    };
+// The steps of a schedule, which lead to these points.
+fn expect_points<A: Abort>(
+    rt: &A,
+    lock: &FastMutex<Notes>,
+    walks: (Walk<Notes>, Walk<Notes>),
+    schedule: &[u32],
+    wanted: (At, At),
+) -> (Walk<Notes>, Walk<Notes>)
+    requires one { IsSeatOf (λ s. s.title ∷ []) lock.now.table.shared.table_id lock.now.table.shared.key walks.0.seat }
+    requires two { IsSeatOf (λ s. s.title ∷ []) lock.now.table.shared.table_id lock.now.table.shared.key walks.1.seat }
+    ensures one { ticket_of result.0.number result.0.seat ≡ ticket_of walks.0.number walks.0.seat }
+    ensures two { ticket_of result.1.number result.1.seat ≡ ticket_of walks.1.number walks.1.seat }
+{
+    let (one, two) = by_schedule(rt, lock, walks.0, walks.1, schedule);
+    assert_eq!(rt; (FastMutex::at(&one), FastMutex::at(&two)), wanted);
+    (one, two)
+}
+
+// Two entries that have not begun.
+fn begin_two<A: Abort>(
+    rt: &A,
+    lock: &FastMutex<Notes>,
+    seats: &mut Vec<FastSeat<Notes>>,
+) -> (Walk<Notes>, Walk<Notes>)
+    requires { map (λ seat. ticket_of seat.number seat.seat) seats.old.items ≡ tickets_from (lock_id lock.now.table.shared.table_id (made_with (λ s. s.title ∷ []) lock.now.table.shared.key)) 1 2 }
+    ensures taken { seats.new.items ≡ [] }
+    ensures one { IsSeatOf (λ s. s.title ∷ []) lock.now.table.shared.table_id lock.now.table.shared.key result.0.seat }
+    ensures two { IsSeatOf (λ s. s.title ∷ []) lock.now.table.shared.table_id lock.now.table.shared.key result.1.seat }
+{
+    let two = seats.pop().expect(rt, "two seats");
+    let one = seats.pop().expect(rt, "two seats");
+    (lock.begin(one), lock.begin(two))
+}
+
+fn expect_plan<A: Abort + Print>(rt: &A, alloc: Global, plan: Plan) {
+    let notes = no_notes(rt, alloc, 7, 0).expect(rt, "memory");
+    let (lock, mut seats) = lock_for::<FastMutex<Notes>, A>(rt, alloc, 2, notes).expect(
+        rt, "memory",
+    );
     refuse_all(rt, alloc);
-    let (Some(two), Some(one)) = (seats.pop(), seats.pop()) else {
-        panic!(rt; "two seats")
-    };
-    let (one, two) = (lock.begin(one), lock.begin(two));
-    let (one, two) = by_schedule(rt, &lock, one, two, plan.before);
-    assert_eq!(rt; (FastMutex::at(&one), FastMutex::at(&two)), plan.between);
-    let (one, two) = by_schedule(rt, &lock, one, two, plan.then);
-    assert_eq!(rt; (FastMutex::at(&one), FastMutex::at(&two)), plan.behind);
+    let walks = begin_two(rt, &lock, &mut seats);
+    let walks = expect_points(rt, &lock, walks, plan.before, plan.between);
+    let (one, two) = expect_points(rt, &lock, walks, plan.then, plan.behind);
     if plan.first == 1 {
         expect_stays(rt, lock, seats, one, two, plan);
     } else {
         expect_stays(rt, lock, seats, two, one, plan);
     }
-    Ok(())
 }
 
 // Process 2 turns back at y and waits while process 1 goes in by the slow path.
 #[test]
-fn slow_entry_goes_first_and_the_other_begins_again(rt: HostRuntime) -> Result<(), Fail> {
+fn slow_entry_goes_first_and_the_other_begins_again(rt: HostRuntime) {
     let plan = Plan {
         before: &[],
         between: (At::Rest, At::Rest),
@@ -156,14 +182,13 @@ fn slow_entry_goes_first_and_the_other_begins_again(rt: HostRuntime) -> Result<(
         alone: 6,
         second_stay: (At::Fast, Path::Fast, 5),
     };
-    expect_plan(&rt, rt.alloc(), plan)?;
-    Ok(())
+    expect_plan(&rt, rt.alloc(), plan);
 }
 
 // Both processes load y while it is 0. An exchange of y in place of that load would let process 1 take y there, and
 // turn process 2 back.
 #[test]
-fn both_pass_the_gate_and_the_second_goes_first(rt: HostRuntime) -> Result<(), Fail> {
+fn both_pass_the_gate_and_the_second_goes_first(rt: HostRuntime) {
     let plan = Plan {
         before: &[1, 1, 1, 2, 2, 2],
         between: (At::SetY, At::SetY),
@@ -174,31 +199,10 @@ fn both_pass_the_gate_and_the_second_goes_first(rt: HostRuntime) -> Result<(), F
         alone: 8,
         second_stay: (At::Fast, Path::Fast, 5),
     };
-    expect_plan(&rt, rt.alloc(), plan)?;
-    Ok(())
+    expect_plan(&rt, rt.alloc(), plan);
 }
 
 #[test]
 fn lamports_lock_hands_its_state_over_in_turn(rt: HostRuntime) {
-    let turns = in_turn::<FastMutex<Notes>, _>(&rt, rt.alloc()).expect(&rt, "memory");
-    let (path, steps) = (Path::Fast, 5);
-    assert_eq!(rt;
-        turns.first,
-        Stay {
-            latest: None,
-            path,
-            steps
-        }
-    );
-    assert_eq!(rt;
-        turns.second,
-        Stay {
-            latest: Some((1, 10)),
-            path,
-            steps
-        }
-    );
-    assert_eq!(rt; turns.third, Some((2, 20)));
-    assert_eq!(rt; turns.notes.title, 7);
-    assert_eq!(rt; turns.notes.items.as_slice(), [(1, 10), (2, 20)].as_slice());
+    expect_turns::<FastMutex<Notes>, _>(&rt, rt.alloc(), Path::Fast, 5);
 }

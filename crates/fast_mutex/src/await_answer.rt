@@ -1,0 +1,64 @@
+//! The wait for an answer, by the looks of any lock.
+ghost use Rattle.std.specs.Prelude.{◌≡◌, ◌||◌, true};
+
+use crate::bells::Bells;
+use crate::enter::MOST_SPINS;
+use crate::lock::Look;
+use crate::logged::Logged;
+use crossbeam_utils::Backoff;
+use std::sync::Wait;
+use std::time::Duration;
+
+/// The wait for an answer, which each lock with looks has. It stands apart from `Look`, so that code that never waits can look.
+pub trait AwaitAnswer<S: Logged>: Look<S> {
+    /// Looks until the wait is answered, for about so long at the most: a few times at once, and then it sleeps until the process
+    /// whose stay answers the wait wakes it. It says what the last look said.
+    fn await_answer<R: Wait>(&self, rt: &R, seat: &mut Self::Seat, at_most: Duration) -> bool
+        requires { (Self.ticket seat.old).lock ≡ Self.id self.now }
+        ensures ticket { Self.ticket seat.new ≡ record (Self.ticket seat.old) { told = (Self.ticket seat.old).told || result } }
+        ensures again { (Self.ticket seat.old).told ≡ true → result ≡ true }
+        ensures left { S.is_answered (Self.ticket seat.old).number (Self.ticket seat.old).left ≡ true → result ≡ true };
+}
+
+impl<S: Logged, L: Look<S>> AwaitAnswer<S> for L {
+    fn await_answer<R: Wait>(&self, rt: &R, seat: &mut L::Seat, at_most: Duration) -> bool {
+        look_some_times(self, seat) || look_after_sleep(self, rt, seat, at_most)
+    }
+}
+
+// Looks with pauses that grow, so that a wait which is answered soon hears of it at once.
+fn look_some_times<S: Logged, L: Look<S>>(lock: &L, seat: &mut L::Seat) -> bool
+    requires { (L.ticket seat.old).lock ≡ L.id lock.now }
+    ensures { L.ticket seat.new ≡ record (L.ticket seat.old) { told = (L.ticket seat.old).told || result } }
+{
+    let backoff = Backoff::new();
+    for _ in 0..MOST_SPINS {
+        if lock.answered(seat) {
+            return true;
+        }
+        backoff.spin();
+    }
+    false
+}
+
+// Announces that it may sleep, looks, sleeps until it is woken or the time is over, and looks again.
+fn look_after_sleep<S: Logged, L: Look<S>, R: Wait>(
+    lock: &L,
+    rt: &R,
+    seat: &mut L::Seat,
+    at_most: Duration,
+) -> bool
+    requires { (L.ticket seat.old).lock ≡ L.id lock.now }
+    ensures ticket { L.ticket seat.new ≡ record (L.ticket seat.old) { told = (L.ticket seat.old).told || result } }
+    ensures again { (L.ticket seat.old).told ≡ true → result ≡ true }
+    ensures left { S.is_answered (L.ticket seat.old).number (L.ticket seat.old).left ≡ true → result ≡ true }
+{
+    let bell = Bells::of_answer(L::number(seat));
+    let bells = lock.bells();
+    bells.announce(bell);
+    if !lock.answered(seat) {
+        bells.sleep(rt, bell, at_most);
+    }
+    bells.withdraw(bell);
+    lock.answered(seat)
+}
