@@ -16,7 +16,7 @@ use Rattle.mq_model.specs.declared.faults.Fault.{Fault}
 use Rattle.mq_state.specs.Kept.{Kept}
 use Rattle.mq_state.specs.Buffers.{waiting_call, waiting_room, room_of}
 use Rattle.fast_mutex.specs.Items.{LockId, Ticket, Grows, GrowsBy, items_of}
-use Rattle.mq.specs.Calls.{author, recorded, made, Calls, Found, Stops, fixed_of, bounds_of, bounds_in, Came, IsFree, WaitsIn, wait_begun, answered_bits}
+use Rattle.mq.specs.Calls.{author, recorded, made, Calls, Found, AreInTurn, Stops, fixed_of, bounds_of, bounds_in, Came, IsFree, WaitsIn, wait_begun, answered_bits}
 use Rattle.mq.proofs.Answering.{answers-kept, bits-kept}
 use Rattle.mq.proofs.Others.{wait-grown, deadline-grown, call-grown, room-grown}
 use Rattle.mq.proofs.Growing.{grows-on, own-made, all-made}
@@ -83,6 +83,13 @@ module _ {old stay : Ticket Record} {system : LockId} {books : Kept} {p : ℕ} w
       → Calls old (record { lock = system; number = stay.number; left = records; told = false }) (made old.number call given reply)
   came-made call given reply c lock is legal = came-calls (λ q. made q call given reply) c lock is (own-made p call given reply) legal
 
+  -- the bounds and the number of processes that it finds are those of its system
+  pub came-bounds : Came old system stay books p → old.lock ≡ system → books.bounds ≡ bounds_of old
+  came-bounds c lock = c.bounds ∙ ap (λ (l : LockId). bounds_in l.fixed) (sym lock)
+
+  pub came-count : Came old system stay books p → old.lock ≡ system → books.n ≡ old.lock.count
+  came-count c lock = c.n ∙ ap (λ (l : LockId). l.count) (sym lock)
+
   -- the journal that it found, and that the bounds heeded there are those of its system
   pub came-found : {records : Past} (call : Call) (given : List ℕ) (reply : Reply) → Came old system stay books p → old.lock ≡ system → records ≡ made p call given reply ++ books.records → HeedsBounds books.bounds books.records p call given reply
       → Found old (record { lock = system; number = stay.number; left = records; told = false }) call given reply
@@ -90,15 +97,21 @@ module _ {old stay : Ticket Record} {system : LockId} {books : Kept} {p : ℕ} w
     journal = books.records;
     added = rw (sym c.process) is;
     heeds =
-        let same : books.bounds ≡ bounds_of old = c.bounds ∙ ap (λ (l : LockId). bounds_in l.fixed) (sym lock) in
+        let same = came-bounds c lock in
         subst (λ (o : Option Bounds). HeedsBounds o books.records old.number call given reply) same (subst (λ (n : ℕ). HeedsBounds books.bounds books.records n call given reply) c.process heeds);
   }
 
   -- where an exit stops, by the bounds of its system
   pub came-stops : (records : Past) (result : Result (Unit {0}) Fault) → Came old system stay books p → old.lock ≡ system → IfErr result (Stops books.bounds records p) → IfErr result (Stops (bounds_of old) records old.number)
   came-stops records result c lock stops =
-      let same : books.bounds ≡ bounds_of old = c.bounds ∙ ap (λ (l : LockId). bounds_in l.fixed) (sym lock) in
+      let same = came-bounds c lock in
       subst (λ (n : ℕ). IfErr result (Stops (bounds_of old) records n)) c.process (subst (λ (o : Option Bounds). IfErr result (Stops o records p)) same stops)
+
+  -- the closes of an exit, by the bounds of its system
+  pub came-in_turn : (ds : List ℕ) → Came old system stay books p → old.lock ≡ system → AreInTurn books.bounds books.records p ds → AreInTurn (bounds_of old) books.records old.number ds
+  came-in_turn ds c lock in_turn =
+      let same = came-bounds c lock in
+      subst (λ (n : ℕ). AreInTurn (bounds_of old) books.records n ds) c.process (subst (λ (o : Option Bounds). AreInTurn o books.records p ds) same in_turn)
 
   -- a call that adds nothing of its process leaves the wait as it was
   pub still-free : {records : Past} (call : Call) (given : List ℕ) (reply : Reply) → Came old system stay books p → IsFree old → records ≡ made p call given reply ++ books.records → is_wait reply ≡ false → open_wait records stay.number ≡ None

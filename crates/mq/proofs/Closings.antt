@@ -13,8 +13,9 @@ use Rattle.mq_model.specs.declared.entries.Call.TheVariants.{MqClose}
 use Rattle.mq_model.specs.declared.entries.Reply.{Reply}
 use Rattle.mq_model.specs.declared.entries.Reply.TheVariants.{Done, Refused}
 use Rattle.mq_model.specs.declared.faults.Fault.{Fault}
+use Rattle.mq_model.specs.declared.faults.Fault.TheVariants.{JournalFull}
 use Rattle.mq_model.specs.declared.bounds.Bounds.{Bounds}
-use Rattle.mq_model.specs.Bounds.{has_entry, HeedsBounds}
+use Rattle.mq_model.specs.Bounds.{has_entry, finds_full, HeedsBounds}
 use Rattle.fast_mutex.specs.Items.{items_of}
 use Rattle.mq.specs.Calls.{author, recorded, closes, Closing, Stops}
 
@@ -79,12 +80,18 @@ from-end past p from = by (lowest_held past p) refl
 pub close-done : (past new : Past) (p d : ℕ) (reply : Reply) → lowest_held past p ≡ Some d → Appends past new p (MqClose d) [] reply → reply ≡ Done
 close-done past new p d reply lowest appends = let some = (lowest-held past p d lowest).0 in appends.replies ∙ rw some refl
 
-pub closing-more : {found now after : Past} {p d : ℕ} → Closing found now p → lowest_held now p ≡ Some d → after ≡ recorded p (MqClose d) [] Done ∷ now → Closing found after p
-closing-more {found} {now} {after} {p} {d} c lowest is = record {
+pub closing-more : {bounds : Option Bounds} {found now after : Past} {p d : ℕ} → Closing bounds found now p → lowest_held now p ≡ Some d → finds_full bounds now p (MqClose d) [] ≡ false → after ≡ recorded p (MqClose d) [] Done ∷ now → Closing bounds found after p
+closing-more {bounds} {found} {now} {after} {p} {d} c lowest room is = record {
   ds = d ∷ c.ds;
   is = is ∙ ap (λ (l : Past). recorded p (MqClose d) [] Done ∷ l) c.is;
-  lowest = (c.lowest, rw (sym c.is) lowest);
+  in_turn = (c.in_turn, subst (λ (l : Past). lowest_held l p ≡ Some d) c.is lowest, subst (λ (l : Past). finds_full bounds l p (MqClose d) [] ≡ false) c.is room);
 }
+
+-- a close that is done did not find the journal full
+pub close-room : (bounds : Option Bounds) (past : Past) (p d : ℕ) (reply : Reply) → reply ≡ Done → HeedsBounds bounds past p (MqClose d) [] reply → finds_full bounds past p (MqClose d) [] ≡ false
+close-room bounds past p d reply is heeds = split (finds_full bounds past p (MqClose d) [])
+    (λ full. absurd (let refused : reply ≡ Refused JournalFull = heeds.full.1 full in let bad : Done ≡ Refused JournalFull = sym is ∙ refused in cc))
+    (λ room. room)
 
 pub closed-free : (past : Past) (p d : ℕ) → open_wait (recorded p (MqClose d) [] Done ∷ past) p ≡ None
 closed-free past p d = rw (eq-eqb p p refl) refl

@@ -170,7 +170,7 @@ collects-later {old} {mid} {new} {result} {before} {after} first same c = record
 
 -- a wait and then its collect
 pub waited : {old mid new : Ticket Record} {result : Outcome} {before after : List ℕ} (call : Call) (given : List ℕ) → Begins old mid call given → (c : Collects mid new result before after) → Waited old new call given c.by
-waited {old} {mid} call given first c = record { begun = mid; begins = first; calls = calls-on (λ n. recorded n Collect [] (Collected c.by) ∷ []) first.calls c.calls }
+waited {old} {mid} {new} call given first c = record { begun = mid; begins = first; ends = subst (λ (n : ℕ). Calls mid new (recorded n Collect [] (Collected c.by) ∷ [])) first.calls.number c.calls; calls = calls-on (λ n. recorded n Collect [] (Collected c.by) ∷ []) first.calls c.calls }
 
 -- a send waits where its start says so
 pub send-waited : {old mid new : Ticket Record} {outcome : Outcome} {before after : List ℕ} {call : Call} {bytes : List ℕ} → OneCall start_send_says old mid call bytes (Ok false) → Collects mid new outcome before after → WaitedSend old new call bytes (Ok tt)
@@ -213,6 +213,7 @@ expired {R} {gives} {old} {mid} {new} {call} {given} first w = record {
   wait = w.withdraws.wait;
   begun = mid;
   begins = first;
+  ends = subst (λ (n : ℕ). Calls mid new (recorded n (Withdraw w.now) [] (Withdrawn w.withdraws.wait) ∷ [])) first.calls.number w.withdraws.calls;
   calls = calls-on (λ n. recorded n (Withdraw w.now) [] (Withdrawn w.withdraws.wait) ∷ []) first.calls w.withdraws.calls;
   is = refl;
 }

@@ -7,7 +7,7 @@ use Rattle.mq_model.specs.Descriptors.{lowest_held}
 use Rattle.mq_model.specs.Deadlines.{deadline_of}
 use Rattle.mq_model.specs.Waits.{open_wait, wait_deadline, answered_by, is_answered}
 use Rattle.mq_model.specs.Legality.{Legal, payload_of}
-use Rattle.mq_model.specs.Bounds.{has_entry, HeedsBounds}
+use Rattle.mq_model.specs.Bounds.{has_entry, finds_full, HeedsBounds}
 use Rattle.mq_model.specs.declared.bounds.Bounds.{Bounds}
 use Rattle.mq_model.specs.declared.entries.Received.{Received}
 use Rattle.mq_model.specs.declared.entries.Deadline.{Deadline}
@@ -114,10 +114,12 @@ pub record Begins (old begun : Ticket Record) (call : Call) (given : List ℕ) :
   pub calls : Calls old begun (recorded old.number call given Waits ∷ [])
   pub found : Found old begun call given Waits
 
--- a call that waited left two records, the wait and then the collect, which names the entry that answered the wait
+-- a call that waited left two records, the wait and then the collect, which names the entry that answered the wait. The journal that
+-- it leaves is the one in which the wait began with more in front
 pub record Waited (old new : Ticket Record) (call : Call) (given : List ℕ) (by : ℕ) : Type 0 where
   pub begun : Ticket Record
   pub begins : Begins old begun call given
+  pub ends : Calls begun new (recorded old.number Collect [] (Collected by) ∷ [])
   pub calls : Calls old new (recorded old.number Collect [] (Collected by) ∷ recorded old.number call given Waits ∷ [])
 
 -- a send that waited, and was then accepted
@@ -153,13 +155,15 @@ pub record Withdraws (gives : Deadline → Type 0) (old new : Ticket Record) : T
   pub moment : gives now
   pub withdraws : WithdrawsAt now old new
 
--- a timed call that waited until its deadline left two records, the wait and then its withdrawal, and its result says so
+-- a timed call that waited until its deadline left two records, the wait and then its withdrawal, in a journal grown from the one in
+-- which the wait began, and its result says so
 pub record Expired {R : Type 0} (gives : Deadline → Type 0) (old new : Ticket Record) (call : Call) (given : List ℕ) (result : Result R Fault) : Type 0 where
   pub now : Deadline
   pub moment : gives now
   pub wait : ℕ
   pub begun : Ticket Record
   pub begins : Begins old begun call given
+  pub ends : Calls begun new (recorded old.number (Withdraw now) [] (Withdrawn wait) ∷ [])
   pub calls : Calls old new (recorded old.number (Withdraw now) [] (Withdrawn wait) ∷ recorded old.number call given Waits ∷ [])
   pub is : result ≡ Err TimedOut
 
@@ -182,16 +186,16 @@ pub record TimedReceive (gives : Deadline → Type 0) (old new : Ticket Record) 
 abbrev pub closes : ℕ → List ℕ → Past
 closes p ds = map (λ d. recorded p (MqClose d) [] Done) ds
 
--- each of them was of the lowest descriptor that the process then held
-abbrev pub AreLowest : Past → ℕ → List ℕ → Type 0
-AreLowest found p [] = Unit {0}
-AreLowest found p (d ∷ ds) = AreLowest found p ds × (lowest_held (closes p ds ++ found) p ≡ Some d)
+-- each of them was of the lowest descriptor that the process then held, and made where the journal was not full
+abbrev pub AreInTurn : Option Bounds → Past → ℕ → List ℕ → Type 0
+AreInTurn bounds found p [] = Unit {0}
+AreInTurn bounds found p (d ∷ ds) = AreInTurn bounds found p ds × (lowest_held (closes p ds ++ found) p ≡ Some d) × (finds_full bounds (closes p ds ++ found) p (MqClose d) [] ≡ false)
 
--- from the journal found to the one left, process p closed descriptors, always its lowest
-pub record Closing (found after : Past) (p : ℕ) : Type 0 where
+-- from the journal found to the one left, process p closed descriptors, always its lowest, and none where the journal was full
+pub record Closing (bounds : Option Bounds) (found after : Past) (p : ℕ) : Type 0 where
   pub ds : List ℕ
   pub is : after ≡ closes p ds ++ found
-  pub lowest : AreLowest found p ds
+  pub in_turn : AreInTurn bounds found p ds
 
 -- an exit that stopped at descriptor d, the lowest that is still held: for its close memory was wanting, or the journal full
 pub record Stops (bounds : Option Bounds) (left : Past) (p : ℕ) (fault : Fault) : Type 0 where
@@ -203,7 +207,7 @@ pub record Stops (bounds : Option Bounds) (left : Past) (p : ℕ) (fault : Fault
 -- an exit: it left closes alone. After Ok no descriptor is held, and it fails by want of memory or because the journal is full
 pub record Exits (old new : Ticket Record) (result : Result (Unit {0}) Fault) : Type 0 where
   pub found : Past
-  pub closing : Closing found new.left old.number
+  pub closing : Closing (bounds_of old) found new.left old.number
   pub calls : Calls old new (closes old.number closing.ds)
   pub ok : OnOk result (lowest_held new.left new.number ≡ None)
   pub err : IfErr result (Stops (bounds_of old) new.left old.number)

@@ -2,3 +2,4 @@ pub mod Says
 pub mod Blocked
 pub mod Calls
 pub mod Asked
+pub mod Readings

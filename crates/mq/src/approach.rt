@@ -45,6 +45,18 @@ impl<L: Look<Guarded>> Approach<L> {
         self.waits
     }
 
+    /// The number of the process.
+    pub fn number(&self) -> u32
+        ensures { result ≡ self.now.number }
+    {
+        self.number
+    }
+
+    /// Which of the bells it sleeps on, outside of Rattle, where steps do not take it inside (see [`Mq::bells`]).
+    pub fn bell(&self) -> u32 {
+        L::bell(&self.walk)
+    }
+
     /// Takes at most so many atomic steps, none of which waits, and stops once it is inside. No call promises that steps lead
     /// inside; where nobody else is under way five do, and with others it is worth letting them run before the next try.
     pub fn advance(self, mq: &Mq<L>, steps: u32) -> Result<Arrived<L>, Approach<L>>

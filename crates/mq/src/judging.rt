@@ -1,6 +1,6 @@
 //! The verdict on a journal.
-ghost use Rattle.std.specs.Prelude.{◌↔◌, IsOk};
-ghost use Rattle.mq_model.specs.Legality.{Legal};
+ghost use Rattle.std.specs.Prelude.{◌↔◌, IsOk, IfErr};
+ghost use Rattle.mq_model.specs.Legality.{Legal, IsFirstIllegal};
 
 use mq_checker::checker::check_history;
 use mq_model::journals::Journal;
@@ -10,7 +10,8 @@ use std::alloc::Global;
 /// Whether a journal is legal, or the first place that is not: by a [`replay`], and where the memory for that is refused by
 /// [`check_history`], which takes none and the longer the more entries there are.
 pub fn verdict(alloc: Global, journal: &Journal) -> Result<(), u64>
-    ensures { IsOk result ↔ Legal journal.now.records }
+    ensures legal { IsOk result ↔ Legal journal.now.records }
+    ensures first_illegal { IfErr result (IsFirstIllegal journal.now.records) }
 {
     match replay(alloc, journal) {
         Ok(None) => Ok(()),

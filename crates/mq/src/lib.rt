@@ -11,7 +11,7 @@ mod asking;
 mod guarded;
 mod judging;
 mod monotonic;
-mod pause;
+mod naps;
 mod process;
 mod stays;
 mod system;
@@ -24,6 +24,7 @@ pub use guarded::{Guarded, LoggedRecord};
 pub use judging::verdict;
 pub use monotonic::Monotonic;
 pub use mq_checker::checker::check_history;
+pub use mq_model::bounds::Bounds;
 pub use mq_model::clock::Clock;
 pub use mq_model::entries::{
     Access, Attr, Call, Deadline, Entry, OpenFlags, Received, Reply, Status,
@@ -34,6 +35,7 @@ pub use mq_model::names::Name;
 pub use mq_state::collected::Collected;
 pub use mq_state::memory::memory_of;
 pub use mq_state::replay::{Cause, Departure, replay};
+pub use naps::Naps;
 pub use process::Process;
 pub use system::Mq;
 

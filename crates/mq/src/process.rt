@@ -16,7 +16,7 @@ mod timed;
 use crate::arrived::Arrived;
 use crate::guarded::Guarded;
 use crate::system::Mq;
-use fast_mutex::Look;
+use fast_mutex::{Enter, Look};
 use mq_model::entries::{Attr, OpenFlags, Status};
 use mq_model::faults::Fault;
 use mq_model::names::Name;
@@ -92,6 +92,39 @@ impl<L: Look<Guarded>> Process<L> {
         self.waits
     }
 
+    // The process that a call has made, once it has woken who sleeps until that call.
+    #[inline(always)]
+    pub(super) fn settled(self, mq: &Mq<L>) -> Process<L>
+        ensures { result ≡ self }
+    {
+        self.wake_others(mq);
+        self
+    }
+
+    /// Wakes who sleeps until what this process's last call has changed: each call of a `Process` ends with it, and a call of an
+    /// [`Arrived`] leaves it to its caller. Where it is left out, those who sleep look some milliseconds later.
+    #[inline(always)]
+    pub fn wake_others(&self, mq: &Mq<L>) {
+        match &self.seat {
+            Some(seat) => mq.lock().wake(seat),
+            None => unreachable!(),
+        }
+    }
+
+    /// Whose waits the last call of the process answered, that of process p by bit p - 1: whom [`wake_others`](Process::wake_others)
+    /// wakes beside those who wait for the lock. A hint, of which nothing is proved.
+    pub fn answered_others(&self) -> u32 {
+        match &self.seat {
+            Some(seat) => L::answered_by(seat),
+            None => unreachable!(),
+        }
+    }
+
+    /// Which of the bells it sleeps on, outside of Rattle, until its wait is answered (see [`Mq::bells`]).
+    pub fn bell(&self) -> u32 {
+        self.number().saturating_add(32)
+    }
+
     /// Opens the queue of that name (`mq_open`) and gives the lowest free descriptor. Refused with `Exists`, `NoEntry`, `Invalid`,
     /// `TooManyOpen`, `NoSpace`, `NoMemory` or `JournalFull`.
     pub fn open<R: Wait>(
@@ -109,7 +142,7 @@ impl<L: Look<Guarded>> Process<L> {
     {
         let arrived = arrive(rt, mq, &mut self.seat, self.waits);
         let (process, opened) = arrived.open(mq, name, flags, attr);
-        *self = process;
+        *self = process.settled(mq);
         opened
     }
 
@@ -122,7 +155,7 @@ impl<L: Look<Guarded>> Process<L> {
     {
         let arrived = arrive(rt, mq, &mut self.seat, self.waits);
         let (process, closed) = arrived.close(mq, d);
-        *self = process;
+        *self = process.settled(mq);
         closed
     }
 
@@ -135,7 +168,7 @@ impl<L: Look<Guarded>> Process<L> {
     {
         let arrived = arrive(rt, mq, &mut self.seat, self.waits);
         let (process, unlinked) = arrived.unlink(mq, name);
-        *self = process;
+        *self = process.settled(mq);
         unlinked
     }
 
@@ -155,7 +188,7 @@ impl<L: Look<Guarded>> Process<L> {
     {
         let arrived = arrive(rt, mq, &mut self.seat, self.waits);
         let (process, notified) = arrived.notify(mq, d, value);
-        *self = process;
+        *self = process.settled(mq);
         notified
     }
 
@@ -168,7 +201,7 @@ impl<L: Look<Guarded>> Process<L> {
     {
         let arrived = arrive(rt, mq, &mut self.seat, self.waits);
         let (process, got) = arrived.getattr(mq, d);
-        *self = process;
+        *self = process.settled(mq);
         got
     }
 
@@ -188,7 +221,7 @@ impl<L: Look<Guarded>> Process<L> {
     {
         let arrived = arrive(rt, mq, &mut self.seat, self.waits);
         let (process, set) = arrived.setattr(mq, d, new);
-        *self = process;
+        *self = process.settled(mq);
         set
     }
 
@@ -201,7 +234,7 @@ impl<L: Look<Guarded>> Process<L> {
     {
         let arrived = arrive(rt, mq, &mut self.seat, self.waits);
         let (process, notice) = arrived.next_notice(mq);
-        *self = process;
+        *self = process.settled(mq);
         notice
     }
 }

@@ -143,6 +143,11 @@ impl<L: Look<Guarded>> Mq<L> {
         }
     }
 
+    /// The words that threads sleep on, for those who sleep outside of Rattle (`Bells::address` of `fast_mutex`).
+    pub fn bells(&self) -> Option<*const u64> {
+        self.lock.bells().address()
+    }
+
     pub(crate) fn lock(&self) -> &L
         ensures id { L.id result.now ≡ self.now }
         ensures fixed { self.now.fixed ≡ fixed_of self.now.count (bounds_in self.now.fixed) }

@@ -1,5 +1,5 @@
 //! A run, from the bytes of its input to its output.
-ghost use Rattle.std.specs.Prelude.{◌≡◌, ◌+◌, ℕ, List, IsErrOf, OnOk, Option, Some, None, take};
+ghost use Rattle.std.specs.Prelude.{◌≡◌, ◌+◌, ℕ, List, IsErrOf, OnOk, Some, None, take};
 ghost use Rattle.std.specs.Io.KnownBytes.{Appends};
 ghost use Rattle.mq_requests.specs.Faults.{IsRefusal};
 ghost use Rattle.mq_requests.specs.Grammar.{request_read};
@@ -7,7 +7,7 @@ ghost use Rattle.mq_requests.specs.Usage.{usage_text};
 ghost use Rattle.mq_requests.specs.declared.fault.BenchFault.TheVariants.{BadLine};
 ghost use Rattle.mq_requests.specs.declared.workload.Request.TheVariants.{Usage, Measure};
 ghost use Rattle.mq_requests.specs.declared.workload.Workload.{Workload};
-ghost use Rattle.mq_model.specs.declared.bounds.Bounds.{Bounds};
+ghost use Rattle.mq_requests.specs.declared.workload.Conditions.{Conditions};
 
 use lines::output::write_all;
 use mq_requests::fault::BenchFault;
@@ -35,14 +35,14 @@ pub fn run_line<S: Wait + Threads + Clock + CpuClock + Sync, R: Read, W: Write>(
     ensures usage { (all : List ℕ) → R.remaining input.old ≡ Some all →
         request_read (take (MOST_BYTES + 1) all) ≡ Some Usage →
         OnOk result (Appends (W.contents output.old) (W.contents output.new) usage_text) }
-    ensures workload { (all : List ℕ) (workload : Workload) (bounds : Option Bounds) → R.remaining input.old ≡ Some all →
-        request_read (take (MOST_BYTES + 1) all) ≡ Some (Measure workload bounds) →
+    ensures workload { (all : List ℕ) (workload : Workload) (conditions : Conditions) → R.remaining input.old ≡ Some all →
+        request_read (take (MOST_BYTES + 1) all) ≡ Some (Measure workload conditions) →
         IsErrOf result BadLine → ⊥ }
 {
     match read_request(alloc, input)? {
         Request::Usage => write_usage(output)?,
-        Request::Measure(workload, bounds) => {
-            let result = measure(rt, alloc, workload, bounds)?;
+        Request::Measure(workload, conditions) => {
+            let result = measure(rt, alloc, workload, conditions)?;
             let line = line_of(alloc, title_of(workload), result)?;
             write_all(output, line.as_bytes())?;
         }

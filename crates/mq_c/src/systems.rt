@@ -5,6 +5,7 @@ ghost use Rattle.mq_handles.specs.Codes.{freed_code};
 ghost use Rattle.mq_handles.specs.Systems.{Makes};
 
 use mq_handles::handle::Handle;
+use mq_handles::numbers::{DONE, EMPTY};
 use mq_handles::system;
 use std::alloc::Global;
 
@@ -39,4 +40,19 @@ pub extern "C" fn yak_free(alloc: Global, process: &mut Handle) -> u32
     ensures code { result ≡ freed_code (process_in process.old) }
 {
     system::free(alloc, process)
+}
+
+/// Writes which of the bells of its system a process sleeps on, from 0: that of y, of the flag of a process that it waits for on its way
+/// into the lock, or of its own answer. A hint.
+#[unsafe(no_mangle)]
+pub extern "C" fn yak_bell(alloc: Global, process: &mut Handle, bell: &mut u32) -> u32
+    ensures process { process_in process.new ≡ process_in process.old }
+    ensures code { result ≡ freed_code (process_in process.old) }
+{
+    let Some(member) = process.take(alloc) else {
+        return EMPTY;
+    };
+    *bell = member.bell();
+    process.put(member);
+    DONE
 }

@@ -4,9 +4,9 @@ use crate::entries::{Access, Attr, Call, Deadline, Entry, OpenFlags, Reply, Stat
 use crate::faults::Fault;
 use crate::journals::Journal;
 use crate::laws;
+use crate::same::same;
 use std::alloc::{AllocError, Global};
 use std::process::Abort;
-use std::test::Fail;
 
 // An entry and its payload.
 type Line = (Entry, &'static [u8]);
@@ -87,76 +87,69 @@ fn receive(place: u64) -> Line {
     line(by(1, Call::MqReceive { d: 0, room: 8 }, reply), b"")
 }
 
-fn expect<A: Abort>(
-    rt: &A,
-    alloc: Global,
-    lines: &[Line],
-    verdict: Result<(), u64>,
-    what: &str,
-) -> Result<(), Fail> {
-    let journal = journal_of(alloc, lines)?;
-    assert_eq!(rt; check_history(&journal), verdict, "{what}");
-    Ok(())
+fn expect<A: Abort>(rt: &A, alloc: Global, lines: &[Line], verdict: Result<(), u64>, what: &str) {
+    let journal = journal_of(alloc, lines).expect(rt, "memory");
+    same(rt, check_history(&journal), verdict, what);
 }
 
 #[test]
-fn history_of_two_messages_is_checked(rt: HostRuntime) -> Result<(), Fail> {
+fn history_of_two_messages_is_checked(rt: HostRuntime) {
     let created = open(1, 0, b"/q");
     let a = send(b"a", QUEUED);
     let b = send(b"b", QUEUED);
     let collect = line(by(1, Call::Collect, Reply::Collected { by: 3 }), b"");
     let unlocked = line(by(0, created.0.call, created.0.reply), created.1);
     let refused = send(b"", Reply::Refused(Fault::NoMemory));
-    expect(&rt, rt.alloc(), &[], Ok(()), "no entry")?;
+    expect(&rt, rt.alloc(), &[], Ok(()), "no entry");
     expect(
         &rt,
         rt.alloc(),
         &[created, a, b, receive(1), receive(2)],
         Ok(()),
         "two messages",
-    )?;
+    );
     expect(
         &rt,
         rt.alloc(),
         &[created, a, b, receive(2), receive(1)],
         Err(3),
         "the later message first",
-    )?;
+    );
     expect(
         &rt,
         rt.alloc(),
         &[unlocked, a, b, receive(1), receive(2)],
         Err(0),
         "process 0",
-    )?;
+    );
     expect(
         &rt,
         rt.alloc(),
         &[open(1, 0, b"/a/b"), a, b, receive(1), receive(2)],
         Err(0),
         "no name",
-    )?;
+    );
     expect(
         &rt,
         rt.alloc(),
         &[created, refused, b, receive(1), receive(2)],
         Err(1),
         "want of memory",
-    )?;
+    );
     expect(
         &rt,
         rt.alloc(),
         &[created, a, send(b"", QUEUED), receive(1), receive(2)],
         Err(2),
         "a lost payload",
-    )?;
+    );
     expect(
         &rt,
         rt.alloc(),
         &[created, a, b, receive(1), receive(2), collect],
         Err(5),
         "a collect without a wait",
-    )
+    );
 }
 
 fn notify(d: u32, value: Option<u64>, reply: Reply) -> Line {
@@ -164,7 +157,7 @@ fn notify(d: u32, value: Option<u64>, reply: Reply) -> Line {
 }
 
 #[test]
-fn removal_is_of_the_queue_that_it_names(rt: HostRuntime) -> Result<(), Fail> {
+fn removal_is_of_the_queue_that_it_names(rt: HostRuntime) {
     let invalid = Reply::Refused(Fault::Invalid);
     let busy = Reply::Refused(Fault::Busy);
     let q = open(1, 0, b"/q");
@@ -177,34 +170,34 @@ fn removal_is_of_the_queue_that_it_names(rt: HostRuntime) -> Result<(), Fail> {
         &[q, r, made, notify(1, None, invalid), again],
         Ok(()),
         "none stands there",
-    )?;
+    );
     expect(
         &rt,
         rt.alloc(),
         &[q, r, made, notify(1, None, Reply::Done)],
         Err(3),
         "another queue's",
-    )?;
+    );
     expect(
         &rt,
         rt.alloc(),
         &[q, r, made, notify(0, None, Reply::Done), again],
         Err(4),
         "none stands any more",
-    )
+    );
 }
 
 #[test]
-fn unlink_has_a_name(rt: HostRuntime) -> Result<(), Fail> {
+fn unlink_has_a_name(rt: HostRuntime) {
     let unbound = by(1, Call::MqUnlink, Reply::Refused(Fault::NoEntry));
-    expect(&rt, rt.alloc(), &[line(unbound, b"/q")], Ok(()), "a name")?;
+    expect(&rt, rt.alloc(), &[line(unbound, b"/q")], Ok(()), "a name");
     expect(
         &rt,
         rt.alloc(),
         &[line(unbound, b"/a/b")],
         Err(0),
         "two slashes",
-    )
+    );
 }
 
 // An open of the queue that is there, by a process that holds none.
@@ -221,7 +214,7 @@ fn open_too(process: u32) -> Line {
 }
 
 #[test]
-fn wait_is_answered_and_collected(rt: HostRuntime) -> Result<(), Fail> {
+fn wait_is_answered_and_collected(rt: HostRuntime) {
     let q = open(1, 0, b"/q");
     let other = open_too(2);
     let waits = line(by(2, Call::MqReceive { d: 0, room: 8 }, Reply::Waits), b"");
@@ -233,21 +226,21 @@ fn wait_is_answered_and_collected(rt: HostRuntime) -> Result<(), Fail> {
         &[q, other, waits, handed, collect],
         Ok(()),
         "handed over",
-    )?;
+    );
     expect(
         &rt,
         rt.alloc(),
         &[q, other, waits, send(b"a", QUEUED)],
         Err(3),
         "queued past a receive",
-    )?;
+    );
     expect(
         &rt,
         rt.alloc(),
         &[q, other, waits, collect],
         Err(3),
         "collected before an answer",
-    )
+    );
 }
 
 fn moment(sec: i64, nsec: i64) -> Deadline {
@@ -309,7 +302,7 @@ fn waiting_send() -> [Line; 6] {
 }
 
 #[test]
-fn deadline_ends_a_wait(rt: HostRuntime) -> Result<(), Fail> {
+fn deadline_ends_a_wait(rt: HostRuntime) {
     let [q, other, late, malformed, a, b] = waiting_send();
     let empty = Status {
         nonblock: false,
@@ -337,7 +330,7 @@ fn deadline_ends_a_wait(rt: HostRuntime) -> Result<(), Fail> {
         ],
         Ok(()),
         "a withdrawn send and a collected receive",
-    )?;
+    );
     expect(
         &rt,
         rt.alloc(),
@@ -346,11 +339,11 @@ fn deadline_ends_a_wait(rt: HostRuntime) -> Result<(), Fail> {
         ],
         Err(6),
         "a withdrawal before the deadline",
-    )
+    );
 }
 
 #[test]
-fn withdrawal_is_of_an_open_wait_that_is_over(rt: HostRuntime) -> Result<(), Fail> {
+fn withdrawal_is_of_an_open_wait_that_is_over(rt: HostRuntime) {
     let [q, other, late, malformed, a, b] = waiting_send();
     let admits = Reply::Got {
         place: 4,
@@ -366,42 +359,42 @@ fn withdrawal_is_of_an_open_wait_that_is_over(rt: HostRuntime) -> Result<(), Fai
         &[q, other, late, malformed, a, b, admitted, collect],
         Ok(()),
         "admitted before its deadline",
-    )?;
+    );
     expect(
         &rt,
         rt.alloc(),
         &[q, other, late, malformed, a, b, admitted, withdrawn],
         Err(7),
         "an answered wait",
-    )?;
+    );
     expect(
         &rt,
         rt.alloc(),
         &[q, other, late, malformed, a, b, withdrawn, withdrawn],
         Err(7),
         "withdrawn twice",
-    )?;
+    );
     expect(
         &rt,
         rt.alloc(),
         &[q, other, late, malformed, a, b, withdrawn, admitted],
         Err(7),
         "a withdrawn send is admitted",
-    )?;
+    );
     expect(
         &rt,
         rt.alloc(),
         &[q, other, late, malformed, a, b, withdraw(1, second(10), 5)],
         Err(6),
         "another process",
-    )?;
+    );
     expect(
         &rt,
         rt.alloc(),
         &[q, other, late, malformed, a, b, withdraw(2, second(10), 4)],
         Err(6),
         "another place",
-    )?;
+    );
     let sent = Call::MqSend {
         d: 0,
         prio: 7,
@@ -414,15 +407,16 @@ fn withdrawal_is_of_an_open_wait_that_is_over(rt: HostRuntime) -> Result<(), Fai
         &[q, other, late, malformed, a, waits, withdrawn],
         Err(6),
         "a wait without a deadline",
-    )
+    );
 }
 
 #[test]
-fn laws_take_a_legal_journal(rt: HostRuntime) -> Result<(), Fail> {
+fn laws_take_a_legal_journal(rt: HostRuntime) {
     let journal = journal_of(
         rt.alloc(),
         &[open(1, 0, b"/q"), send(b"a", QUEUED), receive(1)],
-    )?;
+    )
+    .expect(&rt, "memory");
     match check_history(&journal) {
         Ok(()) => {
             laws::gives_once(&journal);
@@ -435,7 +429,6 @@ fn laws_take_a_legal_journal(rt: HostRuntime) -> Result<(), Fail> {
             laws::registers_latest(&journal);
             laws::refusals_change_nothing(&journal);
         }
-        Err(k) => assert!(rt; false, "illegal at {k}"),
+        Err(k) => panic!(rt; "illegal at {k}"),
     }
-    Ok(())
 }

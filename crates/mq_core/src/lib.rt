@@ -10,4 +10,6 @@ pub use mq_model::{clock, entries, faults, journals, names, owners, registration
 #[cfg(test)]
 mod histories;
 #[cfg(test)]
+mod same;
+#[cfg(test)]
 mod tests;

@@ -2,12 +2,15 @@
 ghost use Rattle.std.specs.Prelude.{◌<◌};
 ghost use Rattle.mq_model.specs.OwnersNoted.{FitsSlots};
 
-use crate::entries::{Access, Attr, Call, Deadline, Entry, OpenFlags, Reply};
+use crate::entries::{Access, Attr, Call, Deadline, Entry, OpenFlags, Registration, Reply};
 use crate::faults::Fault;
 use crate::journals::Journal;
 use crate::names::Name;
 use crate::owners::{self, Owner, WaitKind};
 use crate::registrations::{notified, registration_after, touches_registrations};
+use crate::same::same;
+use std::alloc::Global;
+use std::process::Abort;
 use std::test::Fail;
 
 const CREATE: OpenFlags = OpenFlags {
@@ -32,21 +35,34 @@ const OPEN: Entry = Entry {
     },
 };
 
+// What stands at a place of a journal.
+fn expect_at<A: Abort>(rt: &A, journal: &Journal, place: u64, wanted: Option<(Entry, &[u8])>) {
+    same(
+        rt,
+        journal.entry(place),
+        wanted.map(|line| line.0),
+        "the entry",
+    );
+    same(
+        rt,
+        journal.payload(place),
+        wanted.map(|line| line.1),
+        "the payload",
+    );
+}
+
 #[test]
 fn a_journal_gives_each_entry_and_payload_by_its_place(rt: HostRuntime) -> Result<(), Fail> {
     let mut journal = Journal::new(rt.alloc());
-    assert_eq!(rt; journal.len(), 0);
-    assert_eq!(rt; journal.entry(0), None);
+    expect_at(&rt, &journal, 0, None);
     journal.reserve(1, 2)?;
     journal.push(OPEN, b"/q");
-    assert_eq!(rt; journal.len(), 1);
-    assert_eq!(rt; journal.entry(0), Some(OPEN));
-    assert!(rt; journal.payload(0) == Some(b"/q".as_slice()));
-    assert_eq!(rt; journal.entry(1), None);
-    assert!(rt; journal.payload(1) == None);
+    same(&rt, journal.len(), 1, "the length");
+    expect_at(&rt, &journal, 0, Some((OPEN, b"/q")));
+    expect_at(&rt, &journal, 1, None);
     let (entry, payload) = journal.record(0);
-    assert_eq!(rt; entry, OPEN);
-    assert!(rt; payload == b"/q".as_slice());
+    same(&rt, entry, OPEN, "the entry of the record");
+    same(&rt, payload, b"/q", "the payload of the record");
     Ok(())
 }
 
@@ -56,38 +72,64 @@ fn a_reservation_stands_until_it_is_used(rt: HostRuntime) -> Result<(), Fail> {
     journal.reserve(2, 3)?;
     journal.push(OPEN, b"/q");
     journal.push(OPEN, b"r");
-    assert_eq!(rt; journal.len(), 2);
-    assert!(rt; journal.payload(0) == Some(b"/q".as_slice()));
-    assert!(rt; journal.payload(1) == Some(b"r".as_slice()));
+    same(&rt, journal.len(), 2, "the length");
+    expect_at(&rt, &journal, 0, Some((OPEN, b"/q")));
+    expect_at(&rt, &journal, 1, Some((OPEN, b"r")));
+    Ok(())
+}
+
+// The faults in the order of their numbers, from 1 on, with their texts.
+static FAULTS: [(Fault, &str); 13] = [
+    (Fault::Again, "EAGAIN"),
+    (Fault::BadDescriptor, "EBADF"),
+    (Fault::Busy, "EBUSY"),
+    (Fault::Exists, "EEXIST"),
+    (Fault::Invalid, "EINVAL"),
+    (Fault::TooManyOpen, "EMFILE"),
+    (Fault::MessageSize, "EMSGSIZE"),
+    (Fault::NameTooLong, "ENAMETOOLONG"),
+    (Fault::NoEntry, "ENOENT"),
+    (Fault::NoSpace, "ENOSPC"),
+    (Fault::NoMemory, "NOMEMORY"),
+    (Fault::TimedOut, "ETIMEDOUT"),
+    (Fault::JournalFull, "JOURNALFULL"),
+];
+
+fn expect_fault<A: Abort>(
+    rt: &A,
+    alloc: Global,
+    fault: Fault,
+    name: &str,
+    number: u32,
+) -> Result<(), Fail> {
+    let text = format!(in alloc; "{fault}")?;
+    same(rt, text.as_str(), name, "the text");
+    same(rt, fault.number(), number, name);
     Ok(())
 }
 
 #[test]
 fn each_fault_prints_as_its_name(rt: HostRuntime) -> Result<(), Fail> {
-    let faults = [
-        (Fault::Again, "EAGAIN"),
-        (Fault::BadDescriptor, "EBADF"),
-        (Fault::Busy, "EBUSY"),
-        (Fault::Exists, "EEXIST"),
-        (Fault::Invalid, "EINVAL"),
-        (Fault::TooManyOpen, "EMFILE"),
-        (Fault::MessageSize, "EMSGSIZE"),
-        (Fault::NameTooLong, "ENAMETOOLONG"),
-        (Fault::NoEntry, "ENOENT"),
-        (Fault::NoSpace, "ENOSPC"),
-        (Fault::NoMemory, "NOMEMORY"),
-        (Fault::TimedOut, "ETIMEDOUT"),
-        (Fault::JournalFull, "JOURNALFULL"),
-    ];
     let mut number = 1;
-    for (fault, name) in faults {
-        let mut text = String::new(rt.alloc());
-        write!(text, "{fault}")?;
-        assert!(rt; text.as_str() == name, "{name}");
-        assert_eq!(rt; fault.number(), number);
+    for (fault, name) in &FAULTS {
+        expect_fault(&rt, rt.alloc(), *fault, name, number)?;
         number = number.saturating_add(1);
     }
     Ok(())
+}
+
+fn expect_name<A: Abort>(rt: &A, bytes: &[u8]) {
+    match Name::read(bytes) {
+        Ok(name) => same(rt, name.bytes(), bytes, "the name"),
+        Err(fault) => panic!(rt; "{fault}"),
+    }
+}
+
+fn expect_no_name<A: Abort>(rt: &A, bytes: &[u8], wanted: Fault) {
+    match Name::read(bytes) {
+        Ok(_) => panic!(rt; "it is a name"),
+        Err(fault) => same(rt, fault, wanted, "the fault of a name"),
+    }
 }
 
 #[test]
@@ -98,13 +140,10 @@ fn a_name_is_a_slash_and_up_to_255_bytes(rt: HostRuntime) -> Result<(), Fail> {
         long.push(b'a')?;
     }
     for bytes in [b"/q".as_slice(), b"/.", long.as_slice()] {
-        match Name::read(bytes) {
-            Ok(name) => assert!(rt; name.bytes() == bytes),
-            Err(fault) => assert!(rt; false, "{fault}"),
-        }
+        expect_name(&rt, bytes);
     }
     long.push(b'a')?;
-    assert!(rt; matches!(Name::read(long.as_slice()), Err(Fault::NameTooLong)));
+    expect_no_name(&rt, long.as_slice(), Fault::NameTooLong);
     long.push(b'/')?;
     let malformed = [
         b"".as_slice(),
@@ -116,7 +155,7 @@ fn a_name_is_a_slash_and_up_to_255_bytes(rt: HostRuntime) -> Result<(), Fail> {
         long.as_slice(),
     ];
     for bytes in malformed {
-        assert!(rt; matches!(Name::read(bytes), Err(Fault::Invalid)));
+        expect_no_name(&rt, bytes, Fault::Invalid);
     }
     Ok(())
 }
@@ -135,21 +174,50 @@ const CLOSE: Entry = Entry {
     reply: Reply::Done,
 };
 
+// The queue of a descriptor.
+fn expect_held<A: Abort>(rt: &A, table: &[Owner; 4], p: u32, d: u32, queue: Option<u64>) {
+    let found = owners::held(table, p, d).map(|held| held.queue);
+    same(rt, found, queue, "the queue of the descriptor");
+}
+
+// The lowest free number and the lowest that is held, of process 1.
+fn expect_numbers<A: Abort>(rt: &A, table: &[Owner; 4], free: u32, held: Option<u32>) {
+    same(
+        rt,
+        owners::free_number(table, 1),
+        Some(free),
+        "the lowest free number",
+    );
+    same(
+        rt,
+        owners::lowest_held(table, 1),
+        held,
+        "the lowest held number",
+    );
+}
+
+fn expect_open<A: Abort>(rt: &A, table: &[Owner; 4], queue: u64, wanted: bool) {
+    same(
+        rt,
+        owners::is_held(table, queue),
+        wanted,
+        "whether the queue is held",
+    );
+}
+
 #[test]
 fn a_process_holds_what_it_opened_until_it_closes_it(rt: HostRuntime) -> Result<(), Fail> {
     let mut table = [Owner::free(); 4];
-    assert_eq!(rt; owners::free_number(&table, 1), Some(0));
-    assert_eq!(rt; owners::lowest_held(&table, 1), None);
+    expect_numbers(&rt, &table, 0, None);
     note(&mut table, 0, OPEN, 0);
-    assert_eq!(rt; owners::held(&table, 1, 0).map(|h| h.queue), Some(0));
-    assert_eq!(rt; owners::held(&table, 2, 0), None);
-    assert_eq!(rt; owners::free_number(&table, 1), Some(1));
-    assert_eq!(rt; owners::lowest_held(&table, 1), Some(0));
-    assert!(rt; owners::is_held(&table, 0));
-    assert!(rt; !owners::is_held(&table, 1));
+    expect_held(&rt, &table, 1, 0, Some(0));
+    expect_held(&rt, &table, 2, 0, None);
+    expect_numbers(&rt, &table, 1, Some(0));
+    expect_open(&rt, &table, 0, true);
+    expect_open(&rt, &table, 1, false);
     note(&mut table, 1, CLOSE, 0);
-    assert_eq!(rt; owners::held(&table, 1, 0), None);
-    assert!(rt; !owners::is_held(&table, 0));
+    expect_held(&rt, &table, 1, 0, None);
+    expect_open(&rt, &table, 0, false);
     Ok(())
 }
 
@@ -187,23 +255,63 @@ const COLLECT: Entry = Entry {
     reply: Reply::Collected { by: 6 },
 };
 
+// The process that waits the longest on a queue, with the place of its wait.
+fn expect_first<A: Abort>(
+    rt: &A,
+    table: &[Owner; 4],
+    queue: u64,
+    kind: WaitKind,
+    wanted: Option<(u32, u64)>,
+) {
+    same(
+        rt,
+        owners::first_wait(table, queue, kind),
+        wanted,
+        "the first wait",
+    );
+}
+
+// The place and the deadline of the open wait of a process.
+fn expect_wait<A: Abort>(
+    rt: &A,
+    table: &[Owner; 4],
+    p: u32,
+    wanted: Option<(u64, Option<Deadline>)>,
+) {
+    let found = owners::wait(table, p).map(|wait| (wait.place, wait.until));
+    same(rt, found, wanted, "the open wait");
+}
+
+fn expect_answer<A: Abort>(rt: &A, table: &[Owner; 4], p: u32, wanted: Option<u64>) {
+    same(
+        rt,
+        owners::answer(table, p),
+        wanted,
+        "the place of the answer",
+    );
+}
+
+fn expect_waits<A: Abort>(rt: &A, table: &[Owner; 4], wanted: usize) {
+    same(rt, owners::open_waits(table), wanted, "the open waits");
+}
+
 #[test]
 fn the_longest_wait_comes_first_until_it_is_answered(rt: HostRuntime) -> Result<(), Fail> {
     let mut table = [Owner::free(); 4];
     note(&mut table, 4, SENDER_WAITS, 0);
     note(&mut table, 5, SECOND_SENDER_WAITS, 0);
-    assert_eq!(rt; owners::open_waits(&table), 2);
-    assert_eq!(rt; owners::first_wait(&table, 0, WaitKind::Send), Some((3, 4)));
-    assert_eq!(rt; owners::first_wait(&table, 0, WaitKind::Receive), None);
-    assert_eq!(rt; owners::first_wait(&table, 1, WaitKind::Send), None);
+    expect_waits(&rt, &table, 2);
+    expect_first(&rt, &table, 0, WaitKind::Send, Some((3, 4)));
+    expect_first(&rt, &table, 0, WaitKind::Receive, None);
+    expect_first(&rt, &table, 1, WaitKind::Send, None);
     note(&mut table, 6, RECEIVE_ADMITS, 0);
-    assert_eq!(rt; owners::answer(&table, 3), Some(6));
-    assert_eq!(rt; owners::wait(&table, 3).map(|w| w.place), Some(4));
-    assert_eq!(rt; owners::first_wait(&table, 0, WaitKind::Send), Some((1, 5)));
+    expect_answer(&rt, &table, 3, Some(6));
+    expect_wait(&rt, &table, 3, Some((4, None)));
+    expect_first(&rt, &table, 0, WaitKind::Send, Some((1, 5)));
     note(&mut table, 7, COLLECT, 0);
-    assert_eq!(rt; owners::wait(&table, 3), None);
-    assert_eq!(rt; owners::answer(&table, 3), None);
-    assert_eq!(rt; owners::open_waits(&table), 1);
+    expect_wait(&rt, &table, 3, None);
+    expect_answer(&rt, &table, 3, None);
+    expect_waits(&rt, &table, 1);
     Ok(())
 }
 
@@ -231,17 +339,14 @@ fn a_wait_has_its_deadline_until_it_is_withdrawn(rt: HostRuntime) -> Result<(), 
     let mut table = [Owner::free(); 4];
     note(&mut table, 4, SENDER_WAITS, 1);
     note(&mut table, 5, TIMED_RECEIVER_WAITS, 0);
-    assert_eq!(rt; owners::wait(&table, 3).map(|w| w.until), Some(None));
-    assert_eq!(rt; owners::wait(&table, 2).map(|w| w.until), Some(Some(UNTIL)));
-    assert_eq!(rt;
-        owners::first_wait(&table, 0, WaitKind::Receive),
-        Some((2, 5))
-    );
+    expect_wait(&rt, &table, 3, Some((4, None)));
+    expect_wait(&rt, &table, 2, Some((5, Some(UNTIL))));
+    expect_first(&rt, &table, 0, WaitKind::Receive, Some((2, 5)));
     note(&mut table, 6, WITHDRAW, 0);
-    assert_eq!(rt; owners::wait(&table, 2), None);
-    assert_eq!(rt; owners::answer(&table, 2), None);
-    assert_eq!(rt; owners::first_wait(&table, 0, WaitKind::Receive), None);
-    assert_eq!(rt; owners::open_waits(&table), 1);
+    expect_wait(&rt, &table, 2, None);
+    expect_answer(&rt, &table, 2, None);
+    expect_first(&rt, &table, 0, WaitKind::Receive, None);
+    expect_waits(&rt, &table, 1);
     Ok(())
 }
 
@@ -253,8 +358,17 @@ fn moments_are_ordered_by_seconds_and_then_by_nanoseconds(rt: HostRuntime) {
     };
     let zero = Deadline { sec: 0, nsec: 0 };
     let after = Deadline { sec: 0, nsec: 1 };
-    assert!(rt; before < zero && zero < after && after < UNTIL);
-    assert!(rt; !(zero < zero) && zero <= zero && after > before);
+    expect_order(&rt, before, zero);
+    expect_order(&rt, zero, after);
+    expect_order(&rt, after, UNTIL);
+    same(&rt, zero < zero, false, "a moment before itself");
+    same(&rt, zero <= zero, true, "a moment not after itself");
+}
+
+// The first moment is before the second.
+fn expect_order<A: Abort>(rt: &A, before: Deadline, after: Deadline) {
+    same(rt, before < after, true, "the earlier moment is less");
+    same(rt, after > before, true, "the later moment is greater");
 }
 
 const REGISTER: Entry = Entry {
@@ -278,26 +392,52 @@ const SEND_NOTIFIES: Entry = Entry {
     reply: Reply::Queued { notified: Some(4) },
 };
 
+// What stands after an entry on the queue of the registration, or on another.
+fn expect_after<A: Abort>(
+    rt: &A,
+    on_it: bool,
+    place: u64,
+    entry: Entry,
+    before: Option<Registration>,
+    wanted: Option<Registration>,
+) {
+    let found = registration_after(on_it, place, entry, before);
+    same(rt, found, wanted, "the registration");
+}
+
+const REGISTERED: Option<Registration> = Some(Registration {
+    place: 4,
+    process: 1,
+    d: 0,
+    value: 7,
+});
+
 #[test]
 fn a_registration_ends_with_its_notice_its_removal_or_its_close(
     rt: HostRuntime,
 ) -> Result<(), Fail> {
-    let made = registration_after(true, 4, REGISTER, None);
-    assert_eq!(rt;
-        made.map(|n| (n.place, n.process, n.d, n.value)),
-        Some((4, 1, 0, 7))
+    expect_after(&rt, true, 4, REGISTER, None, REGISTERED);
+    expect_after(&rt, false, 4, REGISTER, None, None);
+    same(
+        &rt,
+        notified(SEND_NOTIFIES.reply),
+        Some(4),
+        "the notified registration",
     );
-    assert_eq!(rt; registration_after(false, 4, REGISTER, None), None);
-    assert_eq!(rt; notified(SEND_NOTIFIES.reply), Some(4));
-    assert!(rt; touches_registrations(SEND_NOTIFIES));
-    assert_eq!(rt; registration_after(true, 5, SEND_NOTIFIES, made), None);
-    assert_eq!(rt; registration_after(true, 5, REMOVE, made), None);
-    assert_eq!(rt; registration_after(false, 5, REMOVE, made), made);
-    assert_eq!(rt; registration_after(true, 5, CLOSE, made), None);
+    same(
+        &rt,
+        touches_registrations(SEND_NOTIFIES),
+        true,
+        "whether it touches any",
+    );
+    expect_after(&rt, true, 5, SEND_NOTIFIES, REGISTERED, None);
+    expect_after(&rt, true, 5, REMOVE, REGISTERED, None);
+    expect_after(&rt, false, 5, REMOVE, REGISTERED, REGISTERED);
+    expect_after(&rt, true, 5, CLOSE, REGISTERED, None);
     let another = Entry {
         process: 2,
         ..CLOSE
     };
-    assert_eq!(rt; registration_after(true, 5, another, made), made);
+    expect_after(&rt, true, 5, another, REGISTERED, REGISTERED);
     Ok(())
 }

@@ -5,11 +5,14 @@ ghost use Rattle.std.specs.Arc.{arc_value};
 ghost use Rattle.mq_model.specs.Waits.{wait_deadline};
 ghost use Rattle.mq_handles.specs.Standings.{ticket_of};
 
+use crate::standing;
 use crate::standing::{Standing, arrive, look, settle, waiting};
 use crate::tried::{Ending, Looked, Tried};
-use mq::{Attr, Deadline, Entry, FastMq, FastProcess, Fault, Name, OpenFlags, Received, Status};
+use mq::{
+    Attr, Bounds, Deadline, Entry, FastMq, FastProcess, Fault, Name, OpenFlags, Received, Status,
+};
 use mq_model::ladder;
-use std::alloc::Global;
+use std::alloc::{AllocError, Global};
 use std::sync::Arc;
 
 /// A process with its queues. Between two tries it may be on its way into the lock.
@@ -44,6 +47,26 @@ impl Member {
             standing: Some(Standing::AtRest(process)),
             until: None,
         }
+    }
+
+    /// The number of its process.
+    pub fn number(&self) -> u32 {
+        standing::number(&self.standing)
+    }
+
+    /// Whose waits its last call answered, that of process p by bit p - 1. A hint.
+    pub fn answered_others(&self) -> u32 {
+        standing::answered_others(&self.standing)
+    }
+
+    /// The bells of its system.
+    pub fn bells(&self) -> Option<*const u64> {
+        self.mq.bells()
+    }
+
+    /// Which of them its process sleeps on now. A hint.
+    pub fn bell(&self) -> u32 {
+        standing::bell(&self.standing)
     }
 
     /// Tries to open a queue.
@@ -270,10 +293,12 @@ impl Member {
 }
 
 impl Member {
-    ghost use Rattle.std.specs.Prelude.{◌≡◌, None, Some, IfNone, IfSome, IsOk, []};
+    ghost use Rattle.std.specs.Prelude.{◌≡◌, ◌↔◌, None, Some, IfNone, IfSome, OnSome, IfOk, IsOk, IsTrue, []};
     ghost use Rattle.std.specs.Option.{option_map};
     ghost use Rattle.mq_model.specs.Record.{record_at};
-    ghost use Rattle.mq.specs.Calls.{Calls};
+    ghost use Rattle.mq_state.specs.Room.{NobodyCanCall, room_left};
+    ghost use Rattle.mq.specs.Calls.{Calls, bounds_of};
+    ghost use Rattle.mq.specs.Readings.{record_of};
     ghost use Rattle.mq_handles.specs.Standings.{ticket_of, is_under_way};
     ghost use Rattle.mq_handles.specs.Endings.{Ends, Looks};
 
@@ -288,15 +313,44 @@ impl Member {
         Some(checked)
     }
 
-    /// Tries to read the entry at a place: `None` where the process has not come inside yet.
-    pub fn entry(&mut self, place: u64) -> Option<Option<Entry>>
+    /// Tries to read the entry at a place with its payload: `None` where the process has not come inside yet.
+    pub fn record(
+        &mut self,
+        alloc: Global,
+        place: u64,
+    ) -> Option<Result<Option<(Entry, Vec<u8>)>, AllocError>>
         ensures none { IfNone result (ticket_of self.new.standing ≡ ticket_of self.old.standing) }
-        ensures entry { IfSome result (λ entry. (entry ≡ option_map (λ r. r.entry) (record_at (ticket_of self.new.standing).left place)) × Calls (ticket_of self.old.standing) (ticket_of self.new.standing) []) }
+        ensures record { IfSome result (λ read. IfOk read (λ found. option_map record_of found ≡ record_at (ticket_of self.new.standing).left place)) }
+        ensures calls { OnSome result (Calls (ticket_of self.old.standing) (ticket_of self.new.standing) []) }
     {
         let arrived = arrive(&self.mq, &mut self.standing)?;
-        let (process, entry) = arrived.entry(&self.mq, place);
+        let (process, read) = arrived.record(alloc, &self.mq, place);
         settle(&mut self.standing, process);
-        Some(entry)
+        Some(read)
+    }
+
+    /// Tries to ask for how much more the journal has room: `None` where the process has not come inside yet.
+    pub fn room(&mut self) -> Option<Option<Bounds>>
+        ensures none { IfNone result (ticket_of self.new.standing ≡ ticket_of self.old.standing) }
+        ensures room { IfSome result (λ room. room ≡ room_left (bounds_of (ticket_of self.old.standing)) (ticket_of self.new.standing).left) }
+        ensures calls { OnSome result (Calls (ticket_of self.old.standing) (ticket_of self.new.standing) []) }
+    {
+        let arrived = arrive(&self.mq, &mut self.standing)?;
+        let (process, room) = arrived.room(&self.mq);
+        settle(&mut self.standing, process);
+        Some(room)
+    }
+
+    /// Tries to ask whether nobody can make a call any more: `None` where the process has not come inside yet.
+    pub fn nobody_can_call(&mut self) -> Option<bool>
+        ensures none { IfNone result (ticket_of self.new.standing ≡ ticket_of self.old.standing) }
+        ensures nobody { IfSome result (λ nobody. IsTrue nobody ↔ NobodyCanCall (bounds_of (ticket_of self.old.standing)) (ticket_of self.new.standing).left (ticket_of self.old.standing).lock.count) }
+        ensures calls { OnSome result (Calls (ticket_of self.old.standing) (ticket_of self.new.standing) []) }
+    {
+        let arrived = arrive(&self.mq, &mut self.standing)?;
+        let (process, nobody) = arrived.nobody_can_call(&self.mq);
+        settle(&mut self.standing, process);
+        Some(nobody)
     }
 
     /// Looks from outside whether the open wait is answered.

@@ -40,6 +40,9 @@ pub const FULL: u32 = 24;
 /// There is no entry at that place.
 pub const NO_ENTRY: u32 = 25;
 
+/// A process can make a call.
+pub const GOES_ON: u32 = 26;
+
 /// The number of what a call gave that is done or refused.
 pub fn done(tried: Tried<Result<(), Fault>>) -> u32
     ensures { result ≡ code_of given_code (Some tried) }

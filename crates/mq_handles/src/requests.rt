@@ -36,6 +36,14 @@ pub struct Message {
     pub prio: u32,
 }
 
+/// For how much more a journal has room: so many entries and payload bytes.
+#[repr(C)]
+#[derive(Clone, Copy)]
+pub struct Room {
+    pub entries: u64,
+    pub bytes: u64,
+}
+
 /// A moment of the clock of the program (`struct timespec`).
 #[repr(C)]
 #[derive(Clone, Copy)]

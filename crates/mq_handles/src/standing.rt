@@ -6,7 +6,7 @@ ghost use Rattle.mq_handles.specs.Standings.{ticket_of, is_under_way, LooksAt};
 use mq::{FastApproach, FastArrived, FastMq, FastProcess};
 
 // How many steps on its way into the lock one try takes.
-const STEPS: u32 = 1_000;
+const STEPS: u32 = 100;
 
 /// A process between two tries.
 #[derive(Drop)]
@@ -69,6 +69,39 @@ pub fn look(mq: &FastMq, standing: &mut Option<Standing>) -> Option<bool>
     match standing {
         Some(Standing::AtRest(process)) => Some(process.answered(mq)),
         Some(Standing::UnderWay(_)) => None,
+        None => unreachable!(),
+    }
+}
+
+/// Which of the bells of its system the process sleeps on: that of what keeps it out of the lock, or of its answer.
+pub fn bell(standing: &Option<Standing>) -> u32
+    requires { is_some standing.now ≡ true }
+{
+    match standing {
+        Some(Standing::AtRest(process)) => process.bell(),
+        Some(Standing::UnderWay(approach)) => approach.bell(),
+        None => unreachable!(),
+    }
+}
+
+/// Whose waits the last call of the process answered.
+pub fn answered_others(standing: &Option<Standing>) -> u32
+    requires { is_some standing.now ≡ true }
+{
+    match standing {
+        Some(Standing::AtRest(process)) => process.answered_others(),
+        Some(Standing::UnderWay(_)) => 0,
+        None => unreachable!(),
+    }
+}
+
+/// The number of the process.
+pub fn number(standing: &Option<Standing>) -> u32
+    requires { is_some standing.now ≡ true }
+{
+    match standing {
+        Some(Standing::AtRest(process)) => process.number(),
+        Some(Standing::UnderWay(approach)) => approach.number(),
         None => unreachable!(),
     }
 }

@@ -59,7 +59,7 @@ pub fn free(alloc: Global, process: &mut Handle) -> u32
     ensures empty { process_in process.new ≡ None }
     ensures code { result ≡ freed_code (process_in process.old) }
 {
-    match process.take(alloc) {
+    match process.end(alloc) {
         Some(_) => DONE,
         None => EMPTY,
     }
@@ -133,7 +133,7 @@ fn fill(processes: &mut [Handle], members: Vec<Box<Member>>)
 {
     let mut place = 0;
     'members: for member in members {
-        processes[place].put(member);
+        processes[place].begin(member);
         place += 1;
     }
 }

@@ -5,3 +5,4 @@ pub mod WrittenReplies
 pub mod WrittenLines
 pub mod Parts
 pub mod Splitting
+pub mod Arriving

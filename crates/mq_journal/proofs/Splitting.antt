@@ -10,7 +10,7 @@ use Rattle.mq_model.specs.declared.entries.Entry.{Entry}
 use Rattle.mq_script.specs.Script.{lines_of, onto_first_line}
 use Rattle.mq_journal.specs.Fitting.{AllFit, Fits}
 use Rattle.mq_journal.specs.JournalFault.{IsNoLine, StopsAt}
-use Rattle.mq_journal.specs.Text.{escaped, journal_text, line_text, record_words}
+use Rattle.mq_journal.specs.Text.{escaped, has_feed, journal_text, line_text, record_words}
 use Rattle.mq_journal.specs.Reading.{entry_at}
 use Rattle.percent_encoding.specs.Percent.{percent_decode}
 use Rattle.mq_journal.proofs.WholeWords.{AreWords, IsWord, parts_none}
@@ -254,4 +254,74 @@ stops_here line place text rest first others past so_far all count small number 
   line_is = omega arith;
   some = some;
   none = λ r behind fits is. no_first place rest first others (omega arith) lines none r behind fits (is ∙ ap (λ n. line_text n r ++ behind) (sym count));
+}
+
+-- ---- a text that goes on
+
+-- bytes with a feed: those before the first one, and those behind it
+record Cut (bytes : List ℕ) : Type 0 where
+  front : List ℕ
+  behind : List ℕ
+  none : HasNoFeed front
+  is : bytes ≡ front ++ 10 ∷ behind
+
+cut_at : (bytes : List ℕ) → has_feed bytes ≡ true → Cut bytes
+cut_at [] some = absurd (cc)
+cut_at (b ∷ bytes) some = elim (cases_Bool (b == 10)) [
+  | inl feed ↦ let is : b ≡ 10 = grind (arith, nat_tests) in record { front = []; behind = bytes; none = refl; is = ap (λ h. h ∷ bytes) is }
+  | inr other ↦
+      let rest : has_feed bytes ≡ true = grind (arith, nat_tests) in
+      let here : no_feed b ≡ true = grind (arith, nat_tests) in
+      let later = cut_at bytes rest in
+      record { front = b ∷ later.front; behind = later.behind; none = and_from (no_feed b) (list_all no_feed later.front) here later.none; is = ap (λ t. b ∷ t) later.is }
+]
+
+feed_some : (bytes more : List ℕ) → has_feed bytes ≡ true → 0 < length (bytes ++ more)
+feed_some [] more some = absurd (cc)
+feed_some (b ∷ bytes) more some = omega arith
+
+feed_behind : (front behind : List ℕ) → has_feed (front ++ 10 ∷ behind) ≡ true
+feed_behind [] behind = refl
+feed_behind (b ∷ front) behind = let later = feed_behind front behind in grind (arith, nat_tests)
+
+line_feed : (place : ℕ) (r : Record) (behind : List ℕ) → has_feed (line_text place r ++ behind) ≡ true
+unfolding line_text
+line_feed place r behind =
+    let u = join_with_byte 32 (record_words place r) in
+    ap has_feed (append_assoc u (10 ∷ []) behind) ∙ feed_behind u behind
+
+no_first_in : (place : ℕ) (rest line others more : List ℕ) → place < 2 ^ 64 → has_feed rest ≡ true → lines_of rest ≡ line ∷ lines_of others → IsNoLine place line → (r : Record) (behind : List ℕ) → Fits r → rest ++ more ≢ line_text place r ++ behind
+unfolding line_text
+no_first_in place rest line others more small some lines none r behind fits is =
+    let cut = cut_at rest some in
+    let u = join_with_byte 32 (record_words place r) in
+    let left : rest ++ more ≡ cut.front ++ 10 ∷ (cut.behind ++ more) = ap (λ t. t ++ more) cut.is ∙ append_assoc cut.front (10 ∷ cut.behind) more in
+    let right : (u ++ 10 ∷ []) ++ behind ≡ u ++ 10 ∷ behind = append_assoc u (10 ∷ []) behind in
+    let fronts = one_front cut.front u (cut.behind ++ more) behind cut.none (front-feedless place r small fits) (sym left ∙ is ∙ right) in
+    let first : line ∷ lines_of others ≡ (cut.front ++ 10 ∷ []) ∷ lines_of cut.behind = sym lines ∙ ap lines_of cut.is ∙ lines_of-front cut.front cut.behind cut.none in
+    let line_is : line ≡ cut.front ++ 10 ∷ [] = cc in
+    none r fits (line_is ∙ ap (λ t. t ++ 10 ∷ []) fronts.0)
+
+-- a text that stops at the next line, whatever it goes on with
+pub stops_in : (line place : ℕ) (text rest first others more : List ℕ) (past : Past) → text ≡ journal_text past ++ rest → AllFit past → place ≡ length past → place < 2 ^ 63 → line ≡ place + 1 → has_feed rest ≡ true → lines_of rest ≡ first ∷ lines_of others → IsNoLine place first → StopsAt line (text ++ more)
+stops_in line place text rest first others more past so_far all count small number some lines none = record {
+  past = past;
+  rest = rest ++ more;
+  fits = all;
+  whole = ap (λ t. t ++ more) so_far ∙ append_assoc (journal_text past) rest more;
+  line_is = omega arith;
+  some = feed_some rest more some;
+  none = λ r behind fits is. no_first_in place rest first others more (omega arith) some lines none r behind fits (is ∙ ap (λ n. line_text n r ++ behind) (sym count));
+}
+
+-- a text that stops with a line that lacks its feed
+pub stops_short : (line : ℕ) (rest : List ℕ) (past : Past) → AllFit past → line ≡ length past + 1 → 0 < length rest → has_feed rest ≡ false → StopsAt line (journal_text past ++ rest)
+stops_short line rest past all number some short = record {
+  past = past;
+  rest = rest;
+  fits = all;
+  whole = refl;
+  line_is = number;
+  some = some;
+  none = λ r behind fits is. let feed : has_feed rest ≡ true = ap has_feed is ∙ line_feed (length past) r behind in let no : false ≡ true = sym short ∙ feed in cc;
 }

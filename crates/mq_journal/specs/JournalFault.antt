@@ -5,11 +5,12 @@ use Rattle.mq_model.specs.Record.{Record, Past}
 use Rattle.mq_journal.specs.Fitting.{AllFit, Fits}
 use Rattle.mq_journal.specs.Text.{journal_text, line_text}
 use Rattle.mq_journal.specs.declared.fault.JournalFault.{JournalFault}
-use Rattle.mq_journal.specs.declared.fault.JournalFault.TheVariants.{BadLine, NoMemory}
+use Rattle.mq_journal.specs.declared.fault.JournalFault.TheVariants.{BadLine, Input, NoMemory}
 
 -- the printed text
 abbrev pub journal_fault_text : JournalFault → List ℕ
 journal_fault_text (BadLine line) = codes "line " ++ (decimal line ++ codes ": no entry")
+journal_fault_text Input = codes "a read failed"
 journal_fault_text NoMemory = codes "no memory"
 
 -- this line is no record's at this place

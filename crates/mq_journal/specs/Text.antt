@@ -1,7 +1,7 @@
 -- The text of a journal: a line for each record.
-use Rattle.std.specs.Prelude.{ℕ, Bool, true, false, List, [], ◌∷◌, ◌++◌, length, Option, None, Some, codes}
+use Rattle.std.specs.Prelude.{ℕ, ◌==◌, Bool, true, false, List, [], ◌∷◌, ◌++◌, length, Option, None, Some, codes}
 use Rattle.std.specs.Fmt.{decimal, signed_decimal}
-use Rattle.std.specs.List.{join_with_byte}
+use Rattle.std.specs.List.{join_with_byte, list_any}
 use Rattle.percent_encoding.specs.Percent.{percent_encode}
 use Rattle.lines.specs.Words.{Word}
 use Rattle.mq_model.specs.Fault.{text_of}
@@ -113,3 +113,7 @@ line_text place r = join_with_byte 32 (record_words place r) ++ 10 ∷ []
 abbrev pub journal_text : Past → List ℕ
 journal_text [] = []
 journal_text (r ∷ past) = journal_text past ++ line_text (length past) r
+
+-- a feed stands in these bytes
+abbrev pub has_feed : List ℕ → Bool
+has_feed bytes = list_any (λ b. b == 10) bytes

@@ -12,6 +12,8 @@ use std::fmt;
 pub enum JournalFault {
     /// This line, counted from 1, is the first that is not the line of an entry at its place.
     BadLine(u64),
+    /// A read failed, whatever its error: an interrupted one too, which is not tried again.
+    Input,
     /// A growth was refused.
     NoMemory,
 }
@@ -22,6 +24,7 @@ impl fmt::Display for JournalFault {
     fn fmt<W: fmt::Write>(&self, f: &mut fmt::Formatter<W>) -> fmt::Result {
         match self {
             JournalFault::BadLine(line) => write!(f, "line {line}: no entry"),
+            JournalFault::Input => f.write_str("a read failed"),
             JournalFault::NoMemory => f.write_str("no memory"),
         }
     }

@@ -4,6 +4,7 @@
 mod call;
 pub mod fault;
 mod fitting;
+pub mod input;
 pub mod line;
 mod payload;
 pub mod reply;

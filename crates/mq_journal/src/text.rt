@@ -1,10 +1,10 @@
 //! The text of a journal.
-ghost use Rattle.std.specs.Prelude.{◌≡◌, ◌<◌, ◌^◌, ◌++◌, ◌∷◌, ℕ, IfOk, IsErrOf, MatchResult, OnOk, length};
+ghost use Rattle.std.specs.Prelude.{◌≡◌, ◌<◌, ◌≤◌, ◌^◌, ◌++◌, ◌∷◌, [], ℕ, List, false, IfOk, IsErrOf, MatchResult, OnOk, length};
 ghost use Rattle.mq_model.specs.Record.{Past};
 ghost use Rattle.mq_journal.specs.Fitting.{AllFit, Fits};
 ghost use Rattle.mq_journal.specs.JournalFault.{StopsAt};
-ghost use Rattle.mq_journal.specs.Text.{journal_text, line_text};
-ghost use Rattle.mq_journal.specs.declared.fault.JournalFault.TheVariants.{BadLine, NoMemory};
+ghost use Rattle.mq_journal.specs.Text.{has_feed, journal_text, line_text};
+ghost use Rattle.mq_journal.specs.declared.fault.JournalFault.TheVariants.{BadLine, Input, NoMemory};
 
 use crate::fault::JournalFault;
 use crate::fitting::fits;
@@ -52,18 +52,59 @@ pub fn read_journal(alloc: Global, text: &[u8]) -> Result<Journal, JournalFault>
     ensures only { (past : Past) → AllFit past → text.now ≡ journal_text past → MatchResult result (λ journal. journal.records ≡ past) (λ fault. fault ≡ NoMemory) }
     // A line that is named is the first one.
     ensures bad_line { (line : ℕ) → IsErrOf result (BadLine line) → StopsAt line text.now }
+    ensures no_input { IsErrOf result Input → ⊥ }
 {
     let mut journal = Journal::new(alloc);
+    match read_lines(alloc, &mut journal, text) {
+        Ok(rest) => whole(journal, rest),
+        Err(fault) => Err(fault),
+    }
+}
+
+/// Reads the lines that a text begins with onto a journal, and gives what stands after the last feed. `JournalFault::BadLine`: this
+/// line of the journal's text and this one is the first that is not the line of an entry at its place, whatever comes after them.
+pub fn read_lines<'t>(
+    alloc: Global,
+    journal: &mut Journal,
+    text: &'t [u8],
+) -> Result<&'t [u8], JournalFault>
+    requires fits { AllFit journal.old.records }
+    ensures fits { OnOk result (AllFit journal.new.records) }
+    ensures lines { IfOk result (λ rest. journal_text journal.old.records ++ text.now ≡ journal_text journal.new.records ++ rest.now) }
+    ensures rest { IfOk result (λ rest. has_feed rest.now ≡ false) }
+    ensures number { (line : ℕ) → IsErrOf result (BadLine line) → line ≤ 2 ^ 63 }
+    ensures bad_line { (line : ℕ) → IsErrOf result (BadLine line) → (more : List ℕ) → StopsAt line (journal_text journal.old.records ++ (text.now ++ more)) }
+    ensures no_input { IsErrOf result Input → ⊥ }
+{
     let mut rest = text;
-    while !rest.is_empty() {
+    'lines: while rest.contains(&b'\n') {
         let (line, others) = first_line(rest);
         let Some((entry, payload)) = read_line(alloc, journal.len(), line)? else {
             return Err(JournalFault::BadLine(journal.len() + 1));
         };
-        add_entry(&mut journal, entry, payload.as_slice())?;
+        add_entry(journal, entry, payload.as_slice())?;
         rest = others;
     }
-    Ok(journal)
+    Ok(rest)
+}
+
+/// A journal that was read, where nothing stands after its last line. `JournalFault::BadLine`: what stands there is no line.
+pub fn whole(journal: Journal, rest: &[u8]) -> Result<Journal, JournalFault>
+    requires fits { AllFit journal.records }
+    requires rest { has_feed rest.now ≡ false }
+    ensures whole { IfOk result (λ read. (read ≡ journal) × (rest.now ≡ [])) }
+    ensures few { IfOk result (λ read. length read.records < 2 ^ 63) }
+    ensures number { (line : ℕ) → IsErrOf result (BadLine line) → line ≤ 2 ^ 63 }
+    ensures bad_line { (line : ℕ) → IsErrOf result (BadLine line) → StopsAt line (journal_text journal.records ++ rest.now) }
+    ensures fault { IsErrOf result NoMemory → ⊥ }
+    ensures no_input { IsErrOf result Input → ⊥ }
+{
+    let len = journal.len();
+    if rest.is_empty() {
+        Ok(journal)
+    } else {
+        Err(JournalFault::BadLine(len + 1))
+    }
 }
 
 /// Journals with one text are one. The function does nothing: its contract is the law.

@@ -1,7 +1,5 @@
 -- Why a journal was not checked: what is printed, and the exit status.
 use Rattle.std.specs.Prelude.{ℕ, List, codes}
-use Rattle.lines.specs.declared.input.ReadFault.{ReadFault}
-use Rattle.lines.specs.declared.input.ReadFault.TheVariants as read
 use Rattle.mq_journal.specs.JournalFault.{journal_fault_text}
 use Rattle.mq_journal.specs.declared.fault.JournalFault.{JournalFault}
 use Rattle.mq_journal.specs.declared.fault.JournalFault.TheVariants as journal
@@ -22,10 +20,7 @@ exit_status Input = 3
 exit_status Output = 3
 exit_status NoMemory = 4
 
-abbrev pub of_read_fault : ReadFault → LogFault
-of_read_fault read.Failed = Input
-of_read_fault read.NoMemory = NoMemory
-
 abbrev pub of_journal_fault : JournalFault → LogFault
 of_journal_fault (journal.BadLine line) = BadLine line
+of_journal_fault journal.Input = Input
 of_journal_fault journal.NoMemory = NoMemory

@@ -17,18 +17,23 @@ window_from_or_to name place = if bytes_eq name (codes "--from") then (do
       Some (record { from = WHOLE.from; to = to }))
     else None)
 
--- both
-abbrev pub window_from_and_to : Word → Word → Word → Word → Option Window
-window_from_and_to from first to last = if bytes_eq from (codes "--from") && bytes_eq to (codes "--to") then (do
+-- the first place and the last
+abbrev pub window_between : Word → Word → Option Window
+window_between first last = do
   from ← number_written 64 first
   to ← number_written 64 last
-  Some (record { from = from; to = to }))
-    else None
+  Some (record { from = from; to = to })
+
+-- both options, in either order
+abbrev pub window_from_and_to : Word → Word → Word → Word → Option Window
+window_from_and_to name place other second =
+    if bytes_eq name (codes "--from") && bytes_eq other (codes "--to") then window_between place second
+    else (if bytes_eq name (codes "--to") && bytes_eq other (codes "--from") then window_between second place else None)
 
 -- the part of a journal that the options of draw ask for
 abbrev pub window_written : List Word → Option Window
 window_written (name ∷ place ∷ []) = window_from_or_to name place
-window_written (from ∷ first ∷ to ∷ last ∷ []) = window_from_and_to from first to last
+window_written (name ∷ place ∷ other ∷ second ∷ []) = window_from_and_to name place other second
 window_written words = None
 
 -- the task of a name alone

@@ -1,7 +1,7 @@
 -- The part of a journal that a picture shows.
 use Rattle.std.specs.Prelude.{ℕ, ◌≡◌, ◌+◌, ◌-◌, min, nat_lt, List, Option, if◌then◌else◌, length}
 use Rattle.std.specs.Io.KnownBytes as known
-use Rattle.lines.specs.Output.{AppendsPart}
+use Rattle.lines.specs.Output.{AppendsTooLittle}
 use Rattle.mq_model.specs.Record.{Past}
 use Rattle.mq_journal.specs.Fitting.{AllFit}
 use Rattle.mq_journal.specs.Text.{journal_text}
@@ -27,9 +27,9 @@ pub record Draws (bytes : List ℕ) (window : Window) (old new : Option (List �
   pub text : bytes ≡ journal_text past
   pub written : known.Appends old new (picture_text past (first_shown window (length past)) (count_shown window (length past)))
 
--- bytes are the text of a journal; known bytes have grown by a front part of such a picture
+-- bytes are the text of a journal; known bytes have grown by a front part of such a picture that lacks a byte or more
 pub record DrawsInPart (bytes : List ℕ) (window : Window) (old new : Option (List ℕ)) : Type 0 where
   pub past : Past
   pub fits : AllFit past
   pub text : bytes ≡ journal_text past
-  pub written : AppendsPart old new (picture_text past (first_shown window (length past)) (count_shown window (length past)))
+  pub written : AppendsTooLittle old new (picture_text past (first_shown window (length past)) (count_shown window (length past)))

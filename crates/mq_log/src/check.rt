@@ -7,16 +7,12 @@ ghost use Rattle.mq_log.specs.declared.fault.LogFault.TheVariants.{BadLine, Inpu
 
 use crate::fault::LogFault;
 use crate::verdict::{Verdict, verdict_of, verdict_text};
-use lines::input::read_all;
 use lines::output::write_all;
-use mq_journal::text::read_journal;
+use mq_journal::input::{MOST_BYTES, read_input};
 use std::alloc::Global;
 use std::io::{Read, Write};
 
-/// The most bytes of a journal.
-pub const MOST_BYTES: usize = 1 << 40;
-
-/// Reads a journal, checks it, and writes a line with what stands in it, or the first entry that is not legal and why.
+/// Reads a journal line by line, checks it, and writes a line with what stands in it, or the first entry that is not legal and why.
 /// `LogFault::BadLine`: a line is not that of an entry, and this is the first one. `LogFault::Input`: a read failed.
 /// `LogFault::Output`: a write failed, and a front part of the verdict is written. Of the others nothing is written.
 pub fn check_journal<R: Read, W: Write>(
@@ -34,8 +30,7 @@ pub fn check_journal<R: Read, W: Write>(
     ensures output { (all : List ℕ) → R.remaining input.old ≡ Some all →
         IsErrOf result Output → StopsInVerdict (take (MOST_BYTES + 1) all) (W.contents output.old) (W.contents output.new) }
 {
-    let text = read_all(alloc, input, MOST_BYTES)?;
-    let journal = read_journal(alloc, text.as_slice())?;
+    let journal = read_input(alloc, input)?;
     let verdict = verdict_of(alloc, &journal)?;
     let line = verdict_text(alloc, &journal, verdict)?;
     write_all(output, line.as_bytes())?;

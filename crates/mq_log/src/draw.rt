@@ -4,19 +4,17 @@ ghost use Rattle.mq_journal.specs.JournalFault.{StopsAt};
 ghost use Rattle.mq_log.specs.Window.{Draws, DrawsInPart};
 ghost use Rattle.mq_log.specs.declared.fault.LogFault.TheVariants.{BadLine, Input, NoMemory, Output};
 
-use crate::check::MOST_BYTES;
 use crate::fault::LogFault;
 use crate::window::{Window, shown};
-use lines::input::read_all;
 use lines::output::write_all;
-use mq_journal::text::read_journal;
+use mq_journal::input::{MOST_BYTES, read_input};
 use mq_picture::picture_of;
 use std::alloc::Global;
 use std::io::{Read, Write};
 
-/// Reads a journal, which need not be legal, and writes a picture of its entries in the window, of the first 2,000 of these.
+/// Reads a journal line by line, which need not be legal, and writes a picture of its entries in the window, of the first 2,000 of these.
 /// `LogFault::BadLine`: a line is not that of an entry, and this is the first one. `LogFault::Input`: a read failed.
-/// `LogFault::Output`: a write failed, and a front part of the picture is written. Of the others nothing is written.
+/// `LogFault::Output`: a write failed, and of the picture a front part is written that lacks a byte or more. Of the others nothing is written.
 pub fn draw_journal<R: Read, W: Write>(
     alloc: Global,
     input: &mut R,
@@ -33,8 +31,7 @@ pub fn draw_journal<R: Read, W: Write>(
     ensures no_memory { IsErrOf result NoMemory → W.contents output.new ≡ W.contents output.old }
     ensures unwritten { (line : ℕ) → IsErrOf result (BadLine line) → W.contents output.new ≡ W.contents output.old }
 {
-    let text = read_all(alloc, input, MOST_BYTES)?;
-    let journal = read_journal(alloc, text.as_slice())?;
+    let journal = read_input(alloc, input)?;
     let (from, count) = shown(window, &journal);
     let picture = picture_of(alloc, &journal, from, count)?;
     write_all(output, picture.as_slice())?;

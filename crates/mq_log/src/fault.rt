@@ -1,9 +1,8 @@
 //! Why a journal was not checked.
 ghost use Rattle.std.specs.Prelude.{◌≡◌, Some};
-ghost use Rattle.mq_log.specs.LogFault.{exit_status, fault_text, of_journal_fault, of_read_fault};
+ghost use Rattle.mq_log.specs.LogFault.{exit_status, fault_text, of_journal_fault};
 ghost use Rattle.mq_log.specs.declared.fault.LogFault.TheVariants.{NoMemory, Output};
 
-use lines::input::ReadFault;
 use lines::output::WriteFailed;
 use mq_journal::fault::JournalFault;
 use std::alloc::AllocError;
@@ -54,23 +53,13 @@ impl fmt::Display for LogFault {
 
 impl Error for LogFault {}
 
-impl From<ReadFault> for LogFault {
-    ghost from_gives = { λ read fault. fault ≡ of_read_fault read };
-
-    fn from(fault: ReadFault) -> LogFault {
-        match fault {
-            ReadFault::Failed => LogFault::Input,
-            ReadFault::NoMemory => LogFault::NoMemory,
-        }
-    }
-}
-
 impl From<JournalFault> for LogFault {
     ghost from_gives = { λ journal fault. fault ≡ of_journal_fault journal };
 
     fn from(fault: JournalFault) -> LogFault {
         match fault {
             JournalFault::BadLine(line) => LogFault::BadLine(line),
+            JournalFault::Input => LogFault::Input,
             JournalFault::NoMemory => LogFault::NoMemory,
         }
     }

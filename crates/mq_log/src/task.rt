@@ -1,6 +1,6 @@
 //! What the program is asked to do.
 ghost use Rattle.std.specs.Prelude.{◌≡◌, map, string_bytes};
-ghost use Rattle.mq_log.specs.Task.{task_after, task_named, task_written, window_from_and_to, window_from_or_to, window_written};
+ghost use Rattle.mq_log.specs.Task.{task_after, task_named, task_written, window_between, window_from_and_to, window_from_or_to, window_written};
 
 use crate::window::{WHOLE, Window};
 use lines::words::number;
@@ -24,7 +24,7 @@ usage: mqlog TASK
   run    runs the script on the standard input, and writes its journal
   check  checks the journal on the standard input: writes that it is legal, or its first entry that is not (status 1)
   draw   writes a picture (SVG) of the journal on the standard input, of at most 2000 entries:
-         draw --from K begins with the entry at place K, draw --to L ends with that at place L, draw --from K --to L does both
+         draw --from K begins with the entry at place K, draw --to L ends with that at place L, both in either order do both
 ";
 
 /// The task that the words of the command line ask for, of which the first is the program's name.
@@ -73,11 +73,11 @@ fn window_of(options: &[String]) -> Option<Window>
 {
     match options {
         [name, place] => window_from_or_to(name.as_bytes(), place.as_bytes()),
-        [from, first, to, last] => window_from_and_to(
-            from.as_bytes(),
-            first.as_bytes(),
-            to.as_bytes(),
-            last.as_bytes(),
+        [name, place, other, second] => window_from_and_to(
+            name.as_bytes(),
+            place.as_bytes(),
+            other.as_bytes(),
+            second.as_bytes(),
         ),
         _ => None,
     }
@@ -102,13 +102,22 @@ fn window_from_or_to(name: &[u8], place: &[u8]) -> Option<Window>
     }
 }
 
-// Both options.
-fn window_from_and_to(from: &[u8], first: &[u8], to: &[u8], last: &[u8]) -> Option<Window>
-    ensures { result ≡ window_from_and_to from.now first.now to.now last.now }
+// Both options, in either order.
+fn window_from_and_to(name: &[u8], place: &[u8], other: &[u8], second: &[u8]) -> Option<Window>
+    ensures { result ≡ window_from_and_to name.now place.now other.now second.now }
 {
-    if from != b"--from".as_slice() || to != b"--to".as_slice() {
-        return None;
+    if name == b"--from".as_slice() && other == b"--to".as_slice() {
+        window_between(place, second)
+    } else if name == b"--to".as_slice() && other == b"--from".as_slice() {
+        window_between(second, place)
+    } else {
+        None
     }
+}
+
+fn window_between(first: &[u8], last: &[u8]) -> Option<Window>
+    ensures { result ≡ window_between first.now last.now }
+{
     Some(Window {
         from: number(first)?,
         to: number(last)?,

@@ -1,7 +1,8 @@
 -- One record or one lane more.
-use Rattle.std.proofs.Common.{◌≡◌, ◌+◌, ◌++◌, ◌*◌, max, ℕ, zero, suc, List, [], ◌∷◌, refl, ap, add-one, append-nil, append_assoc, arith, length, take, min}
+use Rattle.std.proofs.Common.{◌≡◌, ◌+◌, ◌++◌, ◌*◌, ◌∙◌, max, ℕ, zero, suc, List, [], ◌∷◌, refl, ap, sym, add-one, append-nil, append_assoc}
 use Rattle.mq_model.specs.Record.{Past, Record, first}
-use Rattle.std.proofs.lemmas.List.{take_all}
+use Rattle.std.specs.List.{flat_map}
+use Rattle.mq_picture.specs.Label.{named}
 use Rattle.mq_picture.specs.Shapes.{lane}
 use Rattle.mq_picture.specs.Picture.{entries_text, greatest, lane_text, lanes_text, last_text}
 
@@ -35,5 +36,8 @@ entries-more past column from count = rw add-one refl
 
 pub ruleset entries_steps = (entries-none, entries-more, append-nil, append_assoc)
 
-pub take_at_most : (line : List ℕ) (n : ℕ) → take (min (length line) n) line ≡ take n line
-take_at_most line n = grind (arith, take_all)
+pub named-append : (xs ys : List ℕ) → flat_map named (xs ++ ys) ≡ flat_map named xs ++ flat_map named ys
+named-append [] ys = refl
+named-append (x ∷ xs) ys = ap (λ t. named x ++ t) (named-append xs ys) ∙ sym (append_assoc (named x) (flat_map named xs) (flat_map named ys))
+
+pub ruleset named_steps = (named-append, append_assoc)

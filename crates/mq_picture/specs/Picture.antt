@@ -1,10 +1,11 @@
 -- The text of a picture.
 use Rattle.std.specs.Prelude.{ℕ, zero, suc, ◌+◌, ◌*◌, max, min, length, List, [], ◌∷◌, ◌++◌, codes, Option, None, Some}
 use Rattle.std.specs.Fmt.{decimal}
+use Rattle.std.specs.List.{join_with_byte}
 use Rattle.mq_model.specs.Record.{Past, Record, first}
 use Rattle.mq_model.specs.declared.entries.Reply.{Reply}
 use Rattle.mq_model.specs.declared.entries.Reply.TheVariants as reply
-use Rattle.mq_journal.specs.Text.{line_text}
+use Rattle.mq_journal.specs.Text.{line_text, reply_words}
 use Rattle.mq_picture.specs.Label.{label}
 use Rattle.mq_picture.specs.Shapes.{arrow, bar, lane, row}
 use Rattle.mq_picture.specs.declared.picture.TheConstants.{STYLE}
@@ -25,7 +26,7 @@ mark_front column x y reply =
 
 -- the mark of a record: its point, and its line
 unfoldable pub mark_text : ℕ → ℕ → ℕ → Record → List ℕ
-mark_text column from place r = mark_front column (lane r.entry.process) (row from place) r.entry.reply ++ (label (line_text place r) ++ codes "</text></g>\n")
+mark_text column from place r = mark_front column (lane r.entry.process) (row from place) r.entry.reply ++ (label (line_text place r) (join_with_byte 32 (reply_words r.entry.reply)) ++ codes "</text></g>\n")
 
 -- the ends of a line
 unfoldable pub ends_text : Stroke → List ℕ
@@ -36,7 +37,7 @@ bar_text None = []
 bar_text (Some stroke) = codes "<line class=\"wait\" " ++ (ends_text stroke ++ codes "/>\n")
 
 unfoldable pub flight_text : Flight → List ℕ
-flight_text flight = codes "<line class=\"message\" stroke=\"hsl(" ++ (decimal flight.hue ++ (codes ",80%,40%)\" " ++ (ends_text flight.stroke ++ codes " marker-end=\"url(#tip)\"/>\n")))
+flight_text flight = codes "<line class=\"message\" stroke=\"hsl(" ++ (decimal flight.hue ++ (codes ",80%,40%)\" " ++ (ends_text flight.stroke ++ (codes " marker-end=\"url(#tip" ++ (decimal flight.hue ++ codes ")\"/>\n")))))
 
 unfoldable pub arrow_text : Option Flight → List ℕ
 arrow_text None = []
@@ -71,7 +72,7 @@ unfoldable pub lanes_text : ℕ → ℕ → List ℕ
 lanes_text height zero = []
 lanes_text height (suc n) = lanes_text height n ++ lane_text height (lane (suc n)) (suc n)
 
--- the front of a picture of so many lanes and entries: its size, its colours, and the tip of an arrow
+-- the front of a picture of so many lanes and entries: its size, its colours, and the tips of arrows
 unfoldable pub front_text : ℕ → ℕ → List ℕ
 front_text lanes height =
     codes "<svg xmlns=\"http://www.w3.org/2000/svg\" width=\"" ++ (decimal (lanes * 60 + 800) ++ (codes "\" height=\"" ++ (decimal height ++ (codes "\">\n" ++ STYLE.now))))
@@ -80,6 +81,6 @@ front_text lanes height =
 -- the lanes their lines
 abbrev pub picture_text : Past → ℕ → ℕ → List ℕ
 picture_text past from count =
-    let height = count * 20 + 80 in
+    let height = count * 16 + 80 in
     let lanes = min (greatest past) 32 in
     front_text lanes height ++ (lanes_text height lanes ++ (entries_text past (lane (lanes + 1)) from count ++ codes "</svg>\n"))

@@ -16,7 +16,7 @@ abbrev pub lane : ℕ → ℕ
 lane process = process * 60
 
 abbrev pub row : ℕ → ℕ → ℕ
-row from place = (place - from) * 20 + 60
+row from place = (place - from) * 16 + 60
 
 -- an entry that stands before this place
 unfoldable pub entry_before : Past → ℕ → ℕ → Option Entry

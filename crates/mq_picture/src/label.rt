@@ -5,14 +5,24 @@ ghost use Rattle.mq_picture.specs.Label.{label, named};
 
 use std::alloc::AllocError;
 
-/// The most bytes of a line that are shown.
+/// The most bytes of a line that are shown, without its feed.
 const MOST_BYTES: usize = 100;
 
-/// Adds the text of a line as a picture writes it.
-pub fn push_label(text: &mut Vec<u8>, line: &[u8]) -> Result<(), AllocError>
-    ensures { OnOk result (text.new.items ≡ text.old.items ++ label line.now) }
+/// What stands for the bytes that are left out.
+const CUT: &[u8] = b".. -> ";
+
+/// Adds the text of a line as a picture writes it. A line that is cut keeps its reply.
+#[tactic(auto, using(crate::proofs::Steps::named_steps))]
+pub fn push_label(text: &mut Vec<u8>, line: &[u8], reply: &[u8]) -> Result<(), AllocError>
+    ensures { OnOk result (text.new.items ≡ text.old.items ++ label line.now reply.now) }
 {
-    push_named(text, &line[..line.len().min(MOST_BYTES)])
+    if line.len() <= MOST_BYTES + 1 {
+        return push_named(text, line);
+    }
+    let front = (MOST_BYTES - CUT.len()).saturating_sub(reply.len());
+    push_named(text, &line[..front])?;
+    push_named(text, CUT)?;
+    push_named(text, reply)
 }
 
 fn push_named(text: &mut Vec<u8>, bytes: &[u8]) -> Result<(), AllocError>

@@ -6,6 +6,7 @@ ghost use Rattle.mq_picture.specs.Picture.{arrow_text, bar_text, ends_text, entr
 use crate::label::push_label;
 use crate::shapes::{Flight, Stroke, arrow, bar, lane, row};
 use mq_journal::line::line_of;
+use mq_journal::reply::reply_text;
 use mq_model::entries::{Entry, Reply};
 use mq_model::journals::Journal;
 use std::alloc::{AllocError, Global};
@@ -16,7 +17,7 @@ pub const MOST_ENTRIES: u64 = 2000;
 /// The most lanes of a picture.
 const MOST_LANES: u32 = 32;
 
-/// Colours, and the tip of an arrow.
+/// Colours, and the tips of arrows: one for each hue.
 const STYLE: &str = "<style>\
 text{font:12px monospace}\
 text.lane{text-anchor:middle;font-weight:bold}\
@@ -28,7 +29,20 @@ g.waits circle{fill:#f5b041}\
 g.notice circle{fill:#2471a3}\
 g.refused{fill:#c0392b}\
 </style>
-<defs><marker id=\"tip\" viewBox=\"0 0 8 8\" refX=\"10\" refY=\"4\" markerWidth=\"7\" markerHeight=\"7\" orient=\"auto\"><path d=\"M0 0L8 4L0 8z\"/></marker></defs>
+<defs>
+<marker id=\"tip0\" viewBox=\"0 0 8 8\" refX=\"10\" refY=\"4\" markerWidth=\"7\" markerHeight=\"7\" orient=\"auto\"><path d=\"M0 0L8 4L0 8z\" fill=\"hsl(0,80%,40%)\"/></marker>
+<marker id=\"tip30\" viewBox=\"0 0 8 8\" refX=\"10\" refY=\"4\" markerWidth=\"7\" markerHeight=\"7\" orient=\"auto\"><path d=\"M0 0L8 4L0 8z\" fill=\"hsl(30,80%,40%)\"/></marker>
+<marker id=\"tip60\" viewBox=\"0 0 8 8\" refX=\"10\" refY=\"4\" markerWidth=\"7\" markerHeight=\"7\" orient=\"auto\"><path d=\"M0 0L8 4L0 8z\" fill=\"hsl(60,80%,40%)\"/></marker>
+<marker id=\"tip90\" viewBox=\"0 0 8 8\" refX=\"10\" refY=\"4\" markerWidth=\"7\" markerHeight=\"7\" orient=\"auto\"><path d=\"M0 0L8 4L0 8z\" fill=\"hsl(90,80%,40%)\"/></marker>
+<marker id=\"tip120\" viewBox=\"0 0 8 8\" refX=\"10\" refY=\"4\" markerWidth=\"7\" markerHeight=\"7\" orient=\"auto\"><path d=\"M0 0L8 4L0 8z\" fill=\"hsl(120,80%,40%)\"/></marker>
+<marker id=\"tip150\" viewBox=\"0 0 8 8\" refX=\"10\" refY=\"4\" markerWidth=\"7\" markerHeight=\"7\" orient=\"auto\"><path d=\"M0 0L8 4L0 8z\" fill=\"hsl(150,80%,40%)\"/></marker>
+<marker id=\"tip180\" viewBox=\"0 0 8 8\" refX=\"10\" refY=\"4\" markerWidth=\"7\" markerHeight=\"7\" orient=\"auto\"><path d=\"M0 0L8 4L0 8z\" fill=\"hsl(180,80%,40%)\"/></marker>
+<marker id=\"tip210\" viewBox=\"0 0 8 8\" refX=\"10\" refY=\"4\" markerWidth=\"7\" markerHeight=\"7\" orient=\"auto\"><path d=\"M0 0L8 4L0 8z\" fill=\"hsl(210,80%,40%)\"/></marker>
+<marker id=\"tip240\" viewBox=\"0 0 8 8\" refX=\"10\" refY=\"4\" markerWidth=\"7\" markerHeight=\"7\" orient=\"auto\"><path d=\"M0 0L8 4L0 8z\" fill=\"hsl(240,80%,40%)\"/></marker>
+<marker id=\"tip270\" viewBox=\"0 0 8 8\" refX=\"10\" refY=\"4\" markerWidth=\"7\" markerHeight=\"7\" orient=\"auto\"><path d=\"M0 0L8 4L0 8z\" fill=\"hsl(270,80%,40%)\"/></marker>
+<marker id=\"tip300\" viewBox=\"0 0 8 8\" refX=\"10\" refY=\"4\" markerWidth=\"7\" markerHeight=\"7\" orient=\"auto\"><path d=\"M0 0L8 4L0 8z\" fill=\"hsl(300,80%,40%)\"/></marker>
+<marker id=\"tip330\" viewBox=\"0 0 8 8\" refX=\"10\" refY=\"4\" markerWidth=\"7\" markerHeight=\"7\" orient=\"auto\"><path d=\"M0 0L8 4L0 8z\" fill=\"hsl(330,80%,40%)\"/></marker>
+</defs>
 ";
 
 /// A picture of a journal, in the language SVG, of so many entries from the place `from` on.
@@ -42,7 +56,7 @@ pub fn picture_of(
     requires few { count ≤ 2000 }
     ensures { IfOk result (λ text. text.items ≡ picture_text journal.now.records from count) }
 {
-    let height = count * 20 + 80;
+    let height = count * 16 + 80;
     let lanes = greatest(journal).min(MOST_LANES);
     let front = front_text(alloc, lanes, height)?;
     let mut text = Vec::new(alloc);
@@ -53,7 +67,7 @@ pub fn picture_of(
     Ok(text)
 }
 
-// The front of a picture of so many lanes: its size, its colours, and the tip of an arrow.
+// The front of a picture of so many lanes: its size, its colours, and the tips of arrows.
 #[tactic(auto, unfolding(crate::specs::Picture::front_text))]
 fn front_text(alloc: Global, lanes: u32, height: u64) -> Result<String, AllocError>
     requires { lanes ≤ 32 }
@@ -165,8 +179,9 @@ fn push_mark(
         entry.reply,
     )?;
     let line = line_of(alloc, place, entry, payload)?;
+    let reply = reply_text(alloc, &entry.reply)?;
     text.extend_from_slice(front.as_bytes())?;
-    push_label(text, line.as_bytes())?;
+    push_label(text, line.as_bytes(), reply.as_bytes())?;
     text.extend_from_slice(b"</text></g>\n")
 }
 
@@ -247,6 +262,6 @@ fn flight_text(alloc: Global, flight: Flight) -> Result<String, AllocError>
     let (stroke, hue) = (flight.stroke, flight.hue);
     let ends = ends_text(alloc, stroke)?;
     format!(in alloc;
-        "<line class=\"message\" stroke=\"hsl({hue},80%,40%)\" {ends} marker-end=\"url(#tip)\"/>\n"
+        "<line class=\"message\" stroke=\"hsl({hue},80%,40%)\" {ends} marker-end=\"url(#tip{hue})\"/>\n"
     )
 }

@@ -34,7 +34,7 @@ pub fn row(from: u64, place: u64) -> u64
     requires { place - from < 2 ^ 32 }
     ensures { result ≡ row from place }
 {
-    place.saturating_sub(from) * 20 + 60
+    place.saturating_sub(from) * 16 + 60
 }
 
 // An entry that stands before this place.

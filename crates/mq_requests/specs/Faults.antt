@@ -1,5 +1,6 @@
 -- Why a run ended without a result: what is printed, and the exit status.
-use Rattle.std.specs.Prelude.{◌≡◌, ℕ, List, codes, Option, Some, None, Result, Ok, Err}
+use Rattle.std.specs.Prelude.{◌≡◌, ℕ, List, ◌++◌, codes, Option, Some, None, Result, Ok, Err}
+use Rattle.mq_model.specs.Fault.{text_of}
 use Rattle.mq_model.specs.declared.faults.Fault.{Fault}
 use Rattle.mq_model.specs.declared.faults.Fault.TheVariants as fault
 use Rattle.lines.specs.declared.input.ReadFault.{ReadFault}
@@ -14,7 +15,7 @@ abbrev pub work_fault_text : WorkFault → List ℕ
 work_fault_text NoMemory = codes "no memory"
 work_fault_text NoThread = codes "no thread"
 work_fault_text NoClock = codes "no clock"
-work_fault_text Refused = codes "a call was refused"
+work_fault_text (Refused fault) = codes "a call was refused: " ++ text_of fault
 
 -- the line on the error stream
 abbrev pub fault_text : BenchFault → List ℕ
@@ -33,7 +34,7 @@ exit_status (Failed fault) = 4
 -- why a workload ends in which a call was refused
 abbrev pub of_fault : Fault → WorkFault
 of_fault fault.NoMemory = NoMemory
-of_fault refused = Refused
+of_fault fault = Refused fault
 
 -- why a run ends whose input was not read to its end
 abbrev pub of_read_fault : ReadFault → BenchFault

@@ -106,26 +106,38 @@ workload_written name.Idle words = idle_written words
 workload_written name.Storm words = storm_written words
 
 -- a workload in a system with bounds: how many entries, how many payload bytes, and the workload
-abbrev pub bounded_written : List Word → Option Request
-bounded_written (entries ∷ bytes ∷ word ∷ arguments) = do
+abbrev pub bounded_written : ℕ → List Word → Option Request
+bounded_written busy (entries ∷ bytes ∷ word ∷ arguments) = do
   entries ← count_written 1000000000 entries
   bytes ← count_written 1000000000 bytes
   name ← name_written word
   workload ← workload_written name arguments
-  Some (request.Measure workload (Some (record { entries = entries; bytes = bytes })))
-bounded_written words = None
+  Some (request.Measure workload (record { bounds = Some (record { entries = entries; bytes = bytes }); busy = busy }))
+bounded_written busy words = None
 
 -- a workload in a system without
-abbrev pub unbounded_written : Word → List Word → Option Request
-unbounded_written word arguments = do
+abbrev pub unbounded_written : ℕ → Word → List Word → Option Request
+unbounded_written busy word arguments = do
   name ← name_written word
   workload ← workload_written name arguments
-  Some (request.Measure workload None)
+  Some (request.Measure workload (record { bounds = None; busy = busy }))
+
+-- a workload beside so many threads that count
+abbrev pub measured_written : ℕ → List Word → Option Request
+measured_written busy [] = None
+measured_written busy (word ∷ arguments) = if bytes_eq word (codes "bounded") then bounded_written busy arguments else unbounded_written busy word arguments
+
+-- how many threads count, at most 32, and a workload beside them
+abbrev pub busy_written : List Word → Option Request
+busy_written [] = None
+busy_written (busy ∷ words) = do
+  busy ← count_written 32 busy
+  measured_written busy words
 
 -- what the words of a line ask for
 abbrev pub request_written : List Word → Option Request
 request_written [] = Some request.Usage
-request_written (word ∷ arguments) = if bytes_eq word (codes "bounded") then bounded_written arguments else unbounded_written word arguments
+request_written (word ∷ arguments) = if bytes_eq word (codes "busy") then busy_written arguments else measured_written 0 (word ∷ arguments)
 
 -- the bytes without the feed that ends them, if one does
 abbrev pub without_feed : List ℕ → List ℕ

@@ -21,7 +21,7 @@ pub enum WorkFault {
     /// The clock could not be read.
     NoClock,
     /// A call was refused, though memory was not.
-    Refused,
+    Refused(Fault),
 }
 
 /// Why a run ended without a result. Its text is the line that the program writes to the error stream.
@@ -58,7 +58,10 @@ impl fmt::Display for WorkFault {
             WorkFault::NoMemory => f.write_str("no memory"),
             WorkFault::NoThread => f.write_str("no thread"),
             WorkFault::NoClock => f.write_str("no clock"),
-            WorkFault::Refused => f.write_str("a call was refused"),
+            WorkFault::Refused(refusal) => {
+                let name = refusal.name();
+                write!(f, "a call was refused: {name}")
+            }
         }
     }
 }
@@ -90,13 +93,21 @@ impl From<AllocError> for WorkFault {
     }
 }
 
+impl<T: Drop> From<AllocFailed<T>> for WorkFault {
+    ghost from_gives = { λ _ fault. fault ≡ NoMemory };
+
+    fn from(_refused: AllocFailed<T>) -> WorkFault {
+        WorkFault::NoMemory
+    }
+}
+
 impl From<Fault> for WorkFault {
     ghost from_gives = { λ refused fault. fault ≡ of_fault refused };
 
     fn from(fault: Fault) -> WorkFault {
         match fault {
             Fault::NoMemory => WorkFault::NoMemory,
-            _ => WorkFault::Refused,
+            _ => WorkFault::Refused(fault),
         }
     }
 }

@@ -1,7 +1,7 @@
 //! What a run is asked for, and the words that write it.
 ghost use Rattle.std.specs.Prelude.{◌≡◌, ◌≤◌, ◌*◌, map, IfSome};
 ghost use Rattle.lines.specs.Words.{count_written};
-ghost use Rattle.mq_requests.specs.Grammar.{request_written, bounded_written, workload_written, rounds_alone, deep_written, replay_written, crowd_written, idle_written, storm_written, name_written};
+ghost use Rattle.mq_requests.specs.Grammar.{request_written, busy_written, measured_written, bounded_written, workload_written, rounds_alone, deep_written, replay_written, crowd_written, idle_written, storm_written, name_written};
 
 use lines::words::count_of;
 use mq_model::bounds::Bounds;
@@ -31,12 +31,20 @@ pub enum Workload {
     Storm { seed: u32, calls: u32 },
 }
 
+/// In what a workload is carried out.
+#[derive(Clone, Copy)]
+pub struct Conditions {
+    /// What the journal may hold, where it has bounds.
+    pub bounds: Option<Bounds>,
+    /// How many threads do nothing but count beside the workload.
+    pub busy: u32,
+}
+
 /// What a line asks for.
 #[derive(Clone, Copy)]
 pub enum Request {
     Usage,
-    /// A workload, in a system whose journal has these bounds.
-    Measure(Workload, Option<Bounds>),
+    Measure(Workload, Conditions),
 }
 
 /// The first word of a line.
@@ -63,6 +71,8 @@ const MOST_DEPTH: u32 = 4096;
 const MOST_PROCESSES: u32 = 32;
 /// The most entries of a bounded journal, and the most payload bytes.
 const MOST_BOUND: u32 = 1_000_000_000;
+/// The most threads that count beside a workload.
+const MOST_BUSY: u32 = 32;
 /// The longest time of a workload, in milliseconds.
 const MOST_MILLISECONDS: u32 = 60_000;
 
@@ -108,27 +118,49 @@ pub fn request_of(words: &[&[u8]]) -> Option<Request>
     match words {
         [] => Some(Request::Usage),
         [word, arguments @ ..] => {
-            if *word == b"bounded".as_slice() {
-                return bounded_of(arguments);
+            if *word == b"busy".as_slice() {
+                return busy_of(arguments);
             }
-            Some(Request::Measure(workload_of(name_of(word)?, arguments)?, None))
+            measured_of(0, words)
         }
     }
 }
 
-fn bounded_of(arguments: &[&[u8]]) -> Option<Request>
-    ensures { result ≡ bounded_written (map (λ word. word.now) arguments.now) }
+fn busy_of(arguments: &[&[u8]]) -> Option<Request>
+    ensures { result ≡ busy_written (map (λ word. word.now) arguments.now) }
+{
+    match arguments {
+        [] => None,
+        [busy, words @ ..] => measured_of(count_of(MOST_BUSY, busy)?, words),
+    }
+}
+
+// A workload beside so many threads that count.
+fn measured_of(busy: u32, words: &[&[u8]]) -> Option<Request>
+    ensures { result ≡ measured_written busy (map (λ word. word.now) words.now) }
+{
+    match words {
+        [] => None,
+        [word, arguments @ ..] => {
+            if *word == b"bounded".as_slice() {
+                return bounded_of(busy, arguments);
+            }
+            let workload = workload_of(name_of(word)?, arguments)?;
+            Some(Request::Measure(workload, Conditions { bounds: None, busy }))
+        }
+    }
+}
+
+fn bounded_of(busy: u32, arguments: &[&[u8]]) -> Option<Request>
+    ensures { result ≡ bounded_written busy (map (λ word. word.now) arguments.now) }
 {
     match arguments {
         [entries, bytes, word, arguments @ ..] => {
-            let entries = count_of(MOST_BOUND, entries)?;
-            let bytes = count_of(MOST_BOUND, bytes)?;
+            let entries = u64::from(count_of(MOST_BOUND, entries)?);
+            let bytes = u64::from(count_of(MOST_BOUND, bytes)?);
             let workload = workload_of(name_of(word)?, arguments)?;
-            let bounds = Bounds {
-                entries: u64::from(entries),
-                bytes: u64::from(bytes),
-            };
-            Some(Request::Measure(workload, Some(bounds)))
+            let bounds = Some(Bounds { entries, bytes });
+            Some(Request::Measure(workload, Conditions { bounds, busy }))
         }
         _ => None,
     }

@@ -11,50 +11,12 @@ ghost use Rattle.mq_script.specs.declared.reply.Outcome.TheVariants as outcomes;
 
 use crate::peers::{Peer, calling};
 use fast_mutex::Look;
-use mq::{Collected, Deadline, Guarded, Mq, Process};
+use mq::{Collected, Deadline, Guarded, Mq, Naps, Process};
 use mq_script::reply::Outcome;
 use std::sync::Wait;
-use std::thread;
-use std::time::{Clock, Duration};
-
-// How often a blocked call yields the processor before it sleeps.
-const MOST_YIELDS: u32 = 10;
-
-// The first sleep and the longest, in microseconds.
-const FIRST_SLEEP: u64 = 20;
-
-const LONGEST_SLEEP: u64 = 1_000;
-
-// How a blocked call passes the time between its looks: yields, then sleeps, each twice the one before, up to a millisecond.
-#[derive(Drop)]
-struct Pause {
-    yields: u32,
-    sleep: u64,
-}
-
-impl Pause {
-    fn new() -> Pause {
-        Pause {
-            yields: 0,
-            sleep: FIRST_SLEEP,
-        }
-    }
-
-    // The next one. It is true where the call slept.
-    fn pass<R: Clock>(&mut self, rt: &R) -> bool {
-        if self.yields < MOST_YIELDS {
-            self.yields += 1;
-            thread::yield_now();
-            return false;
-        }
-        thread::sleep(rt, Duration::from_micros(self.sleep));
-        self.sleep = self.sleep.saturating_mul(2).min(LONGEST_SLEEP);
-        true
-    }
-}
 
 /// A send (`mq_send`). `None`: it waits for ever, since no process that may still call goes on.
-pub fn send<L: Look<Guarded>, R: Wait + Clock>(
+pub fn send<L: Look<Guarded>, R: Wait>(
     rt: &R,
     mq: &Mq<L>,
     process: &mut Process<L>,
@@ -82,7 +44,7 @@ pub fn send<L: Look<Guarded>, R: Wait + Clock>(
 }
 
 /// A receive into the front of the buffer (`mq_receive`). `None`: it waits for ever, since no process that may still call goes on.
-pub fn receive<L: Look<Guarded>, R: Wait + Clock>(
+pub fn receive<L: Look<Guarded>, R: Wait>(
     rt: &R,
     mq: &Mq<L>,
     process: &mut Process<L>,
@@ -110,7 +72,7 @@ pub fn receive<L: Look<Guarded>, R: Wait + Clock>(
 }
 
 /// A send with a deadline (`mq_timedsend`), of a clock that stands at the moment `now`. `None`: it waits for ever.
-pub fn timed_send<L: Look<Guarded>, R: Wait + Clock>(
+pub fn timed_send<L: Look<Guarded>, R: Wait>(
     rt: &R,
     mq: &Mq<L>,
     process: &mut Process<L>,
@@ -140,7 +102,7 @@ pub fn timed_send<L: Look<Guarded>, R: Wait + Clock>(
 }
 
 /// A receive with a deadline (`mq_timedreceive`), of a clock that stands at the moment `now`. `None`: it waits for ever.
-pub fn timed_receive<L: Look<Guarded>, R: Wait + Clock>(
+pub fn timed_receive<L: Look<Guarded>, R: Wait>(
     rt: &R,
     mq: &Mq<L>,
     process: &mut Process<L>,
@@ -170,7 +132,7 @@ pub fn timed_receive<L: Look<Guarded>, R: Wait + Clock>(
 }
 
 // Waits until the open wait is answered, and collects what it came to. `None`: it never is.
-fn await_answer<L: Look<Guarded>, R: Wait + Clock>(
+fn await_answer<L: Look<Guarded>, R: Wait>(
     rt: &R,
     mq: &Mq<L>,
     process: &mut Process<L>,
@@ -193,9 +155,8 @@ fn await_answer<L: Look<Guarded>, R: Wait + Clock>(
     }
 }
 
-// Looks until the open wait is answered, or no process that may still call goes on: then it is false. It asks for that only once it
-// has waited long enough to sleep, and then after each sleep.
-fn look_for_answer<L: Look<Guarded>, R: Wait + Clock>(
+// Looks until the open wait is answered, or no process that may still call goes on: then it is false. It asks for that after each sleep.
+fn look_for_answer<L: Look<Guarded>, R: Wait>(
     rt: &R,
     mq: &Mq<L>,
     process: &mut Process<L>,
@@ -206,14 +167,14 @@ fn look_for_answer<L: Look<Guarded>, R: Wait + Clock>(
     ensures calls { Calls process.old process.new [] }
     ensures told { IsTrue result → process.new.told ≡ true }
 {
-    let mut pause = Pause::new();
+    let mut naps = Naps::new();
     let mut answered = false;
     'looks: for _ in rt.forever() {
-        if process.answered(mq) {
+        if process.await_answer(rt, mq, naps.next()) {
             answered = true;
             break;
         }
-        if pause.pass(rt) && process.are_blocked(rt, mq, &calling(peers)) {
+        if process.are_blocked(rt, mq, &calling(peers)) {
             break;
         }
     }

@@ -165,12 +165,13 @@ still-refused until now reply e = e
 
 -- a call that is refused for want of room
 pub called-refused : (j j' : Shown) (t : Tables) (p : ℕ) (call : Call) (given : List ℕ) (k m : ℕ) (fault : Fault) (result : Result (Unit {0}) Fault) → NeedsJust k m j.records p call given →
-    IsRoomRefused t.bounds (length j.records + open_waits j.records + k) (payload_bytes j.records + m) result → result ≡ Err fault → j'.records ≡ j.records → IsKeptBy j' t → IsPooled None t → IsCalled j j' t t p call given (Refused fault)
-called-refused j j' t p call given k m fault result needs room is same kept pool =
+    IsRoomRefused t.bounds (length j.records + open_waits j.records + k) (payload_bytes j.records + m) result → result ≡ Err fault → j'.records ≡ j.records → j.byte_room ≤ j'.byte_room → IsKeptBy j' t → IsPooled None t → IsCalled j j' t t p call given (Refused fault)
+called-refused j j' t p call given k m fault result needs room is same no_less kept pool =
     let x = room-refused t.bounds j.records p call given k m fault result needs room is in
     record {
       entry = λ e. absurd (let bad : true ≡ false = sym e ∙ x.no_entry in cc);
       no_entry = λ _. same;
+      no_less = λ _. no_less;
       heeds = x.heeds;
       kept = kept;
       pool = pool;
@@ -179,12 +180,13 @@ called-refused j j' t p call given k m fault result needs room is same kept pool
     }
 
 -- one that memory is wanting for, after its making room
-pub called-wanting : (j j' : Shown) (t t' : Tables) (p : ℕ) (call : Call) (given : List ℕ) → t'.bounds ≡ None → j'.records ≡ j.records → IsKeptBy j' t' → t'.n ≡ t.n → t'.bounds ≡ t.bounds → IsCalled j j' t t' p call given (Refused NoMemory)
-called-wanting j j' t t' p call given none same kept n bounds =
+pub called-wanting : (j j' : Shown) (t t' : Tables) (p : ℕ) (call : Call) (given : List ℕ) → t'.bounds ≡ None → j'.records ≡ j.records → j.byte_room ≤ j'.byte_room → IsKeptBy j' t' → t'.n ≡ t.n → t'.bounds ≡ t.bounds → IsCalled j j' t t' p call given (Refused NoMemory)
+called-wanting j j' t t' p call given none same no_less kept n bounds =
     let x = wants-memory t.bounds j.records p call given (sym bounds ∙ none) in
     record {
       entry = λ e. absurd (let bad : false ≡ true = e in cc);
       no_entry = λ _. same;
+      no_less = λ _. no_less;
       heeds = x.heeds;
       kept = kept;
       pool = subst (λ (o : Option Bounds). PoolWithin o None t'.queues.items t'.spares.items (vec_capacity t'.queues) (vec_capacity t'.spares)) (sym none) tt;
@@ -201,6 +203,7 @@ called j between j' t t' p call given reply k m result needs room is answers sam
     record {
       entry = λ _. subst (λ (past : Past). Appends past j'.records p call given reply) same appends;
       no_entry = λ e. absurd (let bad : true ≡ false = sym x.entry ∙ e in cc);
+      no_less = λ e. absurd (let bad : true ≡ false = sym x.entry ∙ e in cc);
       heeds = x.heeds;
       kept = kept;
       pool = pool;

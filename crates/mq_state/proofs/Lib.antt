@@ -19,3 +19,4 @@ pub mod Bounded
 pub mod Pooling
 pub mod Wholes
 pub mod Replaying
+pub mod Stopping

@@ -94,17 +94,20 @@ pub record MayCall (j : Shown) (t : Tables) (p : ℕ) : Type 0 where
 pub record IsCalled (j j' : Shown) (t t' : Tables) (p : ℕ) (call : Call) (given : List ℕ) (reply : Reply) : Type 0 where
   pub entry : has_entry reply ≡ true → Appends j.records j'.records p call given reply
   pub no_entry : has_entry reply ≡ false → j'.records ≡ j.records
+  pub no_less : has_entry reply ≡ false → j.byte_room ≤ j'.byte_room
   pub heeds : HeedsBounds t.bounds j.records p call given reply
   pub kept : IsKeptBy j' t'
   pub pool : IsPooled None t'
   pub n : t'.n ≡ t.n
   pub bounds : t'.bounds ≡ t.bounds
 
--- what a call of process p with this reply made of the queues: its entry, or nothing where the reply has none. The reply is that the journal
--- is full exactly where the call finds it full, and with bounds never that memory was wanting
+-- what a call of process p with this reply made of the queues: its entry, or nothing where the reply has none, and then no room for
+-- bytes is lost. The reply is that the journal is full exactly where the call finds it full, and with bounds never that memory was
+-- wanting
 pub record IsMade (old new : Kept) (p : ℕ) (call : Call) (given : List ℕ) (reply : Reply) : Type 0 where
   pub entry : has_entry reply ≡ true → Appends old.records new.records p call given reply
   pub no_entry : has_entry reply ≡ false → new.records ≡ old.records
+  pub no_less : has_entry reply ≡ false → old.byte_room ≤ new.byte_room
   pub full : HeedsBounds old.bounds old.records p call given reply
   pub processes : new.n ≡ old.n
   pub bounds : new.bounds ≡ old.bounds

@@ -10,6 +10,7 @@ pub mod Tables
 pub mod Inboxes
 pub mod Pool
 pub mod Kept
+pub mod Room
 pub mod Buffers
 pub mod BooksModel
 pub mod Memory

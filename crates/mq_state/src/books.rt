@@ -11,6 +11,7 @@ ghost use Rattle.mq_model.specs.Descriptors.{lowest_held};
 ghost use Rattle.mq_model.specs.Legality.{Appends, Legal};
 ghost use Rattle.mq_state.specs.Buffers.{filled, collected, collected_into, collected_by, into_by, waiting_call, waiting_room, room_of, FitsOutcome};
 ghost use Rattle.mq_state.specs.Kept.{IsKeptBy, IsMade, HasRoomWithin};
+ghost use Rattle.mq_state.specs.Room.{NobodyCanCall, room_left};
 
 use crate::buffers;
 use crate::collected::{Collected, received};
@@ -251,7 +252,7 @@ impl Books {
         ensures some { IsSome result ↔ IsSome (answered_by self.old.records p) }
         ensures value { result ≡ collected self.old.records p }
         ensures entry { IfSome (answered_by self.old.records p) (λ by. Appends self.old.records self.new.records p Call.Collect [] (Reply.Collected by)) }
-        ensures none { result ≡ None → self.new.records ≡ self.old.records }
+        ensures none { result ≡ None → self.new ≡ self.old }
         ensures buffer { buf.new ≡ collected_into self.old.records p buf.old }
         ensures processes { self.new.n ≡ self.old.n }
         ensures bounds { self.new.bounds ≡ self.old.bounds }
@@ -271,7 +272,7 @@ impl Books {
         ensures value { result ≡ (is_none (answered_by self.old.records p) && is_over (wait_deadline self.old.records p) now) }
         ensures entry { IsTrue result → IfSome (open_wait self.old.records p) (λ wait. Appends self.old.records self.new.records p (Call.Withdraw now) [] (Reply.Withdrawn wait)) }
         ensures waited { IsTrue result → IsSome (open_wait self.old.records p) }
-        ensures none { result ≡ false → self.new.records ≡ self.old.records }
+        ensures none { result ≡ false → self.new ≡ self.old }
         ensures processes { self.new.n ≡ self.old.n }
         ensures bounds { self.new.bounds ≡ self.old.bounds }
     {
@@ -284,6 +285,23 @@ impl Books {
         ensures { result ≡ lowest_held self.now.records p }
     {
         self.shelf.tables.lowest_open(p)
+    }
+
+    /// None of the processes can make any call, at whatever moment: the open waits are not answered and have no deadline, and where
+    /// a process has none the journal is full. So none ever can.
+    pub fn nobody_can_call(&self) -> bool
+        ensures { IsTrue result ↔ NobodyCanCall self.now.bounds self.now.records self.now.n }
+    {
+        let Shelf { journal, tables } = &*self.shelf;
+        tables.nobody_can_call(journal)
+    }
+
+    /// For how many more entries, beside those that end the open waits, and payload bytes the journal has room; `None` without bounds.
+    pub fn room(&self) -> Option<Bounds>
+        ensures { result ≡ room_left self.now.bounds self.now.records }
+    {
+        let Shelf { journal, tables } = &*self.shelf;
+        tables.room(journal)
     }
 
     /// The journal.

@@ -12,6 +12,7 @@ ghost use Rattle.mq_state.specs.Pool.{order_count};
 
 mod calls;
 mod facts;
+mod room;
 mod waiting;
 
 use crate::notices::Inbox;

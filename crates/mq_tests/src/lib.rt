@@ -3,3 +3,5 @@
 
 #[cfg(test)]
 mod processes;
+#[cfg(test)]
+mod rows;

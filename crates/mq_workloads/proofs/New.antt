@@ -16,13 +16,6 @@ new-ready lock n processes new =
     All-same (IsReady lock) processes (tickets_from lock 1 n) new
     (All-from_recursion (IsReady lock) (tickets_from lock 1 n) (each-new-ready lock 1 n))
 
--- each process of a new system is ready for a call
-pub each-ready : (lock : LockId) (processes : List (Ticket Record)) (k n : ℕ) → processes ≡ tickets_from lock k n → (i : ℕ) (x : Ticket Record) → i < length processes → x ≡ get_or processes i x → IsReady lock x
-each-ready lock [] k n e i x h is = absurd (omega arith)
-each-ready lock (y ∷ ys) k zero e i x h is = absurd (cc)
-each-ready lock (y ∷ ys) k (suc n) e zero x h is = let first : y ≡ new_ticket lock k = cc in subst (IsReady lock) (sym (is ∙ first)) record { made = refl; free = refl }
-each-ready lock (y ∷ ys) k (suc n) e (suc i) x h is = let rest : ys ≡ tickets_from lock (suc k) n = cc in each-ready lock ys (suc k) n rest i x (omega arith) is
-
 last-of : {X : Type 0} (P : X → Type 0) (xs : List X) (x : X) → All P (xs ++ x ∷ []) → P x
 last-of P [] x all = All-head P x [] all
 last-of P (y ∷ xs) x all = last-of P xs x (All-tail P y (xs ++ x ∷ []) all)
@@ -42,3 +35,10 @@ before-last P all xs x is holds = front-of P xs x (rw is at holds)
 -- what holds of all holds of those after the first
 pub after-first : {X : Type 0} (P : X → Type 0) (all xs : List X) (x : X) → all ≡ x ∷ xs → All P all → All P xs
 after-first P all xs x is holds = All-tail P x xs (rw is at holds)
+
+pub at-first : {X : Type 0} (P : X → Type 0) (all xs : List X) (x : X) → all ≡ x ∷ xs → All P all → P x
+at-first P all xs x is holds = All-head P x xs (rw is at holds)
+
+pub all-push : {X : Type 0} (P : X → Type 0) (xs : List X) (x : X) → All P xs → P x → All P (xs ++ x ∷ [])
+all-push P [] x all here = All-cons P x [] here (All-nil P)
+all-push P (y ∷ ys) x all here = All-cons P y (ys ++ x ∷ []) (All-head P y ys all) (all-push P ys x (All-tail P y ys all) here)

@@ -2,7 +2,7 @@
 ghost use Rattle.std.specs.Prelude.{◌≡◌, OnOk};
 ghost use Rattle.mq_workloads.specs.Ready.{IsReady};
 
-use crossbeam_utils::Backoff;
+use crate::course::{Course, DEADLINE};
 use fast_mutex::Look;
 use mq::{Guarded, Mq, Process};
 use mq_model::entries::{Access, Attr, OpenFlags};
@@ -73,42 +73,32 @@ pub fn receive<L: Look<Guarded>, R: Wait + Clock>(
     Ok(())
 }
 
-/// Sends a message of 16 bytes, and tries again while memory is refused, so that no receiver waits for it for ever.
-pub fn send_surely<L: Look<Guarded>, R: Wait + Clock>(
+/// Sends a message of 16 bytes, and waits as long as the run goes on.
+pub fn send_in<L: Look<Guarded>, R: Wait + Clock>(
     rt: &R,
     mq: &Mq<L>,
     process: &mut Process<L>,
+    course: &Course,
     d: u32,
 ) -> Result<(), WorkFault>
     requires ready { IsReady mq.now process.old }
     ensures ready { IsReady mq.now process.new }
 {
-    let backoff = Backoff::new();
-    for _ in rt.forever() {
-        match send(rt, mq, process, d, 0) {
-            Err(WorkFault::NoMemory) => backoff.snooze(),
-            outcome => return outcome,
-        }
-    }
-    unreachable!()
+    Ok(process.timed_send(rt, mq, d, &MESSAGE, 0, DEADLINE, course)?)
 }
 
-/// Receives a message, and tries again while memory is refused, so that no sender waits for room for ever.
-pub fn receive_surely<L: Look<Guarded>, R: Wait + Clock>(
+/// Receives a message, and waits as long as the run goes on.
+pub fn receive_in<L: Look<Guarded>, R: Wait + Clock>(
     rt: &R,
     mq: &Mq<L>,
     process: &mut Process<L>,
+    course: &Course,
     d: u32,
 ) -> Result<(), WorkFault>
     requires ready { IsReady mq.now process.old }
     ensures ready { IsReady mq.now process.new }
 {
-    let backoff = Backoff::new();
-    for _ in rt.forever() {
-        match receive(rt, mq, process, d) {
-            Err(WorkFault::NoMemory) => backoff.snooze(),
-            outcome => return outcome,
-        }
-    }
-    unreachable!()
+    let mut buffer = [0; MESSAGE_SIZE];
+    process.timed_receive(rt, mq, d, &mut buffer, DEADLINE, course)?;
+    Ok(())
 }

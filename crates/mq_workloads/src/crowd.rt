@@ -3,7 +3,7 @@ ghost use Rattle.std.specs.Prelude.{◌≡◌};
 ghost use Rattle.std.specs.List.{All};
 ghost use Rattle.mq_workloads.specs.Ready.{IsReady};
 
-use crate::gate::Gate;
+use crate::course::Course;
 use crate::made::make;
 use crate::members::{Part, start_members};
 use fast_mutex::Look;
@@ -17,7 +17,7 @@ use std::thread::Threads;
 use std::time::{Clock, Duration, Instant};
 
 /// So many processes over a fresh system, which take the two parts in turn, each so many rounds and in a thread of its own. Gives
-/// the time from when all were ready until all had ended.
+/// the time from the start of the first thread until all had ended.
 pub fn crowd<L: Look<Guarded> + Sync, R: Wait + Threads + Clock + Sync>(
     rt: &R,
     alloc: Global,
@@ -31,25 +31,23 @@ where
     L::Walk: Send,
 {
     let (mq, processes) = make::<L>(alloc, count, bounds)?;
-    let gate = Gate::new();
-    let start = in_threads(rt, &mq, &gate, processes, count, parts, rounds)?;
+    let course = Course::new();
+    let start = Instant::now(rt)?;
+    in_threads(rt, &mq, &course, processes, parts, rounds)?;
     let time = start.elapsed(rt)?;
-    if gate.is_refused() {
-        return Err(WorkFault::Refused);
-    }
+    course.outcome()?;
     Ok(time)
 }
 
-// Gives when the threads began, which have all ended.
+// Starts the threads, which have all ended when it returns.
 fn in_threads<L: Look<Guarded> + Sync, R: Wait + Threads + Clock + Sync>(
     rt: &R,
     mq: &Mq<L>,
-    gate: &Gate,
+    course: &Course,
     processes: Vec<Process<L>>,
-    count: u32,
     parts: (Part, Part),
     rounds: u32,
-) -> Result<Instant, WorkFault>
+) -> Result<(), WorkFault>
 where
     L::Seat: Send,
     L::Walk: Send,
@@ -58,14 +56,8 @@ where
     thread::scope(
         thread::scope_env(),
         rt,
-        |scope| -> Result<Instant, WorkFault>
+        |scope| -> Result<(), WorkFault>
             requires { All (IsReady mq.now) processes.items }
-        {
-            start_members(scope, rt, mq, gate, processes, parts, rounds)?;
-            gate.await_arrivals(rt, count);
-            let start = Instant::now(rt);
-            gate.open();
-            Ok(start?)
-        },
+        { start_members(scope, rt, mq, course, processes, parts, rounds) },
     )
 }

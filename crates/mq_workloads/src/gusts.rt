@@ -3,12 +3,13 @@ ghost use Rattle.std.specs.Prelude.{◌≡◌};
 ghost use Rattle.mq_workloads.specs.Ready.{IsReady};
 
 use crate::dice::Dice;
-use crossbeam_utils::Backoff;
 use fast_mutex::Look;
 use mq::{Guarded, Monotonic, Mq, Process};
 use mq_model::entries::{Access, Attr, Deadline, OpenFlags, Status};
+use mq_model::faults::Fault;
 use mq_model::names::Name;
 use std::sync::Wait;
+use std::thread;
 use std::time::{Clock, Duration};
 
 // The queues' names but for the last, which has a queue of its own that is never unlinked.
@@ -21,8 +22,10 @@ const MESSAGE: [u8; 20] = *b"a message of a storm";
 
 const MESSAGE_SIZE: usize = 16;
 
-// How often a wait is looked at before it is given up.
-const MOST_LOOKS: u32 = 20_000;
+// How often a wait is looked at before it is given up, and how many microseconds lie between two looks.
+const MOST_LOOKS: u32 = 500;
+
+const PAUSE: u64 = 100;
 
 /// One call at random, or a few that belong together. Where a wait is given up the process has an open wait.
 pub fn call<L: Look<Guarded>, R: Wait + Clock>(
@@ -136,7 +139,7 @@ fn ask<L: Look<Guarded>, R: Wait>(rt: &R, mq: &Mq<L>, process: &mut Process<L>, 
     }
 }
 
-// A call of this descriptor would never wait: it has the flag, or is not open.
+// A call of this descriptor would never wait: it has the flag, or is not open. Where the question is refused, it may.
 fn never_waits<L: Look<Guarded>, R: Wait>(
     rt: &R,
     mq: &Mq<L>,
@@ -148,7 +151,7 @@ fn never_waits<L: Look<Guarded>, R: Wait>(
 {
     match process.getattr(rt, mq, d) {
         Ok(status) => status.nonblock,
-        Err(_) => true,
+        Err(fault) => fault == Fault::BadDescriptor,
     }
 }
 
@@ -247,7 +250,12 @@ fn serve<L: Look<Guarded>, R: Wait + Clock>(
 }
 
 // A send or a receive that may wait, and what it came to. It is given up where nobody answers its wait.
-fn start<L: Look<Guarded>, R: Wait>(rt: &R, mq: &Mq<L>, process: &mut Process<L>, dice: &mut Dice)
+fn start<L: Look<Guarded>, R: Wait + Clock>(
+    rt: &R,
+    mq: &Mq<L>,
+    process: &mut Process<L>,
+    dice: &mut Dice,
+)
     requires ready { IsReady mq.now process.old }
     ensures made { process.new.lock ≡ mq.now }
 {
@@ -266,11 +274,10 @@ fn start<L: Look<Guarded>, R: Wait>(rt: &R, mq: &Mq<L>, process: &mut Process<L>
 }
 
 // Looks until the open wait is answered, so often at most, and collects what it came to.
-fn wait_a_while<L: Look<Guarded>, R: Wait>(rt: &R, mq: &Mq<L>, process: &mut Process<L>)
+fn wait_a_while<L: Look<Guarded>, R: Wait + Clock>(rt: &R, mq: &Mq<L>, process: &mut Process<L>)
     requires made { process.old.lock ≡ mq.now }
     ensures made { process.new.lock ≡ mq.now }
 {
-    let backoff = Backoff::new();
     for _ in 0..MOST_LOOKS {
         if process.waiting().is_none() {
             break;
@@ -278,7 +285,7 @@ fn wait_a_while<L: Look<Guarded>, R: Wait>(rt: &R, mq: &Mq<L>, process: &mut Pro
         if process.answered(mq) {
             collect(rt, mq, process);
         } else {
-            backoff.snooze();
+            thread::sleep(rt, Duration::from_micros(PAUSE));
         }
     }
 }

@@ -4,13 +4,14 @@ ghost use Rattle.std.specs.List.{All};
 ghost use Rattle.mq_workloads.specs.Ready.{IsReady};
 
 use crate::alone::{DEPTH, pairs};
-use crate::calls::{open, send_surely};
-use crate::gate::Gate;
+use crate::calls::open;
+use crate::course::Course;
 use crate::made::make;
-use crate::members::{Part, QUEUE, start_members};
+use crate::members::{Part, start_members};
 use fast_mutex::Look;
 use mq::{Guarded, Mq, Process};
 use mq_model::bounds::Bounds;
+use mq_model::faults::Fault;
 use mq_requests::fault::WorkFault;
 use std::alloc::Global;
 use std::sync::Wait;
@@ -31,7 +32,7 @@ pub struct Worked {
 const PAIRS: u32 = 64;
 
 /// So many processes over a fresh system: all but one are blocked in a receive on one queue, each in a thread of its own, while
-/// one works alone on another queue for so long. Then it sends each of them a message.
+/// one works alone on another queue for so long. Its end ends the others' calls.
 pub fn idle<L: Look<Guarded> + Sync, R: Wait + Threads + Clock + CpuClock + Sync>(
     rt: &R,
     alloc: Global,
@@ -45,28 +46,23 @@ where
 {
     let (mq, mut processes) = make::<L>(alloc, count, bounds)?;
     let Some(mut worker) = processes.pop() else {
-        return Err(WorkFault::Refused);
+        return Err(WorkFault::Refused(Fault::Invalid));
     };
     let own = open(rt, &mq, &mut worker, b"/own", DEPTH)?;
-    let shared = open(rt, &mq, &mut worker, QUEUE, DEPTH)?;
-    let gate = Gate::new();
-    let queues = (own, shared);
-    let worked = beside_blocked(rt, &mq, &gate, worker, processes, count - 1, queues, time)?;
-    if gate.is_refused() {
-        return Err(WorkFault::Refused);
-    }
+    let course = Course::new();
+    let worked = beside_blocked(rt, &mq, &course, worker, processes, own, time)?;
+    course.outcome()?;
     Ok(worked)
 }
 
-// One process works on the first queue, while so many others are blocked, which it wakes by the second.
+// One process works on its queue, while the others are blocked.
 fn beside_blocked<L: Look<Guarded> + Sync, R: Wait + Threads + Clock + CpuClock + Sync>(
     rt: &R,
     mq: &Mq<L>,
-    gate: &Gate,
+    course: &Course,
     mut worker: Process<L>,
     blocked: Vec<Process<L>>,
-    count: u32,
-    queues: (u32, u32),
+    own: u32,
     time: Duration,
 ) -> Result<Worked, WorkFault>
 where
@@ -82,11 +78,9 @@ where
             requires { IsReady mq.now worker × All (IsReady mq.now) blocked.items }
         {
             let parts = (Part::Receives, Part::Receives);
-            start_members(scope, rt, mq, gate, blocked, parts, 1)?;
-            gate.await_arrivals(rt, count);
-            gate.open();
-            let worked = work(rt, mq, &mut worker, queues.0, time);
-            wake(rt, mq, &mut worker, queues.1, count)?;
+            start_members(scope, rt, mq, course, blocked, parts, 1)?;
+            let worked = work(rt, mq, &mut worker, own, time);
+            course.end();
             worked
         },
     )
@@ -120,21 +114,4 @@ fn work<L: Look<Guarded>, R: Wait + Clock + CpuClock>(
         }
     }
     unreachable!()
-}
-
-// Sends a message to each of so many that are blocked.
-fn wake<L: Look<Guarded>, R: Wait + Clock>(
-    rt: &R,
-    mq: &Mq<L>,
-    process: &mut Process<L>,
-    d: u32,
-    count: u32,
-) -> Result<(), WorkFault>
-    requires ready { IsReady mq.now process.old }
-    ensures ready { IsReady mq.now process.new }
-{
-    for _ in 0..count {
-        send_surely(rt, mq, process, d)?;
-    }
-    Ok(())
 }

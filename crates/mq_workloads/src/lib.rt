@@ -2,10 +2,11 @@
 #![tactic(auto)]
 
 mod alone;
+mod busy;
 mod calls;
+mod course;
 mod crowd;
 mod dice;
-mod gate;
 mod gusts;
 mod idle;
 mod made;

@@ -1,5 +1,7 @@
 //! A workload, carried out and measured.
 use crate::alone::{Task, alone};
+use crate::busy::start_counting;
+use crate::course::Course;
 use crate::crowd::crowd;
 use crate::idle::idle;
 use crate::members::Part;
@@ -12,18 +14,54 @@ use mq::Guarded;
 use mq_checker::checker::check_history;
 use mq_model::bounds::Bounds;
 use mq_requests::fault::WorkFault;
-use mq_requests::workload::Workload;
+use mq_requests::workload::{Conditions, Workload};
 use std::alloc::Global;
 use std::sync::Wait;
+use std::thread;
 use std::thread::Threads;
 use std::time::{Clock, CpuClock, Duration, Instant};
 
 // The lock of the benchmark.
 type Lamport = FastMutex<Guarded>;
 
-/// Carries out a workload over Lamport's lock, a process in a thread of its own where there are two, in a system whose journal has
-/// these bounds. An error: memory, a thread, the clock or a call was refused.
+/// Carries out a workload over Lamport's lock, a process in a thread of its own where there are two, in these conditions. An error:
+/// memory, a thread, the clock or a call was refused.
 pub fn measure<S: Wait + Threads + Clock + CpuClock + Sync>(
+    rt: &S,
+    alloc: Global,
+    workload: Workload,
+    conditions: Conditions,
+) -> Result<Measured, WorkFault> {
+    let Conditions { bounds, busy } = conditions;
+    let course = Course::new();
+    beside_busy(rt, alloc, &course, workload, bounds, busy)
+}
+
+// Carries out a workload beside so many threads that count, which have all ended when it returns.
+fn beside_busy<S: Wait + Threads + Clock + CpuClock + Sync>(
+    rt: &S,
+    alloc: Global,
+    course: &Course,
+    workload: Workload,
+    bounds: Option<Bounds>,
+    busy: u32,
+) -> Result<Measured, WorkFault> {
+    thread::scope(
+        thread::scope_env(),
+        rt,
+        |scope| -> Result<Measured, WorkFault> {
+            let measured = match start_counting(scope, rt, course, busy) {
+                Ok(()) => carry_out(rt, alloc, workload, bounds),
+                Err(fault) => Err(fault),
+            };
+            course.end();
+            measured
+        },
+    )
+}
+
+// Carries out a workload in a system whose journal has these bounds.
+fn carry_out<S: Wait + Threads + Clock + CpuClock + Sync>(
     rt: &S,
     alloc: Global,
     workload: Workload,

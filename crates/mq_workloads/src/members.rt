@@ -4,8 +4,8 @@ ghost use Rattle.std.specs.List.{All};
 ghost use Rattle.mq_workloads.specs.Ready.{IsReady};
 
 use crate::alone::DEPTH;
-use crate::calls::{open, receive_surely, send_surely};
-use crate::gate::Gate;
+use crate::calls::{open, receive_in, send_in};
+use crate::course::Course;
 use fast_mutex::Look;
 use mq::{Guarded, Mq, Process};
 use mq_requests::fault::WorkFault;
@@ -39,13 +39,13 @@ struct Queues {
     back: u32,
 }
 
-/// Starts a thread for each process, which takes the two parts in turn, so many rounds each, once the gate is open. An error: a
-/// call or a thread was refused. The gate is then called off, and those threads that were started end.
+/// Starts a thread for each process, which takes the two parts in turn, so many rounds each. A call or a thread that is refused ends the
+/// run, and is the error where not all threads were started.
 pub fn start_members<'s, E, L: Look<Guarded> + Sync, R: Wait + Clock + Sync>(
     scope: &Scope<'s, E>,
     rt: &'s R,
     mq: &'s Mq<L>,
-    gate: &'s Gate,
+    course: &'s Course,
     processes: Vec<Process<L>>,
     parts: (Part, Part),
     rounds: u32,
@@ -60,17 +60,17 @@ where
         let queues = match queues_of(rt, mq, &mut process) {
             Ok(queues) => queues,
             Err(fault) => {
-                gate.call_off();
+                course.fail(fault);
                 return Err(fault);
             }
         };
         let started = scope.spawn(
             move || -> ()
                 requires { IsReady mq.now process }
-            { take_part(rt, mq, gate, process, queues, part, rounds) },
+            { take_part(rt, mq, course, process, queues, part, rounds) },
         );
         if started.is_err() {
-            gate.call_off();
+            course.fail(WorkFault::NoThread);
             return Err(WorkFault::NoThread);
         }
         (part, next) = (next, part);
@@ -91,11 +91,11 @@ fn queues_of<L: Look<Guarded>, R: Wait>(
     Ok(Queues { to, back })
 }
 
-// Takes a part once the gate is open.
+// Takes a part. A refusal ends the run.
 fn take_part<L: Look<Guarded>, R: Wait + Clock>(
     rt: &R,
     mq: &Mq<L>,
-    gate: &Gate,
+    course: &Course,
     mut process: Process<L>,
     queues: Queues,
     part: Part,
@@ -103,9 +103,8 @@ fn take_part<L: Look<Guarded>, R: Wait + Clock>(
 )
     requires ready { IsReady mq.now process }
 {
-    gate.arrive();
-    if gate.await_opening(rt) && all_rounds(rt, mq, &mut process, queues, part, rounds).is_err() {
-        gate.refuse();
+    if let Err(fault) = all_rounds(rt, mq, &mut process, course, queues, part, rounds) {
+        course.fail(fault);
     }
 }
 
@@ -113,6 +112,7 @@ fn all_rounds<L: Look<Guarded>, R: Wait + Clock>(
     rt: &R,
     mq: &Mq<L>,
     process: &mut Process<L>,
+    course: &Course,
     queues: Queues,
     part: Part,
     rounds: u32,
@@ -121,7 +121,7 @@ fn all_rounds<L: Look<Guarded>, R: Wait + Clock>(
     ensures ready { IsReady mq.now process.new }
 {
     for _ in 0..rounds {
-        round(rt, mq, process, queues, part)?;
+        round(rt, mq, process, course, queues, part)?;
     }
     Ok(())
 }
@@ -130,6 +130,7 @@ fn round<L: Look<Guarded>, R: Wait + Clock>(
     rt: &R,
     mq: &Mq<L>,
     process: &mut Process<L>,
+    course: &Course,
     queues: Queues,
     part: Part,
 ) -> Result<(), WorkFault>
@@ -137,15 +138,15 @@ fn round<L: Look<Guarded>, R: Wait + Clock>(
     ensures ready { IsReady mq.now process.new }
 {
     match part {
-        Part::Sends => send_surely(rt, mq, process, queues.to),
-        Part::Receives => receive_surely(rt, mq, process, queues.to),
+        Part::Sends => send_in(rt, mq, process, course, queues.to),
+        Part::Receives => receive_in(rt, mq, process, course, queues.to),
         Part::Asks => {
-            send_surely(rt, mq, process, queues.to)?;
-            receive_surely(rt, mq, process, queues.back)
+            send_in(rt, mq, process, course, queues.to)?;
+            receive_in(rt, mq, process, course, queues.back)
         }
         Part::Replies => {
-            receive_surely(rt, mq, process, queues.to)?;
-            send_surely(rt, mq, process, queues.back)
+            receive_in(rt, mq, process, course, queues.to)?;
+            send_in(rt, mq, process, course, queues.back)
         }
     }
 }

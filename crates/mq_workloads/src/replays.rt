@@ -6,6 +6,7 @@ use crate::alone::DEPTH;
 use crate::calls::{MESSAGE, MESSAGE_SIZE};
 use mq_model::bounds::Bounds;
 use mq_model::entries::{Access, Attr, OpenFlags, Reply};
+use mq_model::faults::Fault;
 use mq_model::journals::Journal;
 use mq_model::limits::PROCESSES;
 use mq_model::names::Name;
@@ -44,7 +45,7 @@ pub fn journal_of(
     ensures legal { IfOk result (λ journal. Legal journal.records) }
 {
     if processes < 1 || processes > PROCESSES {
-        return Err(WorkFault::Refused);
+        return Err(WorkFault::Refused(Fault::Invalid));
     }
     let mut books = match bounds {
         None => Books::new(alloc, processes)?,
@@ -63,7 +64,7 @@ fn call(books: &mut Books, p: u32, round: u32) -> Result<(), WorkFault>
     ensures { books.new.n ≡ books.old.n }
 {
     if books.waiting(p).is_some() {
-        return Err(WorkFault::Refused);
+        return Err(WorkFault::Refused(Fault::Busy));
     }
     let d = round / 2 % 2;
     let reply = if round < 2 {

@@ -1,6 +1,6 @@
 //! The line of a result.
 use crate::tally::{Tally, tally_of, text_of};
-use mq_model::entries::Entry;
+use mq_model::entries::Call;
 use mq_model::journals::Journal;
 use mq_requests::workload::Workload;
 use std::alloc::{AllocError, Global};
@@ -18,10 +18,11 @@ pub struct Measured {
 #[derive(Clone, Copy)]
 pub enum Besides {
     Nothing,
-    /// The entries of the journal, and the bytes of their payloads.
+    /// The entries of the journal, the bytes of their payloads, and the bytes that the journal takes with both.
     Journal {
         entries: u64,
         payload: u64,
+        bytes: u64,
     },
     /// The processor time of the whole program.
     Processor {
@@ -39,8 +40,11 @@ pub enum Besides {
     },
 }
 
-/// The bytes that the journal keeps of an entry: the call with its reply, and where its payload begins and ends.
-const ENTRY_SIZE: u128 = (size_of::<Entry>() + 2 * size_of::<usize>()) as u128;
+// The bytes of an entry in a journal.
+const ENTRY_SIZE: u64 = 64;
+
+// How many more an entry takes whose call has limits.
+const LIMITS_SIZE: u64 = size_of::<Call>() as u64;
 
 // How many nanoseconds a millisecond has.
 const MILLISECOND: u128 = 1_000_000;
@@ -56,13 +60,16 @@ pub fn timed(operations: u64, time: Duration) -> Measured {
 
 /// What a run of so many operations took, with the journal that it left.
 pub fn result_of(operations: u64, time: Duration, journal: &Journal) -> Measured {
+    let payload = journal.payload_bytes();
+    let besides = Besides::Journal {
+        entries: journal.len(),
+        payload,
+        bytes: entry_bytes(journal).saturating_add(payload),
+    };
     Measured {
         operations,
         nanoseconds: time.as_nanos(),
-        besides: Besides::Journal {
-            entries: journal.len(),
-            payload: payload_bytes(journal),
-        },
+        besides,
     }
 }
 
@@ -88,14 +95,20 @@ pub fn stormed(seed: u32, time: Duration, journal: &Journal, legal: bool) -> Mea
     }
 }
 
-fn payload_bytes(journal: &Journal) -> u64 {
+// The bytes of the entries of a journal without calls that have a deadline.
+fn entry_bytes(journal: &Journal) -> u64 {
     let mut bytes = 0u64;
     for place in 0..journal.len() {
-        let payload = match journal.payload(place) {
-            Some(payload) => payload.len() as u64,
-            None => 0,
+        let more = match journal.entry(place).map(|entry| entry.call) {
+            Some(
+                Call::MqOpen {
+                    flags: _,
+                    attr: Some(_),
+                },
+            ) => LIMITS_SIZE,
+            _ => 0,
         };
-        bytes = bytes.saturating_add(payload);
+        bytes = bytes.saturating_add(ENTRY_SIZE + more);
     }
     bytes
 }
@@ -112,9 +125,12 @@ pub fn line_of(alloc: Global, title: &str, m: Measured) -> Result<String, AllocE
 fn besides_of(alloc: Global, m: Measured) -> Result<String, AllocError> {
     match m.besides {
         Besides::Nothing => Ok(String::new(alloc)),
-        Besides::Journal { entries, payload } => {
-            let bytes = (u128::from(entries) * ENTRY_SIZE).saturating_add(u128::from(payload));
-            let bytes = per_operation(alloc, bytes, m.operations)?;
+        Besides::Journal {
+            entries,
+            payload,
+            bytes,
+        } => {
+            let bytes = per_operation(alloc, u128::from(bytes), m.operations)?;
             format!(in alloc; "; {entries} entries, {payload} payload bytes, {bytes} bytes each")
         }
         Besides::History { legal } => {

@@ -1,5 +1,6 @@
 //! Each workload with small sizes, and lines that are refused.
 use mq_bench::run_line;
+use mq_model::faults::Fault;
 use mq_requests::fault::{BenchFault, WorkFault};
 use std::alloc::Global;
 use std::sync::Wait;
@@ -18,7 +19,7 @@ fn output_of<S: Wait + Threads + Clock + CpuClock + Sync>(
 }
 
 // Lines, and how their results begin.
-const RESULTS: [(&str, &str); 13] = [
+const RESULTS: [(&str, &str); 15] = [
     ("pair 3\n", "pair: 6 operations, "),
     (" deep  4 2 \n", "deep: 16 operations, "),
     ("deep 1 002", "deep: 4 operations, "),
@@ -31,6 +32,8 @@ const RESULTS: [(&str, &str); 13] = [
     ("crowd 2 30\n", "crowd: 60 operations, "),
     ("crowd 8 20\n", "crowd: 160 operations, "),
     ("bounded 8 54 pair 3\n", "pair: 6 operations, "),
+    ("busy 2 pair 3\n", "pair: 6 operations, "),
+    ("busy 1 bounded 8 54 pair 3\n", "pair: 6 operations, "),
     ("bounded 1000 1000 crowd 4 20\n", "crowd: 80 operations, "),
 ];
 
@@ -40,6 +43,13 @@ fn each_workload_prints_its_result(rt: HostRuntime) {
         let output = output_of(&rt, rt.alloc(), line).expect(&rt, "a result");
         assert!(rt; output.as_slice().starts_with(start.as_bytes()), "{line}");
     }
+}
+
+#[test]
+fn a_pair_takes_two_entries_and_a_message(rt: HostRuntime) {
+    let output = output_of(&rt, rt.alloc(), "pair 1000\n").expect(&rt, "a result");
+    let end = b"; 2001 entries, 16006 payload bytes, 72.0 bytes each\n";
+    assert!(rt; output.as_slice().ends_with(end));
 }
 
 #[test]
@@ -81,7 +91,7 @@ fn a_replay_prints_its_history(rt: HostRuntime) {
     }
 }
 
-const REFUSED: [&str; 41] = [
+const REFUSED: [&str; 47] = [
     "word\n",
     "Pair 1\n",
     "pair\n",
@@ -119,18 +129,36 @@ const REFUSED: [&str; 41] = [
     "bounded 1 1\n",
     "bounded 0 1 pair 1\n",
     "bounded 1 1000000001 pair 1\n",
+    "busy\n",
+    "busy 2\n",
+    "busy 0 pair 1\n",
+    "busy 33 pair 1\n",
+    "busy 1 busy 1 pair 1\n",
+    "bounded 1 1 busy 1 pair 1\n",
     "pair 1\npair 1\n",
     "pair 1\n\n",
     "pair\n1\n",
     "\n\n",
 ];
 
+// Workloads that the journal has no room for.
+const FULL: [&str; 8] = [
+    "bounded 7 54 pair 3\n",
+    "bounded 8 53 pair 3\n",
+    "bounded 20 100 crowd 4 5\n",
+    "bounded 12 1000 pingpong 5\n",
+    "bounded 12 1000 stream 50\n",
+    "bounded 30 1000 idle 3 5\n",
+    "bounded 3 1000 idle 3 5\n",
+    "busy 1 bounded 20 100 crowd 4 5\n",
+];
+
 #[test]
 fn a_journal_that_is_full_ends_a_workload(rt: HostRuntime) {
-    for line in ["bounded 7 54 pair 3\n", "bounded 8 53 pair 3\n"] {
+    for line in FULL {
         let refused = output_of(&rt, rt.alloc(), line);
         assert!(rt;
-            refused.err() == Some(BenchFault::Failed(WorkFault::Refused)),
+            refused.err() == Some(BenchFault::Failed(WorkFault::Refused(Fault::JournalFull))),
             "{line}"
         );
     }

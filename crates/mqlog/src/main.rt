@@ -9,7 +9,7 @@ use mq::Guarded;
 use mq_log::{LogFault, Task, USAGE, Window, check_journal, draw_journal, record_script, task_of};
 use mq_runner::Plain;
 use std::alloc::{Alloc, Global};
-use std::io::{Eprint, Input, Print};
+use std::io::{Eprint, ErrorKind, Input, Print};
 use std::process::ExitCode;
 use std::rt::Env;
 use std::sync::Wait;
@@ -19,22 +19,29 @@ use std::{env, io};
 
 fn main(rt: HostRuntime) -> ExitCode {
     match asked(&rt) {
-        Some(Task::Run) => run(&rt, rt.alloc()),
-        Some(Task::Check) => check(&rt, rt.alloc()),
-        Some(Task::Draw(window)) => draw(&rt, rt.alloc(), window),
-        Some(Task::Help) => help(&rt),
-        None => {
+        Ok(Some(Task::Run)) => run(&rt, rt.alloc()),
+        Ok(Some(Task::Check)) => check(&rt, rt.alloc()),
+        Ok(Some(Task::Draw(window))) => draw(&rt, rt.alloc(), window),
+        Ok(Some(Task::Help)) => help(&rt),
+        Ok(None) => {
             // Nothing is left to do where this cannot be written.
             let _ = eprint!(rt; "{USAGE}");
             ExitCode::from(2)
         }
+        Err(fault) => failed(&rt, fault),
     }
 }
 
-// The task that the command line asks for. One that cannot be read asks for nothing.
-fn asked(rt: &(impl Env + Alloc<A = Global>)) -> Option<Task> {
-    let words: Vec<String> = env::args(rt).ok()?.collect(rt.alloc()).ok()?;
-    task_of(words.as_slice())
+// The task that the command line asks for. One that is no text asks for nothing.
+fn asked(rt: &(impl Env + Alloc<A = Global>)) -> Result<Option<Task>, LogFault> {
+    match env::args(rt) {
+        Ok(words) => {
+            let words: Vec<String> = words.collect(rt.alloc())?;
+            Ok(task_of(words.as_slice()))
+        }
+        Err(error) if error.kind() == ErrorKind::OutOfMemory => Err(LogFault::NoMemory),
+        Err(_) => Ok(None),
+    }
 }
 
 fn help(rt: &(impl Print + Eprint)) -> ExitCode {

@@ -371,7 +371,7 @@ fn one_word_is_a_task(rt: HostRuntime) -> Result<(), Fail> {
 }
 
 // Options of draw, and what they ask for.
-const OPTIONS: [(&[&str], Option<Window>); 8] = [
+const OPTIONS: [(&[&str], Option<Window>); 10] = [
     (
         &["--from", "3"],
         Some(Window {
@@ -384,7 +384,12 @@ const OPTIONS: [(&[&str], Option<Window>); 8] = [
         &["--from", "3", "--to", "4"],
         Some(Window { from: 3, to: 4 }),
     ),
-    (&["--to", "4", "--from", "3"], None),
+    (
+        &["--to", "4", "--from", "3"],
+        Some(Window { from: 3, to: 4 }),
+    ),
+    (&["--from", "4", "--from", "3"], None),
+    (&["--to", "4", "--to", "3"], None),
     (&["--from"], None),
     (&["--from", "x"], None),
     (&["--from", "18446744073709551616"], None),

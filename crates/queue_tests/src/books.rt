@@ -5,17 +5,17 @@ ghost use Rattle.std.specs.Prelude.{◌≡◌, ◌≤◌, IsTrue, None};
 ghost use Rattle.mq_model.specs.Waits.{open_wait};
 
 use crate::fingerprint::fingerprint;
+use crate::same::same;
 use mq_model::entries::{Access, Attr, Deadline, OpenFlags, Received, Reply, Status};
 use mq_model::faults::Fault;
 use mq_model::names::Name;
 use mq_state::books::Books;
 use mq_state::collected::Collected;
 use refusals::say_refused;
-use std::alloc::{AllocError, Global};
+use std::alloc::Global;
 use std::io::Print;
 use std::marker::Model;
 use std::process::Abort;
-use std::test::Fail;
 
 mod bounded;
 mod deadlines;
@@ -93,15 +93,15 @@ impl Model for Trial {
     ghost invariant = { λ t. t.books.n ≡ 5 };
 }
 
-fn make_trial<P: Print>(rt: &P, alloc: Global) -> Result<Trial, AllocError> {
+fn make_trial<A: Abort + Print>(rt: &A, alloc: Global) -> Trial {
     let books = match Books::new(alloc, 5) {
         Ok(books) => books,
         Err(_) => {
             say_refused(rt, "the making");
-            Books::new(alloc, 5)?
+            Books::new(alloc, 5).expect(rt, "memory")
         }
     };
-    Ok(Trial { books })
+    Trial { books }
 }
 
 // Process p may call: it is one of the five, and has no open wait.
@@ -193,9 +193,8 @@ fn expect_steps<A: Abort + Print>(rt: &A, trial: &mut Trial, steps: &[Step]) {
     }
 }
 
-fn expect<A: Abort + Print>(rt: &A, alloc: Global, steps: &[Step]) -> Result<(), AllocError> {
-    expect_steps(rt, &mut make_trial(rt, alloc)?, steps);
-    Ok(())
+fn expect<A: Abort + Print>(rt: &A, alloc: Global, steps: &[Step]) {
+    expect_steps(rt, &mut make_trial(rt, alloc), steps);
 }
 
 const CREATE: OpenFlags = OpenFlags {
@@ -249,7 +248,7 @@ const DONE: Outcome = Replied(Reply::Done);
 
 const REFUSED_MEMORY: Outcome = Replied(Reply::Refused(Fault::NoMemory));
 
-const HANDED_OVER: [Step; 28] = [
+static HANDED_OVER: [Step; 28] = [
     (1, Open(b"/q", CREATE, ONE), CREATED),
     (2, Open(b"/q", OPEN, None), OPENED),
     (3, Open(b"/q", OPEN, None), OPENED),
@@ -309,14 +308,11 @@ const HANDED_OVER: [Step; 28] = [
 ];
 
 #[test]
-fn messages_are_handed_over_and_admitted_in_the_order_of_the_waits(
-    rt: HostRuntime,
-) -> Result<(), Fail> {
-    expect(&rt, rt.alloc(), &HANDED_OVER)?;
-    Ok(())
+fn messages_are_handed_over_and_admitted_in_the_order_of_the_waits(rt: HostRuntime) {
+    expect(&rt, rt.alloc(), &HANDED_OVER);
 }
 
-const BEHIND_A_RECEIVE: [Step; 21] = [
+static BEHIND_A_RECEIVE: [Step; 21] = [
     (1, Open(b"/q", CREATE, TWO), CREATED),
     (2, Open(b"/q", READ, None), OPENED),
     (3, Open(b"/q", WRITE, None), OPENED),
@@ -353,12 +349,11 @@ const BEHIND_A_RECEIVE: [Step; 21] = [
 ];
 
 #[test]
-fn no_notice_is_given_while_a_receive_waits(rt: HostRuntime) -> Result<(), Fail> {
-    expect(&rt, rt.alloc(), &BEHIND_A_RECEIVE)?;
-    Ok(())
+fn no_notice_is_given_while_a_receive_waits(rt: HostRuntime) {
+    expect(&rt, rt.alloc(), &BEHIND_A_RECEIVE);
 }
 
-const ADMITTED: [Step; 12] = [
+static ADMITTED: [Step; 12] = [
     (1, Open(b"/q", CREATE, ONE), CREATED),
     (2, Open(b"/q", OPEN, None), OPENED),
     (2, Send(0, b"a", 1), QUEUED),
@@ -390,15 +385,14 @@ const ADMITTED: [Step; 12] = [
 ];
 
 #[test]
-fn an_admission_to_an_emptied_queue_gives_a_notice(rt: HostRuntime) -> Result<(), Fail> {
-    expect(&rt, rt.alloc(), &ADMITTED)?;
-    Ok(())
+fn an_admission_to_an_emptied_queue_gives_a_notice(rt: HostRuntime) {
+    expect(&rt, rt.alloc(), &ADMITTED);
 }
 
 // Once 64 queues exist.
 const NO_SPACE: Outcome = Replied(Reply::Refused(Fault::NoSpace));
 
-const FULL: [Step; 10] = [
+static FULL: [Step; 10] = [
     (
         1,
         Open(b"/1a", OPEN, None),
@@ -420,25 +414,23 @@ const FULL: [Step; 10] = [
 ];
 
 #[test]
-fn at_most_64_queues_exist_and_an_open_one_exists_without_its_name(
-    rt: HostRuntime,
-) -> Result<(), Fail> {
-    let mut trial = make_trial(&rt, rt.alloc())?;
+fn at_most_64_queues_exist_and_an_open_one_exists_without_its_name(rt: HostRuntime) {
+    let mut trial = make_trial(&rt, rt.alloc());
     for p in 1..=4u32 {
         for d in 0..16u32 {
             let name = [b'/', b'0' + p as u8, b'a' + d as u8];
             let ask = Open(&name, CREATE, ONE);
             let outcome = asked(&rt, &mut trial, p, ask, &mut [0; 8]);
-            assert_eq!(rt; outcome, Replied(Reply::Opened { d, created: true }));
+            let wanted = Replied(Reply::Opened { d, created: true });
+            same(&rt, outcome, wanted, "an open");
         }
     }
     expect_steps(&rt, &mut trial, &FULL);
-    Ok(())
 }
 
 const BAD_DESCRIPTOR: Outcome = Replied(Reply::Refused(Fault::BadDescriptor));
 
-const OUT_OF_BOUNDS: [Step; 8] = [
+static OUT_OF_BOUNDS: [Step; 8] = [
     (1, Open(b"/q", CREATE, ONE), CREATED),
     (1, Send(u32::MAX, b"a", 0), BAD_DESCRIPTOR),
     (
@@ -458,9 +450,8 @@ const OUT_OF_BOUNDS: [Step; 8] = [
 ];
 
 #[test]
-fn numbers_out_of_all_bounds_are_refused(rt: HostRuntime) -> Result<(), Fail> {
-    expect(&rt, rt.alloc(), &OUT_OF_BOUNDS)?;
-    Ok(())
+fn numbers_out_of_all_bounds_are_refused(rt: HostRuntime) {
+    expect(&rt, rt.alloc(), &OUT_OF_BOUNDS);
 }
 
 const BEFORE: Status = Status {
@@ -482,7 +473,7 @@ const BEHIND: Status = Status {
     ..BEFORE
 };
 
-const FLAGS: [Step; 5] = [
+static FLAGS: [Step; 5] = [
     (1, Open(b"/q", CREATE, TWO), CREATED),
     (1, Getattr(0), Replied(Reply::Attrs(BEFORE))),
     (1, Setattr(0, ALL_CHANGED), Replied(Reply::Attrs(BEFORE))),
@@ -491,12 +482,11 @@ const FLAGS: [Step; 5] = [
 ];
 
 #[test]
-fn the_flag_of_a_descriptor_alone_can_be_set(rt: HostRuntime) -> Result<(), Fail> {
-    expect(&rt, rt.alloc(), &FLAGS)?;
-    Ok(())
+fn the_flag_of_a_descriptor_alone_can_be_set(rt: HostRuntime) {
+    expect(&rt, rt.alloc(), &FLAGS);
 }
 
-const TWO_NOTICES: [Step; 13] = [
+static TWO_NOTICES: [Step; 13] = [
     (1, Open(b"/a", CREATE, TWO), CREATED),
     (
         1,
@@ -535,9 +525,6 @@ const TWO_NOTICES: [Step; 13] = [
 ];
 
 #[test]
-fn the_oldest_notice_comes_first_and_a_queue_with_messages_gives_none(
-    rt: HostRuntime,
-) -> Result<(), Fail> {
-    expect(&rt, rt.alloc(), &TWO_NOTICES)?;
-    Ok(())
+fn the_oldest_notice_comes_first_and_a_queue_with_messages_gives_none(rt: HostRuntime) {
+    expect(&rt, rt.alloc(), &TWO_NOTICES);
 }

@@ -7,4 +7,10 @@ mod books;
 #[cfg(test)]
 mod fingerprint;
 #[cfg(test)]
+mod making;
+#[cfg(test)]
+mod rows;
+#[cfg(test)]
+mod same;
+#[cfg(test)]
 mod slots;

@@ -1,6 +1,7 @@
 //! The messages of one queue in and out, in the order of priority and place. Their making alone takes memory.
 ghost use Rattle.std.specs.Prelude.{◌≡◌, ◌≤◌, IfOk, []};
 
+use crate::same::same;
 use mq_slots::Slots;
 use refusals::{refuse_all, say_refused};
 use std::alloc::{AllocError, Global};
@@ -26,17 +27,17 @@ fn make<R: Print>(rt: &R, alloc: Global, cap: u32) -> Result<Slots, AllocError>
 #[test]
 fn messages_leave_by_priority_and_then_by_place(rt: HostRuntime) -> Result<(), Fail> {
     let mut slots = make(&rt, rt.alloc(), 3)?;
-    assert!(rt; slots.is_empty());
+    same(&rt, slots.is_empty(), true, "whether it is empty");
     slots.push(5, 1);
     slots.push(9, 2);
     slots.push(5, 4);
-    assert!(rt; slots.is_full());
-    assert_eq!(rt; slots.best(), Some((9, 2)));
-    assert_eq!(rt; slots.pop(), Some((9, 2)));
-    assert_eq!(rt; slots.pop(), Some((5, 1)));
-    assert_eq!(rt; slots.pop(), Some((5, 4)));
-    assert_eq!(rt; slots.pop(), None);
-    assert!(rt; slots.is_empty());
+    same(&rt, slots.is_full(), true, "whether it is full");
+    same(&rt, slots.best(), Some((9, 2)), "the best");
+    same(&rt, slots.pop(), Some((9, 2)), "the first");
+    same(&rt, slots.pop(), Some((5, 1)), "the second");
+    same(&rt, slots.pop(), Some((5, 4)), "the third");
+    same(&rt, slots.pop(), None, "no further one");
+    same(&rt, slots.is_empty(), true, "whether it is empty again");
     Ok(())
 }
 
@@ -45,13 +46,13 @@ fn a_slot_is_used_again(rt: HostRuntime) -> Result<(), Fail> {
     let mut slots = make(&rt, rt.alloc(), 2)?;
     slots.push(0, 0);
     slots.push(32_767, 1);
-    assert_eq!(rt; slots.pop(), Some((32_767, 1)));
-    assert!(rt; !slots.is_full());
+    same(&rt, slots.pop(), Some((32_767, 1)), "the first");
+    same(&rt, slots.is_full(), false, "whether it is full");
     slots.push(0, 5);
-    assert!(rt; slots.is_full());
-    assert_eq!(rt; slots.len(), 2);
-    assert_eq!(rt; slots.pop(), Some((0, 0)));
-    assert_eq!(rt; slots.pop(), Some((0, 5)));
-    assert_eq!(rt; slots.pop(), None);
+    same(&rt, slots.is_full(), true, "whether it is full again");
+    same(&rt, slots.len(), 2, "the length");
+    same(&rt, slots.pop(), Some((0, 0)), "the second");
+    same(&rt, slots.pop(), Some((0, 5)), "the third");
+    same(&rt, slots.pop(), None, "no further one");
     Ok(())
 }

@@ -12,9 +12,14 @@ pub fn say_refused<R: Print>(rt: &R, place: &str) {
 // A growth of so many bytes is the mark after which a tool from outside may refuse every further one, also a second mark.
 const MARK: usize = 16_777_213;
 
+/// A mark for a tool from outside, which may count what is asked for between two.
+pub fn mark(alloc: Global) {
+    let _ = Vec::<u8>::with_capacity(alloc, MARK);
+}
+
 /// From here on a tool from outside may refuse every growth. Says so where it does.
 pub fn refuse_all<R: Print>(rt: &R, alloc: Global) {
-    let _ = Vec::<u8>::with_capacity(alloc, MARK);
+    mark(alloc);
     if Vec::<u8>::with_capacity(alloc, MARK).is_err() {
         say_refused(rt, "every growth from here on");
     }

@@ -1,5 +1,6 @@
 //! The end of a process, inside the lock.
-ghost use Rattle.std.specs.Prelude.{◌≡◌, ◌≤◌, ◌∷◌, [], Some, None, OnOk, IfOk, IfErr};
+ghost use Rattle.std.specs.Prelude.{◌≡◌, ◌≤◌, ◌∷◌, [], false, Some, None, OnOk, IfOk, IfErr};
+ghost use Rattle.mq_model.specs.Bounds.{finds_full};
 ghost use Rattle.mq_model.specs.Waits.{open_wait};
 ghost use Rattle.mq_model.specs.Descriptors.{lowest_held};
 ghost use Rattle.mq_model.specs.declared.entries.Call.{Call};
@@ -25,6 +26,7 @@ fn close_lowest(books: &mut Books, p: u32, d: u32) -> Result<(), Fault>
     requires no_wait { open_wait books.old.records p ≡ None }
     requires lowest { lowest_held books.old.records p ≡ Some d }
     ensures ok { IfOk result (λ _. books.new.records ≡ recorded p (Call.MqClose d) [] Reply.Done ∷ books.old.records) }
+    ensures room { OnOk result (finds_full books.old.bounds books.old.records p (Call.MqClose d) [] ≡ false) }
     ensures err { IfErr result (λ e. Stops books.old.bounds books.old.records p e × (books.new.records ≡ books.old.records)) }
     ensures processes { books.new.n ≡ books.old.n }
     ensures bounds { books.new.bounds ≡ books.old.bounds }
@@ -40,7 +42,7 @@ fn close_lowest(books: &mut Books, p: u32, d: u32) -> Result<(), Fault>
 fn close_all(books: &mut Books, p: u32) -> Result<(), Fault>
     requires process { (1 ≤ p) × (p ≤ books.old.n) }
     requires no_wait { open_wait books.old.records p ≡ None }
-    ensures closing { Closing books.old.records books.new.records p }
+    ensures closing { Closing books.old.bounds books.old.records books.new.records p }
     ensures ok { OnOk result (lowest_held books.new.records p ≡ None) }
     ensures err { IfErr result (Stops books.old.bounds books.new.records p) }
     ensures free { open_wait books.new.records p ≡ None }

@@ -1,4 +1,4 @@
-//! Whether processes wait for one another.
+//! Whether processes wait for one another, and what there is room for.
 ghost use Rattle.std.specs.Prelude.{◌≡◌};
 ghost use Rattle.std.specs.List.{list_all};
 ghost use Rattle.mq.specs.Blocked.{is_blocked};
@@ -7,17 +7,19 @@ use super::{Process, arrive};
 use crate::guarded::Guarded;
 use crate::system::Mq;
 use fast_mutex::Look;
+use mq_model::bounds::Bounds;
 use mq_model::entries::{Deadline, Received};
 use mq_model::faults::Fault;
 use std::sync::Wait;
 
 impl<L: Look<Guarded>> Process<L> {
-    ghost use Rattle.std.specs.Prelude.{◌≡◌, ◌≢◌, ◌≤◌, false, None, IfOk, IfSome, Ok, length, []};
+    ghost use Rattle.std.specs.Prelude.{◌≡◌, ◌≢◌, ◌≤◌, ◌↔◌, IsTrue, false, None, IfOk, IfSome, Ok, length, []};
     ghost use Rattle.std.specs.List.{list_all};
     ghost use Rattle.mq_model.specs.declared.entries.Call.{Call};
     ghost use Rattle.mq_state.specs.Buffers.{waiting_room};
     ghost use Rattle.mq.specs.Blocked.{is_blocked};
-    ghost use Rattle.mq.specs.Calls.{Calls, IsFree, OneCall, ReceiveCall, WaitsIn};
+    ghost use Rattle.mq_state.specs.Room.{NobodyCanCall, room_left};
+    ghost use Rattle.mq.specs.Calls.{Calls, IsFree, OneCall, ReceiveCall, WaitsIn, bounds_of};
     ghost use Rattle.mq.specs.Says.{start_send_says, start_receive_says};
 
     /// Whether each of these processes is blocked: it has an open wait, and no entry names it. Asked once inside the lock, of the
@@ -31,8 +33,37 @@ impl<L: Look<Guarded>> Process<L> {
     {
         let arrived = arrive(rt, mq, &mut self.seat, self.waits);
         let (process, blocked) = arrived.are_blocked(mq, processes);
-        *self = process;
+        *self = process.settled(mq);
         blocked
+    }
+
+    /// Whether no process can make a call any more, asked as [`Process::are_blocked`] is: no open wait is answered or has a
+    /// deadline, and where a process has no open wait the journal is full. Where it is true it stays so, and a blocked call never
+    /// returns.
+    pub fn nobody_can_call<R: Wait>(&mut self, rt: &R, mq: &Mq<L>) -> bool
+        requires made { self.old.lock ≡ mq.now }
+        ensures nobody { IsTrue result ↔ NobodyCanCall (bounds_of self.old) self.new.left self.old.lock.count }
+        ensures calls { Calls self.old self.new [] }
+        ensures wait { waiting_room self.new.left self.new.number ≡ waiting_room self.old.left self.old.number }
+    {
+        let arrived = arrive(rt, mq, &mut self.seat, self.waits);
+        let (process, nobody) = arrived.nobody_can_call(mq);
+        *self = process.settled(mq);
+        nobody
+    }
+
+    /// For how many more entries, beside those that end the open waits, and payload bytes the journal has room; `None` without
+    /// bounds. A send or a receive, which may wait, needs room for two entries, and any other call for one.
+    pub fn room<R: Wait>(&mut self, rt: &R, mq: &Mq<L>) -> Option<Bounds>
+        requires made { self.old.lock ≡ mq.now }
+        ensures room { result ≡ room_left (bounds_of self.old) self.new.left }
+        ensures calls { Calls self.old self.new [] }
+        ensures wait { waiting_room self.new.left self.new.number ≡ waiting_room self.old.left self.old.number }
+    {
+        let arrived = arrive(rt, mq, &mut self.seat, self.waits);
+        let (process, room) = arrived.room(mq);
+        *self = process.settled(mq);
+        room
     }
 
     /// Begins a send with a deadline at the moment `now`, without waiting for its admission: true where the queue or a waiting
@@ -55,7 +86,7 @@ impl<L: Look<Guarded>> Process<L> {
     {
         let arrived = arrive(rt, mq, &mut self.seat, self.waits);
         let (process, sent) = arrived.start_timed_send(mq, d, bytes, prio, until, now);
-        *self = process;
+        *self = process.settled(mq);
         sent
     }
 
@@ -79,7 +110,7 @@ impl<L: Look<Guarded>> Process<L> {
     {
         let arrived = arrive(rt, mq, &mut self.seat, self.waits);
         let (process, got) = arrived.start_timed_receive(mq, d, buf, until, now);
-        *self = process;
+        *self = process.settled(mq);
         got
     }
 }

@@ -21,7 +21,7 @@ impl<L: Look<Guarded>> Process<L> {
     {
         let arrived = arrive(rt, mq, &mut self.seat, self.waits);
         let (process, closed) = arrived.exit(mq);
-        *self = process;
+        *self = process.settled(mq);
         closed
     }
 }

@@ -3,14 +3,14 @@ ghost use Rattle.std.specs.Prelude.{◌≡◌, true, Some};
 
 use super::{Process, arrive};
 use crate::guarded::Guarded;
-use crate::pause::Pause;
+use crate::naps::Naps;
 use crate::system::Mq;
-use fast_mutex::Look;
+use fast_mutex::{AwaitAnswer, Look};
 use mq_model::entries::{Call, Received};
 use mq_model::faults::Fault;
 use mq_state::collected::Collected;
 use std::sync::Wait;
-use std::time::Clock;
+use std::time::Duration;
 
 impl<L: Look<Guarded>> Process<L> {
     ghost use Rattle.std.specs.Prelude.{◌≡◌, ◌≢◌, ◌≤◌, ◌||◌, Bool, true, false, Some, None, IsSome, IfSome, IfNone, IfOk, Ok, length, []};
@@ -42,7 +42,7 @@ impl<L: Look<Guarded>> Process<L> {
     {
         let arrived = arrive(rt, mq, &mut self.seat, self.waits);
         let (process, sent) = arrived.begin_send(mq, call, bytes);
-        *self = process;
+        *self = process.settled(mq);
         sent
     }
 
@@ -66,7 +66,7 @@ impl<L: Look<Guarded>> Process<L> {
     {
         let arrived = arrive(rt, mq, &mut self.seat, self.waits);
         let (process, got) = arrived.begin_receive(mq, call, buf);
-        *self = process;
+        *self = process.settled(mq);
         got
     }
 
@@ -88,7 +88,7 @@ impl<L: Look<Guarded>> Process<L> {
     {
         let arrived = arrive(rt, mq, &mut self.seat, self.waits);
         let (process, sent) = arrived.start_send(mq, d, bytes, prio);
-        *self = process;
+        *self = process.settled(mq);
         sent
     }
 
@@ -110,7 +110,7 @@ impl<L: Look<Guarded>> Process<L> {
     {
         let arrived = arrive(rt, mq, &mut self.seat, self.waits);
         let (process, got) = arrived.start_receive(mq, d, buf);
-        *self = process;
+        *self = process.settled(mq);
         got
     }
 
@@ -129,7 +129,7 @@ impl<L: Look<Guarded>> Process<L> {
     {
         let arrived = arrive(rt, mq, &mut self.seat, self.waits);
         let (process, outcome) = arrived.collect(mq, buf);
-        *self = process;
+        *self = process.settled(mq);
         outcome
     }
 
@@ -153,8 +153,27 @@ impl<L: Look<Guarded>> Process<L> {
         mq.lock().answered(seat)
     }
 
+    /// As [`answered`](Process::answered), after as many looks as it takes until that is true, for about so long at the most: a few
+    /// looks at once, and then it sleeps until the call that answers the wait wakes it. Without an open wait it is false at once.
+    #[tactic(auto, using(crate::proofs::Answering::unanswered))]
+    pub fn await_answer<R: Wait>(&mut self, rt: &R, mq: &Mq<L>, at_most: Duration) -> bool
+        requires made { self.old.lock ≡ mq.now }
+        ensures ticket { self.new ≡ record self.old { told = self.old.told || result } }
+        ensures free { waiting_room self.old.left self.old.number ≡ None → result ≡ false }
+        ensures left { is_answered self.old.left self.old.number ≡ true → result ≡ true }
+        ensures again { self.old.told ≡ true → IsSome (waiting_room self.old.left self.old.number) → result ≡ true }
+    {
+        if self.waiting().is_none() {
+            return false;
+        }
+        let Some(seat) = &mut self.seat else {
+            unreachable!()
+        };
+        mq.lock().await_answer(rt, seat, at_most)
+    }
+
     // Looks again and again until the wait is answered, and enters then.
-    fn await_outcome<R: Wait + Clock>(&mut self, rt: &R, mq: &Mq<L>, buf: &mut [u8]) -> Collected
+    fn await_outcome<R: Wait>(&mut self, rt: &R, mq: &Mq<L>, buf: &mut [u8]) -> Collected
         requires made { self.old.lock ≡ mq.now }
         requires wait { IsSome (waiting_room self.old.left self.old.number) }
         requires room { IfSome (waiting_room self.old.left self.old.number) (λ room. room ≤ length buf.old) }
@@ -163,12 +182,11 @@ impl<L: Look<Guarded>> Process<L> {
         ensures fits { FitsIn result (length buf.old) }
         ensures free { IsFree self.new }
     {
-        let mut pause = Pause::new();
+        let mut naps = Naps::new();
         'looks: for _ in rt.forever() {
-            if self.answered(mq) {
+            if self.await_answer(rt, mq, naps.next()) {
                 break;
             }
-            pause.pass(rt);
         }
         match self.collect(rt, mq, buf) {
             Some(outcome) => outcome,
@@ -178,7 +196,7 @@ impl<L: Look<Guarded>> Process<L> {
 
     /// Sends a message of that priority (`mq_send`). Where the queue is full it waits until the message is admitted, unless the
     /// descriptor does not block. Refused with `BadDescriptor`, `Invalid`, `MessageSize`, `Again`, `NoMemory` or `JournalFull`.
-    pub fn send<R: Wait + Clock>(
+    pub fn send<R: Wait>(
         &mut self,
         rt: &R,
         mq: &Mq<L>,
@@ -203,7 +221,7 @@ impl<L: Look<Guarded>> Process<L> {
 
     /// Receives the oldest message of the highest priority into the front of the buffer (`mq_receive`). Where there is none it
     /// waits for one, unless the descriptor does not block. Refused with `BadDescriptor`, `MessageSize`, `Again`, `NoMemory` or `JournalFull`.
-    pub fn receive<R: Wait + Clock>(
+    pub fn receive<R: Wait>(
         &mut self,
         rt: &R,
         mq: &Mq<L>,

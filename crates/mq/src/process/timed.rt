@@ -3,7 +3,7 @@ ghost use Rattle.std.specs.Prelude.{◌≡◌, true};
 
 use super::{Process, arrive};
 use crate::guarded::Guarded;
-use crate::pause::Pause;
+use crate::naps::Naps;
 use crate::system::Mq;
 use fast_mutex::Look;
 use mq_model::entries::{Call, Deadline, Received};
@@ -11,7 +11,10 @@ use mq_model::faults::Fault;
 use mq_model::{clock, ladder};
 use mq_state::collected::Collected;
 use std::sync::Wait;
-use std::time::Clock;
+use std::time::Duration;
+
+// The shortest sleep before a deadline, in nanoseconds: about what the system adds to one.
+const SHORTEST_NAP: u64 = 50_000;
 
 impl<L: Look<Guarded>> Process<L> {
     ghost use Rattle.std.specs.Prelude.{◌≡◌, ◌≢◌, ◌≤◌, Bool, true, false, Some, None, IsSome, IfSome, IfNone, IfOk, Ok, length, []};
@@ -43,12 +46,12 @@ impl<L: Look<Guarded>> Process<L> {
     {
         let arrived = arrive(rt, mq, &mut self.seat, self.waits);
         let (process, outcome) = arrived.end_wait(mq, buf, now);
-        *self = process;
+        *self = process.settled(mq);
         outcome
     }
 
     // Looks until the wait is answered, or its deadline has passed: then it gives that moment.
-    fn look_until<R: Wait + Clock, C: clock::Clock>(
+    fn look_until<R: Wait, C: clock::Clock>(
         &mut self,
         rt: &R,
         mq: &Mq<L>,
@@ -62,7 +65,7 @@ impl<L: Look<Guarded>> Process<L> {
         ensures over { IfSome result (λ now. is_over (Some until) now ≡ true) }
         ensures moment { IfSome result (λ now. C.gives clock.now now) }
     {
-        let mut pause = Pause::new();
+        let mut naps = Naps::new();
         let mut passed = None;
         'looks: for _ in rt.forever() {
             if self.answered(mq) {
@@ -73,13 +76,16 @@ impl<L: Look<Guarded>> Process<L> {
                 passed = Some(now);
                 break;
             }
-            pause.pass(rt);
+            let nap = naps.next().min(time_left(until, now));
+            if self.await_answer(rt, mq, nap) {
+                break;
+            }
         }
         passed
     }
 
     // Waits until the wait is answered, and collects what it came to, or until its deadline has passed, and withdraws it.
-    fn await_until<R: Wait + Clock, C: clock::Clock>(
+    fn await_until<R: Wait, C: clock::Clock>(
         &mut self,
         rt: &R,
         mq: &Mq<L>,
@@ -107,7 +113,7 @@ impl<L: Look<Guarded>> Process<L> {
     /// clock gives the moment `until` or a later one: then it is refused with `TimedOut`, and the message is not sent. A message that can
     /// be sent at once is sent, whatever the deadline. Refused as [`send`](Process::send), and, where it would wait, with `Invalid` if the
     /// nanoseconds of `until` are not 0 to 999,999,999.
-    pub fn timed_send<R: Wait + Clock, C: clock::Clock>(
+    pub fn timed_send<R: Wait, C: clock::Clock>(
         &mut self,
         rt: &R,
         mq: &Mq<L>,
@@ -143,7 +149,7 @@ impl<L: Look<Guarded>> Process<L> {
     /// waits for one, or until the clock gives the moment `until` or a later one: then it is refused with `TimedOut`, and the buffer is as
     /// it was. A message that is there is received, whatever the deadline. Refused as [`receive`](Process::receive), and, where it
     /// would wait, with `Invalid` if the nanoseconds of `until` are not 0 to 999,999,999.
-    pub fn timed_receive<R: Wait + Clock, C: clock::Clock>(
+    pub fn timed_receive<R: Wait, C: clock::Clock>(
         &mut self,
         rt: &R,
         mq: &Mq<L>,
@@ -174,4 +180,14 @@ impl<L: Look<Guarded>> Process<L> {
             Err(fault) => Err(fault),
         }
     }
+}
+
+// The time from one moment to a later one, no less than a sleep of the system takes. A clock that is lent need not be one of real time, so
+// it bounds a sleep and no more.
+fn time_left(until: Deadline, now: Deadline) -> Duration {
+    let seconds = until.sec.saturating_sub(now.sec);
+    let nanos = seconds
+        .saturating_mul(1_000_000_000)
+        .saturating_add(until.nsec.saturating_sub(now.nsec));
+    Duration::from_nanos(u64::try_from(nanos).unwrap_or(0).max(SHORTEST_NAP))
 }

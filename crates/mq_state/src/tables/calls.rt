@@ -56,7 +56,7 @@ fn bytes_kept(reply: Reply, bytes: &[u8]) -> usize
 impl Tables {
     // With so many more entries and payload bytes, and the entries that end the open waits, there would be more than the bounds allow.
     #[inline(always)]
-    fn exceeds(&self, journal: &Journal, entries: usize, bytes: usize) -> bool
+    pub(super) fn exceeds(&self, journal: &Journal, entries: usize, bytes: usize) -> bool
         requires kept { IsKeptBy journal.now self.now }
         requires few { entries ≤ 2 }
         requires slice { bytes < 2 ^ 63 }
@@ -86,6 +86,7 @@ impl Tables {
         ensures room { OnOk result ((waits_count self.now.owners.items + entries ≤ journal.new.entry_room) × (bytes ≤ journal.new.byte_room)) }
         ensures full { IsRoomRefused self.now.bounds (length journal.old.records + open_waits journal.old.records + entries) (payload_bytes journal.old.records + most) result }
         ensures same { result ≡ Err Fault.JournalFull → journal.new ≡ journal.old }
+        ensures no_less { journal.old.byte_room ≤ journal.new.byte_room }
         ensures enough { bytes ≤ journal.old.byte_room → journal.new.byte_room ≡ journal.old.byte_room }
     {
         if self.exceeds(journal, entries, most) {
@@ -674,7 +675,7 @@ impl Tables {
         ensures value { result ≡ may_call journal.old.records p (Call.Withdraw now) }
         ensures entry { IsTrue result → IfSome (open_wait journal.old.records p) (λ wait. Appends journal.old.records journal.new.records p (Call.Withdraw now) [] (Reply.Withdrawn wait)) }
         ensures waited { IsTrue result → IsSome (open_wait journal.old.records p) }
-        ensures none { result ≡ false → journal.new.records ≡ journal.old.records }
+        ensures none { result ≡ false → journal.new ≡ journal.old }
         ensures kept { IsKeptBy journal.new self.new }
         ensures pool { IsPooled None self.new }
         ensures n { self.new.n ≡ self.old.n }

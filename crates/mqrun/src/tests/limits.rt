@@ -1,7 +1,7 @@
 // The limits of a script, and the lines that are at fault.
 use super::scripts::{EQUAL_PRIORITIES, NOTICES, Run};
-use super::{expect_output, output_of};
-use mq_runner::RunFault;
+use super::{Lamport, expect_output, output_of};
+use mq_runner::{Plain, RunFault, script_journal};
 use std::alloc::{AllocError, Global};
 use std::test::Fail;
 
@@ -34,13 +34,14 @@ fn repeated(
     Ok(script)
 }
 
-const LONG_NAMES: [(&str, usize); 3] = [
+const LONG_NAMES: [(&str, usize); 4] = [
     (
         "processes 1\n1 open q bc\n1 open / bc\n1 open /a/b bc\n1 open /",
         255,
     ),
     (" bc\n1 open /", 256),
     (" bc\n1 unlink /", 256),
+    ("\n", 0),
 ];
 
 #[test]
@@ -49,6 +50,15 @@ fn names_have_at_most_255_bytes_behind_the_slash(rt: HostRuntime) -> Result<(), 
     let replies =
         "1 EINVAL\n1 EINVAL\n1 EINVAL\n1 fd 0\n1 ENAMETOOLONG\n1 ENAMETOOLONG\nhistory ok\n";
     expect_output(&rt, rt.alloc(), &script, Ok(()), replies.as_bytes());
+    Ok(())
+}
+
+#[test]
+fn a_name_that_is_none_leaves_no_entry(rt: HostRuntime) -> Result<(), Fail> {
+    let script = with_letters(rt.alloc(), &LONG_NAMES)?;
+    let mut input = script.as_slice();
+    let journal = script_journal::<Lamport, _, _, _>(&rt, rt.alloc(), &mut input, &Plain);
+    assert_eq!(rt; journal.ok().expect(&rt, "a run").len(), 1);
     Ok(())
 }
 
@@ -74,14 +84,14 @@ fn a_message_may_hold_any_byte_but_a_space_and_a_feed(rt: HostRuntime) -> Result
 // Scripts, and their first lines at fault.
 const AT_FAULT: [(&str, u64); 22] = [
     ("", 1),
-    ("processes 33", 1),
+    ("processes 33\n", 1),
     ("processes 0", 1),
     ("1 exit", 1),
     ("#\n", 2),
     ("# a comment\n\n", 3),
-    ("processes 1\n2 getattr 0", 2),
-    ("processes 1\n1 send 0", 2),
-    ("processes 1\n1 open /q", 2),
+    ("processes 1\n2 getattr 0\n", 2),
+    ("processes 1\n1 send 0\n", 2),
+    ("processes 1\n1 open /q\n", 2),
     ("processes 1\n\r\n", 2),
     ("processes 1\n1 getattr 0\n\n1 wait\n1 wait\n", 4),
     ("processes 1\n0 getattr 0\n", 2),
@@ -140,7 +150,7 @@ fn last_line(text: &[u8]) -> u64 {
 fn a_script_has_at_most_1_048_576_bytes(rt: HostRuntime) -> Result<(), Fail> {
     let script = repeated(rt.alloc(), "processes 1\n", "#", 1_048_564, "")?;
     expect_output(&rt, rt.alloc(), &script, Ok(()), b"history ok\n");
-    let script = repeated(rt.alloc(), "processes 1\n", "#", 1_048_564, "\n")?;
+    let script = repeated(rt.alloc(), "processes 1\n", "#", 1_048_565, "")?;
     expect_output(&rt, rt.alloc(), &script, Err(RunFault::BadCall(2)), b"");
     Ok(())
 }

@@ -9,44 +9,32 @@ use super::{
     CREATE, CREATED, DONE, ONE, OPEN, OPENED, Outcome, QUEUED, Step, TWO, Trial, WAITS,
     expect_steps,
 };
+use crate::same::same;
 use mq_model::entries::{Attr, Deadline, Received, Reply, Status};
 use mq_model::faults::Fault;
 use mq_state::books::Books;
 use mq_state::collected::Collected;
 use mq_state::memory::memory_of;
 use refusals::{refuse_all, say_refused};
-use std::alloc::{AllocError, Global};
+use std::alloc::Global;
 use std::io::Print;
 use std::process::Abort;
-use std::test::Fail;
 
 // The queues of five processes with these bounds. One growth may be refused from outside, and after the making every one.
-fn make_bounded<P: Print>(
-    rt: &P,
-    alloc: Global,
-    entries: u64,
-    bytes: u64,
-) -> Result<Trial, AllocError> {
+fn make_bounded<A: Abort + Print>(rt: &A, alloc: Global, entries: u64, bytes: u64) -> Trial {
     let books = match Books::bounded(alloc, 5, entries, bytes) {
         Ok(books) => books,
         Err(_) => {
             say_refused(rt, "the making");
-            Books::bounded(alloc, 5, entries, bytes)?
+            Books::bounded(alloc, 5, entries, bytes).expect(rt, "memory")
         }
     };
     refuse_all(rt, alloc);
-    Ok(Trial { books })
+    Trial { books }
 }
 
-fn expect<A: Abort + Print>(
-    rt: &A,
-    alloc: Global,
-    entries: u64,
-    bytes: u64,
-    steps: &[Step],
-) -> Result<(), AllocError> {
-    expect_steps(rt, &mut make_bounded(rt, alloc, entries, bytes)?, steps);
-    Ok(())
+fn expect<A: Abort + Print>(rt: &A, alloc: Global, entries: u64, bytes: u64, steps: &[Step]) {
+    expect_steps(rt, &mut make_bounded(rt, alloc, entries, bytes), steps);
 }
 
 const FULL: Outcome = Replied(Reply::Refused(Fault::JournalFull));
@@ -59,7 +47,7 @@ const ONE_OF_ONE: Status = Status {
 };
 
 // The open wait of process 1 keeps the last of six places for its collect.
-const SIX_ENTRIES: [Step; 11] = [
+static SIX_ENTRIES: [Step; 11] = [
     (1, Open(b"/q", CREATE, ONE), CREATED),
     (2, Open(b"/q", OPEN, None), OPENED),
     (1, Receive(0), WAITS),
@@ -78,9 +66,8 @@ const SIX_ENTRIES: [Step; 11] = [
 ];
 
 #[test]
-fn an_open_wait_keeps_the_room_of_its_collect(rt: HostRuntime) -> Result<(), Fail> {
-    expect(&rt, rt.alloc(), 6, 16, &SIX_ENTRIES)?;
-    Ok(())
+fn an_open_wait_keeps_the_room_of_its_collect(rt: HostRuntime) {
+    expect(&rt, rt.alloc(), 6, 16, &SIX_ENTRIES);
 }
 
 const NOON: Deadline = Deadline { sec: 12, nsec: 0 };
@@ -88,7 +75,7 @@ const NOON: Deadline = Deadline { sec: 12, nsec: 0 };
 const REFUSED_LATE: Outcome = Replied(Reply::Refused(Fault::TimedOut));
 
 // Six bytes: two of the name, and four of messages. A message counts only where its send is not refused, but a deadline refuses none.
-const SIX_BYTES: [Step; 12] = [
+static SIX_BYTES: [Step; 12] = [
     (1, Open(b"/q", CREATE, ONE), CREATED),
     (1, Send(0, b"abc", 0), QUEUED),
     (1, Open(b"/qq", CREATE, ONE), FULL),
@@ -116,15 +103,14 @@ const SIX_BYTES: [Step; 12] = [
 ];
 
 #[test]
-fn bytes_are_counted_where_nothing_refuses_the_send(rt: HostRuntime) -> Result<(), Fail> {
-    expect(&rt, rt.alloc(), 100, 6, &SIX_BYTES)?;
-    Ok(())
+fn bytes_are_counted_where_nothing_refuses_the_send(rt: HostRuntime) {
+    expect(&rt, rt.alloc(), 100, 6, &SIX_BYTES);
 }
 
 const MORNING: Deadline = Deadline { sec: 6, nsec: 0 };
 
 // A call that may wait needs two places, and any other one. A withdrawal has the room that was kept.
-const FOUR_ENTRIES: [Step; 9] = [
+static FOUR_ENTRIES: [Step; 9] = [
     (1, Open(b"/q", CREATE, TWO), CREATED),
     (1, TimedReceive(0, NOON, MORNING), WAITS),
     (2, Open(b"/q", OPEN, None), OPENED),
@@ -137,12 +123,11 @@ const FOUR_ENTRIES: [Step; 9] = [
 ];
 
 #[test]
-fn a_withdrawal_has_the_room_that_its_wait_kept(rt: HostRuntime) -> Result<(), Fail> {
-    expect(&rt, rt.alloc(), 4, 16, &FOUR_ENTRIES)?;
-    Ok(())
+fn a_withdrawal_has_the_room_that_its_wait_kept(rt: HostRuntime) {
+    expect(&rt, rt.alloc(), 4, 16, &FOUR_ENTRIES);
 }
 
-const NOTHING_FITS: [Step; 12] = [
+static NOTHING_FITS: [Step; 12] = [
     (1, Open(b"/q", CREATE, ONE), FULL),
     (1, Unlink(b"/q"), FULL),
     (1, Close(0), FULL),
@@ -158,9 +143,8 @@ const NOTHING_FITS: [Step; 12] = [
 ];
 
 #[test]
-fn without_an_entry_each_call_finds_the_journal_full(rt: HostRuntime) -> Result<(), Fail> {
-    expect(&rt, rt.alloc(), 0, 100, &NOTHING_FITS)?;
-    Ok(())
+fn without_an_entry_each_call_finds_the_journal_full(rt: HostRuntime) {
+    expect(&rt, rt.alloc(), 0, 100, &NOTHING_FITS);
 }
 
 // A queue of the most messages comes, has one, gives a notice of it, and goes with it.
@@ -169,7 +153,7 @@ const LARGEST: Option<Attr> = Some(Attr {
     msgsize: 65_536,
 });
 
-const COMES_AND_GOES: [Step; 6] = [
+static COMES_AND_GOES: [Step; 6] = [
     (1, Open(b"/q", CREATE, LARGEST), CREATED),
     (1, Notify(0, Some(7)), DONE),
     (1, Unlink(b"/q"), DONE),
@@ -179,8 +163,8 @@ const COMES_AND_GOES: [Step; 6] = [
 ];
 
 #[test]
-fn orders_of_queues_that_are_gone_serve_queues_to_come(rt: HostRuntime) -> Result<(), Fail> {
-    let mut trial = make_bounded(&rt, rt.alloc(), 700, 1_000)?;
+fn orders_of_queues_that_are_gone_serve_queues_to_come(rt: HostRuntime) {
+    let mut trial = make_bounded(&rt, rt.alloc(), 700, 1_000);
     for _ in 0..100 {
         expect_steps(&rt, &mut trial, &COMES_AND_GOES);
         expect_steps(&rt, &mut trial, &[(1, Close(0), DONE)]);
@@ -190,12 +174,21 @@ fn orders_of_queues_that_are_gone_serve_queues_to_come(rt: HostRuntime) -> Resul
         &mut trial,
         &[(1, NextNotice, FULL), (1, Entries, Count(700))],
     );
-    Ok(())
 }
 
 #[test]
 fn memory_is_told_before_it_is_taken(rt: HostRuntime) {
-    assert_eq!(rt; memory_of(1, 0, 0), Some(5_257_968));
-    assert_eq!(rt; memory_of(4, 1_000_000, 1_000_000), Some(166_260_992));
-    assert_eq!(rt; memory_of(1, u64::MAX, 0), None);
+    same(&rt, memory_of(1, 0, 0), Some(5_257_968), "without entries");
+    same(
+        &rt,
+        memory_of(4, 1_000_000, 1_000_000),
+        Some(166_260_992),
+        "with a million",
+    );
+    same(
+        &rt,
+        memory_of(1, u64::MAX, 0),
+        None,
+        "more than there can be",
+    );
 }

@@ -13,7 +13,6 @@ use mq_model::faults::Fault;
 use mq_state::collected::Collected;
 use std::io::Print;
 use std::process::Abort;
-use std::test::Fail;
 
 const AT_5: Deadline = Deadline { sec: 5, nsec: 0 };
 
@@ -46,7 +45,7 @@ const LAST: Deadline = Deadline {
     nsec: 0,
 };
 
-const DEADLINES: [Step; 22] = [
+static DEADLINES: [Step; 22] = [
     (1, Open(b"/q", CREATE, ONE), CREATED),
     (2, Open(b"/q", OPEN, None), OPENED),
     (
@@ -101,11 +100,8 @@ const DEADLINES: [Step; 22] = [
 ];
 
 #[test]
-fn a_wait_is_withdrawn_where_its_deadline_has_passed_and_nothing_answers_it(
-    rt: HostRuntime,
-) -> Result<(), Fail> {
-    expect(&rt, rt.alloc(), &DEADLINES)?;
-    Ok(())
+fn a_wait_is_withdrawn_where_its_deadline_has_passed_and_nothing_answers_it(rt: HostRuntime) {
+    expect(&rt, rt.alloc(), &DEADLINES);
 }
 
 const FIRST: i64 = i64::MIN;
@@ -126,7 +122,7 @@ fn moment(at: Moment) -> Deadline {
 }
 
 // Until when a call that would wait is asked to, when it is asked, and the fault that it is refused with.
-const REFUSED: [(Moment, Moment, Fault); 10] = [
+static REFUSED: [(Moment, Moment, Fault); 10] = [
     ((FIRST, -1), (FIRST, 0), Fault::Invalid),
     ((FIRST, BEYOND), (LAST_SECOND, END), Fault::Invalid),
     ((LAST_SECOND, -1), (FIRST, 0), Fault::Invalid),
@@ -140,7 +136,7 @@ const REFUSED: [(Moment, Moment, Fault); 10] = [
 ];
 
 // Until when a call waits, when it is asked, and the last moment before the first.
-const WAITING: [(Moment, Moment, Moment); 4] = [
+static WAITING: [(Moment, Moment, Moment); 4] = [
     ((FIRST, END), (FIRST, 0), (FIRST, END - 1)),
     ((LAST_SECOND, 0), (FIRST, 0), (LAST_SECOND - 1, END)),
     ((LAST_SECOND, END), (FIRST, END), (LAST_SECOND, END - 1)),
@@ -156,34 +152,53 @@ fn timed(sends: bool, until: Deadline, now: Deadline) -> Ask<'static> {
     }
 }
 
+fn expect_refused<A: Abort + Print>(
+    rt: &A,
+    trial: &mut Trial,
+    sends: bool,
+    row: (Moment, Moment, Fault),
+) {
+    let (until, now, fault) = row;
+    let ask = timed(sends, moment(until), moment(now));
+    let outcome = asked(rt, trial, 1, ask, &mut [0; 8]);
+    assert_eq!(rt;
+        outcome,
+        Replied(Reply::Refused(fault)),
+        "until {until:?} at {now:?}"
+    );
+}
+
+fn expect_end<A: Abort + Print>(rt: &A, trial: &mut Trial, at: Moment, ends: bool) {
+    let ended = asked(rt, trial, 1, Withdraw(moment(at)), &mut [0; 8]);
+    assert_eq!(rt; ended, Is(ends), "at {at:?}");
+}
+
+fn expect_wait<A: Abort + Print>(
+    rt: &A,
+    trial: &mut Trial,
+    sends: bool,
+    row: (Moment, Moment, Moment),
+) {
+    let (until, now, before) = row;
+    let ask = timed(sends, moment(until), moment(now));
+    let outcome = asked(rt, trial, 1, ask, &mut [0; 8]);
+    assert_eq!(rt; outcome, WAITS, "until {until:?}");
+    expect_end(rt, trial, before, false);
+    expect_end(rt, trial, until, true);
+}
+
 // Sends or receives that cannot be done at once are refused, and wait, as the tables say.
 fn expect_ends<A: Abort + Print>(rt: &A, trial: &mut Trial, sends: bool) {
-    let mut buf = [0; 8];
-    for (until, now, fault) in REFUSED {
-        let ask = timed(sends, moment(until), moment(now));
-        let outcome = asked(rt, trial, 1, ask, &mut buf);
-        assert_eq!(rt;
-            outcome,
-            Replied(Reply::Refused(fault)),
-            "until {until:?} at {now:?}"
-        );
+    for row in &REFUSED {
+        expect_refused(rt, trial, sends, *row);
     }
-    for (until, now, before) in WAITING {
-        let ask = timed(sends, moment(until), moment(now));
-        assert_eq!(rt;
-            asked(rt, trial, 1, ask, &mut buf),
-            WAITS,
-            "until {until:?}"
-        );
-        for (at, wanted) in [(before, false), (until, true)] {
-            let ends = asked(rt, trial, 1, Withdraw(moment(at)), &mut buf);
-            assert_eq!(rt; ends, Is(wanted), "until {until:?} at {at:?}");
-        }
+    for row in &WAITING {
+        expect_wait(rt, trial, sends, *row);
     }
 }
 
 // What can be done at once is done, whatever the deadline.
-const SENT_AT_ONCE: [Step; 1] = [(
+static SENT_AT_ONCE: [Step; 1] = [(
     1,
     TimedSend(
         0,
@@ -198,7 +213,7 @@ const SENT_AT_ONCE: [Step; 1] = [(
     QUEUED,
 )];
 
-const RECEIVED_AT_ONCE: [Step; 2] = [
+static RECEIVED_AT_ONCE: [Step; 2] = [
     (
         1,
         TimedReceive(
@@ -219,12 +234,11 @@ const RECEIVED_AT_ONCE: [Step; 2] = [
 ];
 
 #[test]
-fn deadlines_reach_the_ends_of_their_range(rt: HostRuntime) -> Result<(), Fail> {
-    let mut trial = make_trial(&rt, rt.alloc())?;
+fn deadlines_reach_the_ends_of_their_range(rt: HostRuntime) {
+    let mut trial = make_trial(&rt, rt.alloc());
     expect_steps(&rt, &mut trial, &[(1, Open(b"/q", CREATE, ONE), CREATED)]);
     expect_ends(&rt, &mut trial, false);
     expect_steps(&rt, &mut trial, &SENT_AT_ONCE);
     expect_ends(&rt, &mut trial, true);
     expect_steps(&rt, &mut trial, &RECEIVED_AT_ONCE);
-    Ok(())
 }

@@ -9,6 +9,7 @@ use super::Outcome::{Byte, Came, Count, Is, Lowest, Replied, Room};
 use super::{
     CREATE, CREATED, ONE, OPEN, OPENED, QUEUED, Step, Trial, WAITS, expect_steps, make_trial,
 };
+use crate::same::same;
 use mq_checker::checker::check_history;
 use mq_model::entries::{Call, Deadline, Entry, Received, Reply};
 use mq_model::faults::Fault;
@@ -26,7 +27,7 @@ const START: Deadline = Deadline { sec: 0, nsec: 0 };
 const LATER: Deadline = Deadline { sec: 1, nsec: 0 };
 
 // Process 1 waits in a receive that is answered, process 2 in a send until its deadline, process 3 in a receive.
-const WAITING: [Step; 10] = [
+static WAITING: [Step; 10] = [
     (1, Open(b"/q", CREATE, ONE), CREATED),
     (2, Open(b"/q", OPEN, None), OPENED),
     (3, Open(b"/r", CREATE, ONE), CREATED),
@@ -39,7 +40,7 @@ const WAITING: [Step; 10] = [
     (5, Entries, Count(9)),
 ];
 
-const WITHOUT_MEMORY: [Step; 19] = [
+static WITHOUT_MEMORY: [Step; 19] = [
     (1, Waiting, Room(Some(8))),
     (2, Waiting, Room(Some(0))),
     (4, Waiting, Room(None)),
@@ -66,16 +67,15 @@ const WITHOUT_MEMORY: [Step; 19] = [
 ];
 
 #[test]
-fn waits_end_without_memory(rt: HostRuntime) -> Result<(), Fail> {
-    let mut trial = make_trial(&rt, rt.alloc())?;
+fn waits_end_without_memory(rt: HostRuntime) {
+    let mut trial = make_trial(&rt, rt.alloc());
     expect_steps(&rt, &mut trial, &WAITING);
     refuse_all(&rt, rt.alloc());
     expect_steps(&rt, &mut trial, &WITHOUT_MEMORY);
     let Trial { books } = trial;
     let journal = books.into_journal();
-    assert_eq!(rt; journal.len(), 11);
-    assert_eq!(rt; check_history(&journal), Ok(()));
-    Ok(())
+    same(&rt, journal.len(), 11, "the length");
+    same(&rt, check_history(&journal), Ok(()), "the verdict");
 }
 
 const UNLINK: Entry = Entry {
@@ -103,18 +103,30 @@ fn names_faults_and_journals_need_no_memory_but_their_room(rt: HostRuntime) -> R
     let mut journal = Journal::new(rt.alloc());
     make_room(&rt, &mut journal)?;
     refuse_all(&rt, rt.alloc());
-    assert_eq!(rt; Journal::new(rt.alloc()).len(), 0);
+    same(
+        &rt,
+        Journal::new(rt.alloc()).len(),
+        0,
+        "the length at first",
+    );
     journal.push(UNLINK, b"/q");
-    assert_eq!(rt; journal.len(), 1);
-    assert_eq!(rt; journal.entry(0), Some(UNLINK));
-    assert!(rt; journal.payload(0) == Some(b"/q".as_slice()));
-    assert!(rt; journal.entry(1).is_none() && journal.payload(1).is_none());
-    assert_eq!(rt; check_history(&journal), Ok(()));
+    same(&rt, journal.len(), 1, "the length");
+    same(&rt, journal.entry(0), Some(UNLINK), "the entry");
+    same(&rt, journal.payload(0), Some(b"/q"), "the payload");
+    same(&rt, journal.entry(1), None, "no further entry");
+    same(&rt, journal.payload(1), None, "no further payload");
+    same(&rt, check_history(&journal), Ok(()), "the verdict");
     match Name::read(b"/q") {
-        Ok(name) => assert!(rt; name.bytes() == b"/q".as_slice()),
+        Ok(name) => same(&rt, name.bytes(), b"/q", "the name"),
         Err(fault) => panic!(rt; "{fault}"),
     }
-    assert!(rt; matches!(Name::read(b"q"), Err(Fault::Invalid)));
-    assert_eq!(rt; Fault::TimedOut.number(), 12);
+    let is_invalid = matches!(Name::read(b"q"), Err(Fault::Invalid));
+    same(
+        &rt,
+        is_invalid,
+        true,
+        "whether a name without a slash is invalid",
+    );
+    same(&rt, Fault::TimedOut.number(), 12, "the number of a fault");
     Ok(())
 }

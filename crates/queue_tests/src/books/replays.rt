@@ -9,6 +9,7 @@ use super::Outcome::{Came, Is, Replied};
 use super::{
     CREATE, CREATED, DONE, ONE, OPEN, OPENED, Step, Trial, WAITS, expect_steps, make_trial,
 };
+use crate::same::same;
 use mq_checker::checker::check_history;
 use mq_model::entries::{Call, Deadline, Entry, Received, Reply, Status};
 use mq_model::faults::Fault;
@@ -19,7 +20,6 @@ use refusals::say_refused;
 use std::alloc::{AllocError, Global};
 use std::io::Print;
 use std::process::Abort;
-use std::test::Fail;
 
 const START: Deadline = Deadline { sec: 0, nsec: 0 };
 
@@ -43,7 +43,7 @@ const NONBLOCKING: Status = Status {
 };
 
 // One entry each, of every call and of most replies.
-const CALLS: [Step; 25] = [
+static CALLS: [Step; 25] = [
     (1, Open(b"/q", CREATE, ONE), CREATED),
     (2, Open(b"/q", OPEN, None), OPENED),
     (3, Open(b"/r", CREATE, ONE), CREATED),
@@ -103,11 +103,11 @@ const CALLS: [Step; 25] = [
     (1, Close(0), DONE),
 ];
 
-fn journal_of<A: Abort + Print>(rt: &A, alloc: Global) -> Result<Journal, AllocError> {
-    let mut trial = make_trial(rt, alloc)?;
+fn journal_of<A: Abort + Print>(rt: &A, alloc: Global) -> Journal {
+    let mut trial = make_trial(rt, alloc);
     expect_steps(rt, &mut trial, &CALLS);
     let Trial { books } = trial;
-    Ok(books.into_journal())
+    books.into_journal()
 }
 
 // What is turned of an entry.
@@ -209,33 +209,40 @@ fn with_turn(
     Ok((other, Departure { place, cause }))
 }
 
-#[test]
-fn each_of_a_hundred_turned_entries_is_found_with_its_cause(rt: HostRuntime) -> Result<(), Fail> {
-    let alloc = rt.alloc();
-    let journal = journal_of(&rt, alloc)?;
-    assert_eq!(rt; check_history(&journal), Ok(()));
-    assert_eq!(rt; replay(alloc, &journal)?, None);
-    for turn in TURNS {
-        for place in 0..journal.len() {
-            let (other, departure) = with_turn(alloc, &journal, place, turn)?;
-            assert_eq!(rt; replay(alloc, &other)?, Some(departure), "{turn:?} {place}");
-            assert_eq!(rt; check_history(&other), Err(place), "{turn:?} {place}");
-        }
-    }
-    Ok(())
+// The turned entry is found by both.
+fn expect_found<A: Abort>(rt: &A, alloc: Global, journal: &Journal, place: u64, turn: Turn)
+    requires { place < length journal.now.records }
+{
+    let (other, departure) = with_turn(alloc, journal, place, turn).expect(rt, "memory");
+    let found = replay(alloc, &other).expect(rt, "memory");
+    assert_eq!(rt; found, Some(departure), "{turn:?} {place}");
+    assert_eq!(rt; check_history(&other), Err(place), "{turn:?} {place}");
 }
 
 #[test]
-fn a_replay_that_is_refused_memory_reads_the_journal_again(rt: HostRuntime) -> Result<(), Fail> {
+fn each_of_a_hundred_turned_entries_is_found_with_its_cause(rt: HostRuntime) {
     let alloc = rt.alloc();
-    let journal = journal_of(&rt, alloc)?;
+    let journal = journal_of(&rt, alloc);
+    same(&rt, check_history(&journal), Ok(()), "the verdict");
+    let found = replay(alloc, &journal).expect(&rt, "memory");
+    same(&rt, found, None, "the departure");
+    for turn in TURNS {
+        for place in 0..journal.len() {
+            expect_found(&rt, alloc, &journal, place, turn);
+        }
+    }
+}
+
+#[test]
+fn a_replay_that_is_refused_memory_reads_the_journal_again(rt: HostRuntime) {
+    let alloc = rt.alloc();
+    let journal = journal_of(&rt, alloc);
     let found = match replay(alloc, &journal) {
         Ok(found) => found,
         Err(_) => {
             say_refused(&rt, "a replay");
-            replay(alloc, &journal)?
+            replay(alloc, &journal).expect(&rt, "memory")
         }
     };
-    assert_eq!(rt; found, None);
-    Ok(())
+    same(&rt, found, None, "the departure");
 }

@@ -10,13 +10,12 @@ returns-in_err-line-clause-output g c = λ all known failed.
 pub returns-clause-done : goal.returns-clause-done
 returns-clause-done g c = λ all known.
     let past = c.in_ok-journal.journal.records in
-    let read : c.in_ok-text.text.items ≡ take 1099511627777 all = rw known at c.in_ok-text.ensures.bytes in
-    let found = c.in_ok-journal.ensures.found in
+    let found = c.in_ok-journal.ensures.found all known in
     let line : c.as_bytes.result.now ≡ verdict_text past c.in_ok-verdict.verdict = c.as_bytes.ensures.value ∙ c.in_ok-line.ensures in
     record {
       past = past;
       fits = found.0;
-      text = sym read ∙ sym c.as_slice.ensures.value ∙ found.1;
+      text = found.1;
       judges = c.in_ok-verdict.ensures;
       written = rw line at c.in_ok-write_all.ensures.whole;
     }
@@ -24,14 +23,13 @@ returns-clause-done g c = λ all known.
 pub returns-in_err-write_all-clause-output : goal.returns-in_err-write_all-clause-output
 returns-in_err-write_all-clause-output g c = λ all known failed.
     let past = c.in_ok-journal.journal.records in
-    let read : c.in_ok-text.text.items ≡ take 1099511627777 all = rw known at c.in_ok-text.ensures.bytes in
-    let found = c.in_ok-journal.ensures.found in
+    let found = c.in_ok-journal.ensures.found all known in
     let line : c.as_bytes.result.now ≡ verdict_text past c.in_ok-verdict.verdict = c.as_bytes.ensures.value ∙ c.in_ok-line.ensures in
     record {
       verdict = c.in_ok-verdict.verdict;
       past = past;
       fits = found.0;
-      text = sym read ∙ sym c.as_slice.ensures.value ∙ found.1;
+      text = found.1;
       judges = c.in_ok-verdict.ensures;
       written = rw line at c.in_err-write_all.ensures.failed;
     }

@@ -1,4 +1,5 @@
-use Rattle.std.proofs.Common.{rules, ◌≡◌, ◌≤◌, ◌∙◌, sym, subst, IfSome, Option, ℕ, length}
+use Rattle.std.proofs.Common.{rules, ◌≡◌, ◌≤◌, ◌∙◌, ap, sym, subst, IfSome, Option, ℕ, length}
+use Rattle.mq_state.specs.Kept.{Kept}
 use Rattle.mq.proofs.Calling.{came-in, came-waits, came-room, came-grows_by}
 use Rattle.mq.proofs.Collecting.{room-waits, room-fits, collect-adds, collect-answered, collect-unanswered, came-collects, came-still}
 use Rattle.mq.proofs.Fitting.{collect-fits}
@@ -17,13 +18,13 @@ collect-outcome-requires-clause-room g c =
 
 pub depart-seat-requires-clause-grows : goal.depart-seat-requires-clause-grows
 depart-seat-requires-clause-grows g c =
-    let a = collect-adds c.begin-inside.result.1.books.records c.collect-outcome.new.self.records c.self.inside.number c.collect-outcome.result c.collect-outcome.ensures.some c.collect-outcome.ensures.entry c.collect-outcome.ensures.none in
+    let a = collect-adds c.begin-inside.result.1.books.records c.collect-outcome.new.self.records c.self.inside.number c.collect-outcome.result c.collect-outcome.ensures.some c.collect-outcome.ensures.entry (λ none. ap (λ (k : Kept). k.records) (c.collect-outcome.ensures.none none)) in
     came-grows_by a.added c.begin-inside.ensures.came a.is a.mine
 
 pub process_of-requires-in-None : goal.process_of-requires-in-None
 process_of-requires-in-None g c =
     let came = came-in c.begin-inside.ensures.came c.self.view_is c.requires.made in
-    rw (c.depart-seat.ensures.left, c.collect-outcome.ensures.none c.in-None.is) (came-waits came (rw c.self.view_is at c.self.invariant.0.waits_is))
+    rw (c.depart-seat.ensures.left, ap (λ (k : Kept). k.records) (c.collect-outcome.ensures.none c.in-None.is)) (came-waits came (rw c.self.view_is at c.self.invariant.0.waits_is))
 
 pub returns-in-Some-clause-some : goal.returns-in-Some-clause-some
 returns-in-Some-clause-some g c =
@@ -34,7 +35,7 @@ returns-in-Some-clause-some g c =
 pub returns-in-None-clause-none : goal.returns-in-None-clause-none
 returns-in-None-clause-none g c =
     let came = came-in c.begin-inside.ensures.came c.self.view_is c.requires.made in
-    let same = c.collect-outcome.ensures.none c.in-None.is in
+    let same = ap (λ (k : Kept). k.records) (c.collect-outcome.ensures.none c.in-None.is) in
     rw (c.process_of-in-None.ensures, c.depart-seat.ensures.left) (came-still came c.requires.made same (collect-unanswered c.begin-inside.result.1.books.records c.self.inside.number c.collect-outcome.result c.collect-outcome.ensures.some c.in-None.is) c.depart-seat.ensures.legal)
 
 pub returns-in-Some-clause-fits : goal.returns-in-Some-clause-fits

@@ -1,5 +1,5 @@
 use Rattle.mq.specs.Calls.{closes}
-use Rattle.mq.proofs.Calling.{came-in, came-free, came-calls, came-stops, came-grows_by, same-number}
+use Rattle.mq.proofs.Calling.{came-in, came-free, came-calls, came-in_turn, came-stops, came-grows_by, same-number}
 use Rattle.mq.proofs.Closings.{own-closes, all-closes}
 use Rattle.mq.proofs.arrived.Arrived.exit.Goals as goal
 
@@ -16,7 +16,7 @@ returns-clause-call g c =
     let closing = c.close_all-done.ensures.closing in
     rw (c.process_of.ensures, c.depart.ensures.left) (record {
       found = c.begin-inside.result.1.books.records;
-      closing = record { ds = closing.ds; is = rw came.process at closing.is; lowest = rw came.process at closing.lowest };
+      closing = record { ds = closing.ds; is = rw came.process at closing.is; in_turn = came-in_turn closing.ds came c.requires.made closing.in_turn };
       calls = came-calls (λ q. closes q closing.ds) came c.requires.made closing.is (own-closes c.self.inside.number closing.ds) c.depart.ensures.legal;
       ok = rw (same-number came) c.close_all-done.ensures.ok;
       err = came-stops c.close_all-done.new.books.records c.close_all-done.result came c.requires.made c.close_all-done.ensures.err;

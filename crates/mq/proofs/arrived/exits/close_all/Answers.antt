@@ -1,4 +1,7 @@
-use Rattle.std.proofs.Common.{◌∙◌, arith}
+use Rattle.std.proofs.Common.{◌≡◌, ◌∙◌, Option, [], false, subst, arith}
+use Rattle.mq_model.specs.Bounds.{finds_full}
+use Rattle.mq_model.specs.declared.bounds.Bounds.{Bounds}
+use Rattle.mq_model.specs.declared.entries.Call.TheVariants.{MqClose}
 use Rattle.mq.proofs.Closings.{from-next, from-closed, from-end, closing-more, closed-free, lowest-is, lowest-is_not}
 use Rattle.mq.proofs.arrived.exits.close_all.Goals as goal
 use Rattle.mq.proofs.arrived.exits.close_all.Goals.{then-eq+in_ok-close_lowest, else-eq}
@@ -14,7 +17,7 @@ descriptors-preserved c = elim c.if-eq.branch [
         n = w.close_lowest.ensures.processes ∙ c.descriptors.invariant.n;
         bounds = w.close_lowest.ensures.bounds ∙ c.descriptors.invariant.bounds;
         free = rw w.in_ok-close_lowest.ensures.ok (closed-free c.descriptors.books.records c.args.p c.descriptors.d);
-        closing = closing-more c.descriptors.invariant.closing lowest w.in_ok-close_lowest.ensures.ok;
+        closing = closing-more c.descriptors.invariant.closing lowest (subst (λ (o : Option Bounds). finds_full o c.descriptors.books.records c.args.p (MqClose c.descriptors.d) [] ≡ false) c.descriptors.invariant.bounds w.in_ok-close_lowest.ensures.room) w.in_ok-close_lowest.ensures.ok;
         from = rw w.in_ok-close_lowest.ensures.ok (from-closed c.descriptors.books.records c.args.p c.descriptors.d lowest);
       })
   | else-eq w ↦

@@ -9,6 +9,6 @@ invariant-descriptors l = record {
   n : l.books.n ≡ l.initial.books.n;
   bounds : l.books.bounds ≡ l.initial.books.bounds;
   free : open_wait l.books.records l.p ≡ None;
-  closing : Closing l.initial.books.records l.books.records l.p;
+  closing : Closing l.initial.books.bounds l.initial.books.records l.books.records l.p;
   from : IsFrom l.books.records l.p l.d;
 }

@@ -14,7 +14,7 @@ fill-requires c =
 pub returns-in-Err-clause-called : goal.returns-in-Err-clause-called
 returns-in-Err-clause-called c =
     let needs = receive-needs c.args.journal.now.records c.args.p c.args.call c.requires.receives in
-    called-refused c.args.journal.now c.make_room.new.journal c.args.self.now c.args.p c.args.call [] 2 0 c.in-Err.fault c.make_room.result needs c.make_room.ensures.full c.in-Err.is c.make_room.ensures.records c.make_room.ensures.kept c.requires.may_call.pool
+    called-refused c.args.journal.now c.make_room.new.journal c.args.self.now c.args.p c.args.call [] 2 0 c.in-Err.fault c.make_room.result needs c.make_room.ensures.full c.in-Err.is c.make_room.ensures.records c.make_room.ensures.no_less c.make_room.ensures.kept c.requires.may_call.pool
 
 pub returns-clause-called : goal.returns-clause-called
 returns-clause-called c =

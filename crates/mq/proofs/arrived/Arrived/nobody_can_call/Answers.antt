@@ -1,0 +1,18 @@
+use Rattle.std.proofs.Common.{sym}
+use Rattle.mq.proofs.Calling.{came-in, came-bounds, came-count, came-waits, came-room, same-number}
+use Rattle.mq.proofs.arrived.Arrived.nobody_can_call.Goals as goal
+
+pub process_of-requires : goal.process_of-requires
+process_of-requires g c =
+    let came = came-in c.begin-inside.ensures.came c.self.view_is c.requires.made in
+    rw c.depart.ensures.left (came-waits came (rw c.self.view_is at c.self.invariant.0.waits_is))
+
+pub returns-clause-wait : goal.returns-clause-wait
+returns-clause-wait g c =
+    let came = came-in c.begin-inside.ensures.came c.self.view_is c.requires.made in
+    rw (c.process_of.ensures, c.depart.ensures.left, same-number came) (came-room came)
+
+pub returns-clause-nobody : goal.returns-clause-nobody
+returns-clause-nobody g c =
+    let came = came-in c.begin-inside.ensures.came c.self.view_is c.requires.made in
+    rw (c.process_of.ensures, c.depart.ensures.left) (rw (sym (came-bounds came c.requires.made), sym (came-count came c.requires.made)) c.nobody_can_call-nobody.ensures)

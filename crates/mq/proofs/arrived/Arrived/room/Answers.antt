@@ -1,0 +1,20 @@
+use Rattle.std.proofs.Common.{◌∙◌, ap, Option}
+use Rattle.mq_model.specs.declared.bounds.Bounds.{Bounds}
+use Rattle.mq_state.specs.Room.{room_left}
+use Rattle.mq.proofs.Calling.{came-in, came-bounds, came-waits, came-room, same-number}
+use Rattle.mq.proofs.arrived.Arrived.room.Goals as goal
+
+pub process_of-requires : goal.process_of-requires
+process_of-requires g c =
+    let came = came-in c.begin-inside.ensures.came c.self.view_is c.requires.made in
+    rw c.depart.ensures.left (came-waits came (rw c.self.view_is at c.self.invariant.0.waits_is))
+
+pub returns-clause-wait : goal.returns-clause-wait
+returns-clause-wait g c =
+    let came = came-in c.begin-inside.ensures.came c.self.view_is c.requires.made in
+    rw (c.process_of.ensures, c.depart.ensures.left, same-number came) (came-room came)
+
+pub returns-clause-room : goal.returns-clause-room
+returns-clause-room g c =
+    let came = came-in c.begin-inside.ensures.came c.self.view_is c.requires.made in
+    rw (c.process_of.ensures, c.depart.ensures.left) (c.room-room.ensures ∙ ap (λ (o : Option Bounds). room_left o c.begin-inside.result.1.books.records) (came-bounds came c.requires.made))

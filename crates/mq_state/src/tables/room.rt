@@ -1,0 +1,52 @@
+//! Which calls can still be made, and what the journal has room for.
+ghost use Rattle.std.specs.Prelude.{◌≡◌, ◌≤◌, ◌↔◌, IsTrue, length};
+ghost use Rattle.mq_state.specs.Kept.{IsKeptBy};
+ghost use Rattle.mq_state.specs.Room.{NobodyCanCall, can_call, is_full, room_left};
+
+use crate::tables::Tables;
+use mq_model::bounds::Bounds;
+use mq_model::journals::Journal;
+use mq_model::owners;
+
+impl Tables {
+    // Whether process p can make some call, now or at some moment, where the journal is full or is not.
+    fn can_call(&self, journal: &Journal, p: u32, full: bool) -> bool
+        requires kept { IsKeptBy journal.now self.now }
+        requires full { full ≡ is_full self.now.bounds journal.now.records }
+        ensures { result ≡ can_call self.now.bounds journal.now.records p }
+    {
+        match owners::wait(&self.owners, p) {
+            None => !full,
+            Some(wait) => self.answer(p).is_some() || wait.until.is_some(),
+        }
+    }
+
+    /// None of the processes can make any call, and so none ever can.
+    pub fn nobody_can_call(&self, journal: &Journal) -> bool
+        requires kept { IsKeptBy journal.now self.now }
+        ensures { IsTrue result ↔ NobodyCanCall self.now.bounds journal.now.records self.now.n }
+    {
+        let full = self.exceeds(journal, 1, 0);
+        'processes: for p in 1..self.n + 1 {
+            if self.can_call(journal, p, full) {
+                return false;
+            }
+        }
+        true
+    }
+
+    /// For how many more entries and payload bytes the journal has room, where it has bounds.
+    pub fn room(&self, journal: &Journal) -> Option<Bounds>
+        requires kept { IsKeptBy journal.now self.now }
+        ensures { result ≡ room_left self.now.bounds journal.now.records }
+    {
+        let Some(bounds) = self.bounds else {
+            return None;
+        };
+        let entries = journal.len() + self.open_waits() as u64;
+        Some(Bounds {
+            entries: bounds.entries.saturating_sub(entries),
+            bytes: bounds.bytes.saturating_sub(journal.payload_bytes()),
+        })
+    }
+}
