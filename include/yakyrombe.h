@@ -1,7 +1,8 @@
 /* yakyrombe.h: proved POSIX message queues for the threads of one program.
  *
  * A handle (yak_process) holds one process of a system of 1 to 32 processes that share queues. Each call makes one call of its process,
- * or says why not, and never waits. `static inline` functions below wait, by calling again and yielding the processor.
+ * or says why not, and never waits. `static inline` functions below wait: they try again, and after some tries sleep in the kernel until the
+ * call that lets them go on wakes them. Nothing yields the processor.
  *
  * What a call returns:
  *   YAK_DONE (0)      it was made and is done;
@@ -11,13 +12,15 @@
  *   YAK_EMPTY         the handle is empty;
  *   YAK_WAITING       the process has an open wait, and this call needs one that has none;
  *   YAK_NOT_WAITING   it has none, and this call ends one;
- *   YAK_SHORT         the buffer is shorter than that of the receive that waits;
+ *   YAK_SHORT         the buffer is shorter than that of the receive that waits, or than the line that was asked for;
  *   YAK_EARLY         the wait has no deadline, or one that has not passed;
  *   YAK_NO_NOTICE     there is no notice;
  *   YAK_FULL          a handle is not empty that should be;
- *   YAK_NO_ENTRY      the journal has no entry at that place.
- * With YAK_RETRY, and from YAK_EMPTY on but for YAK_NO_NOTICE and YAK_NO_ENTRY, no call was made and nothing is written. A fault but YAK_NOMEMORY and
- * YAK_JOURNALFULL stands in the journal as a call that was refused. Where a call is not YAK_DONE, what it would write is as it was.
+ *   YAK_NO_ENTRY      the journal has no entry at that place;
+ *   YAK_GOES_ON       some process can still make a call.
+ * With YAK_RETRY, and from YAK_EMPTY on but for YAK_NO_NOTICE, YAK_NO_ENTRY and YAK_GOES_ON, no call was made. A fault but YAK_NOMEMORY
+ * and YAK_JOURNALFULL stands in the journal as a call that was refused. Where a call is not YAK_DONE, what it would write is as it was,
+ * but for the front of a line that is longer than the buffer of yak_entry.
  *
  * A handle that a call left with YAK_RETRY is on its way into the lock, and keeps others out until a call on it is through: go on
  * trying any call on it until one returns another number. A handle must not be forgotten in that state.
@@ -34,10 +37,10 @@
 #ifndef YAKYROMBE_H
 #define YAKYROMBE_H
 
-#include <sched.h>
 #include <stdbool.h>
 #include <stddef.h>
 #include <stdint.h>
+#include <stdlib.h>
 #include <time.h>
 
 #ifdef __cplusplus
@@ -47,9 +50,12 @@ extern "C" {
 typedef struct yak_process {
     void *at;
     bool full;
+    uint32_t answered; /* whose waits its last call answered, that of process p by bit p - 1 */
+    uint32_t number;   /* the number of the process, from 1 */
+    uint64_t *bells;   /* the bells of its system (see yak_bell) */
 } yak_process;
 
-#define YAK_PROCESS_EMPTY {0, false}
+#define YAK_PROCESS_EMPTY {0, false, 0, 0, 0}
 
 enum yak_fault {
     YAK_AGAIN = 1,
@@ -78,7 +84,8 @@ enum yak_answer {
     YAK_EARLY = 22,
     YAK_NO_NOTICE = 23,
     YAK_FULL = 24,
-    YAK_NO_ENTRY = 25
+    YAK_NO_ENTRY = 25,
+    YAK_GOES_ON = 26
 };
 
 /* What an open asks for. `access` is 0 to receive, 1 to send, 2 for both; the limits count where `limited`. */
@@ -105,6 +112,12 @@ typedef struct yak_message {
     uint32_t prio;
 } yak_message;
 
+/* For how much more a journal has room: entries, beside those that end the waits that are open, and bytes of names and messages. */
+typedef struct yak_room_left {
+    uint64_t entries;
+    uint64_t bytes;
+} yak_room_left;
+
 /* A moment of the program's own clock: a deadline has passed at its own moment and at each later one. */
 typedef struct yak_moment {
     int64_t sec;
@@ -116,7 +129,8 @@ typedef struct yak_moment {
 uint32_t yak_new(yak_process *processes, size_t count);
 
 /* The same, with a journal of at most so many entries and payload bytes. All memory that later calls could need is taken here: none is
- * refused with YAK_NOMEMORY, and one that finds the journal full is with YAK_JOURNALFULL. */
+ * refused with YAK_NOMEMORY, and one that finds the journal full is with YAK_JOURNALFULL. Once it is full no send is accepted, so a wait
+ * that is open then stays open for ever unless it has a deadline: wait with deadlines, or ask yak_nobody_can_call or yak_room. */
 uint32_t yak_bounded(yak_process *processes, size_t count, uint64_t entries, uint64_t bytes);
 
 /* Empties a handle. Its process is lost, with the descriptors that it holds (yak_exit closes them). The memory of a system is freed
@@ -178,42 +192,127 @@ uint32_t yak_end_wait(yak_process *process, uint8_t *buf, size_t len, yak_messag
  * keeps it. */
 uint32_t yak_check(yak_process *process);
 
-/* Writes the entry of the journal at a place, from 0, into the front of a buffer as a line of text without its end, and its length: its
- * process, its call, its reply. YAK_NO_ENTRY at the journal's length and beyond, YAK_SHORT where the buffer has the front of the line. */
+/* Writes the line of the entry of the journal at a place, from 0, into the front of a buffer, and the length of the line: place, process,
+ * call, name or message, reply and a line feed, as docs/JOURNAL.md has them, so that the lines of all places are the journal as text.
+ * YAK_NO_ENTRY at the journal's length and beyond; YAK_SHORT where the line is longer than the buffer, which then has its front;
+ * YAK_NOMEMORY where memory for the line was refused, of a system with bounds too. The process may have an open wait, and keeps it. */
 uint32_t yak_entry(yak_process *process, uint64_t place, uint8_t *text, size_t size, size_t *len);
+
+/* Writes for how much more the journal has room; of a system without bounds both numbers are UINT64_MAX. A send or a receive needs room
+ * for two entries, since it may wait, and any other call for one. The process may have an open wait, and keeps it. */
+uint32_t yak_room(yak_process *process, yak_room_left *room);
+
+/* Whether no process of the system can make a call any more, now or later: YAK_DONE where no open wait is answered or has a deadline, and
+ * each process without an open wait would find the journal full, and else YAK_GOES_ON. Where it is YAK_DONE it stays so, and what waits
+ * waits for ever. The process may have an open wait, and keeps it. */
+uint32_t yak_nobody_can_call(yak_process *process);
+
+/* Writes which of the 65 bells of its system a process sleeps on: 0 where it waits for the lock, j where it waits there for process j, and
+ * 32 + its own number at rest, for its answer. A bell is a word that is 1 where somebody may sleep on it: who sleeps stores 1, looks once
+ * more, and sleeps while it is 1; who rings stores 0 and wakes one. YAK_EMPTY. */
+uint32_t yak_bell(yak_process *process, uint32_t *bell);
 
 /* ---- what waits ---------------------------------------------------------------------------------------------------------- */
 
-/* Passes the time before the next try: yields, and after some tries sleeps up to a millisecond. */
-static inline void yak_pause(unsigned *tries)
+/* Sleeps while the bell is 1, until it rings and for so many milliseconds at the most; and wakes one that sleeps there. They are in the C
+ * file that defines YAKYROMBE_IMPLEMENTATION: by futex on Linux, and elsewhere the sleep is one of a millisecond. */
+void yak_sleep(uint64_t *bell, long millis);
+void yak_rouse(uint64_t *bell);
+
+enum { YAK_SPINS = 6, YAK_NAP = 10, YAK_LONGEST_NAP = 80 };
+
+/* Spins for the next try, longer each time, or is false after some tries. */
+static inline bool yak_spin(unsigned *tries)
 {
-    if (*tries < 64) {
-        ++*tries;
-        sched_yield();
-    } else {
-        struct timespec nap = {0, 20000L * (long)(*tries - 63)};
-        if (*tries < 113)
-            ++*tries;
-        nanosleep(&nap, 0);
+    if (*tries >= YAK_SPINS)
+        return false;
+    for (unsigned left = 1u << (*tries)++; left != 0; --left) {
+#if defined __x86_64__ || defined __i386__
+        __builtin_ia32_pause();
+#endif
+    }
+    return true;
+}
+
+static inline void yak_ring(uint64_t *bell)
+{
+    if (__atomic_load_n(bell, __ATOMIC_SEQ_CST) == 1) {
+        __atomic_store_n(bell, 0, __ATOMIC_SEQ_CST);
+        yak_rouse(bell);
     }
 }
 
-/* Makes a call again until its process has come inside: YAK_TRY(answer, yak_close(process, d)); */
-#define YAK_TRY(answer, call)                                                                                                    \
+/* Wakes who sleeps until what the last call of the process changed. YAK_TRY ends with it. */
+static inline void yak_wake(yak_process *process)
+{
+    if (process->bells == 0)
+        return;
+    yak_ring(&process->bells[0]);
+    yak_ring(&process->bells[process->number]);
+    for (uint32_t left = process->answered, p = 1; left != 0; left >>= 1, ++p)
+        if ((left & 1) != 0)
+            yak_ring(&process->bells[32 + p]);
+}
+
+/* Passes the time before the next try of a call that was YAK_RETRY: spins, and after some tries sleeps until who keeps the process out of the
+ * lock wakes it, for 10 milliseconds at the most, and announces the next sleep. */
+static inline void yak_rest(yak_process *process, unsigned *tries)
+{
+    uint32_t bell;
+    if (yak_spin(tries) || process->bells == 0 || yak_bell(process, &bell) != YAK_DONE || bell > 32)
+        return;
+    yak_ring(&process->bells[process->number]);
+    yak_sleep(&process->bells[bell], YAK_NAP);
+    __atomic_store_n(&process->bells[bell], 1, __ATOMIC_SEQ_CST);
+}
+
+/* Makes a call again until its process has come inside: YAK_TRY(answer, process, yak_close(process, d)); */
+#define YAK_TRY(answer, process, call)                                                                                           \
     do {                                                                                                                         \
         unsigned yak_tries_ = 0;                                                                                                 \
         while (((answer) = (call)) == YAK_RETRY)                                                                                 \
-            yak_pause(&yak_tries_);                                                                                              \
+            yak_rest((process), &yak_tries_);                                                                                    \
+        yak_wake(process);                                                                                                       \
     } while (0)
+
+/* Looks until the open wait is answered, for so many milliseconds at the most: spins, and then sleeps until the call that answers it wakes
+ * the process. YAK_WAITS where it is not answered. */
+static inline uint32_t yak_await_answer(yak_process *process, long millis)
+{
+    uint32_t looked;
+    uint64_t *bell;
+    unsigned tries = 0;
+    do
+        looked = yak_answered(process);
+    while (looked == YAK_WAITS && yak_spin(&tries));
+    if (looked != YAK_WAITS)
+        return looked;
+    bell = &process->bells[32 + process->number];
+    __atomic_store_n(bell, 1, __ATOMIC_SEQ_CST);
+    if (yak_answered(process) == YAK_WAITS)
+        yak_sleep(bell, millis);
+    __atomic_store_n(bell, 0, __ATOMIC_SEQ_CST);
+    return yak_answered(process);
+}
+
+/* How long the next sleep of a wait is at the most. */
+static inline long yak_nap(long *millis)
+{
+    long nap = *millis;
+    *millis = nap * 2 < YAK_LONGEST_NAP ? nap * 2 : (long)YAK_LONGEST_NAP;
+    return nap;
+}
 
 /* Waits until the open wait is answered, and ends it. */
 static inline uint32_t yak_await(yak_process *process, uint8_t *buf, size_t len, yak_message *message)
 {
     uint32_t answer;
-    for (unsigned tries = 0; yak_answered(process) == YAK_WAITS;)
-        yak_pause(&tries);
-    for (unsigned tries = 0; (answer = yak_collect(process, buf, len, message)) == YAK_RETRY || answer == YAK_WAITS;)
-        yak_pause(&tries);
+    long millis = YAK_NAP;
+    do {
+        while (yak_await_answer(process, yak_nap(&millis)) == YAK_WAITS)
+            ;
+        YAK_TRY(answer, process, yak_collect(process, buf, len, message));
+    } while (answer == YAK_WAITS);
     return answer;
 }
 
@@ -228,21 +327,35 @@ static inline yak_moment yak_now(void)
     return moment;
 }
 
+/* The milliseconds until the deadline of a wait, one at the least and a nap at the most. */
+static inline long yak_time_left(const yak_moment *until, long nap)
+{
+    yak_moment now = yak_now();
+    int64_t seconds = until->sec - now.sec;
+    int64_t millis = (until->nsec - now.nsec) / 1000000;
+    if (until->sec < now.sec)
+        return 1;
+    if (until->sec > now.sec && (now.sec < 0 ? until->sec > now.sec + 1 : seconds > 1))
+        return nap;
+    millis += (until->sec != now.sec) * 1000;
+    return millis < 1 ? 1 : millis < nap ? (long)millis : nap;
+}
+
 /* The same until the deadline of the wait has passed: then YAK_TIMEDOUT. */
-static inline uint32_t yak_await_until(yak_process *process, uint8_t *buf, size_t len, yak_message *message)
+static inline uint32_t yak_await_until(yak_process *process, uint8_t *buf, size_t len, yak_message *message, const yak_moment *until)
 {
     uint32_t answer;
-    for (unsigned tries = 0;; yak_pause(&tries)) {
+    long millis = YAK_NAP;
+    for (;;) {
         yak_moment now = yak_now();
-        if (yak_answered(process) != YAK_WAITS) {
-            answer = yak_collect(process, buf, len, message);
-            if (answer != YAK_RETRY && answer != YAK_WAITS)
-                return answer;
-            continue;
-        }
-        answer = yak_end_wait(process, buf, len, message, &now);
-        if (answer != YAK_RETRY && answer != YAK_EARLY)
+        YAK_TRY(answer, process, yak_end_wait(process, buf, len, message, &now));
+        if (answer != YAK_EARLY)
             return answer;
+        if (yak_await_answer(process, yak_time_left(until, yak_nap(&millis))) != YAK_WAITS) {
+            YAK_TRY(answer, process, yak_collect(process, buf, len, message));
+            if (answer != YAK_WAITS)
+                return answer;
+        }
     }
 }
 
@@ -252,7 +365,7 @@ static inline uint32_t yak_send(yak_process *process, uint32_t d, const uint8_t 
     uint8_t none = 0;
     yak_message message = {0, 0};
     uint32_t answer;
-    YAK_TRY(answer, yak_start_send(process, d, bytes, len, prio));
+    YAK_TRY(answer, process, yak_start_send(process, d, bytes, len, prio));
     return answer == YAK_WAITS ? yak_await(process, &none, 0, &message) : answer;
 }
 
@@ -260,7 +373,7 @@ static inline uint32_t yak_send(yak_process *process, uint32_t d, const uint8_t 
 static inline uint32_t yak_receive(yak_process *process, uint32_t d, uint8_t *buf, size_t len, yak_message *message)
 {
     uint32_t answer;
-    YAK_TRY(answer, yak_start_receive(process, d, buf, len, message));
+    YAK_TRY(answer, process, yak_start_receive(process, d, buf, len, message));
     return answer == YAK_WAITS ? yak_await(process, buf, len, message) : answer;
 }
 
@@ -272,8 +385,8 @@ static inline uint32_t yak_timed_send(yak_process *process, uint32_t d, const ui
     yak_message message = {0, 0};
     yak_moment now = yak_now();
     uint32_t answer;
-    YAK_TRY(answer, yak_start_timed_send(process, d, bytes, len, prio, until, &now));
-    return answer == YAK_WAITS ? yak_await_until(process, &none, 0, &message) : answer;
+    YAK_TRY(answer, process, yak_start_timed_send(process, d, bytes, len, prio, until, &now));
+    return answer == YAK_WAITS ? yak_await_until(process, &none, 0, &message, until) : answer;
 }
 
 /* mq_timedreceive, by the same. */
@@ -282,45 +395,100 @@ static inline uint32_t yak_timed_receive(yak_process *process, uint32_t d, uint8
 {
     yak_moment now = yak_now();
     uint32_t answer;
-    YAK_TRY(answer, yak_start_timed_receive(process, d, buf, len, message, until, &now));
-    return answer == YAK_WAITS ? yak_await_until(process, buf, len, message) : answer;
+    YAK_TRY(answer, process, yak_start_timed_receive(process, d, buf, len, message, until, &now));
+    return answer == YAK_WAITS ? yak_await_until(process, buf, len, message, until) : answer;
 }
 
-/* Ends a system, of which these are all handles: checks its journal, gives each entry as a line of text to `line`, unless that is null,
- * and empties the handles. YAK_EMPTY where one is empty or there is none, and then nothing is done. A line of more than 1,024 bytes is
- * cut. */
+/* Gives the line of the entry at a place to `line`, from a buffer that grows where it is too short. */
+static inline uint32_t yak_line(yak_process *process, uint64_t place, uint8_t **text, size_t *size,
+                                void (*line)(void *with, const uint8_t *text, size_t len), void *with)
+{
+    static uint8_t none[1];
+    for (;;) {
+        size_t len = 0;
+        uint8_t *larger;
+        uint32_t answer;
+        YAK_TRY(answer, process, yak_entry(process, place, *text != 0 ? *text : none, *size, &len));
+        if (answer == YAK_DONE)
+            line(with, *text, len);
+        if (answer != YAK_SHORT)
+            return answer;
+        larger = (uint8_t *)realloc(*text, 2 * len);
+        if (larger == 0)
+            return YAK_NOMEMORY;
+        *text = larger;
+        *size = 2 * len;
+    }
+}
+
+/* Ends a system, of which these are all handles: checks its journal, gives the line of each entry to `line`, unless that is null, and
+ * empties the handles. YAK_EMPTY where one is empty or there is none, and then nothing is done; YAK_NOMEMORY where memory for a line was
+ * refused, and then the handles are as they were. */
 static inline uint32_t yak_finish(yak_process *processes, size_t count, void (*line)(void *with, const uint8_t *text, size_t len),
                                   void *with)
 {
-    uint8_t text[1024];
-    size_t len = 0;
-    uint32_t checked;
+    yak_room_left room;
+    uint8_t *text = 0;
+    size_t size = 0;
+    uint32_t answer;
     if (count == 0)
         return YAK_EMPTY;
     for (size_t i = 0; i < count; ++i)
         if (yak_answered(&processes[i]) == YAK_EMPTY)
             return YAK_EMPTY;
     /* One that is on its way keeps the others out until it is through. */
-    for (unsigned tries = 0, under_way = 1; under_way != 0; yak_pause(&tries)) {
+    for (unsigned tries = 0, under_way = 1; under_way != 0;) {
         under_way = 0;
         for (size_t i = 0; i < count; ++i)
-            under_way += yak_entry(&processes[i], 0, text, sizeof text, &len) == YAK_RETRY;
+            if (yak_room(&processes[i], &room) == YAK_RETRY) {
+                ++under_way;
+                yak_rest(&processes[i], &tries);
+            }
     }
-    YAK_TRY(checked, yak_check(&processes[0]));
-    for (uint64_t place = 0; line != 0; ++place) {
-        uint32_t answer;
-        YAK_TRY(answer, yak_entry(&processes[0], place, text, sizeof text, &len));
-        if (answer == YAK_NO_ENTRY)
-            break;
-        line(with, text, len);
-    }
+    YAK_TRY(answer, &processes[0], yak_check(&processes[0]));
+    for (uint64_t place = 0; line != 0 && answer == YAK_DONE; ++place)
+        answer = yak_line(&processes[0], place, &text, &size, line, with);
+    free(text);
+    if (answer == YAK_NOMEMORY)
+        return answer;
     for (size_t i = 0; i < count; ++i)
         yak_free(&processes[i]);
-    return checked;
+    return YAK_DONE;
 }
 
 #ifdef YAKYROMBE_IMPLEMENTATION
-#include <stdlib.h>
+#ifdef __linux__
+#include <linux/futex.h>
+#include <sys/syscall.h>
+#include <unistd.h>
+#ifndef __cplusplus
+/* Under a strict -std <unistd.h> leaves it out. */
+long syscall(long number, ...);
+#endif
+#endif
+
+void yak_sleep(uint64_t *bell, long millis)
+{
+#ifdef __linux__
+    /* x86-64: the low half of the word stands first. */
+    struct timespec nap = {millis / 1000, millis % 1000 * 1000000L};
+    syscall(SYS_futex, (uint32_t *)bell, FUTEX_WAIT_PRIVATE, (uint32_t)1, &nap, 0, 0);
+#else
+    struct timespec nap = {0, 1000000L};
+    (void)bell;
+    (void)millis;
+    nanosleep(&nap, 0);
+#endif
+}
+
+void yak_rouse(uint64_t *bell)
+{
+#ifdef __linux__
+    syscall(SYS_futex, (uint32_t *)bell, FUTEX_WAKE_PRIVATE, 1, 0, 0, 0);
+#else
+    (void)bell;
+#endif
+}
 
 /* The library takes and frees its memory by these three. */
 typedef struct rattle_tried {

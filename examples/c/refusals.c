@@ -4,6 +4,7 @@
 
 #include <stdio.h>
 #include <stdlib.h>
+#include <string.h>
 
 static unsigned failed, passed;
 
@@ -246,18 +247,29 @@ static void bounds(void)
 {
     yak_process one = YAK_PROCESS_EMPTY;
     struct mq_attr small = attributes(1, 4);
+    yak_room_left room = {0, 0};
     char line[200];
     size_t len = 0;
     IS(YAK_DONE, yak_bounded(&one, 1, 3, 10));
     yak_attach(&one);
+    IS(YAK_DONE, yak_room(&one, &room));
+    expect(room.entries == 3 && room.bytes == 10, "the room of a new journal");
     IS(0, mq_open("/b", O_RDWR | O_CREAT, 0600, &small));
     IS(0, mq_send(0, "a", 1, 0));
+    IS(YAK_DONE, yak_room(&one, &room));
+    expect(room.entries == 1 && room.bytes == 7, "the room that is left");
+    IS(YAK_GOES_ON, yak_nobody_can_call(&one));
     FAILS(ENOSPC, mq_send(0, "a", 1, 0));
     IS(0, mq_close(0));
     FAILS(ENOSPC, mq_close(0));
+    IS(YAK_DONE, yak_nobody_can_call(&one));
     IS(YAK_DONE, yak_entry(&one, 1, (uint8_t *)line, sizeof line, &len));
-    printf("%.*s\n", (int)len, line);
+    printf("%.*s", (int)len, line);
+    memset(line, '.', sizeof line);
     IS(YAK_SHORT, yak_entry(&one, 1, (uint8_t *)line, 3, &len));
+    expect(len == 29 && memcmp(line, "1 1.", 4) == 0, "the front of a line, and its length");
+    IS(YAK_SHORT, yak_entry(&one, 1, (uint8_t *)line, 28, &len));
+    IS(YAK_DONE, yak_entry(&one, 1, (uint8_t *)line, 29, &len));
     IS(YAK_NO_ENTRY, yak_entry(&one, 3, (uint8_t *)line, sizeof line, &len));
     IS(YAK_DONE, yak_check(&one));
     IS(YAK_DONE, yak_free(&one));

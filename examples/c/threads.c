@@ -128,7 +128,7 @@ int main(int argc, char **argv)
     printf("%u threads: %s, sums %s\n", count, are_well ? "all well" : "FAILED", sent_sum == received_sum ? "equal" : "DIFFER");
     bool is_late_well = in_threads(2, wait_for_it, send_it_late, shares);
     printf("late: %s\n", is_late_well ? "well" : "FAILED");
-    YAK_TRY(answer, yak_check(&processes[0]));
+    YAK_TRY(answer, &processes[0], yak_check(&processes[0]));
     printf("history %s\n", answer == YAK_DONE ? "ok" : "FAILED");
     for (unsigned i = 0; i < count; ++i)
         yak_free(&processes[i]);

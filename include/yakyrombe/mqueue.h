@@ -89,21 +89,21 @@ static inline mqd_t mq_open(const char *name, int oflag, ...)
             opening.limited = true;
         }
     }
-    YAK_TRY(answer, yak_open(yak_here(), (const uint8_t *)name, strlen(name), &opening, &d));
+    YAK_TRY(answer, yak_here(), yak_open(yak_here(), (const uint8_t *)name, strlen(name), &opening, &d));
     return yak_result(answer) == 0 ? (mqd_t)d : (mqd_t)-1;
 }
 
 static inline int mq_close(mqd_t mqdes)
 {
     uint32_t answer;
-    YAK_TRY(answer, yak_close(yak_here(), (uint32_t)mqdes));
+    YAK_TRY(answer, yak_here(), yak_close(yak_here(), (uint32_t)mqdes));
     return yak_result(answer);
 }
 
 static inline int mq_unlink(const char *name)
 {
     uint32_t answer;
-    YAK_TRY(answer, yak_unlink(yak_here(), (const uint8_t *)name, strlen(name)));
+    YAK_TRY(answer, yak_here(), yak_unlink(yak_here(), (const uint8_t *)name, strlen(name)));
     return yak_result(answer);
 }
 
@@ -163,7 +163,7 @@ static inline int mq_getattr(mqd_t mqdes, struct mq_attr *attr)
 {
     yak_attributes attributes = {0, 0, 0, false};
     uint32_t answer;
-    YAK_TRY(answer, yak_getattr(yak_here(), (uint32_t)mqdes, &attributes));
+    YAK_TRY(answer, yak_here(), yak_getattr(yak_here(), (uint32_t)mqdes, &attributes));
     return yak_fill(answer, &attributes, attr);
 }
 
@@ -171,7 +171,7 @@ static inline int mq_setattr(mqd_t mqdes, const struct mq_attr *set, struct mq_a
 {
     yak_attributes attributes = {0, 0, 0, false};
     uint32_t answer;
-    YAK_TRY(answer, yak_setattr(yak_here(), (uint32_t)mqdes, (set->mq_flags & O_NONBLOCK) != 0, &attributes));
+    YAK_TRY(answer, yak_here(), yak_setattr(yak_here(), (uint32_t)mqdes, (set->mq_flags & O_NONBLOCK) != 0, &attributes));
     return yak_fill(answer, &attributes, before);
 }
 
@@ -186,7 +186,7 @@ static inline int mq_notify(mqd_t mqdes, const struct sigevent *event)
         }
         value = (uint64_t)(uintptr_t)event->sigev_value.sival_ptr;
     }
-    YAK_TRY(answer, yak_notify(yak_here(), (uint32_t)mqdes, event != 0, value));
+    YAK_TRY(answer, yak_here(), yak_notify(yak_here(), (uint32_t)mqdes, event != 0, value));
     return yak_result(answer);
 }
 

@@ -2,6 +2,7 @@
  *
  * GROWTH=N      refuses the Nth growth, from 1
  * GROWTH=marked refuses every growth after the first mark
+ * GROWTH=counted refuses none, and at each mark writes to file descriptor F how many bytes were asked for since the mark before
  * GROWTH_FD=F   writes a byte to file descriptor F for each growth that it refuses
  *
  * A growth is a call of malloc, calloc, realloc or of a function for aligned memory. One of 16,777,213 bytes is a mark, which is not
@@ -19,7 +20,7 @@ extern int *__errno_location(void);
 
 enum { OUT_OF_MEMORY = 12, MARK = 16777213 };
 
-static unsigned long seen;
+static unsigned long seen, asked;
 static int is_marked;
 
 static unsigned long number(const char *text) {
@@ -29,11 +30,31 @@ static unsigned long number(const char *text) {
   return value;
 }
 
+/* Counts what was asked for, and says it at a mark. */
+static void count(size bytes) {
+  char text[24];
+  size first = sizeof text, value;
+  if (bytes != MARK) {
+    __atomic_add_fetch(&asked, bytes, __ATOMIC_SEQ_CST);
+    return;
+  }
+  value = __atomic_exchange_n(&asked, 0, __ATOMIC_SEQ_CST);
+  text[--first] = '\n';
+  do
+    text[--first] = (char)('0' + value % 10);
+  while (value /= 10);
+  write((int)number(getenv("GROWTH_FD")), text + first, sizeof text - first);
+}
+
 /* Whether this growth is to be refused. */
 static int is_refused(size bytes) {
   const char *wanted = getenv("GROWTH");
   if (!wanted)
     return 0;
+  if (*wanted == 'c') {
+    count(bytes);
+    return 0;
+  }
   if (*wanted == 'm') {
     int refused = __atomic_load_n(&is_marked, __ATOMIC_SEQ_CST);
     if (bytes == MARK)
