@@ -15,3 +15,5 @@ pub mod Buffers
 pub mod BooksModel
 pub mod Memory
 pub mod Replays
+pub mod Trails
+pub mod TrailModel

@@ -10,3 +10,4 @@ mod prefixes;
 mod queues;
 pub mod replay;
 mod tables;
+pub mod trail;

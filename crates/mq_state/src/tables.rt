@@ -10,7 +10,7 @@ ghost use Rattle.mq_state.specs.Tables.{entry_queue, admitted_priority};
 ghost use Rattle.mq_state.specs.Kept.{Mirrors, notice_room};
 ghost use Rattle.mq_state.specs.Pool.{order_count};
 
-mod calls;
+pub(crate) mod calls;
 mod facts;
 mod room;
 mod waiting;

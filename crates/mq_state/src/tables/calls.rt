@@ -28,7 +28,7 @@ use std::alloc::{AllocError, Global};
 
 // The payload of a call that was given these bytes.
 #[inline(always)]
-fn payload_of(call: Call, reply: Reply, given: &[u8]) -> &[u8]
+pub(crate) fn payload_of(call: Call, reply: Reply, given: &[u8]) -> &[u8]
     ensures value { result.now ≡ payload_of call reply given.now }
     ensures bound { length result.now ≤ length given.now }
 {
@@ -148,6 +148,7 @@ impl Tables {
         requires at_most { entry.process ≤ self.old.n }
         requires unbounded { self.old.bounds ≡ None }
         ensures tables { OnOk result (AreThoseOf (record { entry = entry; payload = payload.now } ∷ journal.now.records) self.new) }
+        ensures err { OnErr result (AreThoseOf journal.now.records self.new) }
         ensures n { self.new.n ≡ self.old.n }
         ensures bounds { self.new.bounds ≡ None }
     {

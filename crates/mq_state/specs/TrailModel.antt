@@ -1,0 +1,17 @@
+use Rattle.std.specs.Prelude.{◌≡◌, Option, Some, None}
+use Rattle.mq_model.specs.Record.{Past}
+use Rattle.mq_model.specs.declared.bounds.Bounds.{Bounds}
+use Rattle.mq_model.specs.Legality.{Legal}
+use Rattle.mq_state.specs.Kept.{AreThoseOf}
+use Rattle.mq_state.specs.declared.tables.Tables.{Tables}
+use Rattle.mq_state.specs.declared.trail.Trail.TheInside.{Inside}
+
+abbrev pub shown : Inside → Past
+shown x = x.journal.records
+
+-- the tables are those of the records, of 32 processes and without bounds
+abbrev pub AreTrackedBy : Past → Tables → Type 0
+AreTrackedBy past t = AreThoseOf past t × (t.n ≡ 32) × (t.bounds ≡ None)
+
+abbrev pub IsTracked : Inside → Type 0
+IsTracked x = AreTrackedBy x.journal.records x.tables

@@ -1,0 +1,109 @@
+//! A journal that grows by the call of one process after the other, as the definitions reply to it.
+ghost use Rattle.std.specs.Prelude.{◌≡◌, [], Some, None, IfOk, IsTrue, IsFalse, is_some, OnErr};
+ghost use Rattle.mq_model.specs.Legality.{reply_to};
+ghost use Rattle.mq_state.specs.Trails.{can_call, with_call};
+ghost use Rattle.mq_model.specs.Waits.{open_wait};
+
+use crate::prefixes::Prefix;
+use crate::tables::Tables;
+use crate::tables::calls::payload_of;
+use mq_model::entries::{Call, Entry, Reply};
+use mq_model::forms::{is_payload, is_process};
+use mq_model::journals::Journal;
+use mq_model::limits::PROCESSES;
+use std::alloc::{AllocError, Global};
+use std::marker::Model;
+
+/// A legal journal and the tables of the queues after it, which grows by the call of one process after
+/// the other. It shows the records. Where memory was refused in a call, all is as it was.
+#[derive(Drop)]
+pub struct Trail {
+    journal: Journal,
+    tables: Tables,
+}
+
+impl Model for Trail {
+    ghost use Rattle.mq_model.specs.Record.{Past};
+
+    ghost Value = { Past };
+
+    ghost use Rattle.mq_state.specs.TrailModel.{shown, IsTracked};
+
+    ghost view = { shown };
+
+    ghost invariant = { IsTracked };
+}
+
+impl Trail {
+    /// No calls yet.
+    pub fn new(alloc: Global) -> Result<Trail, AllocError>
+        ensures { IfOk result (λ trail. trail ≡ []) }
+    {
+        Ok(Trail {
+            journal: Journal::new(alloc),
+            tables: Tables::new(alloc, PROCESSES, None)?,
+        })
+    }
+
+    /// The reply that a call of process p would get, which is given these bytes.
+    pub fn reply(&self, p: u32, call: Call, given: &[u8]) -> Reply
+        ensures { result ≡ reply_to self.now p call given.now }
+    {
+        self.tables
+            .reply_to(&Prefix::whole(&self.journal), p, call, given)
+    }
+
+    /// Process p may make a call now, which is given these bytes.
+    pub fn can_make(&self, p: u32, call: Call, given: &[u8]) -> bool
+        ensures { result ≡ can_call self.now p call given.now }
+    {
+        let past = Prefix::whole(&self.journal);
+        if !is_process(p) || !self.tables.may_call(&past, p, call) {
+            return false;
+        }
+        let reply = self.tables.reply_to(&past, p, call, given);
+        is_payload(call, reply, payload_of(call, reply, given))
+    }
+
+    /// Process p makes a call, which is given these bytes, if it may make it now. Else it is false, and all is as it was.
+    pub fn make(&mut self, p: u32, call: Call, given: &[u8]) -> Result<bool, AllocError>
+        ensures made { IfOk result (λ made. IsTrue made → with_call self.old p call given.now ≡ Some self.new) }
+        ensures none { IfOk result (λ made. IsFalse made → with_call self.old p call given.now ≡ None) }
+        ensures stays { IfOk result (λ made. IsFalse made → self.new ≡ self.old) }
+        ensures err { OnErr result (self.new ≡ self.old) }
+    {
+        let past = Prefix::whole(&self.journal);
+        if !is_process(p) || !self.tables.may_call(&past, p, call) {
+            return Ok(false);
+        }
+        let reply = self.tables.reply_to(&past, p, call, given);
+        let payload = payload_of(call, reply, given);
+        if !is_payload(call, reply, payload) {
+            return Ok(false);
+        }
+        let entry = Entry {
+            process: p,
+            call,
+            reply,
+        };
+        self.journal.reserve(1, payload.len())?;
+        let past = Prefix::whole(&self.journal);
+        self.tables.follow(&past, entry, payload)?;
+        self.journal.push(entry, payload);
+        Ok(true)
+    }
+
+    /// Process p has an open wait.
+    pub fn waits(&self, p: u32) -> bool
+        ensures { result ≡ is_some (open_wait self.now p) }
+    {
+        self.tables.wait(p).is_some()
+    }
+
+    /// The journal.
+    pub fn journal(&self) -> &Journal
+        ensures { result.now.records ≡ self.now }
+    {
+        &self.journal
+    }
+}
