@@ -6,7 +6,7 @@ pub mod fault;
 mod fitting;
 pub mod input;
 pub mod line;
-mod payload;
+pub mod payload;
 pub mod reply;
 pub mod text;
 mod words;

@@ -1,3 +1,4 @@
 pub mod Label
+pub mod Found
 pub mod Shapes
 pub mod Picture

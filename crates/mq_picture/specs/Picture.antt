@@ -1,13 +1,14 @@
 -- The text of a picture.
-use Rattle.std.specs.Prelude.{ℕ, zero, suc, ◌+◌, ◌*◌, max, min, length, List, [], ◌∷◌, ◌++◌, codes, Option, None, Some}
+use Rattle.std.specs.Prelude.{ℕ, zero, suc, ◌+◌, ◌-◌, ◌*◌, ◌/◌, ◌==◌, nat_lt, min, length, take, List, [], ◌∷◌, ◌++◌, codes, Option, None, Some, if◌then◌else◌}
 use Rattle.std.specs.Fmt.{decimal}
-use Rattle.std.specs.List.{join_with_byte}
-use Rattle.mq_model.specs.Record.{Past, Record, first}
+use Rattle.std.specs.List.{flat_map, join_with_byte}
+use Rattle.mq_model.specs.Record.{Past, Place, Process, Record, first}
 use Rattle.mq_model.specs.declared.entries.Reply.{Reply}
 use Rattle.mq_model.specs.declared.entries.Reply.TheVariants as reply
-use Rattle.mq_journal.specs.Text.{line_text, reply_words}
-use Rattle.mq_picture.specs.Label.{label}
-use Rattle.mq_picture.specs.Shapes.{arrow, bar, lane, row}
+use Rattle.mq_journal.specs.Text.{line_text, payload_text, reply_words}
+use Rattle.mq_picture.specs.Found.{count_below, name_by, processes}
+use Rattle.mq_picture.specs.Label.{label, named}
+use Rattle.mq_picture.specs.Shapes.{arrow, bar_before, bar_of, height, hue, lane, row}
 use Rattle.mq_picture.specs.declared.picture.TheConstants.{STYLE}
 use Rattle.mq_picture.specs.declared.shapes.Stroke.{Stroke}
 use Rattle.mq_picture.specs.declared.shapes.Flight.{Flight}
@@ -24,9 +25,15 @@ unfoldable pub mark_front : ℕ → ℕ → ℕ → Reply → List ℕ
 mark_front column x y reply =
     codes "<g class=\"" ++ (kind reply ++ (codes "\"><circle cx=\"" ++ (decimal x ++ (codes "\" cy=\"" ++ (decimal y ++ (codes "\" r=\"4\"/><text x=\"" ++ (decimal column ++ (codes "\" y=\"" ++ (decimal (y + 4) ++ codes "\">")))))))))
 
+-- where the lines stand: to the right of the lanes
+abbrev pub column : List Process → ℕ
+column ps = (min (length ps) 41 + 1) * 60
+
 -- the mark of a record: its point, and its line
-unfoldable pub mark_text : ℕ → ℕ → ℕ → Record → List ℕ
-mark_text column from place r = mark_front column (lane r.entry.process) (row from place) r.entry.reply ++ (label (line_text place r) (join_with_byte 32 (reply_words r.entry.reply)) ++ codes "</text></g>\n")
+unfoldable pub mark_text : List Process → Place → Place → Record → List ℕ
+mark_text ps from place r =
+    mark_front (column ps) (lane ps r.entry.process) (row from place) r.entry.reply ++
+    (label (line_text place r) (join_with_byte 32 (reply_words r.entry.reply)) ++ codes "</text></g>\n")
 
 -- the ends of a line
 unfoldable pub ends_text : Stroke → List ℕ
@@ -36,51 +43,87 @@ unfoldable pub bar_text : Option Stroke → List ℕ
 bar_text None = []
 bar_text (Some stroke) = codes "<line class=\"wait\" " ++ (ends_text stroke ++ codes "/>\n")
 
-unfoldable pub flight_text : Flight → List ℕ
-flight_text flight = codes "<line class=\"message\" stroke=\"hsl(" ++ (decimal flight.hue ++ (codes ",80%,40%)\" " ++ (ends_text flight.stroke ++ (codes " marker-end=\"url(#tip" ++ (decimal flight.hue ++ codes ")\"/>\n")))))
+-- an arrow of a hue
+unfoldable pub flight_text : Stroke → ℕ → List ℕ
+flight_text stroke hue = codes "<line class=\"message\" stroke=\"hsl(" ++ (decimal hue ++ (codes ",80%,40%)\" " ++ (ends_text stroke ++ (codes " marker-end=\"url(#tip" ++ (decimal hue ++ codes ")\"/>\n")))))
 
-unfoldable pub arrow_text : Option Flight → List ℕ
-arrow_text None = []
-arrow_text (Some flight) = flight_text flight
+-- the front of the name of a queue, beside this point
+unfoldable pub name_front : ℕ → ℕ → List ℕ
+name_front x y = codes "<text class=\"queue\" x=\"" ++ (decimal (x + 6) ++ (codes "\" y=\"" ++ (decimal (y - 3) ++ codes "\">")))
+
+-- the name of a queue beside this point: in quotes, and of it the first 24 bytes
+unfoldable pub name_text : ℕ → ℕ → List ℕ → List ℕ
+name_text x y name = name_front x y ++ (flat_map named (take 26 (payload_text name)) ++ codes "</text>\n")
+
+-- an arrow, and where it begins the name of the queue
+unfoldable pub arrow_text : Past → Option Flight → List ℕ
+arrow_text past None = []
+arrow_text past (Some f) =
+    flight_text f.stroke (hue f.sender.call) ++
+    name_text f.stroke.x1 f.stroke.y1 (name_by (first f.sent past) f.sender.process f.sender.call)
 
 -- what is shown of a record: its mark, and where it has them a bar and an arrow
-unfoldable pub record_text : Past → ℕ → ℕ → ℕ → Record → List ℕ
-record_text past column from place r = mark_text column from place r ++ (bar_text (bar past from place r.entry) ++ arrow_text (arrow past from place r.entry))
+unfoldable pub record_text : Past → List Process → Place → ℕ → Place → Record → List ℕ
+record_text past ps from count place r =
+    mark_text ps from place r ++
+    (bar_text (bar_of past ps from count place r.entry) ++ arrow_text past (arrow past ps from place r.entry))
 
 -- what is shown of the last of these records, in the journal `past`
-unfoldable pub last_text : Past → ℕ → ℕ → Past → List ℕ
-last_text past column from [] = []
-last_text past column from (r ∷ before) = record_text past column from (length before) r
+unfoldable pub last_text : Past → List Process → Place → ℕ → Past → List ℕ
+last_text past ps from count [] = []
+last_text past ps from count (r ∷ before) = record_text past ps from count (length before) r
 
--- what is shown of so many records from the place `from` on
-unfoldable pub entries_text : Past → ℕ → ℕ → ℕ → List ℕ
-entries_text past column from zero = []
-entries_text past column from (suc count) = entries_text past column from count ++ last_text past column from (first (from + count + 1) past)
+-- what is shown of the first k of the records from the place `from` on, of which `count` are shown
+unfoldable pub entries_text : Past → List Process → Place → ℕ → ℕ → List ℕ
+entries_text past ps from count zero = []
+entries_text past ps from count (suc k) =
+    entries_text past ps from count k ++ last_text past ps from count (first (from + k + 1) past)
 
--- the greatest process number
-unfoldable pub greatest : Past → ℕ
-greatest [] = 0
-greatest (r ∷ past) = max (greatest past) r.entry.process
+-- the number of a process: the last of 41 lanes is that of all others
+abbrev pub number_text : List Process → Process → List ℕ
+number_text ps p = if nat_lt (count_below p ps) 40 then decimal p else codes "others"
 
--- the lane at this distance, and the number of its process above it
-unfoldable pub lane_text : ℕ → ℕ → ℕ → List ℕ
-lane_text height x process =
-    codes "<line class=\"lane\" x1=\"" ++ (decimal x ++ (codes "\" y1=\"30\" x2=\"" ++ (decimal x ++ (codes "\" y2=\"" ++ (decimal height ++ (codes "\"/><text class=\"lane\" x=\"" ++ (decimal x ++ (codes "\" y=\"20\">" ++ (decimal process ++ codes "</text>\n")))))))))
+-- a text in a lane, at this distance and height
+unfoldable pub head_text : ℕ → ℕ → List ℕ → List ℕ
+head_text x y number =
+    codes "<text class=\"lane\" x=\"" ++ (decimal x ++ (codes "\" y=\"" ++ (decimal y ++ (codes "\">" ++ (number ++ codes "</text>\n")))))
 
--- the lanes of the processes 1 to n
-unfoldable pub lanes_text : ℕ → ℕ → List ℕ
-lanes_text height zero = []
-lanes_text height (suc n) = lanes_text height n ++ lane_text height (lane (suc n)) (suc n)
+-- the number of a process n times: before the first row, and before each fiftieth
+unfoldable pub heads_text : ℕ → List ℕ → ℕ → List ℕ
+heads_text x number zero = []
+heads_text x number (suc n) = heads_text x number n ++ head_text x (n * 816 + 48) number
 
--- the front of a picture of so many lanes and entries: its size, its colours, and the tips of arrows
+-- the line of a lane
+unfoldable pub line_down : ℕ → ℕ → List ℕ
+line_down x down =
+    codes "<line class=\"lane\" x1=\"" ++ (decimal x ++ (codes "\" y1=\"30\" x2=\"" ++ (decimal x ++ (codes "\" y2=\"" ++ (decimal down ++ codes "\"/>\n")))))
+
+-- how often the numbers stand in a picture of so many entries
+abbrev pub heads : ℕ → ℕ
+heads count = (count - 1) / 50 + 1
+
+-- the lane of a process: its line, its numbers, and the bar of the wait that the process is in where the picture begins
+unfoldable pub lane_text : Past → List Process → Place → ℕ → Process → List ℕ
+lane_text past ps from count p =
+    line_down (lane ps p) (height count) ++
+    (heads_text (lane ps p) (number_text ps p) (heads count) ++ bar_text (bar_before past ps from count p))
+
+-- how many entries are left out
+unfoldable pub left_out_text : ℕ → ℕ → List ℕ
+left_out_text before behind =
+    if before + behind == 0 then []
+    else codes "<text class=\"queue\" x=\"60\" y=\"20\">" ++ (decimal before ++ (codes " entries before these are left out, and " ++ (decimal behind ++ codes " behind them</text>\n")))
+
+-- the front of a picture: its size, its colours, and the tips of arrows
 unfoldable pub front_text : ℕ → ℕ → List ℕ
-front_text lanes height =
-    codes "<svg xmlns=\"http://www.w3.org/2000/svg\" width=\"" ++ (decimal (lanes * 60 + 800) ++ (codes "\" height=\"" ++ (decimal height ++ (codes "\">\n" ++ STYLE.now))))
+front_text width down =
+    codes "<svg xmlns=\"http://www.w3.org/2000/svg\" width=\"" ++ (decimal width ++ (codes "\" height=\"" ++ (decimal down ++ (codes "\">\n" ++ STYLE.now))))
 
--- a picture of so many records from the place `from` on: lanes for at most 32 processes, what is shown of each record, and to the right of
--- the lanes their lines
-abbrev pub picture_text : Past → ℕ → ℕ → List ℕ
+-- a picture of so many records from the place `from` on: how many are left out, a lane for each process that occurs, what is shown of each
+-- record, and to the right of the lanes their lines
+abbrev pub picture_text : Past → Place → ℕ → List ℕ
 picture_text past from count =
-    let height = count * 16 + 80 in
-    let lanes = min (greatest past) 32 in
-    front_text lanes height ++ (lanes_text height lanes ++ (entries_text past (lane (lanes + 1)) from count ++ codes "</svg>\n"))
+    let ps = processes past in
+    front_text (column ps + 740) (height count) ++
+    (left_out_text from (length past - (from + count)) ++
+    (flat_map (lane_text past ps from count) ps ++ (entries_text past ps from count count ++ codes "</svg>\n")))

@@ -25,7 +25,8 @@ pub fn push_label(text: &mut Vec<u8>, line: &[u8], reply: &[u8]) -> Result<(), A
     push_named(text, reply)
 }
 
-fn push_named(text: &mut Vec<u8>, bytes: &[u8]) -> Result<(), AllocError>
+/// Adds bytes as a picture writes them.
+pub fn push_named(text: &mut Vec<u8>, bytes: &[u8]) -> Result<(), AllocError>
     ensures { OnOk result (text.new.items ≡ text.old.items ++ flat_map named bytes.now) }
 {
     for b in bytes {

@@ -1,6 +1,7 @@
 //! Pictures of journals.
 #![tactic(auto)]
 
+mod found;
 mod label;
 mod picture;
 mod shapes;

@@ -1,11 +1,14 @@
 //! The text of a picture.
-ghost use Rattle.std.specs.Prelude.{◌≡◌, ◌≤◌, ◌<◌, ◌+◌, ◌-◌, ◌*◌, ◌++◌, ◌^◌, IfOk, OnOk, length, string_bytes};
+ghost use Rattle.std.specs.Prelude.{◌≡◌, ◌≤◌, ◌<◌, ◌+◌, ◌-◌, ◌*◌, ◌++◌, ◌^◌, IfOk, IfSome, OnOk, length, string_bytes, take};
 ghost use Rattle.mq_model.specs.Record.{first};
-ghost use Rattle.mq_picture.specs.Picture.{arrow_text, bar_text, ends_text, entries_text, flight_text, front_text, greatest, kind, lane_text, lanes_text, last_text, mark_front, mark_text, picture_text, record_text};
+ghost use Rattle.mq_picture.specs.Picture.{arrow_text, bar_text, column, ends_text, entries_text, flight_text, front_text, head_text, heads, heads_text, kind, lane_text, last_text, left_out_text, line_down, mark_front, mark_text, name_front, name_text, number_text, picture_text, record_text};
+ghost use Rattle.std.specs.List.{flat_map};
 
-use crate::label::push_label;
-use crate::shapes::{Flight, Stroke, arrow, bar, lane, row};
+use crate::found::{count_below, name_by, processes};
+use crate::label::{push_label, push_named};
+use crate::shapes::{Flight, Frame, Stroke, arrow, bar_before, bar_of, height, hue, lane, row};
 use mq_journal::line::line_of;
+use mq_journal::payload::payload_text;
 use mq_journal::reply::reply_text;
 use mq_model::entries::{Entry, Reply};
 use mq_model::journals::Journal;
@@ -14,13 +17,11 @@ use std::alloc::{AllocError, Global};
 /// The most entries of a picture.
 pub const MOST_ENTRIES: u64 = 2000;
 
-/// The most lanes of a picture.
-const MOST_LANES: u32 = 32;
-
 /// Colours, and the tips of arrows: one for each hue.
 const STYLE: &str = "<style>\
 text{font:12px monospace}\
-text.lane{text-anchor:middle;font-weight:bold}\
+text.lane{text-anchor:middle;font-weight:bold;paint-order:stroke;stroke:#fff;stroke-width:4}\
+text.queue{font-size:9px;fill:#777}\
 line.lane{stroke:#ccc}\
 line.wait{stroke:#f5b041;stroke-width:8;stroke-opacity:.5}\
 line.message{stroke-width:1.5}\
@@ -56,105 +57,201 @@ pub fn picture_of(
     requires few { count ≤ 2000 }
     ensures { IfOk result (λ text. text.items ≡ picture_text journal.now.records from count) }
 {
-    let height = count * 16 + 80;
-    let lanes = greatest(journal).min(MOST_LANES);
-    let front = front_text(alloc, lanes, height)?;
+    let frame = Frame {
+        processes: processes(alloc, journal)?,
+        from,
+        count,
+    };
+    let front = front_text(alloc, column(&frame.processes) + 740, height(count))?;
     let mut text = Vec::new(alloc);
     text.extend_from_slice(front.as_bytes())?;
-    push_lanes(alloc, &mut text, height, lanes)?;
-    push_entries(alloc, &mut text, journal, lane(lanes + 1), from, count)?;
+    push_left_out(alloc, &mut text, from, journal.len() - (from + count))?;
+    push_lanes(alloc, &mut text, journal, &frame)?;
+    push_entries(alloc, &mut text, journal, &frame)?;
     text.extend_from_slice(b"</svg>\n")?;
     Ok(text)
 }
 
-// The front of a picture of so many lanes: its size, its colours, and the tips of arrows.
+// The front of a picture: its size, its colours, and the tips of arrows.
 #[tactic(auto, unfolding(crate::specs::Picture::front_text))]
-fn front_text(alloc: Global, lanes: u32, height: u64) -> Result<String, AllocError>
-    requires { lanes ≤ 32 }
-    ensures { IfOk result (λ text. string_bytes text ≡ front_text lanes height) }
+fn front_text(alloc: Global, width: u64, height: u64) -> Result<String, AllocError>
+    ensures { IfOk result (λ text. string_bytes text ≡ front_text width height) }
 {
-    let width = u64::from(lanes) * 60 + 800;
     format!(in alloc;
         "<svg xmlns=\"http://www.w3.org/2000/svg\" width=\"{width}\" height=\"{height}\">\n{STYLE}"
     )
 }
 
-// The greatest process number of a journal.
-#[tactic(auto, using(crate::proofs::Steps::greatest_steps, mq_model::proofs::Prefixes::prefixes))]
-fn greatest(journal: &Journal) -> u32
-    ensures { result ≡ greatest journal.now.records }
+// Adds how many entries are left out, before those that are shown and behind them.
+#[tactic(auto, unfolding(crate::specs::Picture::left_out_text))]
+fn push_left_out(
+    alloc: Global,
+    text: &mut Vec<u8>,
+    before: u64,
+    behind: u64,
+) -> Result<(), AllocError>
+    requires { before + behind < 2 ^ 64 }
+    ensures { OnOk result (text.new.items ≡ text.old.items ++ left_out_text before behind) }
 {
-    let mut most = 0;
-    for place in 0..journal.len() {
-        let (entry, _) = journal.record(place);
-        most = entry.process.max(most);
+    if before + behind == 0 {
+        return Ok(());
     }
-    most
+    let line = format!(in alloc;
+        "<text class=\"queue\" x=\"60\" y=\"20\">{before} entries before these are left out, and {behind} behind them</text>\n"
+    )?;
+    text.extend_from_slice(line.as_bytes())
 }
 
-// Adds the lanes of the processes 1 to `lanes`.
-#[tactic(auto, using(crate::proofs::Steps::lanes_steps))]
-fn push_lanes(alloc: Global, text: &mut Vec<u8>, height: u64, lanes: u32) -> Result<(), AllocError>
-    requires { lanes ≤ 32 }
-    ensures { OnOk result (text.new.items ≡ text.old.items ++ lanes_text height lanes) }
+// Adds the lanes.
+fn push_lanes(
+    alloc: Global,
+    text: &mut Vec<u8>,
+    journal: &Journal,
+    frame: &Frame,
+) -> Result<(), AllocError>
+    requires shown { frame.now.from + frame.now.count ≤ length journal.now.records }
+    requires few { frame.now.count ≤ 2000 }
+    ensures { OnOk result (text.new.items ≡ text.old.items ++
+        flat_map (lane_text journal.now.records frame.now.processes.items frame.now.from frame.now.count) frame.now.processes.items) }
 {
-    for n in 0..lanes {
-        let process = n + 1;
-        let line = lane_text(alloc, height, lane(process), process)?;
-        text.extend_from_slice(line.as_bytes())?;
+    for p in &frame.processes {
+        push_lane(alloc, text, journal, frame, *p)?;
     }
     Ok(())
 }
 
-// The lane at this distance, and the number of its process above it.
+// Adds the lane of a process.
 #[tactic(auto, unfolding(crate::specs::Picture::lane_text))]
-fn lane_text(alloc: Global, height: u64, x: u64, process: u32) -> Result<String, AllocError>
-    ensures { IfOk result (λ text. string_bytes text ≡ lane_text height x process) }
+fn push_lane(
+    alloc: Global,
+    text: &mut Vec<u8>,
+    journal: &Journal,
+    frame: &Frame,
+    p: u32,
+) -> Result<(), AllocError>
+    requires shown { frame.now.from + frame.now.count ≤ length journal.now.records }
+    requires few { frame.now.count ≤ 2000 }
+    ensures { OnOk result (text.new.items ≡ text.old.items ++
+        lane_text journal.now.records frame.now.processes.items frame.now.from frame.now.count p) }
 {
-    format!(in alloc;
-        "<line class=\"lane\" x1=\"{x}\" y1=\"30\" x2=\"{x}\" y2=\"{height}\"/><text class=\"lane\" x=\"{x}\" y=\"20\">{process}</text>\n"
-    )
+    let x = lane(&frame.processes, p);
+    let line = line_down(alloc, x, height(frame.count))?;
+    let number = number_text(alloc, &frame.processes, p)?;
+    text.extend_from_slice(line.as_bytes())?;
+    push_heads(
+        alloc,
+        text,
+        x,
+        &number,
+        frame.count.saturating_sub(1) / 50 + 1,
+    )?;
+    push_bar(alloc, text, bar_before(journal, frame, p))
 }
 
-// Adds what is shown of so many entries from the place `from` on.
+// The line of a lane.
+#[tactic(auto, unfolding(crate::specs::Picture::line_down))]
+fn line_down(alloc: Global, x: u64, down: u64) -> Result<String, AllocError>
+    ensures { IfOk result (λ text. string_bytes text ≡ line_down x down) }
+{
+    format!(in alloc; "<line class=\"lane\" x1=\"{x}\" y1=\"30\" x2=\"{x}\" y2=\"{down}\"/>\n")
+}
+
+// The number of a process.
+fn number_text(alloc: Global, processes: &[u32], p: u32) -> Result<String, AllocError>
+    ensures { IfOk result (λ text. string_bytes text ≡ number_text processes.now p) }
+{
+    if count_below(p, processes) < 40 {
+        format!(in alloc; "{p}")
+    } else {
+        format!(in alloc; "others")
+    }
+}
+
+// Adds the number of a process n times: before the first row, and before each fiftieth.
+#[tactic(auto, using(crate::proofs::Steps::heads_steps))]
+fn push_heads(
+    alloc: Global,
+    text: &mut Vec<u8>,
+    x: u64,
+    number: &str,
+    n: u64,
+) -> Result<(), AllocError>
+    requires { n ≤ 40 }
+    ensures { OnOk result (text.new.items ≡ text.old.items ++ heads_text x number.now n) }
+{
+    for k in 0..n {
+        let head = head_text(alloc, x, k * 816 + 48, number)?;
+        text.extend_from_slice(head.as_bytes())?;
+    }
+    Ok(())
+}
+
+// A text in a lane, at this distance and height.
+#[tactic(auto, unfolding(crate::specs::Picture::head_text))]
+fn head_text(alloc: Global, x: u64, y: u64, number: &str) -> Result<String, AllocError>
+    ensures { IfOk result (λ text. string_bytes text ≡ head_text x y number.now) }
+{
+    format!(in alloc; "<text class=\"lane\" x=\"{x}\" y=\"{y}\">{number}</text>\n")
+}
+
+// Adds what is shown of the entries.
 #[tactic(auto, using(crate::proofs::Steps::entries_steps))]
 fn push_entries(
     alloc: Global,
     text: &mut Vec<u8>,
     journal: &Journal,
-    column: u64,
-    from: u64,
-    count: u64,
+    frame: &Frame,
 ) -> Result<(), AllocError>
-    requires shown { from + count ≤ length journal.now.records }
-    requires few { count ≤ 2000 }
-    ensures { OnOk result (text.new.items ≡ text.old.items ++ entries_text journal.now.records column from count) }
+    requires shown { frame.now.from + frame.now.count ≤ length journal.now.records }
+    requires few { frame.now.count ≤ 2000 }
+    ensures { OnOk result (text.new.items ≡ text.old.items ++
+        entries_text journal.now.records frame.now.processes.items frame.now.from frame.now.count frame.now.count) }
 {
     let _len = journal.len();
-    for k in 0..count {
-        push_entry(alloc, text, journal, column, from, from + k)?;
+    for k in 0..frame.count {
+        push_entry(alloc, text, journal, frame, frame.from + k)?;
     }
     Ok(())
 }
 
 // Adds what is shown of the entry at a place.
-#[tactic(auto, unfolding(crate::specs::Picture::last_text, crate::specs::Picture::record_text), using(mq_model::proofs::Prefixes::prefixes))]
+#[tactic(auto, unfolding(crate::specs::Picture::last_text), using(mq_model::proofs::Prefixes::prefixes))]
 fn push_entry(
     alloc: Global,
     text: &mut Vec<u8>,
     journal: &Journal,
-    column: u64,
-    from: u64,
+    frame: &Frame,
     place: u64,
 ) -> Result<(), AllocError>
-    requires shown { place < length journal.now.records }
-    requires few { place - from < 2 ^ 32 }
-    ensures { OnOk result (text.new.items ≡ text.old.items ++ last_text journal.now.records column from (first (place + 1) journal.now.records)) }
+    requires shown { frame.now.from + frame.now.count ≤ length journal.now.records }
+    requires few { frame.now.count ≤ 2000 }
+    requires place { place < frame.now.from + frame.now.count }
+    ensures { OnOk result (text.new.items ≡ text.old.items ++ last_text journal.now.records frame.now.processes.items frame.now.from frame.now.count (first (place + 1) journal.now.records)) }
 {
     let (entry, payload) = journal.record(place);
-    push_mark(alloc, text, column, from, place, entry, payload)?;
-    push_bar(alloc, text, bar(journal, from, place, entry))?;
-    push_arrow(alloc, text, arrow(journal, from, place, entry))
+    push_record(alloc, text, journal, frame, place, entry, payload)
+}
+
+// Adds what is shown of an entry with its payload.
+#[tactic(auto, unfolding(crate::specs::Picture::record_text))]
+fn push_record(
+    alloc: Global,
+    text: &mut Vec<u8>,
+    journal: &Journal,
+    frame: &Frame,
+    place: u64,
+    entry: Entry,
+    payload: &[u8],
+) -> Result<(), AllocError>
+    requires shown { frame.now.from + frame.now.count ≤ length journal.now.records }
+    requires few { frame.now.count ≤ 2000 }
+    requires place { place < frame.now.from + frame.now.count }
+    ensures { OnOk result (text.new.items ≡ text.old.items ++ record_text journal.now.records frame.now.processes.items frame.now.from frame.now.count place (record { entry = entry; payload = payload.now })) }
+{
+    let _len = journal.len();
+    push_mark(alloc, text, frame, place, entry, payload)?;
+    push_bar(alloc, text, bar_of(journal, frame, place, entry))?;
+    push_arrow(alloc, text, journal, arrow(journal, frame, place, entry))
 }
 
 // Adds the mark of an entry.
@@ -162,20 +259,20 @@ fn push_entry(
 fn push_mark(
     alloc: Global,
     text: &mut Vec<u8>,
-    column: u64,
-    from: u64,
+    frame: &Frame,
     place: u64,
     entry: Entry,
     payload: &[u8],
 ) -> Result<(), AllocError>
-    requires { place - from < 2 ^ 32 }
-    ensures { OnOk result (text.new.items ≡ text.old.items ++ mark_text column from place (record { entry = entry; payload = payload.now })) }
+    requires { place - frame.now.from < 2 ^ 32 }
+    ensures { OnOk result (text.new.items ≡ text.old.items ++
+        mark_text frame.now.processes.items frame.now.from place (record { entry = entry; payload = payload.now })) }
 {
     let front = mark_front(
         alloc,
-        column,
-        lane(entry.process),
-        row(from, place),
+        column(&frame.processes),
+        lane(&frame.processes, entry.process),
+        row(frame.from, place),
         entry.reply,
     )?;
     let line = line_of(alloc, place, entry, payload)?;
@@ -183,6 +280,14 @@ fn push_mark(
     text.extend_from_slice(front.as_bytes())?;
     push_label(text, line.as_bytes(), reply.as_bytes())?;
     text.extend_from_slice(b"</text></g>\n")
+}
+
+// Where the lines stand.
+fn column(processes: &[u32]) -> u64
+    ensures column { result ≡ column processes.now }
+    ensures bound { result < 2 ^ 40 }
+{
+    (processes.len().min(41) as u64 + 1) * 60
 }
 
 // The front of a mark at a point, whose line stands in the column of lines.
@@ -240,28 +345,79 @@ fn push_bar(alloc: Global, text: &mut Vec<u8>, bar: Option<Stroke>) -> Result<()
     }
 }
 
-// Adds the arrow of a message, if there is one.
+// Adds the arrow of a message, if there is one, and where it begins the name of its queue.
 #[tactic(auto, unfolding(crate::specs::Picture::arrow_text))]
-fn push_arrow(alloc: Global, text: &mut Vec<u8>, arrow: Option<Flight>) -> Result<(), AllocError>
-    ensures { OnOk result (text.new.items ≡ text.old.items ++ arrow_text arrow) }
+fn push_arrow(
+    alloc: Global,
+    text: &mut Vec<u8>,
+    journal: &Journal,
+    arrow: Option<Flight>,
+) -> Result<(), AllocError>
+    requires sent { IfSome arrow (λ flight. flight.sent ≤ length journal.now.records) }
+    requires near { IfSome arrow (λ flight. flight.stroke.x1 < 2 ^ 40) }
+    ensures { OnOk result (text.new.items ≡ text.old.items ++ arrow_text journal.now.records arrow) }
 {
-    match arrow {
-        None => Ok(()),
-        Some(flight) => {
-            let line = flight_text(alloc, flight)?;
-            text.extend_from_slice(line.as_bytes())
-        }
-    }
+    let Some(flight) = arrow else {
+        return Ok(());
+    };
+    let Flight {
+        stroke,
+        sender,
+        sent,
+    } = flight;
+    let line = flight_text(alloc, stroke, hue(sender.call))?;
+    text.extend_from_slice(line.as_bytes())?;
+    let name = name_by(journal, sent, sender.process, sender.call);
+    push_name(alloc, text, stroke.x1, stroke.y1, name)
 }
 
-// The arrow of a message.
+// An arrow of a hue.
 #[tactic(auto, unfolding(crate::specs::Picture::flight_text))]
-fn flight_text(alloc: Global, flight: Flight) -> Result<String, AllocError>
-    ensures { IfOk result (λ text. string_bytes text ≡ flight_text flight) }
+fn flight_text(alloc: Global, stroke: Stroke, hue: u32) -> Result<String, AllocError>
+    ensures { IfOk result (λ text. string_bytes text ≡ flight_text stroke hue) }
 {
-    let (stroke, hue) = (flight.stroke, flight.hue);
     let ends = ends_text(alloc, stroke)?;
     format!(in alloc;
         "<line class=\"message\" stroke=\"hsl({hue},80%,40%)\" {ends} marker-end=\"url(#tip{hue})\"/>\n"
     )
+}
+
+// The front of the name of a queue, beside this point.
+#[tactic(auto, unfolding(crate::specs::Picture::name_front))]
+fn name_front(alloc: Global, x: u64, y: u64) -> Result<String, AllocError>
+    requires { x < 2 ^ 40 }
+    ensures { IfOk result (λ text. string_bytes text ≡ name_front x y) }
+{
+    let (right, up) = (x + 6, y.saturating_sub(3));
+    format!(in alloc; "<text class=\"queue\" x=\"{right}\" y=\"{up}\">")
+}
+
+// Adds the name of a queue beside this point.
+#[tactic(auto, unfolding(crate::specs::Picture::name_text))]
+fn push_name(
+    alloc: Global,
+    text: &mut Vec<u8>,
+    x: u64,
+    y: u64,
+    name: &[u8],
+) -> Result<(), AllocError>
+    requires { x < 2 ^ 40 }
+    ensures { OnOk result (text.new.items ≡ text.old.items ++ name_text x y name.now) }
+{
+    let front = name_front(alloc, x, y)?;
+    let quoted = payload_text(alloc, name)?;
+    text.extend_from_slice(front.as_bytes())?;
+    push_named(text, first_bytes(quoted.as_bytes(), 26))?;
+    text.extend_from_slice(b"</text>\n")
+}
+
+// At most so many of the first bytes.
+fn first_bytes(bytes: &[u8], most: usize) -> &[u8]
+    ensures { result.now ≡ take most bytes.now }
+{
+    if bytes.len() <= most {
+        bytes
+    } else {
+        &bytes[..most]
+    }
 }

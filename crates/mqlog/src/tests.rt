@@ -10,6 +10,7 @@ use std::io;
 use std::io::{Error, ErrorKind, Read, Write};
 use std::test::Fail;
 
+mod pictures;
 mod recorded;
 
 // How the check of a text ended, and what it wrote.

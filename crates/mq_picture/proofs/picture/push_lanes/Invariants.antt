@@ -1,6 +1,7 @@
-use Rattle.std.proofs.Common.{◌≡◌, ◌++◌}
-use Rattle.mq_picture.specs.Picture.{lanes_text}
+use Rattle.std.proofs.Common.{◌≡◌, ◌++◌, take}
+use Rattle.std.specs.List.{flat_map}
+use Rattle.mq_picture.specs.Picture.{lane_text}
 use Rattle.mq_picture.proofs.picture.push_lanes.Given as goal
 
-abbrev pub invariant-loop-n : goal.invariant-loop-n
-invariant-loop-n l = l.text.items ≡ l.fn.text.items ++ lanes_text l.height l.n
+abbrev pub invariant-loop-p : goal.invariant-loop-p
+invariant-loop-p l = l.text.items ≡ l.fn.text.items ++ flat_map (lane_text l.journal.records l.frame.processes.items l.frame.from l.frame.count) (take l.p-index l.frame.processes.items)
