@@ -1,0 +1,143 @@
+-- Goals of which nothing was found yet.
+use Rattle.std.proofs.Common.{◌≡◌, ℕ, Bool, true, false, ◌&&◌, ◌||◌, not, ◌==◌, if◌then◌else◌, List, [], ◌∷◌, ◌++◌, Option, refl, sym, ◌∙◌, ap, subst, eq-eqb}
+use Rattle.std.specs.Cmp.Derive.{both_true}
+use Rattle.std.proofs.lemmas.Bool.{eqb-true}
+use Rattle.std.proofs.lemmas.List.Folds.{list_any-append}
+use Rattle.std.proofs.lemmas.Slice.Eq.{bytes_eq-Decides}
+use Rattle.std.specs.Str.{bytes_eq}
+use Rattle.schedules.specs.Told.{Told}
+use Rattle.schedules.specs.Schedules.{HasNoGoal}
+use Rattle.schedules.specs.Outcomes.{AreAll, AreDistinct, are_same, is_among, told_by}
+use Rattle.schedules.specs.declared.outcomes.Witnessed.{Witnessed}
+use Rattle.schedules.proofs.Covering.{Covered}
+
+-- the state is a goal, and nothing that was found tells the same
+abbrev pub is_new_goal : {S : Type 0} → (S → Bool) → (S → Told) → List Witnessed → S → Bool
+is_new_goal is_goal outcome found s = is_goal s && not (is_among found (outcome s))
+
+-- what is covered stays so where there are fewer goals
+pub covered-fewer : {S : Type 0} (next : S → ℕ → Option S) (is_goal fewer : S → Bool) → ((s : S) → is_goal s ≡ false → fewer s ≡ false) →
+    (path : List ℕ) (s : S) → Covered next is_goal path s → Covered next fewer path s
+covered-fewer next is_goal fewer less [] s covered = tt
+covered-fewer next is_goal fewer less (c ∷ path) s covered = (
+  less s covered.0,
+  (λ before t below step schedule to reaches. less to (covered.1 before t below step schedule to reaches)),
+  (λ t step. covered-fewer next is_goal fewer less path t (covered.2 t step)),
+)
+
+-- where more was found there are fewer new goals
+pub new-fewer : {S : Type 0} (is_goal : S → Bool) (outcome : S → Told) (old new : List Witnessed) →
+    ((told : Told) → is_among new told ≡ false → is_among old told ≡ false) →
+    (s : S) → is_new_goal is_goal outcome old s ≡ false → is_new_goal is_goal outcome new s ≡ false
+new-fewer is_goal outcome old new kept s before =
+    let goes : (a b c : Bool) → (c ≡ false → b ≡ false) → (a && not b) ≡ false → (a && not c) ≡ false =
+    λ (a b c : Bool). elim a as (λ a. (c ≡ false → b ≡ false) → (a && not b) ≡ false → (a && not c) ≡ false) [
+      | false ↦ (λ k h. refl)
+      | true ↦ (elim c as (λ c. (c ≡ false → b ≡ false) → (true && not b) ≡ false → (true && not c) ≡ false) [
+        | true ↦ (λ k h. refl)
+        | false ↦ (λ k h. let e = k refl in let f : not b ≡ false = h in let t : not false ≡ false = (let P : Bool → Type 0 = λ x. not x ≡ false in subst P e f) in cc)
+      ])
+    ]
+    in
+    goes (is_goal s) (is_among old (outcome s)) (is_among new (outcome s)) (kept (outcome s)) before
+
+-- a state of which the outcome was found is no new goal
+pub noted-is_old : {S : Type 0} (is_goal : S → Bool) (outcome : S → Told) (found : List Witnessed) (s : S) →
+    (is_goal s ≡ true → is_among found (outcome s) ≡ true) → is_new_goal is_goal outcome found s ≡ false
+noted-is_old is_goal outcome found s noted =
+    let goes : (a b : Bool) → (a ≡ true → b ≡ true) → (a && not b) ≡ false =
+    λ (a b : Bool). elim a as (λ a. (a ≡ true → b ≡ true) → (a && not b) ≡ false) [
+      | false ↦ (λ k. refl)
+      | true ↦ (λ k. let e = k refl in rw e refl)
+    ]
+    in
+    goes (is_goal s) (is_among found (outcome s)) noted
+
+-- where no schedule leads to a new goal, everything was found
+pub all-found : {S : Type 0} (next : S → ℕ → Option S) (is_goal : S → Bool) (outcome : S → Told) (from : S) (found : List Witnessed) →
+    HasNoGoal next (is_new_goal is_goal outcome found) from → AreAll next is_goal outcome from found
+all-found next is_goal outcome from found none schedule to leads =
+    let goes : (a b : Bool) → a ≡ true → (a && not b) ≡ false → b ≡ true =
+    λ (a b : Bool). elim b as (λ b. a ≡ true → (a && not b) ≡ false → b ≡ true) [
+      | true ↦ (λ e h. refl)
+      | false ↦ (λ e h. (let P : Bool → Type 0 = λ x. (x && not false) ≡ false in let f : (true && not false) ≡ false = subst P e h in cc))
+    ]
+    in
+    goes (is_goal to) (is_among found (outcome to)) leads.goal (none schedule to leads.runs)
+
+and-parts : (a b : Bool) → (a && b) ≡ true → (a ≡ true) × (b ≡ true)
+and-parts true true h = (refl, refl)
+and-parts true false h = cc
+and-parts false true h = cc
+and-parts false false h = cc
+
+both-true : (a b : Bool) → (if a then b else not b) ≡ true → a ≡ b
+both-true true true h = refl
+both-true true false h = cc
+both-true false true h = cc
+both-true false false h = refl
+
+either-self : (a : Bool) → (if a then a else not a) ≡ true
+either-self true = refl
+either-self false = refl
+
+-- what tells the same is the same
+pub same-is : (a b : Told) → are_same a b ≡ true → a ≡ b
+same-is a b same =
+    let outer = and-parts (a.stage == b.stage && (if a.stuck then b.stuck else not b.stuck)) (bytes_eq a.text b.text) same in
+    let inner = and-parts (a.stage == b.stage) (if a.stuck then b.stuck else not b.stuck) outer.0 in
+    let stage : a.stage ≡ b.stage = eqb-true a.stage b.stage inner.0 in
+    let stuck : a.stuck ≡ b.stuck = both-true a.stuck b.stuck inner.1 in
+    let text : a.text ≡ b.text = (bytes_eq-Decides a.text b.text).0 outer.1 in
+    let build : ℕ → Bool → List ℕ → Told = λ s k t. record { stage = s; stuck = k; text = t } in
+    ap (λ s. build s a.stuck a.text) stage ∙ ap (λ k. build b.stage k a.text) stuck ∙ ap (λ t. build b.stage b.stuck t) text
+
+pub same-self : (a : Told) → are_same a a ≡ true
+same-self a =
+    let stage : (a.stage == a.stage) ≡ true = eq-eqb a.stage a.stage refl in
+    let stuck : (if a.stuck then a.stuck else not a.stuck) ≡ true = either-self a.stuck in
+    let text : bytes_eq a.text a.text ≡ true = (bytes_eq-Decides a.text a.text).1 refl in
+    both_true (both_true stage stuck) text
+
+same-turned : (a b : Told) → are_same a b ≡ false → are_same b a ≡ false
+same-turned a b differ =
+    let goes : (x : Bool) → are_same b a ≡ x → are_same b a ≡ false =
+    λ (x : Bool). elim x as (λ x. are_same b a ≡ x → are_same b a ≡ false) [
+      | false ↦ (λ e. e)
+      | true ↦ (λ e.
+          let is : b ≡ a = same-is b a e in
+          let P : Told → Type 0 = λ t. are_same a t ≡ true in
+          let t : are_same a b ≡ true = subst P (sym is) (same-self a) in
+          let k : true ≡ false = sym t ∙ differ in
+          cc)
+    ]
+    in
+    goes (are_same b a) refl
+
+or-parts : (a b : Bool) → (a || b) ≡ false → (a ≡ false) × (b ≡ false)
+or-parts false false h = (refl, refl)
+or-parts false true h = cc
+or-parts true false h = cc
+or-parts true true h = cc
+
+-- an outcome that nothing else told before may be added
+pub distinct-push : (found : List Witnessed) (w : Witnessed) → AreDistinct found → is_among found (told_by w.outcome) ≡ false → AreDistinct (found ++ w ∷ [])
+distinct-push [] w distinct new = (tt, refl)
+distinct-push (x ∷ found) w distinct new =
+    let parts = or-parts (are_same (told_by x.outcome) (told_by w.outcome)) (is_among found (told_by w.outcome)) new in
+    let rest = distinct-push found w distinct.0 parts.1 in
+    let last : are_same (told_by w.outcome) (told_by x.outcome) ≡ false = same-turned (told_by x.outcome) (told_by w.outcome) parts.0 in
+    let others : is_among found (told_by x.outcome) ≡ false = distinct.1 in
+    let here : is_among (found ++ w ∷ []) (told_by x.outcome) ≡ false =
+    list_any-append (λ (y : Witnessed). are_same (told_by y.outcome) (told_by x.outcome)) found (w ∷ []) ∙ rw (others, last) refl
+    in
+    (rest, here)
+
+or-true : (a : Bool) → (a || true) ≡ true
+or-true true = refl
+or-true false = refl
+
+-- what was added is among those found
+pub among-push : (found : List Witnessed) (w : Witnessed) (told : Told) → told_by w.outcome ≡ told → is_among (found ++ w ∷ []) told ≡ true
+among-push [] w told is = let same : are_same (told_by w.outcome) told ≡ true = (let P : Told → Type 0 = λ t. are_same (told_by w.outcome) t ≡ true in subst P is (same-self (told_by w.outcome))) in rw same refl
+among-push (x ∷ found) w told is = rw (among-push found w told is) (or-true (are_same (told_by x.outcome) told))

@@ -1,0 +1,7 @@
+-- What is told of a state.
+use Rattle.std.specs.Prelude.{ℕ, Bool, List}
+
+pub record Told : Type 0 where
+  pub stage : ℕ
+  pub stuck : Bool
+  pub text : List ℕ

@@ -1,0 +1,130 @@
+//! What all schedules of a machine come to.
+ghost use Rattle.std.specs.Prelude.{◌≡◌, ℕ, All, IfOk, OnOk, Some, false, true};
+ghost use Rattle.schedules.specs.Schedules.{after};
+ghost use Rattle.schedules.specs.Told.{Told};
+ghost use Rattle.schedules.specs.Outcomes.{AreAll, AreDistinct, IsWitness, are_same, is_among, told_by};
+
+use crate::machine::Machine;
+use crate::search::run_again;
+use std::alloc::{AllocError, Global};
+
+/// What is told of a goal: how far the machine has come there, whether it is stuck, and a text.
+#[derive(Debug, Drop)]
+pub struct Outcome {
+    pub stage: u64,
+    pub stuck: bool,
+    pub text: Vec<u8>,
+}
+
+/// A machine that tells something of each of its goals.
+pub trait Telling: Machine {
+    /// What is told of a state.
+    ghost outcome: { Self → Told };
+
+    fn outcome(&self, alloc: Global) -> Result<Outcome, AllocError>
+        ensures { IfOk result (λ o. told_by o ≡ outcome self.now) };
+}
+
+/// An outcome, and a schedule that has it.
+#[derive(Debug, Drop)]
+pub struct Witnessed {
+    pub outcome: Outcome,
+    pub schedule: Vec<u32>,
+}
+
+/// The outcomes that were found, in the order in which they were found.
+#[derive(Debug, Drop)]
+pub struct Collected {
+    pub found: Vec<Witnessed>,
+    /// Every schedule was tried, so there are no others.
+    pub complete: bool,
+}
+
+// Both tell the same.
+fn are_same(a: &Outcome, b: &Outcome) -> bool
+    ensures { result ≡ are_same (told_by a.now) (told_by b.now) }
+{
+    a.stage == b.stage && a.stuck == b.stuck && a.text.as_slice() == b.text.as_slice()
+}
+
+// One of those that were found tells this.
+fn is_among(found: &[Witnessed], outcome: &Outcome) -> bool
+    ensures { result ≡ is_among found.now (told_by outcome.now) }
+{
+    found
+        .iter()
+        .any(|witnessed| are_same(&witnessed.outcome, outcome))
+}
+
+// Adds what is told of the machine's state, to which the path leads, if it is a goal and nothing else told the same.
+fn note<M: Telling>(
+    alloc: Global,
+    machine: &M,
+    path: &[u32],
+    found: &mut Vec<Witnessed>,
+) -> Result<(), AllocError>
+    requires runs { after M.next path.now (M.start machine.now) ≡ Some machine.now }
+    requires distinct { AreDistinct found.old.items }
+    requires witnessed { All (IsWitness M.next M.is_goal M.outcome (M.start machine.now)) found.old.items }
+    ensures distinct { OnOk result (AreDistinct found.new.items) }
+    ensures witnessed { OnOk result (All (IsWitness M.next M.is_goal M.outcome (M.start machine.now)) found.new.items) }
+    ensures kept { OnOk result ((told : Told) → is_among found.new.items told ≡ false → is_among found.old.items told ≡ false) }
+    ensures noted { OnOk result (M.is_goal machine.now ≡ true → is_among found.new.items (M.outcome machine.now) ≡ true) }
+{
+    if !machine.is_goal() {
+        return Ok(());
+    }
+    let outcome = machine.outcome(alloc)?;
+    if is_among(found, &outcome) {
+        return Ok(());
+    }
+    let schedule = path.to_vec(alloc)?;
+    found.push(Witnessed { outcome, schedule })?;
+    Ok(())
+}
+
+/// Tries every schedule of a machine, in so many steps at most, and collects what is told of the goals that they lead to.
+pub fn collect<M: Telling>(
+    alloc: Global,
+    machine: &mut M,
+    budget: u64,
+) -> Result<Collected, AllocError>
+    ensures witnessed { IfOk result (λ c.
+        All (IsWitness M.next M.is_goal M.outcome (M.start machine.old)) c.found.items) }
+    ensures distinct { IfOk result (λ c. AreDistinct c.found.items) }
+    ensures all { IfOk result (λ c. c.complete ≡ true →
+        AreAll M.next M.is_goal M.outcome (M.start machine.old) c.found.items) }
+    ensures start { OnOk result (M.start machine.new ≡ M.start machine.old) }
+{
+    machine.restart()?;
+    let mut path: Vec<u32> = Vec::new(alloc);
+    let mut found = Vec::new(alloc);
+    note(alloc, machine, &path, &mut found)?;
+    let mut choice: u64 = 0;
+    for _ in 0..budget {
+        if choice >= u64::from(machine.choices()) {
+            match path.pop() {
+                None => {
+                    return Ok(Collected {
+                        found,
+                        complete: true,
+                    });
+                }
+                Some(last) => {
+                    run_again(machine, &path)?;
+                    choice = u64::from(last) + 1;
+                }
+            }
+        } else if machine.step(choice as u32)? {
+            path.push(choice as u32)?;
+            note(alloc, machine, &path, &mut found)?;
+            choice = 0;
+        } else {
+            choice += 1;
+        }
+    }
+    Ok(Collected {
+        found,
+        complete: false,
+    })
+}
