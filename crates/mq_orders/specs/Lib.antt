@@ -1,0 +1,9 @@
+pub mod Said
+pub mod Plans
+pub mod Progress
+pub mod SeatModel
+pub mod Scenes
+pub mod Turns
+pub mod Stage
+pub mod StageLaws
+pub mod PlayModel

@@ -1,0 +1,7 @@
+//! Every order in which the calls of a script can come.
+#![tactic(auto)]
+
+pub mod plan;
+pub mod play;
+pub mod said;
+pub mod turn;
