@@ -7,3 +7,4 @@ pub mod Turns
 pub mod Stage
 pub mod StageLaws
 pub mod PlayModel
+pub mod Report

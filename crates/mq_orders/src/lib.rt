@@ -3,5 +3,6 @@
 
 pub mod plan;
 pub mod play;
+pub mod report;
 pub mod said;
 pub mod turn;
