@@ -8,3 +8,4 @@ pub mod Stage
 pub mod StageLaws
 pub mod PlayModel
 pub mod Report
+pub mod Orders
