@@ -6,4 +6,6 @@ pub mod plan;
 pub mod play;
 pub mod report;
 pub mod said;
+#[cfg(test)]
+mod tests;
 pub mod turn;

@@ -23,11 +23,7 @@ pub fn play_of(alloc: Global, script: &Script<'_>) -> Result<Play, AllocError>
 
 /// Tries every order of the calls of a script, in so many steps at most, and collects what is told where no process can go on: of
 /// each phase its replies, or that it is a deadlock, with the lines whose calls wait for ever. Each is told once.
-pub fn outcomes_of(
-    alloc: Global,
-    play: &mut Play,
-    budget: u64,
-) -> Result<Collected, AllocError>
+pub fn outcomes_of(alloc: Global, play: &mut Play, budget: u64) -> Result<Collected, AllocError>
     ensures witnessed { IfOk result (λ c.
         All (IsWitness next_stage stands_still told (first_stage play.old)) c.found.items) }
     ensures distinct { IfOk result (λ c. AreDistinct c.found.items) }

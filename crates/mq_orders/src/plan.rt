@@ -113,11 +113,7 @@ fn given_by<'s>(command: &Command<&'s [u8]>) -> &'s [u8]
 }
 
 // A line of a phase.
-fn planned_of(
-    alloc: Global,
-    phase: u64,
-    call: &ScriptCall<&[u8]>,
-) -> Result<Planned, AllocError>
+fn planned_of(alloc: Global, phase: u64, call: &ScriptCall<&[u8]>) -> Result<Planned, AllocError>
     ensures { IfOk result (λ planned. plan_of planned ≡ plan phase (said_call call.now)) }
 {
     let given = given_by(&call.command).to_vec(alloc)?;
@@ -158,16 +154,19 @@ fn program_of(
 {
     let mut program = Vec::new(alloc);
     for phase in 0..phases.len() {
-        push_plans(alloc, &mut program, phase as u64, phases[phase].as_slice(), p)?;
+        push_plans(
+            alloc,
+            &mut program,
+            phase as u64,
+            phases[phase].as_slice(),
+            p,
+        )?;
     }
     Ok(program)
 }
 
 /// The lines of each process of a script, those of process 1 first.
-pub fn programs_of(
-    alloc: Global,
-    script: &Script<'_>,
-) -> Result<Vec<Vec<Planned>>, AllocError>
+pub fn programs_of(alloc: Global, script: &Script<'_>) -> Result<Vec<Vec<Planned>>, AllocError>
     ensures programs { IfOk result (λ programs.
         map (λ program. map plan_of program.items) programs.items ≡
         programs_of (said_phases script.now.phases.items) script.now.processes) }

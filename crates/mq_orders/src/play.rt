@@ -73,8 +73,13 @@ impl Play {
     /// The processes 1, 2, .. of a script with their lines, of which none has begun one.
     pub fn new(alloc: Global, programs: Vec<Vec<Planned>>, phases: u64) -> Result<Play, AllocError>
         requires { length programs.items ≤ 32 }
-        ensures { IfOk result (λ play. play ≡ record { programs = programs.items; phases = phases;
-            phase = 0; past = []; seats = replicate (length programs.items) fresh }) }
+        ensures { IfOk result (λ play. play ≡ record {
+          programs = programs.items;
+          phases = phases;
+          phase = 0;
+          past = [];
+          seats = replicate (length programs.items) fresh;
+        }) }
     {
         let seats = fresh_seats(alloc, programs.len())?;
         let trail = Trail::new(alloc)?;

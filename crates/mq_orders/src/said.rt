@@ -50,7 +50,13 @@ fn push_message(
         Some(message) => message,
         None => &[],
     };
-    push_reply(alloc, text, p, &Outcome::Got(received(journal, place)), message)
+    push_reply(
+        alloc,
+        text,
+        p,
+        &Outcome::Got(received(journal, place)),
+        message,
+    )
 }
 
 // Adds what is printed where a wait was answered by the entry at a place.
