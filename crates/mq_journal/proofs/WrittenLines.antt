@@ -57,7 +57,7 @@ list_all-append (x ∷ xs) ys first second =
 escaped_part_none : (bytes : List ℕ) → list_all parts_none (escaped bytes) ≡ true
 escaped_part_none bytes = all_from (escaped bytes) (All-percent_encode (λ b. parts_none b ≡ true) ESCAPED bytes kept_parts_none hex_parts_none)
 
-payload-words : (payload : List ℕ) → AreWords (payload_words payload)
+pub payload-words : (payload : List ℕ) → AreWords (payload_words payload)
 payload-words [] = tt
 payload-words (b ∷ bytes) =
     let quoted = 34 ∷ escaped (b ∷ bytes) ++ 34 ∷ [] in
@@ -67,12 +67,12 @@ payload-words (b ∷ bytes) =
 all_but_last : (xs : List ℕ) (x : ℕ) → take (length (xs ++ x ∷ []) - 1) (xs ++ x ∷ []) ≡ xs
 all_but_last xs x = let e : length (xs ++ x ∷ []) - 1 ≡ length xs = omega (arith, length-append xs (x ∷ [])) in rw e (take-append_seam xs (x ∷ []))
 
-quoted_again : (payload : List ℕ) (ws : List Word) → quoted_at (payload_words payload ++ codes "->" ∷ ws) ≡ (escaped payload, codes "->" ∷ ws)
+pub quoted_again : (payload : List ℕ) (ws : List Word) → quoted_at (payload_words payload ++ codes "->" ∷ ws) ≡ (escaped payload, codes "->" ∷ ws)
 unfolding quoted_at
 quoted_again [] ws = rw percent_encode-nil refl
 quoted_again (b ∷ bytes) ws = rw (all_but_last (escaped (b ∷ bytes)) 34) refl
 
-no_limit : (payload : List ℕ) (ws : List Word) → limits_at (payload_words payload ++ codes "->" ∷ ws) ≡ Some (None, payload_words payload ++ codes "->" ∷ ws)
+pub no_limit : (payload : List ℕ) (ws : List Word) → limits_at (payload_words payload ++ codes "->" ∷ ws) ≡ Some (None, payload_words payload ++ codes "->" ∷ ws)
 unfolding limits_at
 no_limit [] ws = refl
 no_limit (b ∷ bytes) ws = refl
@@ -107,7 +107,7 @@ payload_again r fits = round_trip ESCAPED r.payload refl fits.payload
 
 -- ---- a line in parts
 
-join-more : (v : Word) (vs : List Word) (w : Word) (ws : List Word) → join_with_byte 32 (v ∷ vs ++ w ∷ ws) ≡ join_with_byte 32 (v ∷ vs) ++ 32 ∷ join_with_byte 32 (w ∷ ws)
+pub join-more : (v : Word) (vs : List Word) (w : Word) (ws : List Word) → join_with_byte 32 (v ∷ vs ++ w ∷ ws) ≡ join_with_byte 32 (v ∷ vs) ++ 32 ∷ join_with_byte 32 (w ∷ ws)
 join-more v [] w ws = refl
 join-more v (u ∷ us) w ws = rw append_assoc (ap (λ t. v ++ 32 ∷ t) (join-more u us w ws))
 
@@ -117,7 +117,7 @@ parts place process (c ∷ cs) payload [] some_call some_reply = absurd (omega a
 parts place process (c ∷ cs) [] (r ∷ rs) some_call some_reply = rw (join-more c cs (codes "->") (r ∷ rs)) (simp append_assoc)
 parts place process (c ∷ cs) (b ∷ bytes) (r ∷ rs) some_call some_reply = rw (join-more c cs (34 ∷ escaped (b ∷ bytes) ++ 34 ∷ []) (codes "->" ∷ r ∷ rs)) (simp append_assoc)
 
-call_some : (c : Call) → 0 < length (call_words c)
+pub call_some : (c : Call) → 0 < length (call_words c)
 call_some (call.MqOpen flags attr) = omega arith
 call_some (call.MqClose d) = omega arith
 call_some call.MqUnlink = omega arith
@@ -132,7 +132,7 @@ call_some call.NextNotice = omega arith
 call_some call.Collect = omega arith
 call_some (call.Withdraw now) = omega arith
 
-reply_some : (r : Reply) → 0 < length (reply_words r)
+pub reply_some : (r : Reply) → 0 < length (reply_words r)
 reply_some (reply.Opened d true) = omega arith
 reply_some (reply.Opened d false) = omega arith
 reply_some (reply.Queued notified) = omega arith

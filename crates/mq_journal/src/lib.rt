@@ -1,7 +1,7 @@
 //! The journal as text: one line an entry.
 #![tactic(auto)]
 
-mod call;
+pub mod call;
 pub mod fault;
 mod fitting;
 pub mod input;
@@ -9,4 +9,4 @@ pub mod line;
 pub mod payload;
 pub mod reply;
 pub mod text;
-mod words;
+pub mod words;
