@@ -1,6 +1,11 @@
-//! Concurrent histories as text: one line a call.
+//! Concurrent histories as text, one line a call, and judgements of them.
 #![tactic(auto)]
 
+pub mod descriptors;
+pub mod front;
+pub mod hints;
+pub mod judgement;
 pub mod line;
 pub mod outcome;
+pub mod processes;
 pub mod text;

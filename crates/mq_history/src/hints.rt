@@ -1,0 +1,119 @@
+//! In which order the operations of a history are best tried.
+ghost use Rattle.std.specs.Prelude.{◌≡◌, ◌+◌, IfOk, OnOk, length, vec_len};
+
+use histories::operation::{Operation, Outcome};
+use std::alloc::{AllocError, Global};
+
+/// A number for each operation, and one more behind those of each process: a send is best tried by the end of the receive that got
+/// its message, and each other operation by its own end.
+pub fn hints_of(alloc: Global, histories: &Vec<Vec<Operation>>) -> Result<Vec<Vec<u64>>, AllocError>
+    ensures { IfOk result (λ hints. length hints.items ≡ length histories.now.items) }
+{
+    let mut hints = ends_of(alloc, histories)?;
+    let received = received(alloc, histories)?;
+    let sent = sent(alloc, histories)?;
+    let mut at = 0;
+    for (prio, message, _, process, index) in &sent {
+        at = first_from(&received, at, *prio, message);
+        if let Some(end) = end_at(&received, at, *prio, message) {
+            hint(&mut hints, *process, *index, end);
+            at = at.saturating_add(1);
+        }
+    }
+    Ok(hints)
+}
+
+// The end of each operation.
+fn ends_of(alloc: Global, histories: &Vec<Vec<Operation>>) -> Result<Vec<Vec<u64>>, AllocError>
+    ensures { IfOk result (λ hints. length hints.items ≡ length histories.now.items) }
+{
+    let mut hints: Vec<Vec<u64>> = Vec::new(alloc);
+    for operations in histories {
+        push_ends(alloc, &mut hints, operations)?;
+    }
+    Ok(hints)
+}
+
+// Adds the ends of the operations of a process, and one more.
+fn push_ends(
+    alloc: Global,
+    hints: &mut Vec<Vec<u64>>,
+    operations: &Vec<Operation>,
+) -> Result<(), AllocError>
+    ensures { OnOk result (length hints.new.items ≡ length hints.old.items + 1) }
+{
+    let mut ends = Vec::new(alloc);
+    for operation in operations {
+        ends.push(operation.end)?;
+    }
+    ends.push(u64::MAX)?;
+    hints.push(ends)?;
+    Ok(())
+}
+
+// The first place from here on of a message that is no less than this one.
+fn first_from(received: &[(u32, &[u8], u64)], from: usize, prio: u32, message: &[u8]) -> usize {
+    for at in from..received.len() {
+        if received[at].0 > prio || (received[at].0 == prio && received[at].1 >= message) {
+            return at;
+        }
+    }
+    received.len()
+}
+
+// The end of the receive at a place, if it got this message.
+fn end_at(received: &[(u32, &[u8], u64)], at: usize, prio: u32, message: &[u8]) -> Option<u64> {
+    match received.get(at) {
+        Some((other, bytes, end)) if *other == prio && *bytes == message => Some(*end),
+        _ => None,
+    }
+}
+
+// The messages that were received, in order, each with the end of the receive.
+fn received(
+    alloc: Global,
+    histories: &Vec<Vec<Operation>>,
+) -> Result<Vec<(u32, &[u8], u64)>, AllocError> {
+    let mut received = Vec::new(alloc);
+    for operations in histories {
+        for operation in operations {
+            if let Outcome::Got { prio, message } = &operation.outcome {
+                received.push((*prio, message.as_slice(), operation.end))?;
+            }
+        }
+    }
+    received.sort()?;
+    Ok(received)
+}
+
+// The messages that were sent, in order, each with the begin of the send and where it stands.
+fn sent(
+    alloc: Global,
+    histories: &Vec<Vec<Operation>>,
+) -> Result<Vec<(u32, &[u8], u64, usize, usize)>, AllocError> {
+    let mut sent = Vec::new(alloc);
+    for (process, operations) in histories.iter().enumerate() {
+        for (index, operation) in operations.iter().enumerate() {
+            if operation.call.is_send() {
+                let prio = operation.call.priority();
+                sent.push((
+                    prio,
+                    operation.given.as_slice(),
+                    operation.begin,
+                    process,
+                    index,
+                ))?;
+            }
+        }
+    }
+    sent.sort()?;
+    Ok(sent)
+}
+
+fn hint(hints: &mut Vec<Vec<u64>>, process: usize, index: usize, moment: u64)
+    ensures { length hints.new.items ≡ length hints.old.items }
+{
+    if process < hints.len() && index < hints[process].len() {
+        hints[process][index] = moment;
+    }
+}
