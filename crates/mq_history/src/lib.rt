@@ -8,4 +8,5 @@ pub mod judgement;
 pub mod line;
 pub mod outcome;
 pub mod processes;
+pub mod said;
 pub mod text;
