@@ -1,0 +1,263 @@
+/* Writes the calls of a program to the system's message queues, each with the moments at which it began and ended, as a concurrent
+   history (docs/HISTORY.md). It is preloaded: LD_PRELOAD. Each thread that calls, of each process that the program forks, is a process
+   of the history, numbered in the order of their first calls. The lines of a process go to a file of its own in RECORD_ROOM, of which
+   tools/record makes one history: a line with a dash for its end is written when the call begins, and the whole line when it returns. */
+#define _GNU_SOURCE
+#include <dlfcn.h>
+#include <errno.h>
+#include <fcntl.h>
+#include <mqueue.h>
+#include <stdarg.h>
+#include <stdint.h>
+#include <stdio.h>
+#include <stdlib.h>
+#include <string.h>
+#include <sys/mman.h>
+#include <sys/syscall.h>
+#include <time.h>
+#include <unistd.h>
+
+static __thread int room = -1;
+static __thread pid_t owner;
+
+/* The file of this thread. A forked child has the number of its parent's file still, so the thread's own number is compared. */
+static int file_of_thread(void) {
+    pid_t me = (pid_t)syscall(SYS_gettid);
+    if (room >= 0 && owner == me) return room;
+    char name[4096];
+    snprintf(name, sizeof name, "%s/%d", getenv("RECORD_ROOM"), (int)me);
+    room = open(name, O_WRONLY | O_CREAT | O_APPEND | O_CLOEXEC, 0600);
+    owner = me;
+    return room;
+}
+
+static uint64_t moment(void) {
+    struct timespec t;
+    clock_gettime(CLOCK_MONOTONIC, &t);
+    return (uint64_t)t.tv_sec * 1000000000u + (uint64_t)t.tv_nsec;
+}
+
+/* A line that is put together, of a call with its name or message and of what it returned. */
+struct line {
+    char *text;
+    size_t len, room;
+};
+
+static void add(struct line *line, const char *bytes, size_t len) {
+    if (line->len + len > line->room) {
+        size_t more = 2 * (line->len + len) + 256;
+        char *text = realloc(line->text, more);
+        if (!text) return;
+        line->text = text;
+        line->room = more;
+    }
+    memcpy(line->text + line->len, bytes, len);
+    line->len += len;
+}
+
+static void say(struct line *line, const char *format, ...) {
+    char words[512];
+    va_list given;
+    va_start(given, format);
+    int len = vsnprintf(words, sizeof words, format, given);
+    va_end(given);
+    add(line, words, (size_t)len);
+}
+
+static void quote(struct line *line, const char *bytes, size_t len) {
+    if (!len) return;
+    add(line, " \"", 2);
+    for (size_t at = 0; at < len; at++) {
+        unsigned char b = (unsigned char)bytes[at];
+        if (b > 32 && b < 127 && b != '%') add(line, bytes + at, 1);
+        else say(line, "%%%02X", b);
+    }
+    add(line, "\"", 1);
+}
+
+/* The name of an error of the profile, or one that no history has. */
+static const char *name_of(int error) {
+    switch (error) {
+    case EAGAIN: return "EAGAIN";
+    case EBADF: return "EBADF";
+    case EBUSY: return "EBUSY";
+    case EEXIST: return "EEXIST";
+    case EINVAL: return "EINVAL";
+    case EMFILE: return "EMFILE";
+    case EMSGSIZE: return "EMSGSIZE";
+    case ENAMETOOLONG: return "ENAMETOOLONG";
+    case ENOENT: return "ENOENT";
+    case ENOSPC: return "ENOSPC";
+    case ETIMEDOUT: return "ETIMEDOUT";
+    default: return NULL;
+    }
+}
+
+/* The calls of a thread come one after the other, so one call is under way at a time. */
+static uint64_t begin(struct line *call) {
+    uint64_t began = moment();
+    struct line line = {0};
+    say(&line, "%llu - ", (unsigned long long)began);
+    add(&line, call->text, call->len);
+    add(&line, " ->\n", 4);
+    int error = errno;
+    if (write(file_of_thread(), line.text, line.len) < 0) {}
+    errno = error;
+    free(line.text);
+    return began;
+}
+
+static void end(uint64_t began, struct line *call, struct line *result) {
+    int error = errno;
+    struct line line = {0};
+    say(&line, "%llu %llu ", (unsigned long long)began, (unsigned long long)moment());
+    add(&line, call->text, call->len);
+    add(&line, " ->", 3);
+    add(&line, result->text, result->len);
+    add(&line, "\n", 1);
+    if (write(file_of_thread(), line.text, line.len) < 0) {}
+    free(line.text);
+    free(call->text);
+    free(result->text);
+    errno = error;
+}
+
+static void refused(struct line *result) {
+    const char *name = name_of(errno);
+    if (name) say(result, " %s", name);
+    else say(result, " outside:error%d", errno);
+}
+
+#define REAL(name) ((__typeof__(&name))dlsym(RTLD_NEXT, #name))
+
+mqd_t mq_open(const char *name, int flags, ...) {
+    mode_t mode = 0;
+    struct mq_attr *attr = NULL;
+    if (flags & O_CREAT) {
+        va_list given;
+        va_start(given, flags);
+        mode = va_arg(given, mode_t);
+        attr = va_arg(given, struct mq_attr *);
+        va_end(given);
+    }
+    struct line call = {0}, result = {0};
+    int access = flags & O_ACCMODE;
+    say(&call, "open %s%s%s%s", access == O_RDONLY ? "r" : access == O_WRONLY ? "w" : "b", flags & O_CREAT ? "c" : "", flags & O_EXCL ? "x" : "",
+        flags & O_NONBLOCK ? "n" : "");
+    if (attr) say(&call, " limits %ld %ld", attr->mq_maxmsg, attr->mq_msgsize);
+    quote(&call, name, strlen(name));
+    uint64_t began = begin(&call);
+    mqd_t d = REAL(mq_open)(name, flags, mode, attr);
+    if (d == (mqd_t)-1) refused(&result);
+    else say(&result, " fd %d", (int)d);
+    end(began, &call, &result);
+    return d;
+}
+
+static int done(uint64_t began, struct line *call, int status) {
+    struct line result = {0};
+    if (status) refused(&result);
+    else say(&result, " ok");
+    end(began, call, &result);
+    return status;
+}
+
+int mq_close(mqd_t d) {
+    struct line call = {0};
+    say(&call, "close %u", (unsigned)d);
+    uint64_t began = begin(&call);
+    return done(began, &call, REAL(mq_close)(d));
+}
+
+int mq_unlink(const char *name) {
+    struct line call = {0};
+    say(&call, "unlink");
+    quote(&call, name, strlen(name));
+    uint64_t began = begin(&call);
+    return done(began, &call, REAL(mq_unlink)(name));
+}
+
+static void until(struct line *call, const struct timespec *t) {
+    struct timespec now;
+    clock_gettime(CLOCK_REALTIME, &now);
+    say(call, " until %lld %ld at %lld %ld", (long long)t->tv_sec, t->tv_nsec, (long long)now.tv_sec, now.tv_nsec);
+}
+
+int mq_send(mqd_t d, const char *message, size_t len, unsigned prio) {
+    struct line call = {0};
+    say(&call, "send %u %u %zu", (unsigned)d, prio, len);
+    quote(&call, message, len);
+    uint64_t began = begin(&call);
+    return done(began, &call, REAL(mq_send)(d, message, len, prio));
+}
+
+int mq_timedsend(mqd_t d, const char *message, size_t len, unsigned prio, const struct timespec *t) {
+    struct line call = {0};
+    say(&call, "tsend %u %u %zu", (unsigned)d, prio, len);
+    until(&call, t);
+    quote(&call, message, len);
+    uint64_t began = begin(&call);
+    return done(began, &call, REAL(mq_timedsend)(d, message, len, prio, t));
+}
+
+static ssize_t got(uint64_t began, struct line *call, ssize_t len, const char *buffer, unsigned prio, unsigned *given) {
+    struct line result = {0};
+    if (len < 0) refused(&result);
+    else {
+        say(&result, " got %u", prio);
+        quote(&result, buffer, (size_t)len);
+        if (given) *given = prio;
+    }
+    end(began, call, &result);
+    return len;
+}
+
+ssize_t mq_receive(mqd_t d, char *buffer, size_t len, unsigned *given) {
+    struct line call = {0};
+    unsigned prio = 0;
+    say(&call, "recv %u %zu", (unsigned)d, len);
+    uint64_t began = begin(&call);
+    return got(began, &call, REAL(mq_receive)(d, buffer, len, &prio), buffer, prio, given);
+}
+
+ssize_t mq_timedreceive(mqd_t d, char *buffer, size_t len, unsigned *given, const struct timespec *t) {
+    struct line call = {0};
+    unsigned prio = 0;
+    say(&call, "trecv %u %zu", (unsigned)d, len);
+    until(&call, t);
+    uint64_t began = begin(&call);
+    return got(began, &call, REAL(mq_timedreceive)(d, buffer, len, &prio, t), buffer, prio, given);
+}
+
+static int shown(uint64_t began, struct line *call, int status, const struct mq_attr *attr) {
+    struct line result = {0};
+    if (status) refused(&result);
+    else say(&result, " attr %d %ld %ld %ld", attr->mq_flags & O_NONBLOCK ? 1 : 0, attr->mq_maxmsg, attr->mq_msgsize, attr->mq_curmsgs);
+    end(began, call, &result);
+    return status;
+}
+
+int mq_getattr(mqd_t d, struct mq_attr *attr) {
+    struct line call = {0};
+    say(&call, "getattr %u", (unsigned)d);
+    uint64_t began = begin(&call);
+    return shown(began, &call, REAL(mq_getattr)(d, attr), attr);
+}
+
+int mq_setattr(mqd_t d, const struct mq_attr *attr, struct mq_attr *old) {
+    struct line call = {0};
+    struct mq_attr before;
+    say(&call, "setattr %u %d", (unsigned)d, attr->mq_flags & O_NONBLOCK ? 1 : 0);
+    uint64_t began = begin(&call);
+    int status = shown(began, &call, REAL(mq_setattr)(d, attr, &before), &before);
+    if (!status && old) *old = before;
+    return status;
+}
+
+int mq_notify(mqd_t d, const struct sigevent *event) {
+    struct line call = {0};
+    if (event) say(&call, "notify %u %llu", (unsigned)d, (unsigned long long)(uintptr_t)event->sigev_value.sival_ptr);
+    else say(&call, "notify %u -", (unsigned)d);
+    uint64_t began = begin(&call);
+    return done(began, &call, REAL(mq_notify)(d, event));
+}
