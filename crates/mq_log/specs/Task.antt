@@ -1,9 +1,11 @@
 -- The task that the words of the command line ask for.
-use Rattle.std.specs.Prelude.{◌&&◌, List, [], ◌∷◌, Option, Some, None, if◌then◌else◌, codes}
+use Rattle.std.specs.Prelude.{◌&&◌, Bool, true, List, [], ◌∷◌, Option, Some, None, if◌then◌else◌, codes}
 use Rattle.std.specs.Str.{bytes_eq}
 use Rattle.lines.specs.Words.{◌>>=◌, Word, number_written}
 use Rattle.mq_log.specs.declared.task.Task.{Task}
-use Rattle.mq_log.specs.declared.task.Task.TheVariants.{Run, Check, Draw, Help}
+use Rattle.mq_log.specs.declared.task.Task.TheVariants.{Run, Check, Draw, Judge, Help}
+use Rattle.mq_log.specs.declared.judge.Question.{Question}
+use Rattle.mq_log.specs.declared.judge.TheConstants.{PLAIN}
 use Rattle.mq_log.specs.declared.window.Window.{Window}
 use Rattle.mq_log.specs.declared.window.TheConstants.{WHOLE}
 
@@ -36,10 +38,28 @@ window_written (name ∷ place ∷ []) = window_from_or_to name place
 window_written (name ∷ place ∷ other ∷ second ∷ []) = window_from_and_to name place other second
 window_written words = None
 
+-- a judgement with a journal, or without, within so many steps
+abbrev pub question_with : Bool → Word → Option Question
+question_with journal word = do
+  budget ← number_written 64 word
+  Some (record { journal = journal; budget = budget })
+
+-- how the options of judge ask for a judgement
+abbrev pub question_written : List Word → Option Question
+question_written (name ∷ []) =
+    if bytes_eq name (codes "--journal") then Some (record { journal = true; budget = PLAIN.budget }) else None
+question_written (name ∷ word ∷ []) =
+    if bytes_eq name (codes "--budget") then question_with PLAIN.journal word else None
+question_written (name ∷ second ∷ third ∷ []) =
+    if bytes_eq name (codes "--budget") && bytes_eq third (codes "--journal") then question_with true second
+    else (if bytes_eq name (codes "--journal") && bytes_eq second (codes "--budget") then question_with true third
+    else None)
+question_written words = None
+
 -- the task of a name alone
 abbrev pub task_named : Word → Option Task
 task_named word =
-    if bytes_eq word (codes "run") then Some Run else (if bytes_eq word (codes "check") then Some Check else (if bytes_eq word (codes "draw") then Some (Draw WHOLE) else (if bytes_eq word (codes "--help") then Some Help else None)))
+    if bytes_eq word (codes "run") then Some Run else (if bytes_eq word (codes "check") then Some Check else (if bytes_eq word (codes "draw") then Some (Draw WHOLE) else (if bytes_eq word (codes "judge") then Some (Judge PLAIN) else (if bytes_eq word (codes "--help") then Some Help else None))))
 
 -- the task of a name with these options
 abbrev pub task_after : Word → List Word → Option Task
@@ -47,7 +67,10 @@ task_after word [] = task_named word
 task_after word (option ∷ options) = if bytes_eq word (codes "draw") then (do
   window ← window_written (option ∷ options)
   Some (Draw window))
-    else None
+    else (if bytes_eq word (codes "judge") then (do
+      question ← question_written (option ∷ options)
+      Some (Judge question))
+    else None)
 
 -- the task of the words after the program's name
 abbrev pub task_written : List Word → Option Task

@@ -1,7 +1,8 @@
 //! What the program is asked to do.
 ghost use Rattle.std.specs.Prelude.{◌≡◌, map, string_bytes};
-ghost use Rattle.mq_log.specs.Task.{task_after, task_named, task_written, window_between, window_from_and_to, window_from_or_to, window_written};
+ghost use Rattle.mq_log.specs.Task.{question_written, task_after, task_named, task_written, window_between, window_from_and_to, window_from_or_to, window_written};
 
+use crate::judge::{PLAIN, Question};
 use crate::window::{WHOLE, Window};
 use lines::words::number;
 
@@ -14,6 +15,8 @@ pub enum Task {
     Check,
     /// Writes a picture of a journal.
     Draw(Window),
+    /// Judges a concurrent history.
+    Judge(Question),
     /// Writes the usage.
     Help,
 }
@@ -25,6 +28,9 @@ usage: mqlog TASK
   check  checks the journal on the standard input: writes that it is legal, or its first entry that is not (status 1)
   draw   writes a picture (SVG) of the journal on the standard input, of at most 2000 entries:
          draw --from K begins with the entry at place K, draw --to L ends with that at place L, both in either order do both
+  judge  judges the concurrent history on the standard input: writes that it is possible, or its front part that is not (status 1),
+         or that the budget was used up (status 5): judge --journal also writes a journal that explains it, judge --budget N
+         takes at most N steps, both in either order do both
 ";
 
 /// The task that the words of the command line ask for, of which the first is the program's name.
@@ -45,6 +51,8 @@ fn task_after(word: &[u8], options: &[String]) -> Option<Task>
         task_named(word)
     } else if word == b"draw".as_slice() {
         Some(Task::Draw(window_of(options)?))
+    } else if word == b"judge".as_slice() {
+        Some(Task::Judge(question_of(options)?))
     } else {
         None
     }
@@ -60,10 +68,47 @@ fn task_named(word: &[u8]) -> Option<Task>
         Some(Task::Check)
     } else if word == b"draw".as_slice() {
         Some(Task::Draw(WHOLE))
+    } else if word == b"judge".as_slice() {
+        Some(Task::Judge(PLAIN))
     } else if word == b"--help".as_slice() {
         Some(Task::Help)
     } else {
         None
+    }
+}
+
+// How the options ask for a judgement.
+fn question_of(options: &[String]) -> Option<Question>
+    ensures { result ≡ question_written (map string_bytes options.now) }
+{
+    match options {
+        [name] if name.as_bytes() == b"--journal".as_slice() => Some(Question {
+            journal: true,
+            budget: PLAIN.budget,
+        }),
+        [name, budget] if name.as_bytes() == b"--budget".as_slice() => Some(Question {
+            journal: PLAIN.journal,
+            budget: number(budget.as_bytes())?,
+        }),
+        [name, budget, other]
+            if name.as_bytes() == b"--budget".as_slice()
+                && other.as_bytes() == b"--journal".as_slice() =>
+        {
+            Some(Question {
+                journal: true,
+                budget: number(budget.as_bytes())?,
+            })
+        }
+        [name, other, budget]
+            if name.as_bytes() == b"--journal".as_slice()
+                && other.as_bytes() == b"--budget".as_slice() =>
+        {
+            Some(Question {
+                journal: true,
+                budget: number(budget.as_bytes())?,
+            })
+        }
+        _ => None,
     }
 }
 

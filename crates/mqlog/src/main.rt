@@ -6,7 +6,10 @@ mod tests;
 
 use fast_mutex::FastMutex;
 use mq::Guarded;
-use mq_log::{LogFault, Task, USAGE, Window, check_journal, draw_journal, record_script, task_of};
+use mq_log::{
+    LogFault, Question, Task, USAGE, Window, check_journal, draw_journal, judge_history,
+    record_script, task_of,
+};
 use mq_runner::Plain;
 use std::alloc::{Alloc, Global};
 use std::io::{Eprint, ErrorKind, Input, Print};
@@ -22,6 +25,7 @@ fn main(rt: HostRuntime) -> ExitCode {
         Ok(Some(Task::Run)) => run(&rt, rt.alloc()),
         Ok(Some(Task::Check)) => check(&rt, rt.alloc()),
         Ok(Some(Task::Draw(window))) => draw(&rt, rt.alloc(), window),
+        Ok(Some(Task::Judge(question))) => judge(&rt, rt.alloc(), question),
         Ok(Some(Task::Help)) => help(&rt),
         Ok(None) => {
             // Nothing is left to do where this cannot be written.
@@ -68,6 +72,14 @@ fn draw(rt: &(impl Print + Eprint + Input), alloc: Global, window: Window) -> Ex
     let (mut input, mut output) = (rt.reader(), io::writer(rt));
     match draw_journal(alloc, &mut input, &mut output, window) {
         Ok(()) => ExitCode::SUCCESS,
+        Err(fault) => failed(rt, fault),
+    }
+}
+
+fn judge(rt: &(impl Print + Eprint + Input), alloc: Global, question: Question) -> ExitCode {
+    let (mut input, mut output) = (rt.reader(), io::writer(rt));
+    match judge_history(alloc, &mut input, &mut output, question) {
+        Ok(status) => ExitCode::from(status),
         Err(fault) => failed(rt, fault),
     }
 }
