@@ -217,7 +217,8 @@ ssize_t mq_receive(mqd_t d, char *buffer, size_t len, unsigned *given) {
     unsigned prio = 0;
     say(&call, "recv %u %zu", (unsigned)d, len);
     uint64_t began = begin(&call);
-    return got(began, &call, REAL(mq_receive)(d, buffer, len, &prio), buffer, prio, given);
+    ssize_t size = REAL(mq_receive)(d, buffer, len, &prio);
+    return got(began, &call, size, buffer, prio, given);
 }
 
 ssize_t mq_timedreceive(mqd_t d, char *buffer, size_t len, unsigned *given, const struct timespec *t) {
@@ -226,7 +227,8 @@ ssize_t mq_timedreceive(mqd_t d, char *buffer, size_t len, unsigned *given, cons
     say(&call, "trecv %u %zu", (unsigned)d, len);
     until(&call, t);
     uint64_t began = begin(&call);
-    return got(began, &call, REAL(mq_timedreceive)(d, buffer, len, &prio, t), buffer, prio, given);
+    ssize_t size = REAL(mq_timedreceive)(d, buffer, len, &prio, t);
+    return got(began, &call, size, buffer, prio, given);
 }
 
 static int shown(uint64_t began, struct line *call, int status, const struct mq_attr *attr) {

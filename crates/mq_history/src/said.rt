@@ -36,8 +36,9 @@ pub fn judgement_text(
             } else {
                 ", perhaps not the shortest"
             };
-            let line =
-                format!(in alloc; "impossible: line {line}, front part of {count} calls{known}\n")?;
+            let line = format!(in alloc;
+                "impossible: line {line}, front part of {count} calls{known}\n"
+            )?;
             text.extend_from_slice(line.as_bytes())?;
             let history = write_history(alloc, front)?;
             text.extend_from_slice(&history)?;

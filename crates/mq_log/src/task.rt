@@ -92,8 +92,7 @@ fn question_of(options: &[String]) -> Option<Question>
         }),
         [name, budget, other]
             if name.as_bytes() == b"--budget".as_slice()
-                && other.as_bytes() == b"--journal".as_slice() =>
-        {
+                && other.as_bytes() == b"--journal".as_slice() => {
             Some(Question {
                 journal: true,
                 budget: number(budget.as_bytes())?,
@@ -101,8 +100,7 @@ fn question_of(options: &[String]) -> Option<Question>
         }
         [name, other, budget]
             if name.as_bytes() == b"--journal".as_slice()
-                && other.as_bytes() == b"--budget".as_slice() =>
-        {
+                && other.as_bytes() == b"--budget".as_slice() => {
             Some(Question {
                 journal: true,
                 budget: number(budget.as_bytes())?,
