@@ -17,7 +17,8 @@
  *   YAK_NO_NOTICE     there is no notice;
  *   YAK_FULL          a handle is not empty that should be;
  *   YAK_NO_ENTRY      the journal has no entry at that place;
- *   YAK_GOES_ON       some process can still make a call.
+ *   YAK_GOES_ON       some process can still make a call;
+ *   YAK_NOT_WRITTEN   a write to a file failed (yak_write_journal).
  * With YAK_RETRY, and from YAK_EMPTY on but for YAK_NO_NOTICE, YAK_NO_ENTRY and YAK_GOES_ON, no call was made. A fault but YAK_NOMEMORY
  * and YAK_JOURNALFULL stands in the journal as a call that was refused. Where a call is not YAK_DONE, what it would write is as it was,
  * but for the front of a line that is longer than the buffer of yak_entry.
@@ -35,13 +36,22 @@
  * One C file of the program defines YAKYROMBE_IMPLEMENTATION before it includes this header: there the memory comes from malloc.
  */
 #ifndef YAKYROMBE_H
+#ifdef YAK_SEEDED
+#include "yakyrombe/seed.h"
+#endif
 #define YAKYROMBE_H
 
+#include <errno.h>
 #include <stdbool.h>
 #include <stddef.h>
 #include <stdint.h>
+#include <stdio.h>
 #include <stdlib.h>
 #include <time.h>
+
+#if defined _MQUEUE_H && !defined YAKYROMBE_MQUEUE_H && !defined YAKYROMBE_BESIDE_THE_SYSTEM
+#warning "the <mqueue.h> of this file is the system's: compile with -I of the folder yakyrombe in front, or define YAKYROMBE_BESIDE_THE_SYSTEM"
+#endif
 
 #ifdef __cplusplus
 extern "C" {
@@ -85,8 +95,21 @@ enum yak_answer {
     YAK_NO_NOTICE = 23,
     YAK_FULL = 24,
     YAK_NO_ENTRY = 25,
-    YAK_GOES_ON = 26
+    YAK_GOES_ON = 26,
+    YAK_NOT_WRITTEN = 27
 };
+
+/* POSIX's error number for what a call returned: 0 where it is done, EPERM for an empty handle, EBUSY for one with an open wait. */
+static inline int yak_errno(uint32_t answer)
+{
+    static const int errors[] = {
+        0,      EAGAIN, EBADF,  EBUSY,     EEXIST, EINVAL, EMFILE, EMSGSIZE, ENAMETOOLONG, ENOENT,
+        ENOSPC, ENOMEM, ETIMEDOUT, ENOSPC,
+    };
+    if (answer < sizeof errors / sizeof errors[0])
+        return errors[answer];
+    return answer == YAK_WAITING ? EBUSY : answer == YAK_EMPTY ? EPERM : EINVAL;
+}
 
 /* What an open asks for. `access` is 0 to receive, 1 to send, 2 for both; the limits count where `limited`. */
 typedef struct yak_opening {
@@ -266,10 +289,22 @@ static inline void yak_rest(yak_process *process, unsigned *tries)
     __atomic_store_n(&process->bells[bell], 1, __ATOMIC_SEQ_CST);
 }
 
+/* With seed.h, and a seed in the environment, each call is a choice of the seed, and what waits gives the turn away. */
+#ifdef YAK_SEEDED
+#define YAK_TURN_() yak_seed_turn()
+#define YAK_CALLS_(name, d) yak_seed_calls(name, d)
+uint32_t yak_seed_answer(yak_process *process, const struct timespec *until);
+void yak_seed_calls(const char *name, uint32_t d);
+#else
+#define YAK_TURN_() ((void)0)
+#define YAK_CALLS_(name, d) ((void)0)
+#endif
+
 /* Makes a call again until its process has come inside: YAK_TRY(answer, process, yak_close(process, d)); */
 #define YAK_TRY(answer, process, call)                                                                                           \
     do {                                                                                                                         \
         unsigned yak_tries_ = 0;                                                                                                 \
+        YAK_TURN_();                                                                                                             \
         while (((answer) = (call)) == YAK_RETRY)                                                                                 \
             yak_rest((process), &yak_tries_);                                                                                    \
         yak_wake(process);                                                                                                       \
@@ -282,6 +317,10 @@ static inline uint32_t yak_await_answer(yak_process *process, long millis)
     uint32_t looked;
     uint64_t *bell;
     unsigned tries = 0;
+#ifdef YAK_SEEDED
+    if (yak_seed_decides())
+        return yak_seed_answer(process, 0);
+#endif
     do
         looked = yak_answered(process);
     while (looked == YAK_WAITS && yak_spin(&tries));
@@ -321,7 +360,14 @@ static inline yak_moment yak_now(void)
 {
     struct timespec now;
     yak_moment moment;
+#if defined YAK_SEEDED
+    now = yak_seed_now();
+#elif defined CLOCK_REALTIME
     clock_gettime(CLOCK_REALTIME, &now);
+#else
+    /* Strict C11 has the same clock under another name. */
+    timespec_get(&now, TIME_UTC);
+#endif
     moment.sec = (int64_t)now.tv_sec;
     moment.nsec = (int64_t)now.tv_nsec;
     return moment;
@@ -351,6 +397,13 @@ static inline uint32_t yak_await_until(yak_process *process, uint8_t *buf, size_
         YAK_TRY(answer, process, yak_end_wait(process, buf, len, message, &now));
         if (answer != YAK_EARLY)
             return answer;
+#ifdef YAK_SEEDED
+        if (yak_seed_decides()) {
+            struct timespec end = {(time_t)until->sec, (long)until->nsec};
+            yak_seed_answer(process, &end);
+            continue;
+        }
+#endif
         if (yak_await_answer(process, yak_time_left(until, yak_nap(&millis))) != YAK_WAITS) {
             YAK_TRY(answer, process, yak_collect(process, buf, len, message));
             if (answer != YAK_WAITS)
@@ -365,6 +418,7 @@ static inline uint32_t yak_send(yak_process *process, uint32_t d, const uint8_t 
     uint8_t none = 0;
     yak_message message = {0, 0};
     uint32_t answer;
+    YAK_CALLS_("a send", d);
     YAK_TRY(answer, process, yak_start_send(process, d, bytes, len, prio));
     return answer == YAK_WAITS ? yak_await(process, &none, 0, &message) : answer;
 }
@@ -373,6 +427,7 @@ static inline uint32_t yak_send(yak_process *process, uint32_t d, const uint8_t 
 static inline uint32_t yak_receive(yak_process *process, uint32_t d, uint8_t *buf, size_t len, yak_message *message)
 {
     uint32_t answer;
+    YAK_CALLS_("a receive", d);
     YAK_TRY(answer, process, yak_start_receive(process, d, buf, len, message));
     return answer == YAK_WAITS ? yak_await(process, buf, len, message) : answer;
 }
@@ -385,6 +440,7 @@ static inline uint32_t yak_timed_send(yak_process *process, uint32_t d, const ui
     yak_message message = {0, 0};
     yak_moment now = yak_now();
     uint32_t answer;
+    YAK_CALLS_("a timed send", d);
     YAK_TRY(answer, process, yak_start_timed_send(process, d, bytes, len, prio, until, &now));
     return answer == YAK_WAITS ? yak_await_until(process, &none, 0, &message, until) : answer;
 }
@@ -395,6 +451,7 @@ static inline uint32_t yak_timed_receive(yak_process *process, uint32_t d, uint8
 {
     yak_moment now = yak_now();
     uint32_t answer;
+    YAK_CALLS_("a timed receive", d);
     YAK_TRY(answer, process, yak_start_timed_receive(process, d, buf, len, message, until, &now));
     return answer == YAK_WAITS ? yak_await_until(process, buf, len, message, until) : answer;
 }
@@ -419,6 +476,26 @@ static inline uint32_t yak_line(yak_process *process, uint64_t place, uint8_t **
         *text = larger;
         *size = 2 * len;
     }
+}
+
+static inline void yak_write_line_(void *with, const uint8_t *text, size_t len)
+{
+    fwrite(text, 1, len, (FILE *)with);
+}
+
+/* Writes the journal to a file, as docs/JOURNAL.md has it and `mqlog check` reads it. Each line is that of one entry; entries that come while it is
+ * written are written too. YAK_EMPTY; YAK_NOMEMORY where memory for a line was refused; YAK_NOT_WRITTEN where a write failed. */
+static inline uint32_t yak_write_journal(yak_process *process, FILE *to)
+{
+    uint8_t *text = 0;
+    size_t size = 0;
+    uint32_t answer = YAK_DONE;
+    for (uint64_t place = 0; answer == YAK_DONE; ++place)
+        answer = yak_line(process, place, &text, &size, yak_write_line_, to);
+    free(text);
+    if (answer != YAK_NO_ENTRY)
+        return answer;
+    return fflush(to) != 0 || ferror(to) ? YAK_NOT_WRITTEN : YAK_DONE;
 }
 
 /* Ends a system, of which these are all handles: checks its journal, gives the line of each entry to `line`, unless that is null, and
@@ -457,6 +534,39 @@ static inline uint32_t yak_finish(yak_process *processes, size_t count, void (*l
 }
 
 #ifdef YAKYROMBE_IMPLEMENTATION
+#ifdef YAK_SEEDED
+#include "yakyrombe/seed_machine.h"
+
+static __thread const char *yak_seed_call = "a call";
+static __thread uint32_t yak_seed_d;
+
+void yak_seed_calls(const char *name, uint32_t d)
+{
+    yak_seed_call = name;
+    yak_seed_d = d;
+}
+
+static inline bool yak_seed_is_answered(void *of)
+{
+    return yak_answered((yak_process *)of) != YAK_WAITS;
+}
+
+static inline void yak_seed_write(void *of, FILE *to)
+{
+    yak_seeds.decides = false;
+    yak_write_journal((yak_process *)of, to);
+}
+
+uint32_t yak_seed_answer(yak_process *process, const struct timespec *until)
+{
+    char what[96];
+    snprintf(what, sizeof what, "as process %u in %s on descriptor %u", (unsigned)process->number, yak_seed_call, (unsigned)yak_seed_d);
+    yak_seed_writes_journal(yak_seed_write, process);
+    yak_seed_wait(yak_seed_is_answered, process, until, what);
+    return yak_answered(process);
+}
+#endif
+
 #ifdef __linux__
 #include <linux/futex.h>
 #include <sys/syscall.h>

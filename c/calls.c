@@ -1,0 +1,315 @@
+/* The calls of POSIX's <mqueue.h>, as exported symbols. */
+#define _GNU_SOURCE
+#include "program.h"
+
+#include <errno.h>
+#include <fcntl.h>
+#include <stdarg.h>
+#include <string.h>
+
+/* As the system's <mqueue.h> has them; its declarations say that pointers are not null, which the compiler would believe here. */
+typedef int mqd_t;
+
+struct mq_attr {
+    long mq_flags;
+    long mq_maxmsg;
+    long mq_msgsize;
+    long mq_curmsgs;
+    long unused[4];
+};
+
+mqd_t mq_open(const char *name, int oflag, ...);
+mqd_t __mq_open_2(const char *name, int oflag);
+int mq_close(mqd_t mqdes);
+int mq_unlink(const char *name);
+int mq_getattr(mqd_t mqdes, struct mq_attr *attr);
+int mq_setattr(mqd_t mqdes, const struct mq_attr *set, struct mq_attr *before);
+int mq_notify(mqd_t mqdes, const struct sigevent *event);
+int mq_send(mqd_t mqdes, const char *bytes, size_t len, unsigned prio);
+int mq_timedsend(mqd_t mqdes, const char *bytes, size_t len, unsigned prio, const struct timespec *until);
+ssize_t mq_receive(mqd_t mqdes, char *buf, size_t len, unsigned *prio);
+ssize_t mq_timedreceive(mqd_t mqdes, char *buf, size_t len, unsigned *prio, const struct timespec *until);
+
+static const yak_moment NEVER = {INT64_MAX, 0};
+static const yak_moment LONG_AGO = {0, 0};
+static const yak_moment LATER = {1, 0};
+
+static int fails(int error)
+{
+    errno = error;
+    return -1;
+}
+
+static int result(uint32_t answer)
+{
+    return answer == YAK_DONE ? 0 : fails(yak_errno(answer));
+}
+
+/* Keeps what the program was given under a number. */
+static void hold(uint32_t d, const char *name, size_t len, const yak_opening *opening)
+{
+    descriptor *it = &the_program.descriptors[d];
+    it->queue = 0;
+    for (uint32_t other = 0; other < DESCRIPTORS; ++other) {
+        const descriptor *held = &the_program.descriptors[other];
+        if (held->made != 0 && held->is_bound && held->len == len && memcmp(held->name, name, len) == 0)
+            it->queue = held->queue;
+    }
+    if (it->queue == 0)
+        it->queue = ++the_program.queues;
+    it->made = ++the_program.opens;
+    it->access = opening->access;
+    it->nonblock = opening->nonblock;
+    it->is_bound = true;
+    it->len = len;
+    memcpy(it->name, name, len);
+}
+
+static mqd_t open_queue(const char *name, int oflag, const struct mq_attr *attr)
+{
+    yak_opening opening = {0, 0, (uint32_t)(oflag & O_ACCMODE), (oflag & O_CREAT) != 0, (oflag & O_EXCL) != 0,
+                           (oflag & O_NONBLOCK) != 0, false};
+    uint32_t answer, d = 0;
+    size_t len;
+    int error;
+    if (name == 0)
+        return fails(EFAULT);
+    if (attr != 0 && opening.create) {
+        opening.maxmsg = attr->mq_maxmsg;
+        opening.msgsize = attr->mq_msgsize;
+        opening.limited = true;
+    }
+    if ((error = program_enter()) != 0)
+        return fails(error);
+    len = strlen(name);
+    MADE(answer, yak_open(&the_program.processes[HOME], (const uint8_t *)name, len, &opening, &d));
+    if (answer == YAK_DONE)
+        hold(d, name, len, &opening);
+    program_leave();
+    return answer == YAK_DONE ? FIRST + (mqd_t)d : result(answer);
+}
+
+mqd_t mq_open(const char *name, int oflag, ...)
+{
+    const struct mq_attr *attr = 0;
+    if (oflag & O_CREAT) {
+        va_list rest;
+        va_start(rest, oflag);
+        (void)va_arg(rest, mode_t);
+        attr = va_arg(rest, const struct mq_attr *);
+        va_end(rest);
+    }
+    return open_queue(name, oflag, attr);
+}
+
+/* What a fortified mq_open without a mode is compiled to. */
+mqd_t __mq_open_2(const char *name, int oflag)
+{
+    return open_queue(name, oflag & ~O_CREAT, 0);
+}
+
+int mq_close(mqd_t mqdes)
+{
+    uint32_t answer, d;
+    int error;
+    if ((error = program_enter()) != 0)
+        return fails(error);
+    d = program_number(mqdes);
+    MADE(answer, yak_close(&the_program.processes[HOME], d));
+    if (answer == YAK_DONE) {
+        the_program.descriptors[d].made = 0;
+        program_close_mirrors(d);
+        program_forget_registration(d);
+    }
+    program_leave();
+    return result(answer);
+}
+
+int mq_unlink(const char *name)
+{
+    uint32_t answer;
+    size_t len;
+    int error;
+    if (name == 0)
+        return fails(EFAULT);
+    if ((error = program_enter()) != 0)
+        return fails(error);
+    len = strlen(name);
+    program_mirror_all((const uint8_t *)name, len);
+    MADE(answer, yak_unlink(&the_program.processes[HOME], (const uint8_t *)name, len));
+    for (uint32_t d = 0; answer == YAK_DONE && d < DESCRIPTORS; ++d) {
+        descriptor *it = &the_program.descriptors[d];
+        if (it->len == len && memcmp(it->name, name, len) == 0)
+            it->is_bound = false;
+    }
+    program_leave();
+    return result(answer);
+}
+
+static int fill(uint32_t answer, const yak_attributes *from, struct mq_attr *attr)
+{
+    if (answer == YAK_DONE && attr != 0) {
+        attr->mq_flags = from->nonblock ? O_NONBLOCK : 0;
+        attr->mq_maxmsg = (long)from->maxmsg;
+        attr->mq_msgsize = (long)from->msgsize;
+        attr->mq_curmsgs = (long)from->curmsgs;
+    }
+    return result(answer);
+}
+
+int mq_getattr(mqd_t mqdes, struct mq_attr *attr)
+{
+    yak_attributes attributes = {0, 0, 0, false};
+    uint32_t answer;
+    int error;
+    if ((error = program_enter()) != 0)
+        return fails(error);
+    MADE(answer, yak_getattr(&the_program.processes[HOME], program_number(mqdes), &attributes));
+    program_leave();
+    return fill(answer, &attributes, attr);
+}
+
+int mq_setattr(mqd_t mqdes, const struct mq_attr *set, struct mq_attr *before)
+{
+    yak_attributes attributes = {0, 0, 0, false};
+    bool nonblock;
+    uint32_t answer, d;
+    int error;
+    if (set == 0)
+        return mq_getattr(mqdes, before);
+    nonblock = (set->mq_flags & O_NONBLOCK) != 0;
+    if ((error = program_enter()) != 0)
+        return fails(error);
+    d = program_number(mqdes);
+    MADE(answer, yak_setattr(&the_program.processes[HOME], d, nonblock, &attributes));
+    if (answer == YAK_DONE)
+        the_program.descriptors[d].nonblock = nonblock;
+    program_leave();
+    return fill(answer, &attributes, before);
+}
+
+int mq_notify(mqd_t mqdes, const struct sigevent *event)
+{
+    uint32_t answer = YAK_DONE;
+    int error;
+    if ((error = program_enter()) != 0)
+        return fails(error);
+    error = program_register(program_number(mqdes), event, &answer);
+    program_leave();
+    return error != 0 ? fails(error) : result(answer);
+}
+
+/* A send or a receive by an idle helper; where there is none, a try by the home, which does not wait. */
+static uint32_t make(mqd_t mqdes, const request *asked, yak_message *message)
+{
+    uint32_t answer, answered, d;
+    unsigned process;
+    int error, cancelling = -1;
+    notices found;
+    if ((error = program_enter()) != 0) {
+        errno = error;
+        return YAK_REFUSED;
+    }
+    found.count = 0;
+    d = program_number(mqdes);
+    process = d < DESCRIPTORS ? program_choose(d) : HOME;
+    if (process == HOME) {
+        answer = program_begin(HOME, d, asked, message, &LONG_AGO, &LATER);
+    } else {
+        yak_moment now = asked->is_timed ? yak_now() : LATER;
+        answer = program_begin(process, the_program.mirrors[process][d].d, asked, message, &asked->until, &now);
+    }
+    if (answer == YAK_DONE && the_program.registered != 0)
+        program_collect_notices(d, &found);
+    if (answer == YAK_WAITS)
+        answer = program_wait_with(process, d, asked, message, &cancelling);
+    else if (answer == YAK_TIMEDOUT && process == HOME)
+        answer = program_wait_stranded(d, asked, message, &cancelling);
+    answered = program_note_answers(process);
+    program_leave();
+    if (answered != 0)
+        program_wake_them(answered);
+    if (found.count != 0)
+        program_deliver(&found);
+    if (cancelling != -1)
+        pthread_setcancelstate(cancelling, 0);
+    if (answer == YAK_CANCELLED)
+        pthread_testcancel();
+    return answer;
+}
+
+static int last_result(uint32_t answer)
+{
+    if (answer == YAK_DONE)
+        return 0;
+    if (answer == YAK_REFUSED)
+        return -1;
+    return fails(answer == YAK_INTERRUPTED || answer == YAK_CANCELLED ? EINTR : yak_errno(answer));
+}
+
+static void set_end(request *asked, const struct timespec *until)
+{
+    asked->is_timed = until != 0;
+    asked->until = NEVER;
+    if (until != 0) {
+        asked->until.sec = (int64_t)until->tv_sec;
+        asked->until.nsec = (int64_t)until->tv_nsec;
+    }
+}
+
+static int send_until(const char *call, mqd_t mqdes, const char *bytes, size_t len, unsigned prio, const struct timespec *until)
+{
+    yak_message message = {0, 0};
+    request asked;
+    pthread_testcancel();
+    if (bytes == 0 && len != 0)
+        return fails(EFAULT);
+    asked.call = call;
+    asked.is_send = true;
+    asked.bytes = (uint8_t *)(len != 0 ? bytes : "");
+    asked.len = len;
+    asked.prio = prio;
+    set_end(&asked, until);
+    return last_result(make(mqdes, &asked, &message));
+}
+
+int mq_send(mqd_t mqdes, const char *bytes, size_t len, unsigned prio)
+{
+    return send_until("mq_send", mqdes, bytes, len, prio, 0);
+}
+
+int mq_timedsend(mqd_t mqdes, const char *bytes, size_t len, unsigned prio, const struct timespec *until)
+{
+    return send_until("mq_timedsend", mqdes, bytes, len, prio, until);
+}
+
+static ssize_t receive_until(const char *call, mqd_t mqdes, char *buf, size_t len, unsigned *prio, const struct timespec *until)
+{
+    yak_message message = {0, 0};
+    uint8_t none = 0;
+    request asked;
+    pthread_testcancel();
+    if (buf == 0 && len != 0)
+        return fails(EFAULT);
+    asked.call = call;
+    asked.is_send = false;
+    asked.bytes = len != 0 ? (uint8_t *)buf : &none;
+    asked.len = len;
+    asked.prio = 0;
+    set_end(&asked, until);
+    if (last_result(make(mqdes, &asked, &message)) != 0)
+        return -1;
+    if (prio != 0)
+        *prio = message.prio;
+    return (ssize_t)message.len;
+}
+
+ssize_t mq_receive(mqd_t mqdes, char *buf, size_t len, unsigned *prio)
+{
+    return receive_until("mq_receive", mqdes, buf, len, prio, 0);
+}
+
+ssize_t mq_timedreceive(mqd_t mqdes, char *buf, size_t len, unsigned *prio, const struct timespec *until)
+{
+    return receive_until("mq_timedreceive", mqdes, buf, len, prio, until);
+}

@@ -1,0 +1,163 @@
+/* program.h: what the exported calls of libyakyrombe-mqueue are made of.
+ *
+ * One system of the library serves the whole program. Its process 1 is the home: it holds a descriptor for each that the program holds, and
+ * opens, closes, unlinks, registers and asks for attributes. Each send and receive is made by a helper, the lowest of processes 2 to 32
+ * that has no open wait: it opens the queue too, when it is first needed there. A call that waits keeps its helper until the wait ends. So
+ * the order of messages, who is served and every refusal are the library's.
+ *
+ * All of this is guarded by one mutex, which is held for the time of a call and never while a call waits.
+ */
+#ifndef YAKYROMBE_PROGRAM_INTERNAL_H
+#define YAKYROMBE_PROGRAM_INTERNAL_H
+
+#ifdef YAK_SEEDED
+#include "real.h"
+#define REAL(name) YAK_REAL(name)
+#else
+#define REAL(name) name
+#endif
+
+#include <yakyrombe.h>
+
+#include <pthread.h>
+#include <signal.h>
+#include <stdatomic.h>
+#include <stdio.h>
+#include <sys/types.h>
+
+enum {
+    PROCESSES = 32,
+    HOME = 0,
+    DESCRIPTORS = 16,
+    LONGEST_NAME = 256,
+    /* The number of the first descriptor: far from those of files, so that a call on files refuses it. */
+    FIRST = 1000
+};
+
+/* What the program holds under a number. */
+typedef struct descriptor {
+    unsigned made;  /* which open of the program it is from, counted from 1; 0 where there is none */
+    unsigned queue; /* the same number for descriptors of the same queue */
+    uint32_t access;
+    bool nonblock;
+    bool is_bound; /* its queue still has its name */
+    size_t len;
+    uint8_t name[LONGEST_NAME];
+} descriptor;
+
+/* What a helper holds for a descriptor of the program. */
+typedef struct mirror {
+    unsigned made; /* of which open; 0 where it holds nothing */
+    uint32_t d;
+    bool nonblock;
+} mirror;
+
+/* A registration, by the descriptor that it was made with. */
+typedef struct registration {
+    bool is_set;
+    struct sigevent event;
+    bool has_attributes;
+    pthread_attr_t attributes;
+} registration;
+
+/* A send or a receive. */
+typedef struct request {
+    const char *call;
+    bool is_send;
+    bool is_timed;
+    yak_moment until; /* where it is timed */
+    uint8_t *bytes;
+    size_t len;
+    uint32_t prio;
+} request;
+
+/* A call that waits, on the stack of its thread. */
+typedef struct waiting {
+    const request *asked;
+    pthread_t thread;
+    pid_t number; /* of its thread, as the kernel counts them */
+    uint32_t d;
+    yak_moment since;
+    bool is_cancelled;
+    unsigned process; /* HOME where no helper was left */
+    uint8_t name[LONGEST_NAME];
+    size_t len;
+    struct waiting *next;
+} waiting;
+
+typedef struct program {
+    pthread_mutex_t lock;
+    bool is_ready;
+    bool is_ending;
+    unsigned opens;
+    unsigned queues;
+    uint32_t idle;     /* the helpers without an open wait, by bits */
+    uint32_t stranded; /* how many calls wait without a helper */
+    uint32_t registered;
+    yak_process processes[PROCESSES];
+    descriptor descriptors[DESCRIPTORS];
+    registration registrations[DESCRIPTORS];
+    mirror mirrors[PROCESSES][DESCRIPTORS];
+    waiting *waits;
+    _Atomic uint32_t news[PROCESSES]; /* of a helper that waits: 1 where there is news since it last looked; of the home: how often what
+                                       * stranded calls wait for may have changed */
+} program;
+
+extern program the_program;
+
+/* The notices that a call has brought, to be delivered once the lock is free. */
+typedef struct notices {
+    unsigned count;
+    registration them[DESCRIPTORS];
+} notices;
+
+/* Comes into the program's lock: 0, or the error of a call that can't be made here (ENOSYS in a forked child, EDEADLK in a handler that
+ * interrupted another call inside, ENOMEM). */
+int program_enter(void);
+void program_leave(void);
+
+/* Makes a call of a process; inside the lock nothing keeps it out. */
+#define MADE(answer, call)                                                                                                    \
+    do                                                                                                                           \
+        (answer) = (call);                                                                                                       \
+    while ((answer) == YAK_RETRY)
+
+/* The number of a descriptor for the library, DESCRIPTORS where the program holds none by that name. */
+uint32_t program_number(int mqdes);
+
+/* An idle helper that holds this descriptor too, or HOME where there is none. */
+unsigned program_choose(uint32_t d);
+/* A helper whose wait has ended is idle again. */
+void program_release(unsigned process);
+/* Lets all idle helpers hold what the program holds of the queue with this name, before it loses its name. */
+void program_mirror_all(const uint8_t *name, size_t len);
+/* Lets go what helpers hold of a descriptor that was closed. */
+void program_close_mirrors(uint32_t d);
+
+/* Notes inside the lock whose waits the last call of a process has answered, and after it wakes them. */
+uint32_t program_note_answers(unsigned process);
+void program_wake_them(uint32_t answered);
+
+/* Beside what the library returns, of a wait: */
+enum { YAK_INTERRUPTED = 100, YAK_CANCELLED = 101, YAK_REFUSED = 102 };
+
+uint32_t program_begin(unsigned process, uint32_t d, const request *asked, yak_message *message, const yak_moment *until, const yak_moment *now);
+/* Waits until the open wait of a helper is answered, or until what a call without a helper asks for can be had. The lock is held before and
+ * after it, and not while it sleeps. */
+uint32_t program_wait_with(unsigned process, uint32_t d, const request *asked, yak_message *message, int *cancelling);
+uint32_t program_wait_stranded(uint32_t d, const request *asked, yak_message *message, int *cancelling);
+
+/* mq_notify's part, and what a call on a descriptor may have brought. */
+int program_register(uint32_t d, const struct sigevent *event, uint32_t *answer);
+void program_forget_registration(uint32_t d);
+void program_collect_notices(uint32_t d, notices *found);
+void program_deliver(notices *found);
+
+/* The child of a fork, and where YAK_FORK=new a program of its own. */
+void program_in_child(void);
+/* The journal, to a file; inside the lock. */
+void program_write_journal(void *with, FILE *to);
+/* Begins what the environment asks for. */
+void program_begin_reports(void);
+
+#endif
