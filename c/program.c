@@ -10,7 +10,7 @@
 #include <sys/syscall.h>
 #include <unistd.h>
 
-program the_program = {.lock = PTHREAD_MUTEX_INITIALIZER};
+program the_program = {.lock = PTHREAD_ADAPTIVE_MUTEX_INITIALIZER_NP};
 
 static bool is_forked;
 /* Whether the thread is inside, where a handler may interrupt it. */

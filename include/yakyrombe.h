@@ -553,7 +553,6 @@ static inline bool yak_seed_is_answered(void *of)
 
 static inline void yak_seed_write(void *of, FILE *to)
 {
-    yak_seeds.decides = false;
     yak_write_journal((yak_process *)of, to);
 }
 

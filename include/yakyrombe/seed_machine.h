@@ -72,6 +72,8 @@ static void yak_seed_end(unsigned waits)
     for (unsigned i = 0; i < yak_seeds.used; ++i)
         if (yak_seeds.seats[i].state == YAK_SEAT_WAITS)
             fprintf(stderr, "yakyrombe: thread %u waits %s\n", i + 1, yak_seeds.seats[i].what);
+    /* From here on nobody else runs, and the calls that write are no choices. */
+    yak_seeds.decides = false;
     if (path != 0 && yak_seeds.write != 0) {
         FILE *to = fopen(path, "w");
         if (to != 0) {
