@@ -7,6 +7,7 @@ mod journal;
 mod nonblocking;
 mod notice;
 mod one_process;
+mod real_time;
 mod waiting;
 
 use std::alloc::Global;
@@ -23,7 +24,8 @@ fn run_all(rt: &(impl Print + Wait + Clock + Threads + Sync), alloc: Global) -> 
     notice::run(rt, alloc)?;
     waiting::run(rt, alloc)?;
     deadlines::run(rt, alloc)?;
-    journal::run(rt, alloc)
+    journal::run(rt, alloc)?;
+    real_time::run(rt, alloc)
 }
 
 fn main(rt: HostRuntime) -> ExitCode {

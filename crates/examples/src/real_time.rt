@@ -1,0 +1,215 @@
+// A real-time system in virtual time: three periodic tasks report to a watchdog, in one thread. The clock is the simulation's own and
+// jumps from one event to the next, so each run has the same output.
+ghost use Rattle.std.specs.Prelude.{◌≡◌, true};
+ghost use Rattle.mq.specs.Calls.{IsFree};
+ghost use Rattle.mq_model.specs.Deadlines.{is_moment};
+
+use mq::{Attr, Clock, Deadline, FastMq, FastProcess, Fault, Name, OpenFlags};
+use std::alloc::Global;
+use std::io::Print;
+use std::sync::Wait;
+
+/// How many events are simulated.
+const EVENTS: u32 = 16;
+
+/// While the sensor hangs it does not report.
+const HANGS_FROM: u32 = 60;
+
+const HANGS_TO: u32 = 150;
+
+// A clock that stands at one moment.
+#[derive(Clone, Copy)]
+struct Simulated {
+    moment: Deadline,
+    ghost is_moment: { is_moment moment ≡ true },
+}
+
+impl Clock for Simulated {
+    ghost gives = { λ clock moment. moment ≡ clock.moment };
+
+    fn now(&self) -> Deadline {
+        self.moment
+    }
+}
+
+// The clock so many milliseconds after the start.
+fn clock_at(millis: u32) -> Simulated {
+    Simulated {
+        moment: Deadline {
+            sec: i64::from(millis / 1000),
+            nsec: i64::from(millis % 1000) * 1_000_000,
+        },
+    }
+}
+
+// What happens again and again.
+#[derive(Drop)]
+struct Periodic {
+    period: u32,
+    next: u32,
+}
+
+impl Periodic {
+    fn every(period: u32) -> Periodic {
+        Periodic {
+            period,
+            next: period,
+        }
+    }
+
+    // Whether it happens now; then the next time is a period later.
+    fn is_due(&mut self, now: u32) -> bool {
+        let is_due = self.next == now;
+        if is_due {
+            self.next = now.saturating_add(self.period);
+        }
+        is_due
+    }
+}
+
+// The three tasks, the highest priority first, and the watchdog.
+#[derive(Drop)]
+struct Plan {
+    control: Periodic,
+    sensor: Periodic,
+    logger: Periodic,
+    watchdog: Periodic,
+}
+
+impl Plan {
+    // When the next event is.
+    fn next(&self) -> u32 {
+        let tasks = self
+            .control
+            .next
+            .min(self.sensor.next)
+            .min(self.logger.next);
+        tasks.min(self.watchdog.next)
+    }
+}
+
+// Opens the queue of reports.
+fn open_reports(rt: &impl Wait, mq: &FastMq, process: &mut FastProcess) -> anyhow::Result<()>
+    requires { (process.old.lock ≡ mq.now) × IsFree process.old }
+    ensures { (process.new.lock ≡ mq.now) × IsFree process.new }
+{
+    let name = Name::read(b"/reports")?;
+    let limits = Attr {
+        maxmsg: 16,
+        msgsize: 8,
+    };
+    process.open(
+        rt,
+        mq,
+        &name,
+        OpenFlags::read_write().create(),
+        Some(limits),
+    )?;
+    Ok(())
+}
+
+// A task reports, with its name for a message.
+fn report(
+    rt: &impl Wait,
+    mq: &FastMq,
+    process: &mut FastProcess,
+    name: &[u8],
+    prio: u32,
+    now: u32,
+) -> anyhow::Result<()>
+    requires { (process.old.lock ≡ mq.now) × IsFree process.old }
+    ensures { (process.new.lock ≡ mq.now) × IsFree process.new }
+{
+    let clock = clock_at(now);
+    process.timed_send(rt, mq, 0, name, prio, clock.moment, &clock)?;
+    Ok(())
+}
+
+// The watchdog takes all reports. Its deadline is now, so it never waits.
+fn watch(
+    rt: &(impl Print + Wait),
+    mq: &FastMq,
+    watchdog: &mut FastProcess,
+    now: u32,
+) -> anyhow::Result<()>
+    requires { (watchdog.old.lock ≡ mq.now) × IsFree watchdog.old }
+    ensures { (watchdog.new.lock ≡ mq.now) × IsFree watchdog.new }
+{
+    let clock = clock_at(now);
+    let mut heard_of_sensor = false;
+    let mut reports = 0u32;
+    let mut buf = [0; 8];
+    'reports: for _ in 0..16u32 {
+        match watchdog.timed_receive(rt, mq, 0, &mut buf, clock.moment, &clock) {
+            Ok(received) => {
+                reports = reports.saturating_add(1);
+                heard_of_sensor |= received.prio == 2;
+            }
+            Err(Fault::TimedOut) => break,
+            Err(fault) => return Err(fault.into()),
+        }
+    }
+    println!(rt; "{now} ms: {reports} reports")?;
+    if !heard_of_sensor {
+        println!(rt; "{now} ms: the sensor is silent")?;
+    }
+    Ok(())
+}
+
+// Goes from event to event.
+fn simulate(
+    rt: &(impl Print + Wait),
+    mq: &FastMq,
+    control: &mut FastProcess,
+    sensor: &mut FastProcess,
+    logger: &mut FastProcess,
+    watchdog: &mut FastProcess,
+) -> anyhow::Result<()>
+    requires control { (control.old.lock ≡ mq.now) × IsFree control.old }
+    requires sensor { (sensor.old.lock ≡ mq.now) × IsFree sensor.old }
+    requires logger { (logger.old.lock ≡ mq.now) × IsFree logger.old }
+    requires watchdog { (watchdog.old.lock ≡ mq.now) × IsFree watchdog.old }
+{
+    let mut plan = Plan {
+        control: Periodic::every(20),
+        sensor: Periodic::every(30),
+        logger: Periodic::every(50),
+        watchdog: Periodic::every(40),
+    };
+    'events: for _ in 0..EVENTS {
+        let now = plan.next();
+        if plan.control.is_due(now) {
+            report(rt, mq, control, b"control", 3, now)?;
+        }
+        if plan.sensor.is_due(now) && !(HANGS_FROM..HANGS_TO).contains(&now) {
+            report(rt, mq, sensor, b"sensor", 2, now)?;
+        }
+        if plan.logger.is_due(now) {
+            report(rt, mq, logger, b"logger", 1, now)?;
+        }
+        if plan.watchdog.is_due(now) {
+            watch(rt, mq, watchdog, now)?;
+        }
+    }
+    Ok(())
+}
+
+pub fn run(rt: &(impl Print + Wait), alloc: Global) -> anyhow::Result<()> {
+    let (mq, mut processes) = FastMq::new(alloc, 4)?;
+    let mut watchdog = processes.pop().unwrap();
+    let mut logger = processes.pop().unwrap();
+    let mut sensor = processes.pop().unwrap();
+    let mut control = processes.pop().unwrap();
+    open_reports(rt, &mq, &mut control)?;
+    open_reports(rt, &mq, &mut sensor)?;
+    open_reports(rt, &mq, &mut logger)?;
+    open_reports(rt, &mq, &mut watchdog)?;
+    simulate(
+        rt,
+        &mq,
+        &mut control,
+        &mut sensor,
+        &mut logger,
+        &mut watchdog,
+    )
+}
