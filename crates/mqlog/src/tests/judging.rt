@@ -1,0 +1,234 @@
+// Concurrent histories: what is said of them, and the journals that explain them.
+use super::output_of;
+use mq_log::{LogFault, PLAIN, Question, Verdict, judge_history};
+use std::alloc::Global;
+use std::process::Abort;
+
+// How the judgement of a history ended, and what it wrote.
+fn judged(alloc: Global, mut text: &[u8], question: Question) -> (Result<u8, LogFault>, Vec<u8>) {
+    let mut output = Vec::new(alloc);
+    let outcome = judge_history(alloc, &mut text, &mut output, question);
+    (outcome, output)
+}
+
+// A history is judged so, and this is written first.
+fn is_judged(
+    rt: &impl Abort,
+    alloc: Global,
+    history: &str,
+    question: Question,
+    status: u8,
+    said: &str,
+) {
+    let (outcome, output) = judged(alloc, history.as_bytes(), question);
+    assert_eq!(rt; outcome, Ok(status), "{history}");
+    assert!(rt; output.as_slice().starts_with(said.as_bytes()), "{history}");
+}
+
+// Histories that are possible, each with one that has no legal order, and the line of the call whose return made it so.
+static TURNED: [(&str, &str, &str); 8] = [
+    // Another message.
+    (
+        "1 0 10 open bc limits 2 8 \"/q\" -> fd 3\n\
+         1 20 40 send 3 4 2 \"hi\" -> ok\n\
+         2 0 15 open bc limits 2 8 \"/q\" -> fd 7\n\
+         2 30 50 recv 7 8 -> got 4 \"hi\"\n",
+        "1 0 10 open bc limits 2 8 \"/q\" -> fd 3\n\
+         1 20 40 send 3 4 2 \"hi\" -> ok\n\
+         2 0 15 open bc limits 2 8 \"/q\" -> fd 7\n\
+         2 30 50 recv 7 8 -> got 4 \"ho\"\n",
+        "impossible: line 4, front part of 4 calls\n",
+    ),
+    // Another priority, seen by a receive that returned before its send did.
+    (
+        "1 0 10 open bc limits 2 8 \"/q\" -> fd 3\n\
+         1 20 60 send 3 4 2 \"hi\" -> ok\n\
+         2 0 15 open bc limits 2 8 \"/q\" -> fd 7\n\
+         2 30 50 recv 7 8 -> got 4 \"hi\"\n",
+        "1 0 10 open bc limits 2 8 \"/q\" -> fd 3\n\
+         1 20 60 send 3 4 2 \"hi\" -> ok\n\
+         2 0 15 open bc limits 2 8 \"/q\" -> fd 7\n\
+         2 30 50 recv 7 8 -> got 5 \"hi\"\n",
+        "impossible: line 4, front part of 4 calls\n",
+    ),
+    // EAGAIN, which overlaps the send, and where a message lay.
+    (
+        "1 0 10 open bcn limits 2 8 \"/q\" -> fd 3\n\
+         1 20 40 send 3 0 0 -> ok\n\
+         2 0 15 open bcn limits 2 8 \"/q\" -> fd 3\n\
+         2 40 50 recv 3 8 -> EAGAIN\n",
+        "1 0 10 open bcn limits 2 8 \"/q\" -> fd 3\n\
+         1 20 40 send 3 0 0 -> ok\n\
+         2 0 15 open bcn limits 2 8 \"/q\" -> fd 3\n\
+         2 41 50 recv 3 8 -> EAGAIN\n",
+        "impossible: line 4, front part of 4 calls\n",
+    ),
+    // A message that was sent twice, and one that was sent once, is received twice.
+    (
+        "1 0 10 open bc limits 2 8 \"/q\" -> fd 3\n\
+         1 20 30 send 3 4 2 \"hi\" -> ok\n\
+         1 40 50 send 3 4 2 \"hi\" -> ok\n\
+         2 0 15 open b \"/q\" -> fd 3\n\
+         2 60 90 recv 3 8 -> got 4 \"hi\"\n\
+         3 0 15 open b \"/q\" -> fd 3\n\
+         3 60 80 recv 3 8 -> got 4 \"hi\"\n",
+        "1 0 10 open bc limits 2 8 \"/q\" -> fd 3\n\
+         1 20 30 send 3 4 2 \"hi\" -> ok\n\
+         2 0 15 open b \"/q\" -> fd 3\n\
+         2 60 90 recv 3 8 -> got 4 \"hi\"\n\
+         3 0 15 open b \"/q\" -> fd 3\n\
+         3 60 80 recv 3 8 -> got 4 \"hi\"\n",
+        "impossible: line 4, front part of 6 calls\n",
+    ),
+    // Messages of one priority out of order: their sends overlap, and do not.
+    (
+        "1 0 10 open bc limits 2 8 \"/q\" -> fd 3\n\
+         1 20 30 send 3 1 1 \"a\" -> ok\n\
+         2 0 15 open b \"/q\" -> fd 3\n\
+         2 25 40 send 3 1 1 \"b\" -> ok\n\
+         2 50 60 recv 3 8 -> got 1 \"b\"\n\
+         2 60 70 recv 3 8 -> got 1 \"a\"\n",
+        "1 0 10 open bc limits 2 8 \"/q\" -> fd 3\n\
+         1 20 30 send 3 1 1 \"a\" -> ok\n\
+         2 0 15 open b \"/q\" -> fd 3\n\
+         2 35 40 send 3 1 1 \"b\" -> ok\n\
+         2 50 60 recv 3 8 -> got 1 \"b\"\n\
+         2 60 70 recv 3 8 -> got 1 \"a\"\n",
+        "impossible: line 5, front part of 6 calls\n",
+    ),
+    // The message of less priority first: sent before the other one, and both lay there.
+    (
+        "1 0 10 open bc limits 2 8 \"/q\" -> fd 3\n\
+         1 20 30 send 3 1 1 \"a\" -> ok\n\
+         1 40 50 send 3 2 1 \"b\" -> ok\n\
+         2 0 15 open b \"/q\" -> fd 3\n\
+         2 45 60 recv 3 8 -> got 1 \"a\"\n",
+        "1 0 10 open bc limits 2 8 \"/q\" -> fd 3\n\
+         1 20 30 send 3 1 1 \"a\" -> ok\n\
+         1 40 50 send 3 2 1 \"b\" -> ok\n\
+         2 0 15 open b \"/q\" -> fd 3\n\
+         2 55 60 recv 3 8 -> got 1 \"a\"\n",
+        "impossible: line 5, front part of 5 calls\n",
+    ),
+    // Calls that never returned: a send whose message was received, and one that began later than that.
+    (
+        "1 0 10 open bc limits 2 8 \"/q\" -> fd 3\n\
+         1 30 - send 3 1 1 \"a\" ->\n\
+         2 0 15 open b \"/q\" -> fd 3\n\
+         2 20 40 recv 3 8 -> got 1 \"a\"\n\
+         2 50 - recv 3 8 ->\n",
+        "1 0 10 open bc limits 2 8 \"/q\" -> fd 3\n\
+         1 50 - send 3 1 1 \"a\" ->\n\
+         2 0 15 open b \"/q\" -> fd 3\n\
+         2 20 40 recv 3 8 -> got 1 \"a\"\n\
+         2 50 - recv 3 8 ->\n",
+        "impossible: line 4, front part of 3 calls\n",
+    ),
+    // A timed receive that timed out: of an empty queue, and where a message lay.
+    (
+        "1 0 10 open bc limits 2 8 \"/q\" -> fd 3\n\
+         1 20 30 trecv 3 8 until 5 0 at 4 0 -> ETIMEDOUT\n\
+         1 40 50 trecv 3 8 until 3 0 at 4 0 -> ETIMEDOUT\n",
+        "1 0 10 open bc limits 2 8 \"/q\" -> fd 3\n\
+         1 12 15 send 3 1 1 \"a\" -> ok\n\
+         1 20 30 trecv 3 8 until 5 0 at 4 0 -> ETIMEDOUT\n",
+        "impossible: line 3, front part of 3 calls\n",
+    ),
+];
+
+#[test]
+fn histories_are_possible_or_not(rt: HostRuntime) {
+    for (possible, impossible, said) in &TURNED {
+        is_judged(&rt, rt.alloc(), possible, PLAIN, 0, "possible: ");
+        is_judged(&rt, rt.alloc(), impossible, PLAIN, 1, said);
+    }
+}
+
+// A history that becomes impossible before it ends, and what is said of it.
+static EARLY: (&str, &str) = (
+    "1 0 10 open bc limits 2 8 \"/q\" -> fd 3\n\
+     1 20 30 recv 3 8 -> got 0\n\
+     1 40 50 close 3 -> ok\n\
+     2 25 35 open b \"/q\" -> fd 3\n\
+     2 36 37 close 3 -> ok\n",
+    "impossible: line 2, front part of 3 calls\n\
+     1 0 10 open bc limits 2 8 \"/q\" -> fd 3\n\
+     1 20 30 recv 3 8 -> got 0\n\
+     2 25 - open b \"/q\" ->\n",
+);
+
+#[test]
+fn impossible_histories_have_a_front_part(rt: HostRuntime) {
+    let (outcome, output) = judged(rt.alloc(), EARLY.0.as_bytes(), PLAIN);
+    assert_eq!(rt; outcome, Ok(1));
+    assert!(rt; output.as_slice() == EARLY.1.as_bytes());
+}
+
+// A history in which a receive waits, and the journal that explains it.
+static EXPLAINED: (&str, &str) = (
+    "1 0 10 open bc limits 2 8 \"/q\" -> fd 3\n\
+     2 12 20 open b \"/q\" -> fd 7\n\
+     1 22 60 recv 3 8 -> got 4 \"hi\"\n\
+     2 30 40 send 7 4 2 \"hi\" -> ok\n\
+     1 70 80 notify 3 9 -> ok\n\
+     2 82 90 send 7 0 1 \"a\" -> ok\n\
+     1 92 95 notice -> notice 9\n\
+     2 92 99 getattr 7 -> attr 0 2 8 1\n",
+    "possible: 8 calls, 2 processes\n",
+);
+
+const WITH_JOURNAL: Question = Question {
+    journal: true,
+    budget: 1_000,
+};
+
+#[test]
+fn possible_histories_are_explained_by_a_journal(rt: HostRuntime) {
+    let (outcome, output) = judged(rt.alloc(), EXPLAINED.0.as_bytes(), WITH_JOURNAL);
+    assert_eq!(rt; outcome, Ok(0));
+    let journal = output
+        .as_slice()
+        .strip_prefix(EXPLAINED.1.as_bytes())
+        .unwrap_or(b"");
+    assert!(rt; journal.starts_with(b"0 1 open bc limits 2 8 \"/q\" -> fd 0 created\n"));
+    is_legal(&rt, rt.alloc(), journal);
+}
+
+// The text is that of a legal journal.
+fn is_legal(rt: &impl Abort, alloc: Global, journal: &[u8]) {
+    let (outcome, _) = output_of(alloc, journal);
+    assert!(rt; matches!(&outcome, Ok(Verdict::Legal(_))));
+}
+
+const WITHOUT_STEPS: Question = Question {
+    journal: false,
+    budget: 2,
+};
+
+#[test]
+fn a_budget_is_used_up(rt: HostRuntime) {
+    let undecided = "undecided: the budget was used up\n";
+    for (possible, impossible, _) in &TURNED {
+        is_judged(&rt, rt.alloc(), possible, WITHOUT_STEPS, 5, undecided);
+        is_judged(&rt, rt.alloc(), impossible, WITHOUT_STEPS, 5, undecided);
+    }
+}
+
+// Texts with the first line that is none of a call of a process from 1 to 32.
+static NO_HISTORIES: [(&str, u64); 6] = [
+    ("1 0 10 close 0 -> EBADF", 1),
+    ("1 0 10 close 0 -> EBADF\n\n", 2),
+    ("1 0 10 close 0 -> EBADF\n1 00 10 close 0 -> EBADF\n", 2),
+    ("1 0 10 close 0 -> EBADF\n33 0 10 close 0 -> EBADF\n", 2),
+    ("0 0 10 close 0 -> EBADF\n", 1),
+    ("1 0 - close 0 -> EBADF\n1 0 10 close 0 ->\n", 1),
+];
+
+#[test]
+fn the_first_line_that_is_none_is_named(rt: HostRuntime) {
+    for (text, line) in &NO_HISTORIES {
+        let (outcome, output) = judged(rt.alloc(), text.as_bytes(), PLAIN);
+        assert_eq!(rt; outcome, Err(LogFault::BadLine(*line)), "{text}");
+        assert!(rt; output.is_empty(), "{text}");
+    }
+}
