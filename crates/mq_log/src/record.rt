@@ -2,7 +2,7 @@
 ghost use Rattle.std.specs.Prelude.{◌≡◌, ◌≢◌, ◌+◌, ℕ, List, IsErrOf, OnOk, Some, Ok, Err, take};
 ghost use Rattle.mq_runner.specs.RunFault.{StopsAt};
 ghost use Rattle.mq_script.specs.Script.{Whole, script_written};
-ghost use Rattle.mq_log.specs.Records.{IsLogged, IsLoggedInPart, Records};
+ghost use Rattle.mq_log.specs.Records.{IsLogged, IsLoggedInPart, Records, RecordsInPart};
 ghost use Rattle.mq_runner.specs.declared.fault.RunFault.{RunFault};
 ghost use Rattle.mq_runner.specs.declared.fault.RunFault.TheVariants.{BadCall, Output};
 
@@ -19,7 +19,7 @@ use std::thread::Threads;
 use std::time::Clock;
 
 /// Runs a script over the lock `L` as `run_script` does, and writes the text of its journal. The faults are those of `run_script`;
-/// at `RunFault::Output` a front part of the text is written, and at the others nothing.
+/// at `RunFault::Output` a front part of the text is written, which lacks a byte or more, and at the others nothing.
 pub fn record_script<L, S, R, W, G>(
     rt: &S,
     alloc: Global,
@@ -43,6 +43,9 @@ where
         IsErrOf result (BadCall line) → script_written (take (MOST_BYTES + 1) all) ≡ Err line }
     ensures unwritten { (fault : RunFault) → IsErrOf result fault → fault ≢ Output → W.contents output.new ≡ W.contents output.old }
     ensures output { IsErrOf result Output → IsLoggedInPart (W.contents output.old) (W.contents output.new) }
+    ensures output_of { (all : List ℕ) (script : Whole) → R.remaining input.old ≡ Some all →
+        script_written (take (MOST_BYTES + 1) all) ≡ Ok script → IsErrOf result Output →
+        RecordsInPart script (W.contents output.old) (W.contents output.new) }
     ensures done { (all : List ℕ) (script : Whole) → R.remaining input.old ≡ Some all →
         script_written (take (MOST_BYTES + 1) all) ≡ Ok script →
         OnOk result (Records script (W.contents output.old) (W.contents output.new)) }

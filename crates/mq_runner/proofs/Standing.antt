@@ -21,7 +21,7 @@ use Rattle.mq_runner.specs.Phase.{AllEnd, AllWorkOff, AreReady, Ends, EndsEarly,
 use Rattle.mq_runner.specs.Runs.{Blocks, IsReady, IsSameProcess, RunsCalls, WaitsFor, calls_of}
 use Rattle.mq_runner.specs.Stands.{AllConfirm, BlocksIn, ComesToAStand, Confirms, EndsIn, EndsPhase, EndsStuck, FindsBlocked, blocked_lines, blocked_processes, line_in, process_in}
 use Rattle.mq_runner.specs.declared.phase.Member.{Member}
-use Rattle.mq_runner.specs.RunFault.{IsLate}
+use Rattle.mq_runner.specs.RunFault.{IsLate, IsUnwritten}
 use Rattle.mq_runner.specs.declared.fault.RunFault.{RunFault}
 use Rattle.mq_runner.specs.declared.fault.RunFault.TheVariants.{BadCall, Deadlock, Input, NoMemory, Output}
 use Rattle.mq_runner.specs.declared.turns.Share.{Share}
@@ -203,12 +203,20 @@ ends-early shares workers ends (BadCall line) stuck = absurd stuck
 ends-early shares workers ends Input stuck = absurd stuck
 ends-early shares workers ends Output stuck = absurd stuck
 
-pub early-late : (shares : List (Share (Ticket Record))) (fault : RunFault) → EndsEarly shares fault → IsLate fault
-early-late shares NoMemory early = tt
-early-late shares (Deadlock lines) early = tt
-early-late shares (BadCall line) early = absurd early
-early-late shares Input early = absurd early
-early-late shares Output early = absurd early
+pub early-unwritten : (shares : List (Share (Ticket Record))) (fault : RunFault) → EndsEarly shares fault → IsUnwritten fault
+early-unwritten shares NoMemory early = tt
+early-unwritten shares (Deadlock lines) early = tt
+early-unwritten shares (BadCall line) early = absurd early
+early-unwritten shares Input early = absurd early
+early-unwritten shares Output early = absurd early
+
+-- a fault before the writing comes after the reading
+unwritten-late : (fault : RunFault) → IsUnwritten fault → IsLate fault
+unwritten-late NoMemory is = tt
+unwritten-late (Deadlock lines) is = tt
+unwritten-late (BadCall line) is = absurd is
+unwritten-late Input is = absurd is
+unwritten-late Output is = absurd is
 
 pub if-ok : {A E : Type 0} (P Q : A → Type 0) (r : Result A E) → ((x : A) → P x → Q x) → IfOk r P → IfOk r Q
 if-ok P Q (Ok x) weaker has = weaker x has
@@ -218,6 +226,19 @@ pub if-err : {A E : Type 0} (P Q : E → Type 0) (r : Result A E) → ((e : E) �
 if-err P Q (Ok x) weaker has = tt
 if-err P Q (Err e) weaker has = weaker e has
 
-pub late-same : {A : Type 0} (r : Result A RunFault) (fault : RunFault) → IsErrAnd r (λ e. e ≡ fault) → IsLate fault → IfErr r IsLate
-late-same (Ok x) fault same late = absurd same
-late-same (Err e) fault same late = rw same late
+pub unwritten-same : {A : Type 0} (r : Result A RunFault) (fault : RunFault) → IsErrAnd r (λ e. e ≡ fault) → IsUnwritten fault → IfErr r IsUnwritten
+unwritten-same (Ok x) fault same is = absurd same
+unwritten-same (Err e) fault same is = rw same is
+
+pub late-same : {A : Type 0} (r : Result A RunFault) (fault : RunFault) → IsErrAnd r (λ e. e ≡ fault) → IsUnwritten fault → IfErr r IsLate
+late-same (Ok x) fault same is = absurd same
+late-same (Err e) fault same is = unwritten-late e (rw same is)
+
+-- an end before the writing is no output fault
+pub never-output : {A : Type 0} (r : Result A RunFault) → IfErr r IsUnwritten → r ≡ Err Output → ⊥
+never-output (Ok x) is same = cc
+never-output (Err NoMemory) is same = cc
+never-output (Err (Deadlock lines)) is same = cc
+never-output (Err (BadCall line)) is same = absurd is
+never-output (Err Input) is same = absurd is
+never-output (Err Output) is same = absurd is

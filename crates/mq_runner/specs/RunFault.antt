@@ -52,6 +52,14 @@ IsLate Output = Unit {0}
 IsLate NoMemory = Unit {0}
 IsLate (Deadlock lines) = Unit {0}
 
+-- a fault of a phase before its replies are written
+abbrev pub IsUnwritten : RunFault → Type 0
+IsUnwritten (BadCall line) = ⊥
+IsUnwritten Input = ⊥
+IsUnwritten Output = ⊥
+IsUnwritten NoMemory = Unit {0}
+IsUnwritten (Deadlock lines) = Unit {0}
+
 -- a run of a script that is at fault in this line: it says so, unless a read failed or memory ran out before
 abbrev pub StopsAt : {A : Type 0} → ℕ → Result A RunFault → Type 0
 StopsAt line (Err (BadCall k)) = k ≡ line

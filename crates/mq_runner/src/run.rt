@@ -3,7 +3,7 @@ ghost use Rattle.std.specs.Prelude.{◌≡◌, ◌≤◌, ◌+◌, ◌↔◌, �
 ghost use Rattle.std.specs.Io.KnownBytes.{Appends, Consumes};
 ghost use Rattle.std.specs.List.{All};
 ghost use Rattle.mq_model.specs.Legality.{Legal};
-ghost use Rattle.mq_runner.specs.RunFault.{IsLate, StopsAt};
+ghost use Rattle.mq_runner.specs.RunFault.{IsLate, IsUnwritten, StopsAt};
 ghost use Rattle.fast_mutex.specs.Items.{Ticket};
 ghost use Rattle.lines.specs.Output.{AppendsTooLittle};
 ghost use Rattle.mq_model.specs.Record.{Record};
@@ -200,12 +200,38 @@ where
     ensures count { IfOk result (λ after. vec_len after ≡ vec_len processes) }
     ensures ran { IfOk result (λ after. (text : List ℕ) × RunsPhase (said_calls calls.now) processes.items after.items text × Appends (W.contents output.old) (W.contents output.new) text) }
 {
+    let (processes, text) = run_replied(rt, alloc, mq, gate, processes, calls)?;
+    write_all(output, text.as_slice())?;
+    Ok(processes)
+}
+
+// Runs a phase, and gives the processes after it and the text of their replies.
+pub(crate) fn run_replied<'s, L, S, G>(
+    rt: &'s S,
+    alloc: Global,
+    mq: &'s Mq<L>,
+    gate: &'s G,
+    processes: Vec<Process<L>>,
+    calls: &[ScriptCall<&'s [u8]>],
+) -> Result<(Vec<Process<L>>, Vec<u8>), RunFault>
+where
+    L: Look<Guarded> + Sync,
+    L::Seat: Send,
+    L::Walk: Send,
+    S: Threads + Wait + Clock + Sync,
+    G: Gate + Sync,
+    requires { All (IsReady mq.now) processes.items }
+    ensures fault { IfErr result IsUnwritten }
+    ensures deadlock { (lines : Vec ℕ Global) → IsErrOf result (Deadlock lines) → ComesToAStand (said_calls calls.now) processes.items lines.items }
+    ensures ready { IfOk result (λ after. All (IsReady mq.now) after.0.items) }
+    ensures count { IfOk result (λ after. vec_len after.0 ≡ vec_len processes) }
+    ensures ran { IfOk result (λ after. RunsPhase (said_calls calls.now) processes.items after.0.items after.1.items) }
+{
     let shares = shares_of(alloc, processes, calls)?;
     let workers = run_phase(rt, alloc, mq, gate, shares)?;
     let text = text_of(alloc, workers.as_slice())?;
     let processes = processes_of(alloc, workers)?;
-    write_all(output, text.as_slice())?;
-    Ok(processes)
+    Ok((processes, text))
 }
 
 // Writes that the history is ok, where it is legal; else nothing, and gives the first place that is not legal.

@@ -15,5 +15,5 @@ pub returns-clause-done : goal.returns-clause-done
 returns-clause-done g c = λ all script known written.
     let text : c.in_ok-text.text.items ≡ take 1048577 all = rw known at c.in_ok-text.ensures.bytes in
     let same = same_script _ _ (take 1048577 all) (said_script c.in_ok-script.script) script text c.as_slice.ensures.value c.in_ok-script.ensures.written written in
-    let ran = ok_so _ (λ journal. (replies : List ℕ) × RunsWhole (said_script c.in_ok-script.script) replies journal.records) c.run_whole.result (λ journal done. (done.0, done.1)) c.run_whole.ensures.done in
-    subst (λ s. IfOk c.run_whole.result (λ journal. (replies : List ℕ) × RunsWhole s replies journal.records)) same ran
+    let ran = ok_so _ (λ journal. (replies : List ℕ) × RunsWhole (said_script c.in_ok-script.script) replies journal.records) c.run_unwritten.result (λ journal done. (done.0, done.1)) c.run_unwritten.ensures.done in
+    subst (λ s. IfOk c.run_unwritten.result (λ journal. (replies : List ℕ) × RunsWhole s replies journal.records)) same ran

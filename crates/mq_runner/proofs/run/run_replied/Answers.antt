@@ -1,14 +1,14 @@
-use Rattle.std.proofs.Common.{arith, ◌≡◌, length, map, refl, sym}
+use Rattle.std.proofs.Common.{arith, ◌≡◌, length, map, sym}
 use Rattle.std.proofs.lemmas.Grind.{common_steps}
 use Rattle.std.proofs.lemmas.List.Elements.{All-same}
 use Rattle.mq_runner.specs.Phase.{EndsEarly, text_in}
 use Rattle.mq_runner.specs.Runs.{IsReady}
 use Rattle.mq_script.specs.Script.{said_calls}
-use Rattle.mq_runner.specs.declared.fault.RunFault.TheVariants.{Deadlock, Output}
-use Rattle.mq_runner.proofs.Standing.{early-late, late-same, phase-stands}
+use Rattle.mq_runner.specs.declared.fault.RunFault.TheVariants.{Deadlock}
+use Rattle.mq_runner.proofs.Standing.{early-unwritten, phase-stands, unwritten-same}
 use Rattle.mq_runner.proofs.Taking.{all-unmap}
 use Rattle.mq_runner.proofs.Working.{all-ready, phase-done, same-lengths}
-use Rattle.mq_runner.proofs.run.run_written.Goals as goal
+use Rattle.mq_runner.proofs.run.run_replied.Goals as goal
 
 pub run_phase-requires-after_bounds : goal.run_phase-requires-after_bounds
 run_phase-requires-after_bounds g c κs within =
@@ -30,36 +30,16 @@ returns-clause-count g c =
 pub returns-clause-ran : goal.returns-clause-ran
 returns-clause-ran g c =
     let shares = c.in_ok-shares.shares.items in let workers = c.in_ok-workers.workers.items in let text = c.in_ok-text.text.items in
-    let is : text ≡ text_in workers = rw c.as_slice.ensures.value at c.in_ok-text.ensures in (
-      text,
-      phase-done (said_calls c.args.calls.now) shares workers c.args.processes.items c.in_ok-processes.processes.items text c.in_ok-workers.ensures.through c.in_ok-shares.ensures.calls c.in_ok-shares.ensures.processes c.in_ok-processes.ensures is,
-      rw c.as_slice-2.ensures.value at c.in_ok-write_all.ensures.whole,
-    )
-
-pub returns-in_err-write_all-clause-output : goal.returns-in_err-write_all-clause-output
-returns-in_err-write_all-clause-output g c = λ failed.
-    let shares = c.in_ok-shares.shares.items in let workers = c.in_ok-workers.workers.items in let text = c.in_ok-text.text.items in
-    let is : text ≡ text_in workers = rw c.as_slice.ensures.value at c.in_ok-text.ensures in (
-      c.in_ok-processes.processes.items,
-      text,
-      phase-done (said_calls c.args.calls.now) shares workers c.args.processes.items c.in_ok-processes.processes.items text c.in_ok-workers.ensures.through c.in_ok-shares.ensures.calls c.in_ok-shares.ensures.processes c.in_ok-processes.ensures is,
-      rw c.as_slice-2.ensures.value at c.in_err-write_all.ensures.failed,
-    )
+    let is : text ≡ text_in workers = rw c.as_slice.ensures.value at c.in_ok-text.ensures in
+      phase-done (said_calls c.args.calls.now) shares workers c.args.processes.items c.in_ok-processes.processes.items text c.in_ok-workers.ensures.through c.in_ok-shares.ensures.calls c.in_ok-shares.ensures.processes c.in_ok-processes.ensures is
 
 pub returns-in_err-workers-clause-deadlock : goal.returns-in_err-workers-clause-deadlock
 returns-in_err-workers-clause-deadlock g c = λ lines failed.
     let shares = c.in_ok-shares.shares.items in
     let fault : c.in_err-workers.field-0.0 ≡ Deadlock lines = sym (rw failed at c.from_residual-in_err-workers.ensures.1) in
     let early : EndsEarly shares (Deadlock lines) = rw fault at c.in_err-workers.ensures.fault in
-    (phase-stands (said_calls c.args.calls.now) shares c.args.processes.items lines.items early c.in_ok-shares.ensures.calls c.in_ok-shares.ensures.processes, refl)
-
-pub returns-in_err-workers-clause-output : goal.returns-in_err-workers-clause-output
-returns-in_err-workers-clause-output g c = λ failed.
-    let shares = c.in_ok-shares.shares.items in
-    let fault : c.in_err-workers.field-0.0 ≡ Output = sym (rw failed at c.from_residual-in_err-workers.ensures.1) in
-    let early : EndsEarly shares Output = rw fault at c.in_err-workers.ensures.fault in
-    absurd early
+    phase-stands (said_calls c.args.calls.now) shares c.args.processes.items lines.items early c.in_ok-shares.ensures.calls c.in_ok-shares.ensures.processes
 
 pub returns-in_err-workers-clause-fault : goal.returns-in_err-workers-clause-fault
 returns-in_err-workers-clause-fault g c =
-    late-same c.from_residual-in_err-workers.result c.in_err-workers.field-0.0 c.from_residual-in_err-workers.ensures.1 (early-late c.in_ok-shares.shares.items c.in_err-workers.field-0.0 c.in_err-workers.ensures.fault)
+    unwritten-same c.from_residual-in_err-workers.result c.in_err-workers.field-0.0 c.from_residual-in_err-workers.ensures.1 (early-unwritten c.in_ok-shares.shares.items c.in_err-workers.field-0.0 c.in_err-workers.ensures.fault)
