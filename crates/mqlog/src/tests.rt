@@ -310,6 +310,38 @@ impl Read for OneByOne {
     }
 }
 
+// Gives a line again and again, byte by byte, and counts the bytes.
+#[derive(Drop)]
+struct Endless {
+    line: &'static [u8],
+    given: usize,
+}
+
+impl Read for Endless {
+    fn read(&mut self, buf: &mut [u8]) -> io::Result<usize> {
+        match (self.line.get(self.given % self.line.len().max(1)), buf) {
+            (Some(byte), [place, ..]) => {
+                *place = *byte;
+                self.given = self.given.wrapping_add(1);
+                Ok(1)
+            }
+            _ => Ok(0),
+        }
+    }
+}
+
+#[test]
+fn a_line_that_is_none_is_named_before_the_next_is_read(rt: HostRuntime) {
+    let mut input = Endless {
+        line: b"y\n",
+        given: 0,
+    };
+    let mut output = Vec::new(rt.alloc());
+    let outcome = check_journal(rt.alloc(), &mut input, &mut output);
+    assert_eq!(rt; outcome, Err(LogFault::BadLine(1)));
+    assert_eq!(rt; input.given, 2);
+}
+
 // Takes one byte a write, as long as there is room.
 #[derive(Drop)]
 struct Narrow {
