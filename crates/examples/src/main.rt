@@ -8,6 +8,7 @@ mod nonblocking;
 mod notice;
 mod one_process;
 mod real_time;
+mod two_tools;
 mod waiting;
 
 use std::alloc::Global;
@@ -25,7 +26,8 @@ fn run_all(rt: &(impl Print + Wait + Clock + Threads + Sync), alloc: Global) -> 
     waiting::run(rt, alloc)?;
     deadlines::run(rt, alloc)?;
     journal::run(rt, alloc)?;
-    real_time::run(rt, alloc)
+    real_time::run(rt, alloc)?;
+    two_tools::run(rt, alloc)
 }
 
 fn main(rt: HostRuntime) -> ExitCode {

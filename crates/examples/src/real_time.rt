@@ -4,8 +4,11 @@ ghost use Rattle.std.specs.Prelude.{◌≡◌, true};
 ghost use Rattle.mq.specs.Calls.{IsFree};
 ghost use Rattle.mq_model.specs.Deadlines.{is_moment};
 
+use lines::output::write_all;
 use mq::{Attr, Clock, Deadline, FastMq, FastProcess, Fault, Name, OpenFlags};
+use mq_journal::text::write_journal;
 use std::alloc::Global;
+use std::io;
 use std::io::Print;
 use std::sync::Wait;
 
@@ -169,6 +172,10 @@ fn simulate(
     requires sensor { (sensor.old.lock ≡ mq.now) × IsFree sensor.old }
     requires logger { (logger.old.lock ≡ mq.now) × IsFree logger.old }
     requires watchdog { (watchdog.old.lock ≡ mq.now) × IsFree watchdog.old }
+    ensures control { control.new.lock ≡ mq.now }
+    ensures sensor { sensor.new.lock ≡ mq.now }
+    ensures logger { logger.new.lock ≡ mq.now }
+    ensures watchdog { watchdog.new.lock ≡ mq.now }
 {
     let mut plan = Plan {
         control: Periodic::every(20),
@@ -211,5 +218,16 @@ pub fn run(rt: &(impl Print + Wait), alloc: Global) -> anyhow::Result<()> {
         &mut sensor,
         &mut logger,
         &mut watchdog,
-    )
+    )?;
+
+    processes.push_reserved(control);
+    processes.push_reserved(sensor);
+    processes.push_reserved(logger);
+    processes.push_reserved(watchdog);
+    let Ok(journal) = mq.finish(processes) else {
+        unreachable!()
+    };
+    let text = write_journal(alloc, &journal)?;
+    write_all(&mut io::writer(rt), text.as_slice())?;
+    Ok(())
 }

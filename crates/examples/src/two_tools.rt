@@ -1,0 +1,42 @@
+// A test of somebody's code that no run has to be lucky for. Two writers share a pen and a sheet of paper, each the one message of a queue.
+// One takes the pen first, the other the paper. Almost each run ends well; every order of their calls is tried, and one is a deadlock.
+use lines::output::write_all;
+use mq_orders::orders::{outcomes_of, play_of};
+use mq_orders::report::report_text;
+use mq_script::script::read_script;
+use std::alloc::Global;
+use std::io;
+use std::io::Print;
+
+/// The calls of both writers, as a script.
+const WRITERS: &[u8] = b"\
+processes 2
+1 open /pen bc 1 8
+1 open /paper bc 1 8
+1 send 0 0 pen
+1 send 1 0 paper
+--
+2 open /pen b
+2 open /paper b
+--
+1 recv 0 8
+1 recv 1 8
+1 send 1 0 paper
+1 send 0 0 pen
+2 recv 1 8
+2 recv 0 8
+2 send 0 0 pen
+2 send 1 0 paper
+";
+
+/// More steps than the search takes.
+const BUDGET: u64 = 10_000;
+
+pub fn run(rt: &impl Print, alloc: Global) -> anyhow::Result<()> {
+    let script = read_script(alloc, WRITERS)?;
+    let mut play = play_of(alloc, &script)?;
+    let outcomes = outcomes_of(alloc, &mut play, BUDGET)?;
+    let report = report_text(alloc, script.phases.len() as u64, &outcomes, BUDGET)?;
+    write_all(&mut io::writer(rt), report.as_slice())?;
+    Ok(())
+}
