@@ -3,7 +3,9 @@ use Rattle.std.specs.Prelude.{◌&&◌, Bool, true, List, [], ◌∷◌, Option,
 use Rattle.std.specs.Str.{bytes_eq}
 use Rattle.lines.specs.Words.{◌>>=◌, Word, number_written}
 use Rattle.mq_log.specs.declared.task.Task.{Task}
-use Rattle.mq_log.specs.declared.task.Task.TheVariants.{Run, Check, Draw, Judge, Help}
+use Rattle.mq_log.specs.declared.task.Task.TheVariants.{Run, Check, Draw, Judge, Orders, Help}
+use Rattle.mq_log.specs.declared.every_order.Trial.{Trial}
+use Rattle.mq_log.specs.declared.every_order.TheConstants.{REPORT}
 use Rattle.mq_log.specs.declared.judge.Question.{Question}
 use Rattle.mq_log.specs.declared.judge.TheConstants.{PLAIN}
 use Rattle.mq_log.specs.declared.window.Window.{Window}
@@ -56,10 +58,39 @@ question_written (name ∷ second ∷ third ∷ []) =
     else None)
 question_written words = None
 
+-- one option: the outcome whose journal is written, or the budget
+abbrev pub trial_with_one : Word → Word → Option Trial
+trial_with_one name value = if bytes_eq name (codes "--journal") then (do
+  number ← number_written 64 value
+  Some (record { journal = Some number; budget = REPORT.budget }))
+    else (if bytes_eq name (codes "--budget") then (do
+      budget ← number_written 64 value
+      Some (record { journal = REPORT.journal; budget = budget }))
+    else None)
+
+-- the journal of an outcome within so many steps
+abbrev pub journal_within : Word → Word → Option Trial
+journal_within journal steps = do
+  number ← number_written 64 journal
+  budget ← number_written 64 steps
+  Some (record { journal = Some number; budget = budget })
+
+-- both options, in either order
+abbrev pub trial_with_both : Word → Word → Word → Word → Option Trial
+trial_with_both name value other second =
+    if bytes_eq name (codes "--journal") && bytes_eq other (codes "--budget") then journal_within value second
+    else (if bytes_eq name (codes "--budget") && bytes_eq other (codes "--journal") then journal_within second value else None)
+
+-- how the options of orders ask for them to be tried
+abbrev pub trial_written : List Word → Option Trial
+trial_written (name ∷ value ∷ []) = trial_with_one name value
+trial_written (name ∷ value ∷ other ∷ second ∷ []) = trial_with_both name value other second
+trial_written words = None
+
 -- the task of a name alone
 abbrev pub task_named : Word → Option Task
 task_named word =
-    if bytes_eq word (codes "run") then Some Run else (if bytes_eq word (codes "check") then Some Check else (if bytes_eq word (codes "draw") then Some (Draw WHOLE) else (if bytes_eq word (codes "judge") then Some (Judge PLAIN) else (if bytes_eq word (codes "--help") then Some Help else None))))
+    if bytes_eq word (codes "run") then Some Run else (if bytes_eq word (codes "check") then Some Check else (if bytes_eq word (codes "draw") then Some (Draw WHOLE) else (if bytes_eq word (codes "judge") then Some (Judge PLAIN) else (if bytes_eq word (codes "orders") then Some (Orders REPORT) else (if bytes_eq word (codes "--help") then Some Help else None)))))
 
 -- the task of a name with these options
 abbrev pub task_after : Word → List Word → Option Task
@@ -70,7 +101,10 @@ task_after word (option ∷ options) = if bytes_eq word (codes "draw") then (do
     else (if bytes_eq word (codes "judge") then (do
       question ← question_written (option ∷ options)
       Some (Judge question))
-    else None)
+    else (if bytes_eq word (codes "orders") then (do
+      trial ← trial_written (option ∷ options)
+      Some (Orders trial))
+    else None))
 
 -- the task of the words after the program's name
 abbrev pub task_written : List Word → Option Task

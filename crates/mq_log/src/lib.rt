@@ -4,6 +4,7 @@
 mod check;
 mod counts;
 mod draw;
+mod every_order;
 mod fault;
 mod judge;
 mod record;
@@ -14,6 +15,7 @@ mod window;
 pub use check::check_journal;
 pub use counts::Counts;
 pub use draw::draw_journal;
+pub use every_order::{Ending, REPORT, Trial, try_orders};
 pub use fault::LogFault;
 pub use judge::{PLAIN, Question, judge_history};
 pub use record::record_script;

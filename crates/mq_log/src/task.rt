@@ -1,7 +1,8 @@
 //! What the program is asked to do.
 ghost use Rattle.std.specs.Prelude.{◌≡◌, map, string_bytes};
-ghost use Rattle.mq_log.specs.Task.{question_written, task_after, task_named, task_written, window_between, window_from_and_to, window_from_or_to, window_written};
+ghost use Rattle.mq_log.specs.Task.{journal_within, question_written, task_after, task_named, task_written, trial_with_both, trial_with_one, trial_written, window_between, window_from_and_to, window_from_or_to, window_written};
 
+use crate::every_order::{REPORT, Trial};
 use crate::judge::{PLAIN, Question};
 use crate::window::{WHOLE, Window};
 use lines::words::number;
@@ -17,6 +18,8 @@ pub enum Task {
     Draw(Window),
     /// Judges a concurrent history.
     Judge(Question),
+    /// Tries every order of the calls of a script.
+    Orders(Trial),
     /// Writes the usage.
     Help,
 }
@@ -31,6 +34,9 @@ usage: mqlog TASK
   judge  judges the concurrent history on the standard input: writes that it is possible, or its front part that is not (status 1),
          or that the budget was used up (status 5): judge --journal also writes a journal that explains it, judge --budget N
          takes at most N steps, both in either order do both
+  orders tries every order of the calls of the script on the standard input: writes what they come to (status 5 if an order ends in
+         a deadlock, 6 if the budget was used up and none was found): orders --journal K writes instead the journal of the outcome
+         or deadlock K (status 1 if there is none), orders --budget N takes at most N steps, both in either order do both
 ";
 
 /// The task that the words of the command line ask for, of which the first is the program's name.
@@ -53,6 +59,8 @@ fn task_after(word: &[u8], options: &[String]) -> Option<Task>
         Some(Task::Draw(window_of(options)?))
     } else if word == b"judge".as_slice() {
         Some(Task::Judge(question_of(options)?))
+    } else if word == b"orders".as_slice() {
+        Some(Task::Orders(trial_of(options)?))
     } else {
         None
     }
@@ -70,6 +78,8 @@ fn task_named(word: &[u8]) -> Option<Task>
         Some(Task::Draw(WHOLE))
     } else if word == b"judge".as_slice() {
         Some(Task::Judge(PLAIN))
+    } else if word == b"orders".as_slice() {
+        Some(Task::Orders(REPORT))
     } else if word == b"--help".as_slice() {
         Some(Task::Help)
     } else {
@@ -108,6 +118,63 @@ fn question_of(options: &[String]) -> Option<Question>
         }
         _ => None,
     }
+}
+
+// How the options ask for the orders to be tried.
+fn trial_of(options: &[String]) -> Option<Trial>
+    ensures { result ≡ trial_written (map string_bytes options.now) }
+{
+    match options {
+        [name, value] => trial_with_one(name.as_bytes(), value.as_bytes()),
+        [name, value, other, second] => trial_with_both(
+            name.as_bytes(),
+            value.as_bytes(),
+            other.as_bytes(),
+            second.as_bytes(),
+        ),
+        _ => None,
+    }
+}
+
+// One option.
+fn trial_with_one(name: &[u8], value: &[u8]) -> Option<Trial>
+    ensures { result ≡ trial_with_one name.now value.now }
+{
+    if name == b"--journal".as_slice() {
+        Some(Trial {
+            journal: Some(number(value)?),
+            budget: REPORT.budget,
+        })
+    } else if name == b"--budget".as_slice() {
+        Some(Trial {
+            journal: REPORT.journal,
+            budget: number(value)?,
+        })
+    } else {
+        None
+    }
+}
+
+// Both options, in either order.
+fn trial_with_both(name: &[u8], value: &[u8], other: &[u8], second: &[u8]) -> Option<Trial>
+    ensures { result ≡ trial_with_both name.now value.now other.now second.now }
+{
+    if name == b"--journal".as_slice() && other == b"--budget".as_slice() {
+        journal_within(value, second)
+    } else if name == b"--budget".as_slice() && other == b"--journal".as_slice() {
+        journal_within(second, value)
+    } else {
+        None
+    }
+}
+
+fn journal_within(journal: &[u8], budget: &[u8]) -> Option<Trial>
+    ensures { result ≡ journal_within journal.now budget.now }
+{
+    Some(Trial {
+        journal: Some(number(journal)?),
+        budget: number(budget)?,
+    })
 }
 
 // The part of a journal that the options ask for.

@@ -7,10 +7,10 @@ mod tests;
 use fast_mutex::FastMutex;
 use mq::Guarded;
 use mq_log::{
-    LogFault, Question, Task, USAGE, Window, check_journal, draw_journal, judge_history,
-    record_script, task_of,
+    Ending, LogFault, Question, Task, Trial, USAGE, Window, check_journal, draw_journal,
+    judge_history, record_script, task_of, try_orders,
 };
-use mq_runner::Plain;
+use mq_runner::{Plain, RunFault};
 use std::alloc::{Alloc, Global};
 use std::io::{Eprint, ErrorKind, Input, Print};
 use std::process::ExitCode;
@@ -26,6 +26,7 @@ fn main(rt: HostRuntime) -> ExitCode {
         Ok(Some(Task::Check)) => check(&rt, rt.alloc()),
         Ok(Some(Task::Draw(window))) => draw(&rt, rt.alloc(), window),
         Ok(Some(Task::Judge(question))) => judge(&rt, rt.alloc(), question),
+        Ok(Some(Task::Orders(trial))) => orders(&rt, rt.alloc(), trial),
         Ok(Some(Task::Help)) => help(&rt),
         Ok(None) => {
             // Nothing is left to do where this cannot be written.
@@ -98,9 +99,24 @@ fn run(
     );
     match outcome {
         Ok(()) => ExitCode::SUCCESS,
-        Err(fault) => {
-            let _ = eprintln!(rt; "{fault}");
-            ExitCode::from(fault.status())
-        }
+        Err(fault) => stopped(rt, fault),
     }
+}
+
+fn orders(rt: &(impl Print + Eprint + Input), alloc: Global, trial: Trial) -> ExitCode {
+    let (mut input, mut output) = (rt.reader(), io::writer(rt));
+    match try_orders(alloc, &mut input, &mut output, trial) {
+        Ok(ending) => {
+            if ending == Ending::NoSuch {
+                let _ = eprintln!(rt; "no outcome of this number");
+            }
+            ExitCode::from(ending.status())
+        }
+        Err(fault) => stopped(rt, fault),
+    }
+}
+
+fn stopped(rt: &impl Eprint, fault: RunFault) -> ExitCode {
+    let _ = eprintln!(rt; "{fault}");
+    ExitCode::from(fault.status())
 }
