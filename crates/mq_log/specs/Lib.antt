@@ -1,3 +1,4 @@
+pub mod EveryOrder
 pub mod LogFault
 pub mod Records
 pub mod Task

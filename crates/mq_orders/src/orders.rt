@@ -1,5 +1,5 @@
 //! Every order in which the calls of a script can come.
-ghost use Rattle.std.specs.Prelude.{◌≡◌, ◌≤◌, IfOk, true};
+ghost use Rattle.std.specs.Prelude.{◌≡◌, ◌≤◌, IfOk, OnOk, true};
 ghost use Rattle.std.specs.List.{All};
 ghost use Rattle.schedules.specs.Outcomes.{AreAll, AreDistinct, IsWitness};
 ghost use Rattle.mq_script.specs.Script.{said_script};
@@ -29,6 +29,7 @@ pub fn outcomes_of(alloc: Global, play: &mut Play, budget: u64) -> Result<Collec
     ensures distinct { IfOk result (λ c. AreDistinct c.found.items) }
     ensures all { IfOk result (λ c. c.complete ≡ true →
         AreAll next_stage stands_still told (first_stage play.old) c.found.items) }
+    ensures start { OnOk result (first_stage play.new ≡ first_stage play.old) }
 {
     collect(alloc, play, budget)
 }

@@ -10,6 +10,7 @@ use std::io;
 use std::io::{Error, ErrorKind, Read, Write};
 use std::test::Fail;
 
+mod every_order;
 mod judging;
 mod pictures;
 mod recorded;

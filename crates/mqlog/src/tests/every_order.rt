@@ -1,0 +1,456 @@
+// Every order of the calls of a script: what is written of them, and the journals that lead to it.
+use super::{Narrow, OneByOne, output_of, words_of};
+use mq_log::{Ending, REPORT, Task, Trial, Verdict, task_of, try_orders};
+use mq_runner::RunFault;
+use std::alloc::{AllocError, Global};
+use std::process::Abort;
+use std::test::Fail;
+
+// How the orders of a script were tried, and what was written.
+fn tried(alloc: Global, mut script: &[u8], trial: Trial) -> (Result<Ending, RunFault>, Vec<u8>) {
+    let mut output = Vec::new(alloc);
+    let outcome = try_orders(alloc, &mut script, &mut output, trial);
+    (outcome, output)
+}
+
+// The orders of a script end so, and just this is written.
+fn is_tried(
+    rt: &impl Abort,
+    alloc: Global,
+    script: &str,
+    trial: Trial,
+    ending: Ending,
+    written: &str,
+) {
+    let (outcome, output) = tried(alloc, script.as_bytes(), trial);
+    assert_eq!(rt; outcome, Ok(ending), "{script}");
+    assert_eq!(rt; output.as_slice(), written.as_bytes(), "{script}");
+}
+
+fn within(budget: u64) -> Trial {
+    Trial {
+        journal: None,
+        budget,
+    }
+}
+
+fn journal_of(number: u64) -> Trial {
+    Trial {
+        journal: Some(number),
+        budget: REPORT.budget,
+    }
+}
+
+// A receive that waits, and one that does not, for one message.
+static SCRIPT: &str = "processes 2
+1 open /q bc 10 8
+--
+2 open /q bn
+1 send 0 0 a
+--
+1 recv 0 8
+2 recv 0 8
+2 exit
+";
+
+static WHOLE_REPORT: &str = "phase 1: outcomes 1, deadlocks 0
+outcome 1
+1 fd 0
+phase 2: outcomes 1, deadlocks 0
+outcome 2
+1 ok
+2 fd 0
+phase 3: outcomes 1, deadlocks 1
+outcome 3
+1 got 0 1 a
+2 EAGAIN
+2 ok
+deadlock 4
+line 7: waits for ever
+every order was tried
+";
+
+#[test]
+fn a_deadlock_is_told_with_its_line(rt: HostRuntime) {
+    for trial in [REPORT, within(u64::MAX)] {
+        is_tried(
+            &rt,
+            rt.alloc(),
+            SCRIPT,
+            trial,
+            Ending::Deadlock,
+            WHOLE_REPORT,
+        );
+    }
+}
+
+static NOTHING_TRIED: &str = "phase 1: outcomes 0, deadlocks 0
+phase 2: outcomes 0, deadlocks 0
+phase 3: outcomes 0, deadlocks 0
+the budget of 0 steps was used up: there may be more
+";
+
+static ONE_STEP: &str = "phase 1: outcomes 1, deadlocks 0
+outcome 1
+1 fd 0
+phase 2: outcomes 0, deadlocks 0
+phase 3: outcomes 0, deadlocks 0
+the budget of 1 steps was used up: there may be more
+";
+
+#[test]
+fn a_budget_is_used_up(rt: HostRuntime) {
+    let ending = Ending::OutOfBudget;
+    is_tried(&rt, rt.alloc(), SCRIPT, within(0), ending, NOTHING_TRIED);
+    is_tried(&rt, rt.alloc(), SCRIPT, within(1), ending, ONE_STEP);
+}
+
+// The journals that lead to the four of the report.
+static JOURNALS: [&str; 4] = [
+    "0 1 open bc limits 10 8 \"/q\" -> fd 0 created\n",
+    "0 1 open bc limits 10 8 \"/q\" -> fd 0 created\n\
+     1 1 send 0 0 1 \"a\" -> queued\n\
+     2 2 open bn \"/q\" -> fd 0\n",
+    "0 1 open bc limits 10 8 \"/q\" -> fd 0 created\n\
+     1 1 send 0 0 1 \"a\" -> queued\n\
+     2 2 open bn \"/q\" -> fd 0\n\
+     3 1 recv 0 8 -> got 1\n\
+     4 2 recv 0 8 -> EAGAIN\n\
+     5 2 close 0 -> ok\n",
+    "0 1 open bc limits 10 8 \"/q\" -> fd 0 created\n\
+     1 1 send 0 0 1 \"a\" -> queued\n\
+     2 2 open bn \"/q\" -> fd 0\n\
+     3 2 recv 0 8 -> got 1\n\
+     4 1 recv 0 8 -> waits\n\
+     5 2 close 0 -> ok\n",
+];
+
+#[test]
+fn a_journal_leads_to_each_outcome(rt: HostRuntime) {
+    let mut number = 0;
+    for journal in &JOURNALS {
+        number += 1;
+        is_tried(
+            &rt,
+            rt.alloc(),
+            SCRIPT,
+            journal_of(number),
+            Ending::Deadlock,
+            journal,
+        );
+        is_legal(&rt, rt.alloc(), journal);
+    }
+    let first = Trial {
+        journal: Some(1),
+        budget: 1,
+    };
+    is_tried(
+        &rt,
+        rt.alloc(),
+        SCRIPT,
+        first,
+        Ending::OutOfBudget,
+        JOURNALS[0],
+    );
+}
+
+// The text is that of a legal journal.
+fn is_legal(rt: &impl Abort, alloc: Global, journal: &str) {
+    let (outcome, _) = output_of(alloc, journal.as_bytes());
+    assert!(rt; matches!(&outcome, Ok(Verdict::Legal(_))), "{journal}");
+}
+
+#[test]
+fn a_number_that_nothing_has_writes_nothing(rt: HostRuntime) {
+    for number in [0, 5, u64::MAX] {
+        is_tried(
+            &rt,
+            rt.alloc(),
+            SCRIPT,
+            journal_of(number),
+            Ending::NoSuch,
+            "",
+        );
+    }
+    let late = Trial {
+        journal: Some(4),
+        budget: 1,
+    };
+    is_tried(&rt, rt.alloc(), SCRIPT, late, Ending::NoSuch, "");
+}
+
+// Scripts whose calls come to one thing in every order, and what is written of them.
+static ONE_OUTCOME: [(&str, &str); 3] = [
+    (
+        "processes 1\n",
+        "phase 1: outcomes 1, deadlocks 0\n\
+         outcome 1\n\
+         every order was tried\n",
+    ),
+    (
+        "processes 2\n1 open /q bc 1 8\n--\n2 open /q b\n--\n1 recv 0 8\n2 send 0 5 hi\n",
+        "phase 1: outcomes 1, deadlocks 0\n\
+         outcome 1\n\
+         1 fd 0\n\
+         phase 2: outcomes 1, deadlocks 0\n\
+         outcome 2\n\
+         2 fd 0\n\
+         phase 3: outcomes 1, deadlocks 0\n\
+         outcome 3\n\
+         1 got 5 2 hi\n\
+         2 ok\n\
+         every order was tried\n",
+    ),
+    (
+        "processes 2\n1 open q bc\n2 close 0\n2 exit\n",
+        "phase 1: outcomes 1, deadlocks 0\n\
+         outcome 1\n\
+         1 EINVAL\n\
+         2 EBADF\n\
+         2 ok\n\
+         every order was tried\n",
+    ),
+];
+
+#[test]
+fn one_outcome_ends_well(rt: HostRuntime) {
+    for (script, written) in &ONE_OUTCOME {
+        is_tried(&rt, rt.alloc(), script, REPORT, Ending::Well, written);
+    }
+}
+
+// Two processes with one queue, of which each makes the call of a line so often; before that process 1 sends messages with these texts.
+fn two_of(alloc: Global, messages: &str, call: &str, count: u32) -> Result<Vec<u8>, AllocError> {
+    let mut script = Vec::new(alloc);
+    script.extend_from_slice(b"processes 2\n1 open /q bc 10 8\n--\n2 open /q b\n--\n")?;
+    for message in messages.as_bytes() {
+        script.extend_from_slice(b"1 send 0 0 ")?;
+        script.extend_from_slice(&[*message, b'\n'])?;
+    }
+    script.extend_from_slice(b"--\n")?;
+    for process in [b'1', b'2'] {
+        for _ in 0..count {
+            script.push(process)?;
+            script.extend_from_slice(call.as_bytes())?;
+        }
+    }
+    Ok(script)
+}
+
+// The last phase of a script, the fourth, has so many outcomes and deadlocks.
+fn has_counts(rt: &impl Abort, alloc: Global, script: &[u8], counts: &str) {
+    let (outcome, output) = tried(alloc, script, within(u64::MAX));
+    assert!(rt; outcome.is_ok());
+    let mut lines = output.as_slice().split(|b| *b == b'\n');
+    assert!(rt; lines.any(|line| line == counts.as_bytes()), "{counts}");
+}
+
+// Messages for two processes that each receive so often, with the counts. Where there are enough, the counts are those of the words
+// of so many letters 1 and as many letters 2; where there are not, those of the ways in which two numbers, neither of them more
+// than the count, give their number.
+static RACES: [(&str, u32, &str); 8] = [
+    ("ab", 1, "phase 4: outcomes 2, deadlocks 0"),
+    ("abcd", 2, "phase 4: outcomes 6, deadlocks 0"),
+    ("abcdef", 3, "phase 4: outcomes 20, deadlocks 0"),
+    ("abc", 2, "phase 4: outcomes 0, deadlocks 2"),
+    ("ab", 2, "phase 4: outcomes 0, deadlocks 3"),
+    ("a", 2, "phase 4: outcomes 0, deadlocks 2"),
+    ("", 2, "phase 4: outcomes 0, deadlocks 1"),
+    ("abc", 3, "phase 4: outcomes 0, deadlocks 4"),
+];
+
+#[test]
+fn two_processes_have_as_many_outcomes_as_were_counted(rt: HostRuntime) -> Result<(), Fail> {
+    for (messages, count, counts) in &RACES {
+        let script = two_of(rt.alloc(), messages, " recv 0 8\n", *count)?;
+        has_counts(&rt, rt.alloc(), &script, counts);
+    }
+    Ok(())
+}
+
+// A receive and five calls of process 1, and behind five calls of process 2 one that takes the message that the first waits for. In one
+// of the 924 orders process 2 is through before process 1 begins.
+static RARE: &str = "processes 2
+1 open /q bc 10 8
+--
+2 open /q bn
+--
+1 send 0 0 a
+--
+1 recv 0 8
+1 notice
+1 notice
+1 notice
+1 notice
+1 notice
+2 notice
+2 notice
+2 notice
+2 notice
+2 notice
+2 recv 0 8
+";
+
+static RARE_REPORT: &str = "phase 1: outcomes 1, deadlocks 0
+outcome 1
+1 fd 0
+phase 2: outcomes 1, deadlocks 0
+outcome 2
+2 fd 0
+phase 3: outcomes 1, deadlocks 0
+outcome 3
+1 ok
+phase 4: outcomes 1, deadlocks 1
+outcome 4
+1 got 0 1 a
+1 notice none
+1 notice none
+1 notice none
+1 notice none
+1 notice none
+2 notice none
+2 notice none
+2 notice none
+2 notice none
+2 notice none
+2 EAGAIN
+deadlock 5
+line 8: waits for ever
+every order was tried
+";
+
+static RARE_JOURNAL: &str = "0 1 open bc limits 10 8 \"/q\" -> fd 0 created
+1 2 open bn \"/q\" -> fd 0
+2 1 send 0 0 1 \"a\" -> queued
+3 2 notice -> notice none
+4 2 notice -> notice none
+5 2 notice -> notice none
+6 2 notice -> notice none
+7 2 notice -> notice none
+8 2 recv 0 8 -> got 2
+9 1 recv 0 8 -> waits
+";
+
+#[test]
+fn a_deadlock_of_one_order_in_many_is_found(rt: HostRuntime) {
+    let trial = REPORT;
+    is_tried(&rt, rt.alloc(), RARE, trial, Ending::Deadlock, RARE_REPORT);
+    is_tried(
+        &rt,
+        rt.alloc(),
+        RARE,
+        journal_of(5),
+        Ending::Deadlock,
+        RARE_JOURNAL,
+    );
+    is_legal(&rt, rt.alloc(), RARE_JOURNAL);
+    let (outcome, _) = tried(rt.alloc(), RARE.as_bytes(), within(1000));
+    assert_eq!(rt; outcome, Ok(Ending::OutOfBudget));
+}
+
+// Texts that are no scripts, with the first line at fault.
+static NO_SCRIPTS: [(&str, u64); 4] = [
+    ("", 1),
+    ("processes 33\n", 1),
+    ("processes 2\n1 close 0\n3 close 0\n", 3),
+    ("processes 1\n\n# a word\n1 closes 0\n1 close\n", 4),
+];
+
+#[test]
+fn the_first_line_at_fault_is_named(rt: HostRuntime) -> Result<(), Fail> {
+    for (script, line) in &NO_SCRIPTS {
+        for trial in [REPORT, journal_of(1)] {
+            let (outcome, output) = tried(rt.alloc(), script.as_bytes(), trial);
+            assert_eq!(rt; outcome, Err(RunFault::BadCall(*line)), "{script}");
+            assert!(rt; output.is_empty(), "{script}");
+        }
+    }
+    Ok(())
+}
+
+#[test]
+fn reads_and_writes_that_fail_end_the_trial(rt: HostRuntime) {
+    let whole = WHOLE_REPORT.len();
+    for (fails, room, wanted, written) in [
+        (true, whole, Err(RunFault::Input), 0),
+        (false, whole - 1, Err(RunFault::Output), whole - 1),
+        (false, whole, Ok(Ending::Deadlock), whole),
+    ] {
+        let mut input = OneByOne {
+            rest: SCRIPT.as_bytes(),
+            fails,
+        };
+        let mut output = Narrow {
+            taken: Vec::new(rt.alloc()),
+            room,
+        };
+        let outcome = try_orders(rt.alloc(), &mut input, &mut output, REPORT);
+        assert_eq!(rt; outcome, wanted);
+        assert_eq!(rt; output.taken.len(), written);
+    }
+}
+
+#[test]
+fn endings_have_their_statuses(rt: HostRuntime) {
+    for (ending, status) in [
+        (Ending::Well, 0),
+        (Ending::NoSuch, 1),
+        (Ending::Deadlock, 5),
+        (Ending::OutOfBudget, 6),
+    ] {
+        assert_eq!(rt; ending.status(), status);
+    }
+}
+
+// Options of orders, and what they ask for.
+static OPTIONS: [(&[&str], Option<Trial>); 12] = [
+    (&[], Some(REPORT)),
+    (
+        &["--journal", "3"],
+        Some(Trial {
+            journal: Some(3),
+            budget: REPORT.budget,
+        }),
+    ),
+    (
+        &["--budget", "7"],
+        Some(Trial {
+            journal: None,
+            budget: 7,
+        }),
+    ),
+    (
+        &["--journal", "3", "--budget", "7"],
+        Some(Trial {
+            journal: Some(3),
+            budget: 7,
+        }),
+    ),
+    (
+        &["--budget", "7", "--journal", "3"],
+        Some(Trial {
+            journal: Some(3),
+            budget: 7,
+        }),
+    ),
+    (&["--journal"], None),
+    (&["--budget"], None),
+    (&["--journal", "x"], None),
+    (&["--budget", "18446744073709551616"], None),
+    (&["--budget", "1", "--budget", "2"], None),
+    (&["--journal", "1", "--journal", "2"], None),
+    (&["--journal", "1", "--budget"], None),
+];
+
+#[test]
+fn orders_has_two_options(rt: HostRuntime) -> Result<(), Fail> {
+    for (options, trial) in &OPTIONS {
+        let words = words_of(rt.alloc(), "orders", options)?;
+        let wanted = match *trial {
+            Some(trial) => Some(Task::Orders(trial)),
+            None => None,
+        };
+        assert_eq!(rt; task_of(words.as_slice()), wanted);
+    }
+    Ok(())
+}
