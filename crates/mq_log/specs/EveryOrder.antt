@@ -10,7 +10,7 @@ use Rattle.schedules.specs.Schedules.{after}
 use Rattle.schedules.specs.Outcomes.{AreAll, AreDistinct, IsWitness}
 use Rattle.schedules.specs.declared.outcomes.Collected.{Collected}
 use Rattle.schedules.specs.declared.outcomes.Witnessed.{Witnessed}
-use Rattle.mq_orders.specs.Orders.{Begins}
+use Rattle.mq_orders.specs.Orders.{AreLegal, Begins}
 use Rattle.mq_orders.specs.Report.{report_text}
 use Rattle.mq_orders.specs.Stage.{Stage, next_stage, stands_still, told}
 use Rattle.mq_log.specs.declared.every_order.Ending.{Ending}
@@ -24,11 +24,13 @@ ending_status NoSuch = 1
 ending_status Deadlock = 5
 ending_status OutOfBudget = 6
 
--- what was found from a stage on: each has a schedule that leads to it, no two tell the same, and where all was tried there is nothing else
+-- what was found from a stage on: each has a schedule that leads to it, no two tell the same, and where all was tried there is nothing else.
+-- The journal after each schedule is legal
 pub record AreFound (from : Stage) (collected : Collected) : Type 0 where
   pub witnessed : All (IsWitness next_stage stands_still told from) collected.found.items
   pub distinct : AreDistinct collected.found.items
   pub all : collected.complete ≡ true → AreAll next_stage stands_still told from collected.found.items
+  pub legal : AreLegal from
 
 -- the one of this number, from 1
 abbrev pub numbered : List Witnessed → ℕ → Option Witnessed

@@ -1,10 +1,9 @@
 -- What a process did is a step of the play.
-use Rattle.std.proofs.Common.{◌≡◌, ℕ, ◌+◌, ◌<◌, Bool, true, false, List, length, get_or, Option, Some, None, IfOk, IsTrue, IsFalse, Result, Ok, Err, refl, sym, ◌∙◌, ap, slice_get, Vec}
+use Rattle.std.proofs.Common.{◌≡◌, ℕ, ◌+◌, ◌<◌, Bool, List, length, get_or, Option, Some, None, IfOk, IsTrue, IsFalse, Result, Ok, Err, sym, ◌∙◌, ap, slice_get, Vec}
 use Rattle.std.specs.Option.{option_map, option_and_then}
 use Rattle.std.specs.declared.alloc.Global.{Global}
 use Rattle.std.specs.declared.alloc.AllocError.{AllocError}
 use Rattle.std.proofs.lemmas.Option.{slice_get-get_or}
-use Rattle.mq_model.specs.Record.{Past}
 use Rattle.mq_orders.specs.Progress.{Progress}
 use Rattle.mq_orders.specs.Turns.{Turned, after_turn}
 use Rattle.mq_orders.specs.Stage.{Stage, turn_of, with_turn}

@@ -1,11 +1,17 @@
 -- The processes of a script.
-use Rattle.std.specs.Prelude.{◌≡◌, length, map}
+use Rattle.std.specs.Prelude.{◌≡◌, ℕ, List, Some, length, map}
+use Rattle.mq_model.specs.Legality.{Legal}
 use Rattle.mq_script.specs.Script.{Whole}
 use Rattle.mq_orders.specs.Plans.{plan_of, programs_of}
-use Rattle.mq_orders.specs.Stage.{Stage, first_stage}
+use Rattle.mq_orders.specs.Stage.{Stage, first_stage, next_stage}
+use Rattle.schedules.specs.Schedules.{after}
 
 -- the processes of a script with their lines, of which none has begun
 pub record Begins (script : Whole) (s : Stage) : Type 0 where
   pub programs : map (λ program. map plan_of program.items) s.programs ≡ programs_of script.phases script.processes
   pub phases : s.phases ≡ length script.phases
   pub first : first_stage s ≡ s
+
+-- the journal after each schedule from a stage on is legal
+abbrev pub AreLegal : Stage → Type 0
+AreLegal from = (schedule : List ℕ) (to : Stage) → after next_stage schedule from ≡ Some to → Legal to.past

@@ -1,5 +1,5 @@
 -- What is printed of the replies in a journal, as in a run of a script.
-use Rattle.std.specs.Prelude.{ℕ, Bool, List, [], Option, if◌then◌else◌}
+use Rattle.std.specs.Prelude.{ℕ, Bool, List, [], if◌then◌else◌}
 use Rattle.std.specs.Option.{option_map, unwrap_or}
 use Rattle.std.specs.Prelude.{false}
 use Rattle.mq_model.specs.Messages.{is_send}

@@ -1,5 +1,5 @@
 -- How far the processes of a script have come.
-use Rattle.std.specs.Prelude.{ℕ, ◌+◌, ◌-◌, ◌==◌, Bool, true, false, not, ◌&&◌, ◌||◌, nat_lt, List, [], ◌∷◌, ◌++◌, codes, length, map, replicate, Option, Some, None, is_some, is_none, if◌then◌else◌, slice_get, slice_set, Vec, zero, suc}
+use Rattle.std.specs.Prelude.{ℕ, ◌+◌, ◌==◌, Bool, true, false, not, ◌&&◌, ◌||◌, nat_lt, List, [], ◌∷◌, ◌++◌, codes, length, map, replicate, Option, Some, None, is_some, is_none, if◌then◌else◌, slice_get, slice_set, Vec, zero, suc}
 use Rattle.std.specs.Fmt.{decimal}
 use Rattle.std.specs.Option.{option_map, option_and_then, unwrap_or}
 use Rattle.std.specs.declared.alloc.Global.{Global}

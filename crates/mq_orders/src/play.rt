@@ -1,5 +1,6 @@
 //! The processes of a script as a machine: a choice is the process that goes on, and the last one begins the next phase.
-ghost use Rattle.mq_orders.specs.Stage.{fresh, next_stage, none_can_turn, one_waits, replies, seats_cleared, turn_of, wait_line_of, wait_of, waiting_lines, with_turn};
+ghost use Rattle.mq_orders.specs.Orders.{AreLegal};
+ghost use Rattle.mq_orders.specs.Stage.{first_stage, fresh, next_stage, none_can_turn, one_waits, replies, seats_cleared, turn_of, wait_line_of, wait_of, waiting_lines, with_turn};
 ghost use Rattle.std.specs.Option.{option_map};
 ghost use Rattle.std.specs.Prelude.{◌≡◌, ◌≤◌, ◌<◌, ◌+◌, ◌^◌, [], ◌++◌, IfOk, OnOk, IsTrue, IsFalse, Some, None, is_some, length, replicate, vec_len, map};
 
@@ -98,6 +99,13 @@ impl Play {
         ensures { result.now.records ≡ self.now.past }
     {
         self.trail.journal()
+    }
+
+    /// The journal after each schedule is legal. The function does nothing: its contract is the law.
+    pub fn stays_legal(&self)
+        ensures { AreLegal (first_stage self.now) }
+    {
+        let _processes = self.programs.len();
     }
 
     // The process at an index can go on.

@@ -348,6 +348,48 @@ fn a_deadlock_of_one_order_in_many_is_found(rt: HostRuntime) {
     assert_eq!(rt; outcome, Ok(Ending::OutOfBudget));
 }
 
+// A worker that waits for its job, and a watcher that clears the queue in the end: one order in 70 leaves the worker waiting.
+static WORKER: &str = "processes 2
+1 open /jobs bc 10 8
+--
+2 open /jobs bn
+--
+1 send 0 0 job
+--
+1 recv 0 8
+1 getattr 0
+1 getattr 0
+1 getattr 0
+2 getattr 0
+2 getattr 0
+2 getattr 0
+2 recv 0 8
+";
+
+static WORKER_JOURNAL: &str = "0 1 open bc limits 10 8 \"/jobs\" -> fd 0 created
+1 2 open bn \"/jobs\" -> fd 0
+2 1 send 0 0 3 \"job\" -> queued
+3 2 getattr 0 -> attr 1 10 8 1
+4 2 getattr 0 -> attr 1 10 8 1
+5 2 getattr 0 -> attr 1 10 8 1
+6 2 recv 0 8 -> got 2
+7 1 recv 0 8 -> waits
+";
+
+#[test]
+fn a_worker_may_wait_for_ever(rt: HostRuntime) {
+    let counts = "phase 4: outcomes 4, deadlocks 1";
+    has_counts(&rt, rt.alloc(), WORKER.as_bytes(), counts);
+    is_tried(
+        &rt,
+        rt.alloc(),
+        WORKER,
+        journal_of(8),
+        Ending::Deadlock,
+        WORKER_JOURNAL,
+    );
+}
+
 // Texts that are no scripts, with the first line at fault.
 static NO_SCRIPTS: [(&str, u64); 4] = [
     ("", 1),

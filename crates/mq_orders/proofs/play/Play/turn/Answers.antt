@@ -1,4 +1,4 @@
-use Rattle.std.proofs.Common.{◌≡◌, ◌+◌, ◌<◌, Some, length, slice_get, sym, ap, arith}
+use Rattle.std.proofs.Common.{◌≡◌, ◌+◌, ◌<◌, length, ap, arith}
 use Rattle.mq_orders.specs.Stage.{Stage, turn_of}
 use Rattle.mq_orders.specs.Turns.{after_turn}
 use Rattle.mq_orders.specs.PlayModel.{shown}
