@@ -110,7 +110,7 @@ mqd_t __mq_open_2(const char *name, int oflag)
 
 int mq_close(mqd_t mqdes)
 {
-    uint32_t answer, d;
+    uint32_t answer, answered = 0, d;
     int error;
     if ((error = program_enter()) != 0)
         return fails(error);
@@ -120,8 +120,11 @@ int mq_close(mqd_t mqdes)
         the_program.descriptors[d].made = 0;
         program_close_mirrors(d);
         program_forget_registration(d);
+        answered = program_note_answers(HOME);
     }
     program_leave();
+    if (answered != 0)
+        program_wake_them(answered);
     return result(answer);
 }
 
@@ -199,34 +202,23 @@ int mq_notify(mqd_t mqdes, const struct sigevent *event)
     return error != 0 ? fails(error) : result(answer);
 }
 
-/* A send or a receive by an idle helper; where there is none, a try by the home, which does not wait. */
-static uint32_t make(mqd_t mqdes, const request *asked, yak_message *message)
+/* What is left of a send or a receive that was begun: its wait, and the wakes and notices for others. Leaves the lock. */
+static __attribute__((noinline)) uint32_t go_on(unsigned process, uint32_t d, const request *asked, yak_message *message, uint32_t answer)
 {
-    uint32_t answer, answered, d;
-    unsigned process;
-    int error, cancelling = -1;
+    uint32_t answered = 0;
+    int cancelling = -1;
     notices found;
-    if ((error = program_enter()) != 0) {
-        errno = error;
-        return YAK_REFUSED;
-    }
     found.count = 0;
-    d = program_number(mqdes);
-    process = d < DESCRIPTORS ? program_choose(d) : HOME;
-    if (process == HOME) {
-        answer = program_begin(HOME, d, asked, message, &LONG_AGO, &LATER);
-    } else {
-        yak_moment now = asked->is_timed ? yak_now() : LATER;
-        answer = program_begin(process, the_program.mirrors[process][d].d, asked, message, &asked->until, &now);
-    }
     if (answer == YAK_DONE && the_program.registered != 0)
         program_collect_notices(d, &found);
     if (answer == YAK_WAITS)
         answer = program_wait_with(process, d, asked, message, &cancelling);
     else if (answer == YAK_TIMEDOUT && process == HOME)
-        answer = program_wait_stranded(d, asked, message, &cancelling);
-    answered = program_note_answers(process);
-    program_leave();
+        answer = program_wait_stranded(&process, d, asked, message, &cancelling);
+    if (answer != YAK_LOST) {
+        answered = program_note_answers(process);
+        program_leave();
+    }
     if (answered != 0)
         program_wake_them(answered);
     if (found.count != 0)
@@ -238,13 +230,39 @@ static uint32_t make(mqd_t mqdes, const request *asked, yak_message *message)
     return answer;
 }
 
+/* A send or a receive by an idle helper; where there is none, a try by the home, which does not wait. */
+static inline __attribute__((always_inline)) uint32_t make(mqd_t mqdes, const request *asked, yak_message *message)
+{
+    yak_moment now;
+    uint32_t answer, d;
+    unsigned process;
+    int error = program_enter();
+    if (error != 0) {
+        errno = error;
+        return YAK_REFUSED;
+    }
+    d = program_number(mqdes);
+    process = d < DESCRIPTORS ? program_choose(d) : HOME;
+    if (process == HOME) {
+        answer = program_begin(HOME, d, asked, message, &LONG_AGO, &LATER);
+    } else {
+        if (asked->is_timed)
+            now = yak_now();
+        answer = program_begin(process, the_program.mirrors[process][d].d, asked, message, &asked->until, asked->is_timed ? &now : &LATER);
+    }
+    if (answer != YAK_DONE || (the_program.registered | the_program.stranded | the_program.processes[process].answered) != 0)
+        return go_on(process, d, asked, message, answer);
+    program_leave();
+    return YAK_DONE;
+}
+
 static int last_result(uint32_t answer)
 {
     if (answer == YAK_DONE)
         return 0;
     if (answer == YAK_REFUSED)
         return -1;
-    return fails(answer == YAK_INTERRUPTED || answer == YAK_CANCELLED ? EINTR : yak_errno(answer));
+    return fails(answer >= YAK_INTERRUPTED ? EINTR : yak_errno(answer));
 }
 
 static void set_end(request *asked, const struct timespec *until)

@@ -12,27 +12,28 @@
 
 program the_program = {.lock = PTHREAD_ADAPTIVE_MUTEX_INITIALIZER_NP};
 
-static bool is_forked;
-/* Whether the thread is inside, where a handler may interrupt it. */
-static _Thread_local volatile bool is_inside;
+bool program_is_forked;
+_Thread_local volatile bool program_is_inside;
+static unsigned forks;
 
-static int refuse_forked(void)
+int program_refusal(void)
 {
     static const char said[] = "yakyrombe: the message queues of a program are not there in its forked child: its calls fail with ENOSYS "
                                "(YAK_FORK=new gives a child queues of its own)\n";
-    static bool has_said;
-    if (!has_said) {
-        has_said = true;
-        if (write(STDERR_FILENO, said, sizeof said - 1) < 0)
-            return ENOSYS;
-    }
+    static atomic_bool has_said;
+    if (!program_is_forked)
+        return EDEADLK;
+    if (!atomic_exchange(&has_said, true) && write(STDERR_FILENO, said, sizeof said - 1) < 0)
+        return ENOSYS;
     return ENOSYS;
 }
 
-static int begin(void)
+int program_first(void)
 {
-    if (yak_new(the_program.processes, PROCESSES) != YAK_DONE)
+    if (yak_new(the_program.processes, PROCESSES) != YAK_DONE) {
+        program_leave();
         return ENOMEM;
+    }
     the_program.idle = UINT32_MAX & ~(1u << HOME);
     the_program.is_ready = true;
     program_begin_reports();
@@ -42,38 +43,19 @@ static int begin(void)
     return 0;
 }
 
-int program_enter(void)
+unsigned program_forks(void)
 {
-    int error;
-    if (is_forked)
-        return refuse_forked();
-    if (is_inside)
-        return EDEADLK;
-#ifdef YAK_SEEDED
-    if (!the_program.is_ending)
-        yak_seed_turn();
-#endif
-    is_inside = true;
-    REAL(pthread_mutex_lock)(&the_program.lock);
-    if (the_program.is_ready || (error = begin()) == 0)
-        return 0;
-    program_leave();
-    return error;
-}
-
-void program_leave(void)
-{
-    REAL(pthread_mutex_unlock)(&the_program.lock);
-    is_inside = false;
+    return forks;
 }
 
 void program_in_child(void)
 {
     const char *wanted = getenv("YAK_FORK");
-    is_inside = false;
-    is_forked = wanted == 0 || strcmp(wanted, "new") != 0;
+    program_is_inside = false;
+    ++forks;
+    program_is_forked = wanted == 0 || strcmp(wanted, "new") != 0;
     the_program.is_ready = false;
-    if (is_forked)
+    if (program_is_forked)
         return;
     memset(&the_program, 0, sizeof the_program);
     pthread_mutex_init(&the_program.lock, 0);
@@ -82,12 +64,6 @@ void program_in_child(void)
 static __attribute__((constructor)) void watch_forks(void)
 {
     pthread_atfork(0, 0, program_in_child);
-}
-
-uint32_t program_number(int mqdes)
-{
-    uint32_t d = (uint32_t)mqdes - FIRST;
-    return mqdes >= FIRST && d < DESCRIPTORS && the_program.descriptors[d].made != 0 ? d : DESCRIPTORS;
 }
 
 static void let_go(unsigned process, uint32_t d)
@@ -127,18 +103,11 @@ static bool renew(unsigned process, uint32_t d)
     return true;
 }
 
-static bool holds(unsigned process, uint32_t d)
-{
-    const mirror *it = &the_program.mirrors[process][d];
-    const descriptor *of = &the_program.descriptors[d];
-    return (it->made == of->made && it->nonblock == of->nonblock) || renew(process, d);
-}
-
-unsigned program_choose(uint32_t d)
+unsigned program_choose_any(uint32_t d)
 {
     for (uint32_t left = the_program.idle; left != 0; left &= left - 1) {
         unsigned process = (unsigned)__builtin_ctz(left);
-        if (holds(process, d))
+        if (program_holds(process, d) || renew(process, d))
             return process;
     }
     return HOME;
@@ -159,7 +128,7 @@ void program_mirror_all(const uint8_t *name, size_t len)
         if (it->made == 0 || !it->is_bound || it->len != len || memcmp(it->name, name, len) != 0)
             continue;
         for (uint32_t left = the_program.idle; left != 0; left &= left - 1)
-            holds((unsigned)__builtin_ctz(left), d);
+            renew((unsigned)__builtin_ctz(left), d);
     }
 }
 

@@ -103,7 +103,13 @@ typedef struct program {
                                        * stranded calls wait for may have changed */
 } program;
 
+/* Seen in the library alone, so that they are reached without a table. */
+#pragma GCC visibility push(hidden)
+
 extern program the_program;
+extern bool program_is_forked;
+/* Whether the thread is inside, where a handler may interrupt it. */
+extern _Thread_local volatile bool program_is_inside;
 
 /* The notices that a call has brought, to be delivered once the lock is free. */
 typedef struct notices {
@@ -111,10 +117,33 @@ typedef struct notices {
     registration them[DESCRIPTORS];
 } notices;
 
-/* Comes into the program's lock: 0, or the error of a call that can't be made here (ENOSYS in a forked child, EDEADLK in a handler that
- * interrupted another call inside, ENOMEM). */
-int program_enter(void);
-void program_leave(void);
+/* Why a call can't be made here: ENOSYS in a forked child, which is told so, EDEADLK in a handler that interrupted another call inside. */
+int program_refusal(void);
+/* Makes the system, at the first call: 0, or ENOMEM, and then the lock is left. */
+int program_first(void);
+
+static inline void program_leave(void)
+{
+    REAL(pthread_mutex_unlock)(&the_program.lock);
+    program_is_inside = false;
+}
+
+/* Comes into the program's lock: 0, or one of those errors. */
+static inline int program_enter(void)
+{
+    if (program_is_inside || program_is_forked)
+        return program_refusal();
+#ifdef YAK_SEEDED
+    if (!the_program.is_ending)
+        yak_seed_turn();
+#endif
+    program_is_inside = true;
+    REAL(pthread_mutex_lock)(&the_program.lock);
+    return the_program.is_ready ? 0 : program_first();
+}
+
+/* How often this thread has come into a child by a fork. */
+unsigned program_forks(void);
 
 /* Makes a call of a process; inside the lock nothing keeps it out. */
 #define MADE(answer, call)                                                                                                    \
@@ -123,10 +152,28 @@ void program_leave(void);
     while ((answer) == YAK_RETRY)
 
 /* The number of a descriptor for the library, DESCRIPTORS where the program holds none by that name. */
-uint32_t program_number(int mqdes);
+static inline uint32_t program_number(int mqdes)
+{
+    uint32_t d = (uint32_t)mqdes - FIRST;
+    return d < DESCRIPTORS && the_program.descriptors[d].made != 0 ? d : DESCRIPTORS;
+}
+
+/* Whether a helper holds for a descriptor what the program holds. */
+static inline bool program_holds(unsigned process, uint32_t d)
+{
+    const mirror *it = &the_program.mirrors[process][d];
+    const descriptor *of = &the_program.descriptors[d];
+    return it->made == of->made && it->nonblock == of->nonblock;
+}
 
 /* An idle helper that holds this descriptor too, or HOME where there is none. */
-unsigned program_choose(uint32_t d);
+unsigned program_choose_any(uint32_t d);
+static inline unsigned program_choose(uint32_t d)
+{
+    unsigned first = the_program.idle != 0 ? (unsigned)__builtin_ctz(the_program.idle) : HOME;
+    return program_holds(first, d) ? first : program_choose_any(d);
+}
+
 /* A helper whose wait has ended is idle again. */
 void program_release(unsigned process);
 /* Lets all idle helpers hold what the program holds of the queue with this name, before it loses its name. */
@@ -138,14 +185,25 @@ void program_close_mirrors(uint32_t d);
 uint32_t program_note_answers(unsigned process);
 void program_wake_them(uint32_t answered);
 
-/* Beside what the library returns, of a wait: */
-enum { YAK_INTERRUPTED = 100, YAK_CANCELLED = 101, YAK_REFUSED = 102 };
+/* Beside what the library returns, of a wait: YAK_LOST where its thread is in a child now, which a handler forked; the lock is not held then. */
+enum { YAK_INTERRUPTED = 100, YAK_CANCELLED = 101, YAK_REFUSED = 102, YAK_LOST = 103 };
 
-uint32_t program_begin(unsigned process, uint32_t d, const request *asked, yak_message *message, const yak_moment *until, const yak_moment *now);
-/* Waits until the open wait of a helper is answered, or until what a call without a helper asks for can be had. The lock is held before and
- * after it, and not while it sleeps. */
+static inline uint32_t program_begin(unsigned process, uint32_t d, const request *asked, yak_message *message, const yak_moment *until,
+                                     const yak_moment *now)
+{
+    yak_process *it = &the_program.processes[process];
+    uint32_t answer;
+    if (asked->is_send)
+        MADE(answer, yak_start_timed_send(it, d, asked->bytes, asked->len, asked->prio, until, now));
+    else
+        MADE(answer, yak_start_timed_receive(it, d, asked->bytes, asked->len, message, until, now));
+    return answer;
+}
+
+/* Waits until the open wait of a helper is answered, or until what a call without a helper asks for can be had, by the process that is written
+ * then. The lock is held before and after it, and not while it sleeps. */
 uint32_t program_wait_with(unsigned process, uint32_t d, const request *asked, yak_message *message, int *cancelling);
-uint32_t program_wait_stranded(uint32_t d, const request *asked, yak_message *message, int *cancelling);
+uint32_t program_wait_stranded(unsigned *process, uint32_t d, const request *asked, yak_message *message, int *cancelling);
 
 /* mq_notify's part, and what a call on a descriptor may have brought. */
 int program_register(uint32_t d, const struct sigevent *event, uint32_t *answer);
@@ -159,5 +217,7 @@ void program_in_child(void);
 void program_write_journal(void *with, FILE *to);
 /* Begins what the environment asks for. */
 void program_begin_reports(void);
+
+#pragma GCC visibility pop
 
 #endif

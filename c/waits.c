@@ -14,34 +14,20 @@
 #define SYS_futex_waitv 449
 #endif
 
-/* A wake that is missed makes a wait so many seconds late. */
-enum { LONGEST_SLEEP = 1 };
-
 static const yak_moment NEVER = {INT64_MAX, 0};
 static const yak_moment LONG_AGO = {0, 0};
 static const yak_moment LATER = {1, 0};
-
-uint32_t program_begin(unsigned process, uint32_t d, const request *asked, yak_message *message, const yak_moment *until, const yak_moment *now)
-{
-    yak_process *it = &the_program.processes[process];
-    uint32_t answer;
-    if (asked->is_send)
-        MADE(answer, yak_start_timed_send(it, d, asked->bytes, asked->len, asked->prio, until, now));
-    else
-        MADE(answer, yak_start_timed_receive(it, d, asked->bytes, asked->len, message, until, now));
-    return answer;
-}
 
 static bool is_before(const yak_moment *one, const yak_moment *other)
 {
     return one->sec != other->sec ? one->sec < other->sec : one->nsec < other->nsec;
 }
 
-/* Sleeps as long as the word has this value, until the moment at the latest: EINTR where a handler ran that does not restart calls. The call
- * futex_waitv restarts where SA_RESTART says so; before Linux 5.16 each handler interrupts. */
-static int sleep_while(_Atomic uint32_t *word, uint32_t value, const yak_moment *until)
+/* Sleeps as long as the word has this value, until the moment at the latest, where there is one: EINTR where a handler ran that does not restart
+ * calls. The call futex_waitv restarts where SA_RESTART says so; before Linux 5.16 each handler interrupts. A handler that runs between two sleeps
+ * interrupts nothing, so there is one sleep for each look. */
+static int sleep_while(_Atomic uint32_t *word, uint32_t value, const struct timespec *until)
 {
-    struct timespec end = {(time_t)until->sec, (long)until->nsec};
     long slept;
 #ifdef FUTEX_32
     static atomic_bool is_missing;
@@ -51,13 +37,13 @@ static int sleep_while(_Atomic uint32_t *word, uint32_t value, const yak_moment 
         one.val = value;
         one.uaddr = (uintptr_t)word;
         one.flags = FUTEX_32 | FUTEX_PRIVATE_FLAG;
-        slept = syscall(SYS_futex_waitv, &one, 1, 0, &end, CLOCK_REALTIME);
+        slept = syscall(SYS_futex_waitv, &one, 1, 0, until, CLOCK_REALTIME);
         if (slept >= 0 || errno != ENOSYS)
             return slept < 0 && errno == EINTR ? EINTR : 0;
         atomic_store(&is_missing, true);
     }
 #endif
-    slept = syscall(SYS_futex, word, FUTEX_WAIT_BITSET_PRIVATE | FUTEX_CLOCK_REALTIME, value, &end, 0, FUTEX_BITSET_MATCH_ANY);
+    slept = syscall(SYS_futex, word, FUTEX_WAIT_BITSET_PRIVATE | FUTEX_CLOCK_REALTIME, value, until, 0, FUTEX_BITSET_MATCH_ANY);
     return slept < 0 && errno == EINTR ? EINTR : 0;
 }
 
@@ -85,11 +71,12 @@ static void sleep_by_seed(_Atomic uint32_t *word, uint32_t value, const waiting 
 }
 #endif
 
-/* Spins shortly, and then sleeps, outside the lock. */
+/* Spins shortly, and then sleeps, outside the lock: EINTR as above; ECHILD where a handler has forked, and this is the child. */
 static int sleep_outside(_Atomic uint32_t *word, uint32_t value, const waiting *here)
 {
     const request *asked = here->asked;
-    unsigned tries = 0;
+    struct timespec until = {(time_t)asked->until.sec, (long)asked->until.nsec};
+    unsigned tries = 0, forks = program_forks();
     int slept = 0;
     program_leave();
 #ifdef YAK_SEEDED
@@ -102,14 +89,10 @@ static int sleep_outside(_Atomic uint32_t *word, uint32_t value, const waiting *
 #endif
     while (atomic_load(word) == value && yak_spin(&tries))
         ;
-    if (atomic_load(word) == value) {
-        yak_moment end = yak_now();
-        end.sec += LONGEST_SLEEP;
-        if (asked->is_timed && is_before(&asked->until, &end))
-            end = asked->until;
-        slept = sleep_while(word, value, &end);
-    }
-    /* What stops a call from coming in again (a fork) stops no call that waits. */
+    if (atomic_load(word) == value)
+        slept = sleep_while(word, value, asked->is_timed ? &until : 0);
+    if (program_forks() != forks)
+        return ECHILD;
     while (program_enter() != 0)
         ;
     return slept;
@@ -151,7 +134,7 @@ static void give_up(void *of)
 {
     waiting *it = of;
     yak_message message;
-    uint32_t answer;
+    uint32_t answer, answered;
     end_wait(it);
     if (it->process != HOME) {
         MADE(answer, yak_end_wait(&the_program.processes[it->process], it->asked->bytes, room_of(it->asked), &message, &NEVER));
@@ -159,7 +142,10 @@ static void give_up(void *of)
     } else {
         --the_program.stranded;
     }
+    answered = program_note_answers(it->process);
     program_leave();
+    if (answered != 0)
+        program_wake_them(answered);
 }
 
 uint32_t program_wait_with(unsigned process, uint32_t d, const request *asked, yak_message *message, int *cancelling)
@@ -181,6 +167,8 @@ uint32_t program_wait_with(unsigned process, uint32_t d, const request *asked, y
         bool is_cancelled;
         atomic_store(word, 0);
         slept = sleep_outside(word, 0, &here);
+        if (slept == ECHILD)
+            return YAK_LOST;
         MADE(answer, yak_collect(helper, asked->bytes, room, message));
         if (answer != YAK_WAITS)
             break;
@@ -205,9 +193,10 @@ uint32_t program_wait_with(unsigned process, uint32_t d, const request *asked, y
     return answer;
 }
 
-uint32_t program_wait_stranded(uint32_t d, const request *asked, yak_message *message, int *cancelling)
+uint32_t program_wait_stranded(unsigned *process, uint32_t d, const request *asked, yak_message *message, int *cancelling)
 {
     _Atomic uint32_t *word = &the_program.news[HOME];
+    unsigned made = the_program.descriptors[d].made;
     waiting here;
     uint32_t answer;
     if (asked->is_timed && (asked->until.nsec < 0 || asked->until.nsec > 999999999))
@@ -220,25 +209,26 @@ uint32_t program_wait_stranded(uint32_t d, const request *asked, yak_message *me
     pthread_setcancelstate(PTHREAD_CANCEL_DISABLE, cancelling);
     for (;;) {
         yak_moment now = yak_now();
-        unsigned process;
         int slept;
         answer = YAK_TIMEDOUT;
         if (asked->is_timed && !is_before(&now, &asked->until))
             break;
         slept = sleep_outside(word, atomic_load(word), &here);
-        if (the_program.descriptors[d].made == 0) {
+        if (slept == ECHILD)
+            return YAK_LOST;
+        if (the_program.descriptors[d].made != made) {
             answer = YAK_BADF;
             break;
         }
-        process = program_choose(d);
-        if (process != HOME) {
+        *process = program_choose(d);
+        if (*process != HOME) {
             /* A helper is there again: the wait goes on in it. */
             end_wait(&here);
             --the_program.stranded;
             pthread_setcancelstate(*cancelling, 0);
             now = yak_now();
-            answer = program_begin(process, the_program.mirrors[process][d].d, asked, message, asked->is_timed ? &asked->until : &NEVER, &now);
-            return answer == YAK_WAITS ? program_wait_with(process, d, asked, message, cancelling) : answer;
+            answer = program_begin(*process, the_program.mirrors[*process][d].d, asked, message, &asked->until, &now);
+            return answer == YAK_WAITS ? program_wait_with(*process, d, asked, message, cancelling) : answer;
         }
         answer = program_begin(HOME, d, asked, message, &LONG_AGO, &LATER);
         if (answer != YAK_TIMEDOUT)

@@ -11,6 +11,7 @@
 #include <stdio.h>
 #include <stdlib.h>
 #include <string.h>
+#include <sys/syscall.h>
 #include <time.h>
 #include <unistd.h>
 
@@ -60,6 +61,51 @@ static void pause_for(long milliseconds)
 {
     struct timespec t = {milliseconds / 1000, milliseconds % 1000 * 1000000};
     nanosleep(&t, 0);
+}
+
+/* ---- when a thread waits ---- */
+
+static sem_t step;
+static atomic_int waiter;
+
+static void await_step(void)
+{
+    while (sem_wait(&step) != 0)
+        ;
+}
+
+/* A thread says that its next call waits. */
+static void tell_wait(void)
+{
+    atomic_store(&waiter, (int)syscall(SYS_gettid));
+    sem_post(&step);
+}
+
+/* Whether that thread sleeps, or has ended. */
+static int is_asleep(void)
+{
+    char path[64], line[256], *end;
+    FILE *from;
+    snprintf(path, sizeof path, "/proc/self/task/%d/stat", atomic_load(&waiter));
+    from = fopen(path, "r");
+    if (from == 0)
+        return 1;
+    end = fgets(line, sizeof line, from) != 0 ? strrchr(line, ')') : 0;
+    fclose(from);
+    return end == 0 || end[2] == 'S';
+}
+
+static void await_sleep(void)
+{
+    for (int seen = 0; seen < 3; seen = is_asleep() ? seen + 1 : 0)
+        pause_for(1);
+}
+
+/* Returns when the thread that was started waits: it sleeps, and has nothing else to sleep for. */
+static void await_wait(void)
+{
+    await_step();
+    await_sleep();
 }
 
 /* ---- what one thread sees ---- */
@@ -123,7 +169,6 @@ static void alone(void)
 /* ---- threads that share one descriptor ---- */
 
 static mqd_t shared;
-static sem_t step;
 static long given[CROWD];
 static atomic_int sum;
 
@@ -132,7 +177,7 @@ static void *receive_one(void *of)
     char buf[8];
     unsigned prio = 0;
     long i = (long)of;
-    sem_post(&step);
+    tell_wait();
     given[i] = mq_receive(shared, buf, sizeof buf, &prio) == 1 ? buf[0] : -1;
     atomic_fetch_add(&sum, (int)prio);
     return 0;
@@ -141,7 +186,7 @@ static void *receive_one(void *of)
 static void *send_one(void *of)
 {
     char byte = (char)('a' + (long)of);
-    sem_post(&step);
+    tell_wait();
     given[(long)of] = mq_send(shared, &byte, 1, 0);
     return 0;
 }
@@ -152,11 +197,9 @@ static void crowd(void)
     char buf[8], byte;
     int in_order = 1, all_sent = 1;
     shared = fresh("/yak-crowd", O_RDWR, 4, 8);
-    sem_init(&step, 0, 0);
     for (long i = 0; i < CROWD; ++i) {
         pthread_create(&threads[i], 0, receive_one, (void *)i);
-        sem_wait(&step);
-        pause_for(3);
+        await_wait();
     }
     SAY(mq_unlink("/yak-crowd"));
     for (long i = 0; i < CROWD; ++i) {
@@ -172,8 +215,7 @@ static void crowd(void)
         mq_send(shared, "x", 1, 9);
     for (long i = 0; i < CROWD; ++i) {
         pthread_create(&threads[i], 0, send_one, (void *)i);
-        sem_wait(&step);
-        pause_for(3);
+        await_wait();
     }
     in_order = 1;
     for (long i = 0; i < CROWD + 4; ++i) {
@@ -231,7 +273,7 @@ static void *receive_until_cancelled(void *of)
     char buf[8];
     (void)of;
     pthread_cleanup_push(count_cleaned, 0);
-    sem_post(&step);
+    tell_wait();
     mq_receive(shared, buf, sizeof buf, 0);
     pthread_cleanup_pop(0);
     return 0;
@@ -242,7 +284,7 @@ static void *send_until_cancelled(void *of)
     struct timespec late = after(60000);
     (void)of;
     pthread_cleanup_push(count_cleaned, 0);
-    sem_post(&step);
+    tell_wait();
     mq_timedsend(shared, "x", 1, 0, &late);
     pthread_cleanup_pop(0);
     return 0;
@@ -254,7 +296,7 @@ static void *cannot_be_cancelled(void *of)
     int before;
     (void)of;
     pthread_setcancelstate(PTHREAD_CANCEL_DISABLE, &before);
-    sem_post(&step);
+    tell_wait();
     return (void *)(long)mq_receive(shared, buf, sizeof buf, 0);
 }
 
@@ -272,8 +314,7 @@ static int is_cancelled(void *(*run)(void *))
     void *result;
     pthread_create(&thread, 0, run, &shared);
     if (run != cancels_itself) {
-        sem_wait(&step);
-        pause_for(20);
+        await_wait();
         pthread_cancel(thread);
     }
     pthread_join(thread, &result);
@@ -297,10 +338,9 @@ static void cancelling(void)
     printf("where a message is there: %d\n", is_cancelled(cancels_itself));
     SAY(mq_receive(shared, buf, sizeof buf, 0));
     pthread_create(&thread, 0, cannot_be_cancelled, 0);
-    sem_wait(&step);
-    pause_for(20);
+    await_wait();
     pthread_cancel(thread);
-    pause_for(20);
+    await_sleep();
     SAY(mq_send(shared, "abc", 3, 0));
     pthread_join(thread, &result);
     printf("a thread that can't be cancelled receives %ld bytes\n", (long)result);
@@ -333,7 +373,7 @@ static void *waits_untimed(void *of)
 {
     char buf[8];
     (void)of;
-    sem_post(&step);
+    tell_wait();
     errno = 0;
     snprintf(text[0], sizeof text[0], "%s", said(mq_receive(shared, buf, sizeof buf, 0)));
     return 0;
@@ -343,7 +383,7 @@ static void *waits_timed(void *of)
 {
     struct timespec late = after(*(long *)of);
     char buf[8];
-    sem_post(&step);
+    tell_wait();
     errno = 0;
     snprintf(text[0], sizeof text[0], "%s", said(mq_timedreceive(shared, buf, sizeof buf, 0, &late)));
     return 0;
@@ -355,10 +395,12 @@ static void interrupt(const char *what, int flags, void *(*run)(void *), long ti
     set_handler(flags);
     atomic_store(&handled, 0);
     pthread_create(&thread, 0, run, &time);
-    sem_wait(&step);
-    pause_for(30);
+    await_wait();
     pthread_kill(thread, SIGUSR1);
-    pause_for(30);
+    /* ThreadSanitizer lets a handler run only when its thread wakes. */
+    for (int i = 0; i < 100 && atomic_load(&handled) == 0; ++i)
+        pause_for(1);
+    await_sleep();
     if (sends)
         mq_send(shared, "abcd", 4, 0);
     pthread_join(thread, 0);
@@ -372,7 +414,7 @@ static void interrupting(void)
     interrupt("a receive goes on", SA_RESTART, waits_untimed, 0, 1);
     interrupt("a timed receive is interrupted", 0, waits_timed, 20000, 0);
     interrupt("a timed receive goes on", SA_RESTART, waits_timed, 20000, 1);
-    interrupt("a timed receive goes on to its deadline", SA_RESTART, waits_timed, 150, 0);
+    interrupt("a timed receive goes on to its deadline", SA_RESTART, waits_timed, 1000, 0);
     SAY(mq_close(shared));
     SAY(mq_unlink("/yak-signal"));
 }
@@ -439,7 +481,7 @@ static void notifying(void)
     SAY(mq_receive(shared, buf, sizeof buf, 0));
     SAY(mq_receive(shared, buf, sizeof buf, 0));
     SAY(mq_send(shared, "c", 1, 0));
-    sem_wait(&step);
+    await_step();
     printf("a signal: %d, value %d, by a queue %d, of this process %d\n", atomic_load(&handled), last.si_value.sival_int, last.si_code == SI_MESGQ,
            last.si_pid == getpid());
     SAY(mq_receive(shared, buf, sizeof buf, 0));
@@ -448,8 +490,7 @@ static void notifying(void)
     SAY(mq_receive(shared, buf, sizeof buf, 0));
     SAY(mq_notify(shared, &event));
     pthread_create(&thread, 0, waits_untimed, 0);
-    sem_wait(&step);
-    pause_for(30);
+    await_wait();
     SAY(mq_send(shared, "e", 1, 0));
     pthread_join(thread, 0);
     printf("no notice where a receive waits: %d\n", atomic_load(&handled));
@@ -464,13 +505,13 @@ static void notifying(void)
     SAY(mq_notify(shared, &event));
     pthread_attr_destroy(&attr);
     SAY(mq_send(shared, "f", 1, 0));
-    sem_wait(&step);
+    await_step();
     printf("a thread: %d\n", atomic_load(&handled));
     SAY(mq_receive(shared, buf, sizeof buf, 0));
     event.sigev_notify_attributes = 0;
     SAY(mq_notify(shared, &event));
     SAY(mq_send(shared, "g", 1, 0));
-    sem_wait(&step);
+    await_step();
     printf("another thread: %d\n", atomic_load(&handled));
     SAY(mq_receive(shared, buf, sizeof buf, 0));
     event.sigev_notify = 1234;
@@ -485,7 +526,7 @@ static void notifying(void)
     SAY(mq_notify(shared, &event));
     for (int i = 0; i < 3; ++i) {
         mq_send(shared, "h", 1, 0);
-        sem_wait(&step);
+        await_step();
     }
     printf("a handler took %d messages\n", atomic_load(&handled));
     SAY(mq_close(shared));
@@ -498,6 +539,7 @@ static void notifying(void)
 int main(void)
 {
     setvbuf(stdout, 0, _IOLBF, 0);
+    sem_init(&step, 0, 0);
     alone();
     crowd();
     sharing();

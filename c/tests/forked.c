@@ -1,0 +1,188 @@
+/* What a forked child may do with the queues of its program: forked by main; beside threads that are inside calls; and by a handler that interrupted
+ * a wait. The argument is what is wanted of the child: refused, or new (YAK_FORK=new). */
+#define _GNU_SOURCE
+#include <errno.h>
+#include <fcntl.h>
+#include <mqueue.h>
+#include <pthread.h>
+#include <signal.h>
+#include <stdatomic.h>
+#include <stdbool.h>
+#include <stdio.h>
+#include <stdlib.h>
+#include <string.h>
+#include <sys/wait.h>
+#include <time.h>
+#include <unistd.h>
+
+/* ThreadSanitizer lets a handler run only when its thread wakes, and then inside another call. */
+#if defined __SANITIZE_THREAD__
+#define HAS_HANDLERS 0
+#elif defined __has_feature
+#if __has_feature(thread_sanitizer)
+#define HAS_HANDLERS 0
+#endif
+#endif
+#ifndef HAS_HANDLERS
+#define HAS_HANDLERS 1
+#endif
+
+enum { FORKS = 20, WORKERS = 3 };
+
+static bool gets_new;
+static mqd_t queue;
+
+#define WANT(what)                                                                                                               \
+    do                                                                                                                           \
+        if (!(what)) {                                                                                                           \
+            fprintf(stdout, "line %d: not so: %s, %s\n", __LINE__, #what, strerrorname_np(errno));                               \
+            fflush(stdout);                                                                                                      \
+            _exit(1);                                                                                                            \
+        }                                                                                                                        \
+    while (0)
+
+static struct mq_attr limits(void)
+{
+    struct mq_attr attr;
+    memset(&attr, 0, sizeof attr);
+    attr.mq_maxmsg = 4;
+    attr.mq_msgsize = 8;
+    return attr;
+}
+
+#define REFUSED(call) WANT((errno = 0, (call) == -1 && errno == ENOSYS))
+
+static void child_is_refused(void)
+{
+    struct mq_attr attr = limits();
+    struct sigevent event;
+    struct timespec past = {0, 0};
+    char buf[8];
+    memset(&event, 0, sizeof event);
+    event.sigev_notify = SIGEV_NONE;
+    REFUSED(mq_open("/yak-fork", O_RDWR));
+    REFUSED(mq_open("/yak-child", O_RDWR | O_CREAT, 0600, &attr));
+    REFUSED(mq_unlink("/yak-fork"));
+    REFUSED(mq_getattr(queue, &attr));
+    REFUSED(mq_setattr(queue, &attr, 0));
+    REFUSED(mq_notify(queue, &event));
+    REFUSED(mq_send(queue, "a", 1, 0));
+    REFUSED(mq_timedsend(queue, "a", 1, 0, &past));
+    REFUSED(mq_receive(queue, buf, sizeof buf, 0));
+    REFUSED(mq_timedreceive(queue, buf, sizeof buf, 0, &past));
+    REFUSED(mq_close(queue));
+}
+
+static void child_has_its_own(void)
+{
+    struct mq_attr attr = limits();
+    char buf[8];
+    unsigned prio = 0;
+    mqd_t own;
+    WANT(mq_send(queue, "a", 1, 0) == -1 && errno == EBADF);
+    WANT(mq_open("/yak-fork", O_RDWR) == -1 && errno == ENOENT);
+    WANT((own = mq_open("/yak-fork", O_RDWR | O_CREAT | O_EXCL, 0600, &attr)) != -1);
+    WANT(mq_send(own, "own", 3, 7) == 0);
+    WANT(mq_receive(own, buf, sizeof buf, &prio) == 3 && prio == 7 && memcmp(buf, "own", 3) == 0);
+    WANT(mq_getattr(own, &attr) == 0 && attr.mq_curmsgs == 0);
+}
+
+static void child(void)
+{
+    if (gets_new)
+        child_has_its_own();
+    else
+        child_is_refused();
+}
+
+static void await(pid_t it)
+{
+    int status = 0;
+    WANT(it > 0 && waitpid(it, &status, 0) == it);
+    WANT(WIFEXITED(status) && WEXITSTATUS(status) == 0);
+}
+
+static void fork_once(void)
+{
+    pid_t it = fork();
+    if (it == 0) {
+        child();
+        _exit(0);
+    }
+    await(it);
+}
+
+static atomic_bool is_over;
+
+static void *work(void *of)
+{
+    char buf[8];
+    mqd_t own = *(mqd_t *)of;
+    while (!atomic_load(&is_over)) {
+        WANT(mq_send(own, "w", 1, 0) == 0);
+        WANT(mq_receive(own, buf, sizeof buf, 0) == 1);
+    }
+    return 0;
+}
+
+static void fork_beside_threads(void)
+{
+    pthread_t threads[WORKERS];
+    struct mq_attr attr = limits();
+    mqd_t own = mq_open("/yak-work", O_RDWR | O_CREAT, 0600, &attr);
+    WANT(own != -1);
+    for (int i = 0; i < WORKERS; ++i)
+        WANT(pthread_create(&threads[i], 0, work, &own) == 0);
+    for (int i = 0; i < FORKS; ++i)
+        fork_once();
+    atomic_store(&is_over, true);
+    for (int i = 0; i < WORKERS; ++i)
+        pthread_join(threads[i], 0);
+    WANT(mq_close(own) == 0 && mq_unlink("/yak-work") == 0);
+}
+
+static pid_t of_handler = -1;
+
+static void fork_in_handler(int number)
+{
+    (void)number;
+    of_handler = fork();
+}
+
+/* The wait of the parent is interrupted; that of the child ends too, since nobody is there who could answer it. */
+static void fork_from_a_wait(void)
+{
+    struct sigaction action;
+    char buf[8];
+    memset(&action, 0, sizeof action);
+    action.sa_handler = fork_in_handler;
+    sigaction(SIGALRM, &action, 0);
+    alarm(1);
+    WANT(mq_receive(queue, buf, sizeof buf, 0) == -1 && errno == EINTR);
+    if (of_handler == 0) {
+        alarm(0);
+        child();
+        _exit(0);
+    }
+    await(of_handler);
+}
+
+int main(int count, char **words)
+{
+    struct mq_attr attr = limits();
+    char buf[8];
+    gets_new = count == 2 && strcmp(words[1], "new") == 0;
+    WANT((queue = mq_open("/yak-fork", O_RDWR | O_CREAT, 0600, &attr)) != -1);
+    if (HAS_HANDLERS)
+        fork_from_a_wait();
+    else
+        fork_once();
+    WANT(mq_send(queue, "mine", 4, 3) == 0);
+    fork_once();
+    fork_beside_threads();
+    WANT(mq_getattr(queue, &attr) == 0 && attr.mq_curmsgs == 1);
+    WANT(mq_receive(queue, buf, sizeof buf, 0) == 4 && memcmp(buf, "mine", 4) == 0);
+    WANT(mq_close(queue) == 0 && mq_unlink("/yak-fork") == 0);
+    printf("%d children: well\n", FORKS + 2);
+    return 0;
+}

@@ -1,0 +1,231 @@
+/* More calls wait than the library has processes for: the first 31 are served in the order of their beginning, and each of the others once. A call
+ * among the others can be refused, be late, be interrupted, be cancelled, and lose its descriptor. */
+#define _GNU_SOURCE
+#include <errno.h>
+#include <fcntl.h>
+#include <mqueue.h>
+#include <pthread.h>
+#include <semaphore.h>
+#include <signal.h>
+#include <stdbool.h>
+#include <stdio.h>
+#include <stdlib.h>
+#include <string.h>
+#include <time.h>
+#include <yakyrombe/program.h>
+
+enum { IN_ORDER = 31, CROWD = 40, ROUNDS = 5 };
+
+#define WANT(what)                                                                                                               \
+    do                                                                                                                           \
+        if (!(what)) {                                                                                                           \
+            printf("line %d: not so: %s, %s\n", __LINE__, #what, strerrorname_np(errno));                                        \
+            exit(1);                                                                                                             \
+        }                                                                                                                        \
+    while (0)
+
+static mqd_t queue;
+static int given[CROWD];
+static sem_t begun;
+
+static void pause_for(long milliseconds)
+{
+    struct timespec t = {milliseconds / 1000, milliseconds % 1000 * 1000000};
+    nanosleep(&t, 0);
+}
+
+/* Returns when so many calls wait. */
+static void await_waits(int count)
+{
+    FILE *nowhere = fopen("/dev/null", "w");
+    WANT(nowhere != 0);
+    while (yak_program_report(nowhere) < count)
+        pause_for(1);
+    fclose(nowhere);
+}
+
+static mqd_t fresh(const char *name, long maxmsg)
+{
+    struct mq_attr attr;
+    mqd_t it;
+    memset(&attr, 0, sizeof attr);
+    attr.mq_maxmsg = maxmsg;
+    attr.mq_msgsize = 8;
+    WANT((it = mq_open(name, O_RDWR | O_CREAT | O_EXCL, 0600, &attr)) != -1);
+    return it;
+}
+
+static void *receive_one(void *of)
+{
+    char buf[8];
+    WANT(mq_receive(queue, buf, sizeof buf, 0) == 1);
+    given[(long)of] = buf[0];
+    return 0;
+}
+
+static void *send_one(void *of)
+{
+    char byte = (char)(long)of;
+    WANT(mq_send(queue, &byte, 1, 0) == 0);
+    return 0;
+}
+
+/* Starts threads, each after the one before it waits. */
+static void start(pthread_t *threads, int count, void *(*run)(void *))
+{
+    for (long i = 0; i < count; ++i) {
+        WANT(pthread_create(&threads[i], 0, run, (void *)i) == 0);
+        await_waits((int)i + 1);
+    }
+}
+
+static void join(pthread_t *threads, int count)
+{
+    for (int i = 0; i < count; ++i)
+        WANT(pthread_join(threads[i], 0) == 0);
+}
+
+/* Whether the first of them came in order, and each of the others once. */
+static bool is_in_order(void)
+{
+    bool has[CROWD] = {false};
+    for (int i = 0; i < CROWD; ++i) {
+        if (given[i] < 0 || given[i] >= CROWD || has[given[i]] || (i < IN_ORDER && given[i] != i))
+            return false;
+        has[given[i]] = true;
+    }
+    return true;
+}
+
+static void receives(void)
+{
+    pthread_t threads[CROWD];
+    memset(given, -1, sizeof given);
+    start(threads, CROWD, receive_one);
+    for (int i = 0; i < CROWD; ++i) {
+        char byte = (char)i;
+        WANT(mq_send(queue, &byte, 1, 0) == 0);
+    }
+    join(threads, CROWD);
+    WANT(is_in_order());
+}
+
+static void sends(void)
+{
+    pthread_t threads[CROWD];
+    char buf[8];
+    for (int i = 0; i < 4; ++i)
+        WANT(mq_send(queue, "x", 1, 0) == 0);
+    start(threads, CROWD, send_one);
+    for (int i = -4; i < CROWD; ++i) {
+        WANT(mq_receive(queue, buf, sizeof buf, 0) == 1);
+        if (i >= 0)
+            given[i] = buf[0];
+        else
+            WANT(buf[0] == 'x');
+    }
+    join(threads, CROWD);
+    WANT(is_in_order());
+}
+
+/* ---- one call beside 31 that wait ---- */
+
+static mqd_t other;
+static long result;
+static int error;
+
+static void *receive_other(void *of)
+{
+    char buf[8];
+    sem_post(&begun);
+    result = of != 0 ? mq_timedreceive(other, buf, sizeof buf, 0, (const struct timespec *)of) : mq_receive(other, buf, sizeof buf, 0);
+    error = errno;
+    return 0;
+}
+
+static void ring(int number)
+{
+    (void)number;
+}
+
+static pthread_t begin_other(const struct timespec *until)
+{
+    pthread_t thread;
+    WANT(pthread_create(&thread, 0, receive_other, (void *)(size_t)until) == 0);
+    sem_wait(&begun);
+    return thread;
+}
+
+static void beside(void)
+{
+    pthread_t threads[IN_ORDER], one;
+    struct timespec until = {1, 1000000000};
+    struct sigaction action;
+    void *ended;
+    char buf[8];
+    mqd_t again;
+    start(threads, IN_ORDER, receive_one);
+    /* Refused. */
+    WANT(mq_timedreceive(other, buf, sizeof buf, 0, &until) == -1 && errno == EINVAL);
+    WANT(mq_receive(other, buf, 7, 0) == -1 && errno == EMSGSIZE);
+    WANT((again = mq_open("/yak-other", O_RDONLY | O_NONBLOCK)) != -1);
+    WANT(mq_receive(again, buf, sizeof buf, 0) == -1 && errno == EAGAIN);
+    WANT(mq_close(again) == 0);
+    /* Late. */
+    clock_gettime(CLOCK_REALTIME, &until);
+    until.tv_nsec -= until.tv_nsec % 1000;
+    WANT(mq_timedreceive(other, buf, sizeof buf, 0, &until) == -1 && errno == ETIMEDOUT);
+    until.tv_nsec += 50000000;
+    until.tv_sec += until.tv_nsec / 1000000000;
+    until.tv_nsec %= 1000000000;
+    one = begin_other(&until);
+    WANT(pthread_join(one, 0) == 0 && result == -1 && error == ETIMEDOUT);
+    /* Served, by a deadline to come. */
+    until.tv_sec += 3600;
+    one = begin_other(&until);
+    await_waits(IN_ORDER + 1);
+    WANT(mq_send(other, "ab", 2, 0) == 0);
+    WANT(pthread_join(one, 0) == 0 && result == 2);
+    /* Interrupted. */
+    memset(&action, 0, sizeof action);
+    action.sa_handler = ring;
+    sigaction(SIGUSR1, &action, 0);
+    one = begin_other(0);
+    await_waits(IN_ORDER + 1);
+    pause_for(50);
+    pthread_kill(one, SIGUSR1);
+    WANT(pthread_join(one, 0) == 0 && result == -1 && error == EINTR);
+    /* Cancelled, and the message stays. */
+    one = begin_other(0);
+    await_waits(IN_ORDER + 1);
+    WANT(pthread_cancel(one) == 0 && pthread_join(one, &ended) == 0 && ended == PTHREAD_CANCELED);
+    WANT(mq_send(other, "c", 1, 0) == 0 && mq_receive(other, buf, sizeof buf, 0) == 1);
+    /* Its descriptor is closed, and its number is another queue's. */
+    one = begin_other(0);
+    await_waits(IN_ORDER + 1);
+    WANT(mq_close(other) == 0 && mq_unlink("/yak-other") == 0);
+    WANT((again = fresh("/yak-another", 1)) == other);
+    WANT(mq_send(again, "d", 1, 0) == 0);
+    WANT(pthread_join(one, 0) == 0 && result == -1 && error == EBADF);
+    WANT(mq_receive(again, buf, sizeof buf, 0) == 1);
+    for (int i = 0; i < IN_ORDER; ++i)
+        WANT(mq_send(queue, "", 1, 0) == 0);
+    join(threads, IN_ORDER);
+    WANT(mq_close(again) == 0 && mq_unlink("/yak-another") == 0);
+}
+
+int main(void)
+{
+    sem_init(&begun, 0, 0);
+    queue = fresh("/yak-many", 4);
+    other = fresh("/yak-other", 4);
+    for (int i = 0; i < ROUNDS; ++i) {
+        receives();
+        sends();
+    }
+    beside();
+    WANT(yak_program_check() == 0);
+    WANT(mq_close(queue) == 0 && mq_unlink("/yak-many") == 0);
+    puts("well");
+    return 0;
+}
