@@ -63,6 +63,7 @@ static void hold(uint32_t d, const char *name, size_t len, const yak_opening *op
     it->is_bound = true;
     it->len = len;
     memcpy(it->name, name, len);
+    the_program.held[d] = 0;
 }
 
 static mqd_t open_queue(const char *name, int oflag, const struct mq_attr *attr)
@@ -118,6 +119,7 @@ int mq_close(mqd_t mqdes)
     MADE(answer, yak_close(&the_program.processes[HOME], d));
     if (answer == YAK_DONE) {
         the_program.descriptors[d].made = 0;
+        the_program.held[d] = 0;
         program_close_mirrors(d);
         program_forget_registration(d);
         answered = program_note_answers(HOME);
@@ -185,8 +187,10 @@ int mq_setattr(mqd_t mqdes, const struct mq_attr *set, struct mq_attr *before)
         return fails(error);
     d = program_number(mqdes);
     MADE(answer, yak_setattr(&the_program.processes[HOME], d, nonblock, &attributes));
-    if (answer == YAK_DONE)
+    if (answer == YAK_DONE && the_program.descriptors[d].nonblock != nonblock) {
         the_program.descriptors[d].nonblock = nonblock;
+        the_program.held[d] = 0;
+    }
     program_leave();
     return fill(answer, &attributes, before);
 }
@@ -231,27 +235,42 @@ static __attribute__((noinline)) uint32_t go_on(unsigned process, uint32_t d, co
 }
 
 /* A send or a receive by an idle helper; where there is none, a try by the home, which does not wait. */
-static inline __attribute__((always_inline)) uint32_t make(mqd_t mqdes, const request *asked, yak_message *message)
+static inline __attribute__((always_inline)) uint32_t make(const char *call, bool is_send, mqd_t mqdes, uint8_t *bytes, size_t len, uint32_t prio,
+                                                           yak_message *message, const struct timespec *until)
 {
-    yak_moment now;
-    uint32_t answer, d;
+    const yak_moment *end = &NEVER, *at = &LATER;
+    yak_moment limit, now;
+    uint32_t answer, d, number;
     unsigned process;
     int error = program_enter();
     if (error != 0) {
         errno = error;
         return YAK_REFUSED;
     }
-    d = program_number(mqdes);
-    process = d < DESCRIPTORS ? program_choose(d) : HOME;
-    if (process == HOME) {
-        answer = program_begin(HOME, d, asked, message, &LONG_AGO, &LATER);
-    } else {
-        if (asked->is_timed)
-            now = yak_now();
-        answer = program_begin(process, the_program.mirrors[process][d].d, asked, message, &asked->until, asked->is_timed ? &now : &LATER);
+    if (until != 0) {
+        limit.sec = (int64_t)until->tv_sec;
+        limit.nsec = (int64_t)until->tv_nsec;
+        end = &limit;
+        now = yak_now();
+        at = &now;
     }
-    if (answer != YAK_DONE || (the_program.registered | the_program.stranded | the_program.processes[process].answered) != 0)
-        return go_on(process, d, asked, message, answer);
+    d = (uint32_t)mqdes - FIRST;
+    process = d < DESCRIPTORS ? program_choose(d) : HOME;
+    if (process != HOME) {
+        number = the_program.mirrors[process][d].d;
+    } else {
+        number = program_number(mqdes);
+        end = &LONG_AGO;
+        at = &LATER;
+    }
+    if (is_send)
+        MADE(answer, yak_start_timed_send(&the_program.processes[process], number, bytes, len, prio, end, at));
+    else
+        MADE(answer, yak_start_timed_receive(&the_program.processes[process], number, bytes, len, message, end, at));
+    if (answer != YAK_DONE || (the_program.registered | the_program.stranded | the_program.processes[process].answered) != 0) {
+        request asked = {call, is_send, until != 0, until != 0 ? limit : NEVER, bytes, len, prio};
+        return go_on(process, d, &asked, message, answer);
+    }
     program_leave();
     return YAK_DONE;
 }
@@ -265,30 +284,14 @@ static int last_result(uint32_t answer)
     return fails(answer >= YAK_INTERRUPTED ? EINTR : yak_errno(answer));
 }
 
-static void set_end(request *asked, const struct timespec *until)
-{
-    asked->is_timed = until != 0;
-    asked->until = NEVER;
-    if (until != 0) {
-        asked->until.sec = (int64_t)until->tv_sec;
-        asked->until.nsec = (int64_t)until->tv_nsec;
-    }
-}
-
-static int send_until(const char *call, mqd_t mqdes, const char *bytes, size_t len, unsigned prio, const struct timespec *until)
+static inline __attribute__((always_inline)) int send_until(const char *call, mqd_t mqdes, const char *bytes, size_t len, unsigned prio,
+                                                            const struct timespec *until)
 {
     yak_message message = {0, 0};
-    request asked;
     pthread_testcancel();
     if (bytes == 0 && len != 0)
         return fails(EFAULT);
-    asked.call = call;
-    asked.is_send = true;
-    asked.bytes = (uint8_t *)(len != 0 ? bytes : "");
-    asked.len = len;
-    asked.prio = prio;
-    set_end(&asked, until);
-    return last_result(make(mqdes, &asked, &message));
+    return last_result(make(call, true, mqdes, (uint8_t *)(uintptr_t)(len != 0 ? bytes : ""), len, prio, &message, until));
 }
 
 int mq_send(mqd_t mqdes, const char *bytes, size_t len, unsigned prio)
@@ -301,21 +304,15 @@ int mq_timedsend(mqd_t mqdes, const char *bytes, size_t len, unsigned prio, cons
     return send_until("mq_timedsend", mqdes, bytes, len, prio, until);
 }
 
-static ssize_t receive_until(const char *call, mqd_t mqdes, char *buf, size_t len, unsigned *prio, const struct timespec *until)
+static inline __attribute__((always_inline)) ssize_t receive_until(const char *call, mqd_t mqdes, char *buf, size_t len, unsigned *prio,
+                                                                   const struct timespec *until)
 {
     yak_message message = {0, 0};
     uint8_t none = 0;
-    request asked;
     pthread_testcancel();
     if (buf == 0 && len != 0)
         return fails(EFAULT);
-    asked.call = call;
-    asked.is_send = false;
-    asked.bytes = len != 0 ? (uint8_t *)buf : &none;
-    asked.len = len;
-    asked.prio = 0;
-    set_end(&asked, until);
-    if (last_result(make(mqdes, &asked, &message)) != 0)
+    if (last_result(make(call, false, mqdes, len != 0 ? (uint8_t *)buf : &none, len, 0, &message, until)) != 0)
         return -1;
     if (prio != 0)
         *prio = message.prio;

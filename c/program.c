@@ -73,6 +73,7 @@ static void let_go(unsigned process, uint32_t d)
     if (it->made != 0)
         MADE(answer, yak_close(&the_program.processes[process], it->d));
     it->made = 0;
+    the_program.held[d] &= ~(1u << process);
 }
 
 /* Brings what a helper holds for a descriptor to what the program holds: false where it can't be. */
@@ -100,16 +101,17 @@ static bool renew(unsigned process, uint32_t d)
             return false;
         it->nonblock = of->nonblock;
     }
+    the_program.held[d] |= 1u << process;
     return true;
 }
 
 unsigned program_choose_any(uint32_t d)
 {
-    for (uint32_t left = the_program.idle; left != 0; left &= left - 1) {
-        unsigned process = (unsigned)__builtin_ctz(left);
-        if (program_holds(process, d) || renew(process, d))
-            return process;
-    }
+    if (the_program.descriptors[d].made == 0)
+        return HOME;
+    for (uint32_t left = the_program.idle; left != 0; left &= left - 1)
+        if (renew((unsigned)__builtin_ctz(left), d))
+            return (unsigned)__builtin_ctz(left);
     return HOME;
 }
 

@@ -91,8 +91,9 @@ typedef struct program {
     bool is_ending;
     unsigned opens;
     unsigned queues;
-    uint32_t idle;     /* the helpers without an open wait, by bits */
-    uint32_t stranded; /* how many calls wait without a helper */
+    uint32_t idle;              /* the helpers without an open wait, by bits */
+    uint32_t held[DESCRIPTORS]; /* the helpers that hold for a descriptor what the program holds, by bits */
+    uint32_t stranded;          /* how many calls wait without a helper */
     uint32_t registered;
     yak_process processes[PROCESSES];
     descriptor descriptors[DESCRIPTORS];
@@ -158,20 +159,12 @@ static inline uint32_t program_number(int mqdes)
     return d < DESCRIPTORS && the_program.descriptors[d].made != 0 ? d : DESCRIPTORS;
 }
 
-/* Whether a helper holds for a descriptor what the program holds. */
-static inline bool program_holds(unsigned process, uint32_t d)
-{
-    const mirror *it = &the_program.mirrors[process][d];
-    const descriptor *of = &the_program.descriptors[d];
-    return it->made == of->made && it->nonblock == of->nonblock;
-}
-
-/* An idle helper that holds this descriptor too, or HOME where there is none. */
+/* An idle helper that holds this descriptor too, or HOME where there is none, or the program has no such descriptor. */
 unsigned program_choose_any(uint32_t d);
 static inline unsigned program_choose(uint32_t d)
 {
-    unsigned first = the_program.idle != 0 ? (unsigned)__builtin_ctz(the_program.idle) : HOME;
-    return program_holds(first, d) ? first : program_choose_any(d);
+    uint32_t able = the_program.idle & the_program.held[d];
+    return able != 0 ? (unsigned)__builtin_ctz(able) : program_choose_any(d);
 }
 
 /* A helper whose wait has ended is idle again. */
@@ -187,18 +180,6 @@ void program_wake_them(uint32_t answered);
 
 /* Beside what the library returns, of a wait: YAK_LOST where its thread is in a child now, which a handler forked; the lock is not held then. */
 enum { YAK_INTERRUPTED = 100, YAK_CANCELLED = 101, YAK_REFUSED = 102, YAK_LOST = 103 };
-
-static inline uint32_t program_begin(unsigned process, uint32_t d, const request *asked, yak_message *message, const yak_moment *until,
-                                     const yak_moment *now)
-{
-    yak_process *it = &the_program.processes[process];
-    uint32_t answer;
-    if (asked->is_send)
-        MADE(answer, yak_start_timed_send(it, d, asked->bytes, asked->len, asked->prio, until, now));
-    else
-        MADE(answer, yak_start_timed_receive(it, d, asked->bytes, asked->len, message, until, now));
-    return answer;
-}
 
 /* Waits until the open wait of a helper is answered, or until what a call without a helper asks for can be had, by the process that is written
  * then. The lock is held before and after it, and not while it sleeps. */

@@ -18,6 +18,18 @@ static const yak_moment NEVER = {INT64_MAX, 0};
 static const yak_moment LONG_AGO = {0, 0};
 static const yak_moment LATER = {1, 0};
 
+/* Begins a call as one with a deadline. */
+static uint32_t begin(unsigned process, uint32_t d, const request *asked, yak_message *message, const yak_moment *until, const yak_moment *now)
+{
+    yak_process *it = &the_program.processes[process];
+    uint32_t answer;
+    if (asked->is_send)
+        MADE(answer, yak_start_timed_send(it, d, asked->bytes, asked->len, asked->prio, until, now));
+    else
+        MADE(answer, yak_start_timed_receive(it, d, asked->bytes, asked->len, message, until, now));
+    return answer;
+}
+
 static bool is_before(const yak_moment *one, const yak_moment *other)
 {
     return one->sec != other->sec ? one->sec < other->sec : one->nsec < other->nsec;
@@ -227,10 +239,10 @@ uint32_t program_wait_stranded(unsigned *process, uint32_t d, const request *ask
             --the_program.stranded;
             pthread_setcancelstate(*cancelling, 0);
             now = yak_now();
-            answer = program_begin(*process, the_program.mirrors[*process][d].d, asked, message, &asked->until, &now);
+            answer = begin(*process, the_program.mirrors[*process][d].d, asked, message, &asked->until, &now);
             return answer == YAK_WAITS ? program_wait_with(*process, d, asked, message, cancelling) : answer;
         }
-        answer = program_begin(HOME, d, asked, message, &LONG_AGO, &LATER);
+        answer = begin(HOME, d, asked, message, &LONG_AGO, &LATER);
         if (answer != YAK_TIMEDOUT)
             break;
         if (here.is_cancelled && *cancelling == PTHREAD_CANCEL_ENABLE) {
