@@ -300,13 +300,41 @@ void yak_seed_calls(const char *name, uint32_t d);
 #define YAK_CALLS_(name, d) ((void)0)
 #endif
 
+/* ThreadSanitizer does not see the atomics of the library, so it is told what they give: a call comes after those that came inside before it. */
+#if defined __SANITIZE_THREAD__
+#define YAK_TELLS_ORDER_ 1
+#elif defined __has_feature
+#if __has_feature(thread_sanitizer)
+#define YAK_TELLS_ORDER_ 1
+#endif
+#endif
+#ifdef YAK_TELLS_ORDER_
+void __tsan_acquire(void *at);
+void __tsan_release(void *at);
+static inline void yak_tell_before_(const yak_process *process)
+{
+    if (process->bells != 0)
+        __tsan_release(process->bells);
+}
+static inline void yak_tell_after_(const yak_process *process)
+{
+    if (process->bells != 0)
+        __tsan_acquire(process->bells);
+}
+#else
+#define yak_tell_before_(process) ((void)0)
+#define yak_tell_after_(process) ((void)0)
+#endif
+
 /* Makes a call again until its process has come inside: YAK_TRY(answer, process, yak_close(process, d)); */
 #define YAK_TRY(answer, process, call)                                                                                           \
     do {                                                                                                                         \
         unsigned yak_tries_ = 0;                                                                                                 \
         YAK_TURN_();                                                                                                             \
+        yak_tell_before_(process);                                                                                               \
         while (((answer) = (call)) == YAK_RETRY)                                                                                 \
             yak_rest((process), &yak_tries_);                                                                                    \
+        yak_tell_after_(process);                                                                                                \
         yak_wake(process);                                                                                                       \
     } while (0)
 
