@@ -311,15 +311,20 @@ void yak_seed_calls(const char *name, uint32_t d);
 #ifdef YAK_TELLS_ORDER_
 void __tsan_acquire(void *at);
 void __tsan_release(void *at);
+/* Where it keeps that order: at an address that no access has, since a store to a bell would begin it anew. */
+static inline void *yak_order_(const yak_process *process)
+{
+    return (char *)process->bells + 4;
+}
 static inline void yak_tell_before_(const yak_process *process)
 {
     if (process->bells != 0)
-        __tsan_release(process->bells);
+        __tsan_release(yak_order_(process));
 }
 static inline void yak_tell_after_(const yak_process *process)
 {
     if (process->bells != 0)
-        __tsan_acquire(process->bells);
+        __tsan_acquire(yak_order_(process));
 }
 #else
 #define yak_tell_before_(process) ((void)0)
