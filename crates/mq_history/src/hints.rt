@@ -1,12 +1,82 @@
 //! In which order the operations of a history are best tried.
 ghost use Rattle.std.specs.Prelude.{◌≡◌, ◌+◌, IfOk, OnOk, length, vec_len};
 
+use crate::guide::Guide;
+use crate::tasks::tasks_of;
 use histories::operation::{Operation, Outcome};
 use std::alloc::{AllocError, Global};
 
-/// A number for each operation, and one more behind those of each process: a send is best tried by the end of the receive that got
-/// its message, and each other operation by its own end.
+// The least steps of a guide, and how many more there are for each operation.
+const STEPS: u64 = 100_000;
+
+const STEPS_EACH: u64 = 50;
+
+/// A number for each operation, and one more behind those of each process: by an order that a guide finds, and where it finds none by
+/// the ends of the operations.
 pub fn hints_of(alloc: Global, histories: &Vec<Vec<Operation>>) -> Result<Vec<Vec<u64>>, AllocError>
+    ensures { IfOk result (λ hints. length hints.items ≡ length histories.now.items) }
+{
+    let mut guide = Guide::new(alloc, tasks_of(alloc, histories)?)?;
+    let steps = STEPS_EACH
+        .saturating_mul(operation_count(histories))
+        .saturating_add(STEPS);
+    match guide.order(alloc, steps)? {
+        Some(order) => hints_by_order(alloc, histories, &order),
+        None => hints_by_ends(alloc, histories),
+    }
+}
+
+fn operation_count(histories: &Vec<Vec<Operation>>) -> u64 {
+    let mut count: u64 = 0;
+    for operations in histories {
+        count = count.saturating_add(operations.len() as u64);
+    }
+    count
+}
+
+// The places of the operations in an order of their processes. Those that are not in it come last.
+fn hints_by_order(
+    alloc: Global,
+    histories: &Vec<Vec<Operation>>,
+    order: &[usize],
+) -> Result<Vec<Vec<u64>>, AllocError>
+    ensures { IfOk result (λ hints. length hints.items ≡ length histories.now.items) }
+{
+    let mut hints = last_of(alloc, histories)?;
+    let mut made = vec![in alloc; 0usize; histories.len()]?;
+    for (place, process) in order.iter().enumerate() {
+        if *process < made.len() {
+            hint(&mut hints, *process, made[*process], place as u64);
+            made[*process] = made[*process].saturating_add(1);
+        }
+    }
+    Ok(hints)
+}
+
+// The greatest number for each operation, and one more.
+fn last_of(alloc: Global, histories: &Vec<Vec<Operation>>) -> Result<Vec<Vec<u64>>, AllocError>
+    ensures { IfOk result (λ hints. length hints.items ≡ length histories.now.items) }
+{
+    let mut hints: Vec<Vec<u64>> = Vec::new(alloc);
+    for operations in histories {
+        push_last(alloc, &mut hints, operations.len())?;
+    }
+    Ok(hints)
+}
+
+fn push_last(alloc: Global, hints: &mut Vec<Vec<u64>>, count: usize) -> Result<(), AllocError>
+    ensures { OnOk result (length hints.new.items ≡ length hints.old.items + 1) }
+{
+    let last = vec![in alloc; u64::MAX; count]?;
+    hints.push(last)?;
+    Ok(())
+}
+
+// A send is best tried by the end of the receive that got its message, and each other operation by its own end.
+fn hints_by_ends(
+    alloc: Global,
+    histories: &Vec<Vec<Operation>>,
+) -> Result<Vec<Vec<u64>>, AllocError>
     ensures { IfOk result (λ hints. length hints.items ≡ length histories.now.items) }
 {
     let mut hints = ends_of(alloc, histories)?;

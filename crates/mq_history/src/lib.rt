@@ -1,12 +1,17 @@
 //! Concurrent histories as text, one line a call, and judgements of them.
 #![tactic(auto)]
 
+pub mod contents;
 pub mod descriptors;
 pub mod front;
+pub mod guide;
 pub mod hints;
 pub mod judgement;
 pub mod line;
 pub mod outcome;
+pub mod places;
 pub mod processes;
 pub mod said;
+pub mod tasks;
 pub mod text;
+pub mod windows;

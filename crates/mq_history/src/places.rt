@@ -1,0 +1,113 @@
+//! The queues of a history by numbers, as well as its calls tell them apart.
+use histories::operation::{Operation, Outcome};
+use mq_model::entries::Call;
+use mq_model::limits::DESCRIPTORS;
+use std::alloc::{AllocError, Global};
+
+/// The names of a history, in order and each once, and its unlinks that were done: of each the name and the end.
+#[derive(Drop)]
+pub struct Names<'h> {
+    names: Vec<&'h [u8]>,
+    unlinks: Vec<(usize, u64)>,
+}
+
+impl<'h> Names<'h> {
+    pub fn of(alloc: Global, histories: &'h Vec<Vec<Operation>>) -> Result<Names<'h>, AllocError> {
+        let mut names: Vec<&'h [u8]> = Vec::new(alloc);
+        for operations in histories {
+            for operation in operations {
+                if is_named(operation.call) {
+                    names.push(operation.given.as_slice())?;
+                }
+            }
+        }
+        names.sort()?;
+        names.dedup();
+        let mut unlinks = Vec::new(alloc);
+        for operations in histories {
+            for operation in operations {
+                if is_unlink_done(operation) {
+                    unlinks.push((place_of(&names, &operation.given), operation.end))?;
+                }
+            }
+        }
+        unlinks.sort()?;
+        Ok(Names { names, unlinks })
+    }
+
+    /// How many queues there are at most.
+    pub fn count(&self) -> usize {
+        self.names.len().saturating_add(self.unlinks.len())
+    }
+
+    // The queue that a name stood for at a moment: another one for each unlink before.
+    fn queue_at(&self, name: &[u8], moment: u64) -> usize {
+        let place = place_of(&self.names, name);
+        let unlinks = self
+            .unlinks
+            .partition_point(|unlink| *unlink < (place, moment));
+        place.saturating_add(unlinks)
+    }
+
+    /// The queue of each operation of a process, or `count` where it has none.
+    pub fn queues_of(
+        &self,
+        alloc: Global,
+        operations: &Vec<Operation>,
+    ) -> Result<Vec<usize>, AllocError> {
+        let none = self.count();
+        let mut held = [none; 16];
+        let mut queues = Vec::new(alloc);
+        for operation in operations {
+            let queue = if is_named(operation.call) {
+                self.queue_at(&operation.given, operation.begin)
+            } else {
+                held_at(&held, descriptor_of(operation.call), none)
+            };
+            if let Outcome::Opened(d) = operation.outcome
+                && d < DESCRIPTORS as u32
+            {
+                held[d as usize] = queue;
+            }
+            queues.push(queue)?;
+        }
+        Ok(queues)
+    }
+}
+
+// The place of a name among those that are in order.
+fn place_of(names: &[&[u8]], name: &[u8]) -> usize {
+    match names.binary_search(&name) {
+        Ok(place) => place,
+        Err(place) => place,
+    }
+}
+
+fn is_named(call: Call) -> bool {
+    matches!(call, Call::MqOpen { .. } | Call::MqUnlink)
+}
+
+fn is_unlink_done(operation: &Operation) -> bool {
+    matches!(operation.call, Call::MqUnlink) && matches!(operation.outcome, Outcome::Done)
+}
+
+// The queue that a process holds under a descriptor.
+fn held_at(held: &[usize; 16], d: Option<u32>, none: usize) -> usize {
+    match d {
+        Some(d) if d < DESCRIPTORS as u32 => held[d as usize],
+        _ => none,
+    }
+}
+
+// The descriptor that a call is made by.
+fn descriptor_of(call: Call) -> Option<u32> {
+    match call {
+        Call::MqSend { d, .. }
+        | Call::MqReceive { d, .. }
+        | Call::MqTimedSend { d, .. }
+        | Call::MqTimedReceive { d, .. }
+        | Call::MqGetattr { d }
+        | Call::MqSetattr { d, .. } => Some(d),
+        _ => None,
+    }
+}
