@@ -3,7 +3,7 @@
 //! The order is a hint for the judgement, which does not depend on it: here nothing is proved but that the search ends and is safe.
 use crate::contents::{Change, Queues, mixed};
 use crate::tasks::{Effect, Task, Tasks};
-use crate::windows::Windows;
+use crate::windows::{Guess, Windows};
 use std::alloc::{AllocError, Global};
 use std::collections::HashSet;
 
@@ -27,18 +27,21 @@ pub struct Guide {
 enum Turn {
     // At once: nothing is lost by that.
     First,
-    // Before those whose moment is later.
-    By(u64),
+    // Before those whose guess is later.
+    By(Guess),
     // Not now: another call must come before it, or may as well.
     Later,
 }
 
-// A call that took effect, and what can be tried in its place: moments and processes, and how many of these were tried.
+// A process that can go on, behind the guess at when.
+type Choice = (Guess, usize);
+
+// A call that took effect, and what can be tried in its place, and how many of these were tried.
 #[derive(Drop)]
 struct Move {
     process: usize,
     change: Change,
-    choices: Vec<(u64, usize)>,
+    choices: Vec<Choice>,
     tried: usize,
 }
 
@@ -146,18 +149,18 @@ impl Guide {
         limit
     }
 
-    // The processes whose calls can take effect next, each with its moment, the best one first.
-    fn choices(&self, alloc: Global) -> Result<Vec<(u64, usize)>, AllocError> {
+    // The processes whose calls can take effect next, the best one first.
+    fn choices(&self, alloc: Global) -> Result<Vec<Choice>, AllocError> {
         let limit = self.limit();
         let mut choices = Vec::new(alloc);
         for process in 0..self.made.len() {
             match self.turn(process, limit) {
                 Turn::First => {
                     choices.clear();
-                    choices.push((0, process))?;
+                    choices.push(((0, 0), process))?;
                     return Ok(choices);
                 }
-                Turn::By(moment) => choices.push((moment, process))?,
+                Turn::By(guess) => choices.push((guess, process))?,
                 Turn::Later => {}
             }
         }
@@ -179,16 +182,16 @@ impl Guide {
         match task.effect {
             Effect::Sends => self.turn_of_send(process, task, limit),
             Effect::Receives => self.turn_of_receive(process, task, limit),
-            _ => Turn::By(task.end),
+            _ => Turn::By((task.end, 0)),
         }
     }
 
-    // A send is tried by the end of the receive that gets its message.
+    // A send comes when its message is guessed to have been sent.
     fn turn_of_send(&self, process: usize, task: &Task, limit: u64) -> Turn {
         if self.has_better(process, task, limit) || self.must_wait(task) {
             return Turn::Later;
         }
-        Turn::By(self.received_by(task).unwrap_or(task.end))
+        Turn::By(self.windows.guess_of(task.kind, self.sent_of(task)))
     }
 
     // A receive comes at once where nobody can miss its message.
@@ -197,7 +200,7 @@ impl Guide {
             return Turn::Later;
         }
         if self.is_missed(task) {
-            Turn::By(task.end)
+            Turn::By((task.end, 0))
         } else {
             Turn::First
         }
