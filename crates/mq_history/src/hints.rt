@@ -67,7 +67,7 @@ fn last_of(alloc: Global, histories: &Vec<Vec<Operation>>) -> Result<Vec<Vec<u64
 fn push_last(alloc: Global, hints: &mut Vec<Vec<u64>>, count: usize) -> Result<(), AllocError>
     ensures { OnOk result (length hints.new.items ≡ length hints.old.items + 1) }
 {
-    let last = vec![in alloc; u64::MAX; count]?;
+    let last = vec![in alloc; u64::MAX; count.saturating_add(1)]?;
     hints.push(last)?;
     Ok(())
 }

@@ -12,6 +12,7 @@ use std::test::Fail;
 
 mod every_order;
 mod judging;
+mod overlapping;
 mod pictures;
 mod recorded;
 
