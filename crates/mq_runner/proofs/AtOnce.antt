@@ -1,5 +1,5 @@
 -- Calls that begin and are done, or refused, at once.
-use Rattle.std.proofs.Common.{◌≡◌, ℕ, List, Bool, true, refl, Option, Some, Result, Ok, Err}
+use Rattle.std.proofs.Common.{◌≡◌, ℕ, List, true, refl, Some, Ok, Err}
 use Rattle.fast_mutex.specs.Items.{Ticket}
 use Rattle.mq_model.specs.Record.{Past, Record}
 use Rattle.mq_model.specs.declared.entries.Call.{Call}

@@ -1,12 +1,11 @@
 -- Calls that waited, and those that still wait.
-use Rattle.std.proofs.Common.{◌≡◌, ◌∙◌, ℕ, List, [], ◌∷◌, false, true, Option, Some, None, Ok, IsSome, IfSome, Bool, ap, sym, refl, subst}
+use Rattle.std.proofs.Common.{◌≡◌, ◌∙◌, ℕ, List, [], ◌∷◌, false, Option, Some, None, Ok, IsSome, IfSome, Bool, refl}
 use Rattle.fast_mutex.specs.Items.{Ticket}
 use Rattle.mq_model.specs.Record.{Record}
-use Rattle.mq_model.specs.Waits.{open_wait}
 use Rattle.mq_model.specs.declared.entries.Call.{Call}
 use Rattle.mq_model.specs.declared.entries.Call.TheVariants.{Collect}
 use Rattle.mq_model.specs.declared.entries.Reply.TheVariants.{Collected, Waits}
-use Rattle.mq_state.specs.Buffers.{waiting_call, waiting_room}
+use Rattle.mq_state.specs.Buffers.{waiting_room}
 use Rattle.mq_state.specs.declared.collected.Collected.{Collected as Outcome}
 use Rattle.mq.specs.Calls.{Calls, Collects, OneCall, ReceiveCall, WaitsIn, recorded}
 use Rattle.mq.specs.Says.{start_receive_says, start_send_says}

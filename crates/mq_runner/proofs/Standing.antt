@@ -1,13 +1,12 @@
 -- Phases whose calls ended, or came to a stand.
-use Rattle.std.proofs.Common.{◌≡◌, ◌≢◌, ◌<◌, ◌+◌, ◌++◌, ◌∷◌, ◌∙◌, [], ℕ, List, All, true, refl, ap, sym, get_or, is_some, length, map, subst, take, Result, Ok, Err, IfErr, IfOk, append_assoc, append-nil, Option, None, Some}
-use Rattle.std.specs.List.{AllByRecursion as ByRecursion, AllZip, list_all}
+use Rattle.std.proofs.Common.{◌≡◌, ◌≢◌, ◌<◌, ◌+◌, ◌++◌, ◌∷◌, ◌∙◌, [], ℕ, List, All, refl, ap, sym, get_or, length, map, subst, take, Result, Ok, Err, IfErr, IfOk, append_assoc, append-nil, Option, None, Some}
+use Rattle.std.specs.List.{AllByRecursion as ByRecursion, AllZip}
 use Rattle.std.proofs.lemmas.List.{take_more}
 use Rattle.std.proofs.lemmas.List.Elements.{All-nil, All-cons, recursion_from_All}
 use Rattle.std.specs.Result.{IsErrAnd}
 use Rattle.fast_mutex.specs.Items.{LockId, Ticket}
 use Rattle.mq.proofs.Growing.{calls-on}
 use Rattle.mq.proofs.Others.{call-grown, wait-grown}
-use Rattle.mq.specs.Blocked.{is_blocked}
 use Rattle.mq.specs.Calls.{Calls}
 use Rattle.mq_model.specs.Record.{Record}
 use Rattle.mq_model.specs.declared.entries.Call.{Call}
@@ -18,7 +17,7 @@ use Rattle.mq_script.specs.declared.command.Command.{Command}
 use Rattle.mq_script.specs.declared.command.Command.TheVariants as command
 use Rattle.mq_runner.specs.Members.{AllGive, AllHaveShares}
 use Rattle.mq_runner.specs.Phase.{AllEnd, AllWorkOff, AreReady, Ends, EndsEarly, EndsInDeadlock, WorksOff, calls_in}
-use Rattle.mq_runner.specs.Runs.{Blocks, IsReady, IsSameProcess, RunsCalls, WaitsFor, calls_of}
+use Rattle.mq_runner.specs.Runs.{Blocks, IsReady, RunsCalls, WaitsFor, calls_of}
 use Rattle.mq_runner.specs.Stands.{AllConfirm, BlocksIn, ComesToAStand, Confirms, EndsIn, EndsPhase, EndsStuck, FindsBlocked, blocked_lines, blocked_processes, line_in, process_in}
 use Rattle.mq_runner.specs.declared.phase.Member.{Member}
 use Rattle.mq_runner.specs.RunFault.{IsLate, IsUnwritten}

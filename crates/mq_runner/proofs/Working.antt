@@ -7,7 +7,7 @@ use Rattle.fast_mutex.specs.Items.{LockId, Ticket, tickets_from}
 use Rattle.mq_model.specs.Record.{Record}
 use Rattle.mq_runner.specs.Buffer.{buffer_given}
 use Rattle.lines.specs.Words.{Word}
-use Rattle.mq_runner.specs.Phase.{AllWorkOff, WorksOff, calls_in, text_in}
+use Rattle.mq_runner.specs.Phase.{AllWorkOff, calls_in, text_in}
 use Rattle.mq_runner.specs.Runs.{IsReady, Performs, RunsCalls, RunsPhase, RunsPhases, calls_of}
 use Rattle.mq_script.specs.ReplyLines.{reply_lines}
 use Rattle.mq_script.specs.Script.{WrittenCall, said_calls, said_phases}

@@ -1,4 +1,4 @@
-use Rattle.std.proofs.Common.{rules, ◌≡◌, ◌++◌, ◌∷◌, ◌∙◌, [], ℕ, List, None, Some, ap, append-nil, get_or, sym, take}
+use Rattle.std.proofs.Common.{rules, ◌≡◌, ◌++◌, ◌∷◌, ◌∙◌, [], None, Some, ap, append-nil, get_or, sym, take}
 use Rattle.mq_runner.specs.Stands.{blocked_processes}
 use Rattle.mq_runner.proofs.Standing.{processes-more}
 use Rattle.mq_runner.proofs.settling.blocked_of.Goals.{in-Some+in_ok-push-in-Some, in-None}

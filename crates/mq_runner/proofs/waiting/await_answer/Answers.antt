@@ -1,5 +1,4 @@
-use Rattle.std.proofs.Common.{◌≡◌, ◌≤◌, ◌∙◌, ℕ, length, subst, sym, IsSome, IfSome, Option, Some}
-use Rattle.mq_state.specs.Buffers.{waiting_room}
+use Rattle.std.proofs.Common.{◌≤◌, ℕ, length, subst, sym, IfSome, Option}
 use Rattle.mq_state.specs.declared.collected.Collected.{Collected as Outcome}
 use Rattle.mq.specs.Calls.{Collects}
 use Rattle.mq_runner.proofs.Blocking.{collects-later, room-later, if-some}
