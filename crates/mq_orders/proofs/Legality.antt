@@ -31,7 +31,7 @@ use Rattle.mq_orders.specs.declared.plan.Planned.{Planned}
 use Rattle.mq_orders.specs.declared.plan.Step.{Step}
 use Rattle.mq_orders.specs.declared.plan.Step.TheVariants as steps
 
-and-parts : (a b : Bool) → (a && b) ≡ true → (a ≡ true) × (b ≡ true)
+pub and-parts : (a b : Bool) → (a && b) ≡ true → (a ≡ true) × (b ≡ true)
 and-parts true true h = (refl, refl)
 and-parts true false h = cc
 and-parts false true h = cc

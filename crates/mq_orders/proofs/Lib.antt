@@ -1,3 +1,4 @@
 pub mod Counting
 pub mod Turning
 pub mod Legality
+pub mod Making

@@ -1,10 +1,12 @@
 //! Every order in which the calls of a script can come.
-ghost use Rattle.std.specs.Prelude.{◌≡◌, ◌≤◌, IfOk, OnOk, true};
+ghost use Rattle.std.specs.Prelude.{◌≡◌, ◌≤◌, ◌+◌, ℕ, List, IfOk, OnOk, None, Some, true};
 ghost use Rattle.std.specs.List.{All};
+ghost use Rattle.mq_model.specs.Waits.{open_wait};
+ghost use Rattle.schedules.specs.Schedules.{after};
 ghost use Rattle.schedules.specs.Outcomes.{AreAll, AreDistinct, IsWitness};
-ghost use Rattle.mq_script.specs.Script.{said_script};
-ghost use Rattle.mq_orders.specs.Orders.{AreLegal, Begins};
-ghost use Rattle.mq_orders.specs.Stage.{first_stage, next_stage, stands_still, told};
+ghost use Rattle.mq_script.specs.Script.{Whole, said_script};
+ghost use Rattle.mq_orders.specs.Orders.{AreLegal, Begins, HasMade};
+ghost use Rattle.mq_orders.specs.Stage.{Stage, first_stage, next_stage, stands_still, told, turn_of};
 
 use crate::plan::programs_of;
 use crate::play::Play;
@@ -36,3 +38,11 @@ pub fn outcomes_of(alloc: Global, play: &mut Play, budget: u64) -> Result<Collec
     play.stays_legal();
     collect(alloc, play, budget)
 }
+
+/// Whoever neither waits nor can go on, after a schedule from where the processes of a script begin, has made all its lines up to those
+/// of the phase. The function does nothing: its contract is the law.
+pub fn all_is_made()
+    ensures { (script : Whole) (from s : Stage) (schedule : List ℕ) (index : ℕ) →
+        script.processes ≤ 32 → Begins script from → after next_stage schedule from ≡ Some s →
+        turn_of s index ≡ None → open_wait s.past (index + 1) ≡ None → HasMade s index }
+{}
