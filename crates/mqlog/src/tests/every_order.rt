@@ -106,35 +106,42 @@ fn a_budget_is_used_up(rt: HostRuntime) {
 }
 
 // The journals that lead to the four of the report.
-static JOURNALS: [&str; 4] = [
-    "0 1 open bc limits 10 8 \"/q\" -> fd 0 created\n",
-    "0 1 open bc limits 10 8 \"/q\" -> fd 0 created\n\
-     1 1 send 0 0 1 \"a\" -> queued\n\
-     2 2 open bn \"/q\" -> fd 0\n",
-    "0 1 open bc limits 10 8 \"/q\" -> fd 0 created\n\
-     1 1 send 0 0 1 \"a\" -> queued\n\
-     2 2 open bn \"/q\" -> fd 0\n\
-     3 1 recv 0 8 -> got 1\n\
-     4 2 recv 0 8 -> EAGAIN\n\
-     5 2 close 0 -> ok\n",
-    "0 1 open bc limits 10 8 \"/q\" -> fd 0 created\n\
-     1 1 send 0 0 1 \"a\" -> queued\n\
-     2 2 open bn \"/q\" -> fd 0\n\
-     3 2 recv 0 8 -> got 1\n\
-     4 1 recv 0 8 -> waits\n\
-     5 2 close 0 -> ok\n",
+static JOURNALS: [(u64, &str); 4] = [
+    (1, "0 1 open bc limits 10 8 \"/q\" -> fd 0 created\n"),
+    (
+        2,
+        "0 1 open bc limits 10 8 \"/q\" -> fd 0 created\n\
+         1 1 send 0 0 1 \"a\" -> queued\n\
+         2 2 open bn \"/q\" -> fd 0\n",
+    ),
+    (
+        3,
+        "0 1 open bc limits 10 8 \"/q\" -> fd 0 created\n\
+         1 1 send 0 0 1 \"a\" -> queued\n\
+         2 2 open bn \"/q\" -> fd 0\n\
+         3 1 recv 0 8 -> got 1\n\
+         4 2 recv 0 8 -> EAGAIN\n\
+         5 2 close 0 -> ok\n",
+    ),
+    (
+        4,
+        "0 1 open bc limits 10 8 \"/q\" -> fd 0 created\n\
+         1 1 send 0 0 1 \"a\" -> queued\n\
+         2 2 open bn \"/q\" -> fd 0\n\
+         3 2 recv 0 8 -> got 1\n\
+         4 1 recv 0 8 -> waits\n\
+         5 2 close 0 -> ok\n",
+    ),
 ];
 
 #[test]
 fn a_journal_leads_to_each_outcome(rt: HostRuntime) {
-    let mut number = 0;
-    for journal in &JOURNALS {
-        number += 1;
+    for (number, journal) in &JOURNALS {
         is_tried(
             &rt,
             rt.alloc(),
             SCRIPT,
-            journal_of(number),
+            journal_of(*number),
             Ending::Deadlock,
             journal,
         );
@@ -150,7 +157,7 @@ fn a_journal_leads_to_each_outcome(rt: HostRuntime) {
         SCRIPT,
         first,
         Ending::OutOfBudget,
-        JOURNALS[0],
+        JOURNALS[0].1,
     );
 }
 
