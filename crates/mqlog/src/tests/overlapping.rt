@@ -130,9 +130,11 @@ fn history_of(alloc: Global, calls: &[Seen], style: Style) -> Result<String, All
     let mut text = String::new(alloc);
     let flags = if style.waits { "bc" } else { "bcn" };
     let room = style.room;
-    for process in 1..9 {
+    for process in 1..9u64 {
+        let begin = process * 2;
+        let end = begin + 1;
         let open = format!(in alloc;
-            "{process} 0 {process} open {flags} limits {room} 8 \"/q\" -> fd 3\n"
+            "{process} {begin} {end} open {flags} limits {room} 8 \"/q\" -> fd 3\n"
         )?;
         text.push_str(open.as_str())?;
     }
