@@ -31,8 +31,6 @@ ssize_t mq_receive(mqd_t mqdes, char *buf, size_t len, unsigned *prio);
 ssize_t mq_timedreceive(mqd_t mqdes, char *buf, size_t len, unsigned *prio, const struct timespec *until);
 
 static const yak_moment NEVER = {INT64_MAX, 0};
-static const yak_moment LONG_AGO = {0, 0};
-static const yak_moment LATER = {1, 0};
 
 static int fails(int error)
 {
@@ -46,7 +44,7 @@ static int result(uint32_t answer)
 }
 
 /* Keeps what the program was given under a number. */
-static void hold(uint32_t d, const char *name, size_t len, const yak_opening *opening)
+static void keep(uint32_t d, const char *name, size_t len, const yak_opening *opening, bool nonblock)
 {
     descriptor *it = &the_program.descriptors[d];
     it->queue = 0;
@@ -59,17 +57,15 @@ static void hold(uint32_t d, const char *name, size_t len, const yak_opening *op
         it->queue = ++the_program.queues;
     it->made = ++the_program.opens;
     it->access = opening->access;
-    it->nonblock = opening->nonblock;
+    it->nonblock = nonblock;
     it->is_bound = true;
     it->len = len;
     memcpy(it->name, name, len);
-    the_program.held[d] = 0;
 }
 
 static mqd_t open_queue(const char *name, int oflag, const struct mq_attr *attr)
 {
-    yak_opening opening = {0, 0, (uint32_t)(oflag & O_ACCMODE), (oflag & O_CREAT) != 0, (oflag & O_EXCL) != 0,
-                           (oflag & O_NONBLOCK) != 0, false};
+    yak_opening opening = {0, 0, (uint32_t)(oflag & O_ACCMODE), (oflag & O_CREAT) != 0, (oflag & O_EXCL) != 0, true, false};
     uint32_t answer, d = 0;
     size_t len;
     int error;
@@ -85,7 +81,7 @@ static mqd_t open_queue(const char *name, int oflag, const struct mq_attr *attr)
     len = strlen(name);
     MADE(answer, yak_open(&the_program.processes[HOME], (const uint8_t *)name, len, &opening, &d));
     if (answer == YAK_DONE)
-        hold(d, name, len, &opening);
+        keep(d, name, len, &opening, (oflag & O_NONBLOCK) != 0);
     program_leave();
     return answer == YAK_DONE ? FIRST + (mqd_t)d : result(answer);
 }
@@ -119,7 +115,6 @@ int mq_close(mqd_t mqdes)
     MADE(answer, yak_close(&the_program.processes[HOME], d));
     if (answer == YAK_DONE) {
         the_program.descriptors[d].made = 0;
-        the_program.held[d] = 0;
         program_close_mirrors(d);
         program_forget_registration(d);
         answered = program_note_answers(HOME);
@@ -162,37 +157,33 @@ static int fill(uint32_t answer, const yak_attributes *from, struct mq_attr *att
     return result(answer);
 }
 
-int mq_getattr(mqd_t mqdes, struct mq_attr *attr)
+/* Asks for the attributes, in which the flag is the program's own, and then sets that where it is to be set. */
+static int exchange(mqd_t mqdes, const struct mq_attr *set, struct mq_attr *before)
 {
     yak_attributes attributes = {0, 0, 0, false};
-    uint32_t answer;
+    uint32_t answer, d;
     int error;
     if ((error = program_enter()) != 0)
         return fails(error);
-    MADE(answer, yak_getattr(&the_program.processes[HOME], program_number(mqdes), &attributes));
+    d = program_number(mqdes);
+    MADE(answer, yak_getattr(&the_program.processes[HOME], d, &attributes));
+    if (answer == YAK_DONE) {
+        attributes.nonblock = the_program.descriptors[d].nonblock;
+        if (set != 0)
+            the_program.descriptors[d].nonblock = (set->mq_flags & O_NONBLOCK) != 0;
+    }
     program_leave();
-    return fill(answer, &attributes, attr);
+    return fill(answer, &attributes, before);
+}
+
+int mq_getattr(mqd_t mqdes, struct mq_attr *attr)
+{
+    return exchange(mqdes, 0, attr);
 }
 
 int mq_setattr(mqd_t mqdes, const struct mq_attr *set, struct mq_attr *before)
 {
-    yak_attributes attributes = {0, 0, 0, false};
-    bool nonblock;
-    uint32_t answer, d;
-    int error;
-    if (set == 0)
-        return mq_getattr(mqdes, before);
-    nonblock = (set->mq_flags & O_NONBLOCK) != 0;
-    if ((error = program_enter()) != 0)
-        return fails(error);
-    d = program_number(mqdes);
-    MADE(answer, yak_setattr(&the_program.processes[HOME], d, nonblock, &attributes));
-    if (answer == YAK_DONE && the_program.descriptors[d].nonblock != nonblock) {
-        the_program.descriptors[d].nonblock = nonblock;
-        the_program.held[d] = 0;
-    }
-    program_leave();
-    return fill(answer, &attributes, before);
+    return exchange(mqdes, set, before);
 }
 
 int mq_notify(mqd_t mqdes, const struct sigevent *event)
@@ -206,21 +197,20 @@ int mq_notify(mqd_t mqdes, const struct sigevent *event)
     return error != 0 ? fails(error) : result(answer);
 }
 
-/* What is left of a send or a receive that was begun: its wait, and the wakes and notices for others. Leaves the lock. */
-static __attribute__((noinline)) uint32_t go_on(unsigned process, uint32_t d, const request *asked, yak_message *message, uint32_t answer)
+/* What is left of a send or a receive that the home has tried: a wait, and the wakes and notices for others. Leaves the lock. */
+static __attribute__((noinline)) uint32_t go_on(uint32_t d, const request *asked, yak_message *message, uint32_t answer)
 {
+    unsigned process = HOME;
     uint32_t answered = 0;
     int cancelling = -1;
     notices found;
     found.count = 0;
-    if (answer == YAK_DONE && the_program.registered != 0)
-        program_collect_notices(d, &found);
-    if (answer == YAK_WAITS)
-        answer = program_wait_with(process, d, asked, message, &cancelling);
-    else if (answer == YAK_TIMEDOUT && process == HOME)
-        answer = program_wait_stranded(&process, d, asked, message, &cancelling);
+    if (answer == YAK_AGAIN && !the_program.descriptors[d].nonblock)
+        answer = program_wait(&process, d, asked, message, &cancelling);
     if (answer != YAK_LOST) {
         answered = program_note_answers(process);
+        if (answer == YAK_DONE && the_program.registered != 0)
+            program_collect_notices(d, &found);
         program_leave();
     }
     if (answered != 0)
@@ -234,42 +224,25 @@ static __attribute__((noinline)) uint32_t go_on(unsigned process, uint32_t d, co
     return answer;
 }
 
-/* A send or a receive by an idle helper; where there is none, a try by the home, which does not wait. */
+/* A send or a receive. */
 static inline __attribute__((always_inline)) uint32_t make(const char *call, bool is_send, mqd_t mqdes, uint8_t *bytes, size_t len, uint32_t prio,
                                                            yak_message *message, const struct timespec *until)
 {
-    const yak_moment *end = &NEVER, *at = &LATER;
-    yak_moment limit, now;
-    uint32_t answer, d, number;
-    unsigned process;
+    uint32_t answer, d;
     int error = program_enter();
     if (error != 0) {
         errno = error;
         return YAK_REFUSED;
     }
-    if (until != 0) {
-        limit.sec = (int64_t)until->tv_sec;
-        limit.nsec = (int64_t)until->tv_nsec;
-        end = &limit;
-        now = yak_now();
-        at = &now;
-    }
-    d = (uint32_t)mqdes - FIRST;
-    process = d < DESCRIPTORS ? program_choose(d) : HOME;
-    if (process != HOME) {
-        number = the_program.mirrors[process][d].d;
-    } else {
-        number = program_number(mqdes);
-        end = &LONG_AGO;
-        at = &LATER;
-    }
-    if (is_send)
-        MADE(answer, yak_start_timed_send(&the_program.processes[process], number, bytes, len, prio, end, at));
-    else
-        MADE(answer, yak_start_timed_receive(&the_program.processes[process], number, bytes, len, message, end, at));
-    if (answer != YAK_DONE || (the_program.registered | the_program.stranded | the_program.processes[process].answered) != 0) {
-        request asked = {call, is_send, until != 0, until != 0 ? limit : NEVER, bytes, len, prio};
-        return go_on(process, d, &asked, message, answer);
+    d = program_number(mqdes);
+    answer = program_try(is_send, d, bytes, len, prio, message);
+    if (answer != YAK_DONE || (the_program.registered | the_program.stranded | the_program.processes[HOME].answered) != 0) {
+        request asked = {call, is_send, until != 0, NEVER, bytes, len, prio};
+        if (until != 0) {
+            asked.until.sec = (int64_t)until->tv_sec;
+            asked.until.nsec = (int64_t)until->tv_nsec;
+        }
+        return go_on(d, &asked, message, answer);
     }
     program_leave();
     return YAK_DONE;

@@ -1,9 +1,9 @@
 /* program.h: what the exported calls of libyakyrombe-mqueue are made of.
  *
- * One system of the library serves the whole program. Its process 1 is the home: it holds a descriptor for each that the program holds, and
- * opens, closes, unlinks, registers and asks for attributes. Each send and receive is made by a helper, the lowest of processes 2 to 32
- * that has no open wait: it opens the queue too, when it is first needed there. A call that waits keeps its helper until the wait ends. So
- * the order of messages, who is served and every refusal are the library's.
+ * One system of the library serves the whole program. Its process 1 is the home: it holds a descriptor for each that the program holds, always
+ * nonblocking, and makes each call. Where a send or a receive is refused with YAK_AGAIN, and the program's descriptor is blocking, it is made
+ * again by a helper, the lowest of processes 2 to 32 that has no open wait, which opens the queue too when it is first needed there, and keeps
+ * the call until its wait ends. So the order of messages, who is served and every refusal are the library's.
  *
  * All of this is guarded by one mutex, which is held for the time of a call and never while a call waits.
  */
@@ -49,7 +49,6 @@ typedef struct descriptor {
 typedef struct mirror {
     unsigned made; /* of which open; 0 where it holds nothing */
     uint32_t d;
-    bool nonblock;
 } mirror;
 
 /* A registration, by the descriptor that it was made with. */
@@ -91,9 +90,8 @@ typedef struct program {
     bool is_ending;
     unsigned opens;
     unsigned queues;
-    uint32_t idle;              /* the helpers without an open wait, by bits */
-    uint32_t held[DESCRIPTORS]; /* the helpers that hold for a descriptor what the program holds, by bits */
-    uint32_t stranded;          /* how many calls wait without a helper */
+    uint32_t idle;     /* the helpers without an open wait, by bits */
+    uint32_t stranded; /* how many calls wait without a helper */
     uint32_t registered;
     yak_process processes[PROCESSES];
     descriptor descriptors[DESCRIPTORS];
@@ -159,14 +157,21 @@ static inline uint32_t program_number(int mqdes)
     return d < DESCRIPTORS && the_program.descriptors[d].made != 0 ? d : DESCRIPTORS;
 }
 
-/* An idle helper that holds this descriptor too, or HOME where there is none, or the program has no such descriptor. */
-unsigned program_choose_any(uint32_t d);
-static inline unsigned program_choose(uint32_t d)
+/* A send or a receive by the home, which never waits: YAK_AGAIN where it would. */
+static inline __attribute__((always_inline)) uint32_t program_try(bool is_send, uint32_t d, uint8_t *bytes, size_t len, uint32_t prio,
+                                                                  yak_message *message)
 {
-    uint32_t able = the_program.idle & the_program.held[d];
-    return able != 0 ? (unsigned)__builtin_ctz(able) : program_choose_any(d);
+    yak_process *home = &the_program.processes[HOME];
+    uint32_t answer;
+    if (is_send)
+        MADE(answer, yak_start_send(home, d, bytes, len, prio));
+    else
+        MADE(answer, yak_start_receive(home, d, bytes, len, message));
+    return answer;
 }
 
+/* An idle helper that holds this descriptor too, or HOME where there is none. */
+unsigned program_choose(uint32_t d);
 /* A helper whose wait has ended is idle again. */
 void program_release(unsigned process);
 /* Lets all idle helpers hold what the program holds of the queue with this name, before it loses its name. */
@@ -181,10 +186,9 @@ void program_wake_them(uint32_t answered);
 /* Beside what the library returns, of a wait: YAK_LOST where its thread is in a child now, which a handler forked; the lock is not held then. */
 enum { YAK_INTERRUPTED = 100, YAK_CANCELLED = 101, YAK_REFUSED = 102, YAK_LOST = 103 };
 
-/* Waits until the open wait of a helper is answered, or until what a call without a helper asks for can be had, by the process that is written
- * then. The lock is held before and after it, and not while it sleeps. */
-uint32_t program_wait_with(unsigned process, uint32_t d, const request *asked, yak_message *message, int *cancelling);
-uint32_t program_wait_stranded(unsigned *process, uint32_t d, const request *asked, yak_message *message, int *cancelling);
+/* Makes a call that the home would wait in, by the process that is written then, and waits until it is answered. The lock is held before and after
+ * it, and not while it sleeps. */
+uint32_t program_wait(unsigned *process, uint32_t d, const request *asked, yak_message *message, int *cancelling);
 
 /* mq_notify's part, and what a call on a descriptor may have brought. */
 int program_register(uint32_t d, const struct sigevent *event, uint32_t *answer);

@@ -15,18 +15,18 @@
 #endif
 
 static const yak_moment NEVER = {INT64_MAX, 0};
-static const yak_moment LONG_AGO = {0, 0};
 static const yak_moment LATER = {1, 0};
 
-/* Begins a call as one with a deadline. */
-static uint32_t begin(unsigned process, uint32_t d, const request *asked, yak_message *message, const yak_moment *until, const yak_moment *now)
+/* Begins a call by a helper, as one with a deadline. */
+static uint32_t begin(unsigned process, uint32_t d, const request *asked, yak_message *message)
 {
-    yak_process *it = &the_program.processes[process];
-    uint32_t answer;
+    yak_process *helper = &the_program.processes[process];
+    uint32_t number = the_program.mirrors[process][d].d, answer;
+    yak_moment now = asked->is_timed ? yak_now() : LATER;
     if (asked->is_send)
-        MADE(answer, yak_start_timed_send(it, d, asked->bytes, asked->len, asked->prio, until, now));
+        MADE(answer, yak_start_timed_send(helper, number, asked->bytes, asked->len, asked->prio, &asked->until, &now));
     else
-        MADE(answer, yak_start_timed_receive(it, d, asked->bytes, asked->len, message, until, now));
+        MADE(answer, yak_start_timed_receive(helper, number, asked->bytes, asked->len, message, &asked->until, &now));
     return answer;
 }
 
@@ -160,7 +160,8 @@ static void give_up(void *of)
         program_wake_them(answered);
 }
 
-uint32_t program_wait_with(unsigned process, uint32_t d, const request *asked, yak_message *message, int *cancelling)
+/* Waits until the open wait of a helper is answered. */
+static uint32_t wait_with(unsigned process, uint32_t d, const request *asked, yak_message *message, int *cancelling)
 {
     yak_process *helper = &the_program.processes[process];
     _Atomic uint32_t *word = &the_program.news[process];
@@ -205,7 +206,8 @@ uint32_t program_wait_with(unsigned process, uint32_t d, const request *asked, y
     return answer;
 }
 
-uint32_t program_wait_stranded(unsigned *process, uint32_t d, const request *asked, yak_message *message, int *cancelling)
+/* Waits without a helper until the home has what the call asks for, or until a helper is there. */
+static uint32_t wait_stranded(unsigned *process, uint32_t d, const request *asked, yak_message *message, int *cancelling)
 {
     _Atomic uint32_t *word = &the_program.news[HOME];
     unsigned made = the_program.descriptors[d].made;
@@ -238,12 +240,11 @@ uint32_t program_wait_stranded(unsigned *process, uint32_t d, const request *ask
             end_wait(&here);
             --the_program.stranded;
             pthread_setcancelstate(*cancelling, 0);
-            now = yak_now();
-            answer = begin(*process, the_program.mirrors[*process][d].d, asked, message, &asked->until, &now);
-            return answer == YAK_WAITS ? program_wait_with(*process, d, asked, message, cancelling) : answer;
+            answer = begin(*process, d, asked, message);
+            return answer == YAK_WAITS ? wait_with(*process, d, asked, message, cancelling) : answer;
         }
-        answer = begin(HOME, d, asked, message, &LONG_AGO, &LATER);
-        if (answer != YAK_TIMEDOUT)
+        answer = program_try(asked->is_send, d, asked->bytes, asked->len, asked->prio, message);
+        if (answer != YAK_AGAIN)
             break;
         if (here.is_cancelled && *cancelling == PTHREAD_CANCEL_ENABLE) {
             answer = YAK_CANCELLED;
@@ -257,6 +258,16 @@ uint32_t program_wait_stranded(unsigned *process, uint32_t d, const request *ask
     end_wait(&here);
     --the_program.stranded;
     return answer;
+}
+
+uint32_t program_wait(unsigned *process, uint32_t d, const request *asked, yak_message *message, int *cancelling)
+{
+    uint32_t answer;
+    *process = program_choose(d);
+    if (*process == HOME)
+        return wait_stranded(process, d, asked, message, cancelling);
+    answer = begin(*process, d, asked, message);
+    return answer == YAK_WAITS ? wait_with(*process, d, asked, message, cancelling) : answer;
 }
 
 /* A thread that waits can't act on its cancellation by itself: it would lose a message that is handed to it at that moment. So it is told, and
