@@ -227,6 +227,7 @@ static void *yak_seed_run(void *of)
 int yak_seed_create(pthread_t *thread, const pthread_attr_t *attr, void *(*run)(void *), void *with)
 {
     yak_seed_start *it;
+    yak_seat *seat;
     int error;
     if (!yak_seeds.decides)
         return YAK_REAL(pthread_create)(thread, attr, run, with);
@@ -235,11 +236,13 @@ int yak_seed_create(pthread_t *thread, const pthread_attr_t *attr, void *(*run)(
     it->run = run;
     it->with = with;
     it->number = yak_seeds.used;
+    seat = &yak_seeds.seats[it->number];
     YAK_REAL(pthread_mutex_lock)(&yak_seeds.lock);
-    yak_seeds.seats[it->number].state = YAK_SEAT_READY;
-    error = YAK_REAL(pthread_create)(&yak_seeds.seats[it->number].thread, attr, yak_seed_run, it);
+    seat->state = YAK_SEAT_READY;
+    /* The thread frees what it was started with. */
+    error = YAK_REAL(pthread_create)(&seat->thread, attr, yak_seed_run, it);
     if (error == 0) {
-        *thread = yak_seeds.seats[it->number].thread;
+        *thread = seat->thread;
         ++yak_seeds.used;
     } else {
         free(it);
