@@ -33,10 +33,10 @@ pub struct Trial {
     pub budget: u64,
 }
 
-/// The report, within ten million steps.
+/// The report, within five million steps.
 pub const REPORT: Trial = Trial {
     journal: None,
-    budget: 10_000_000,
+    budget: 5_000_000,
 };
 
 /// What the orders of a script come to.

@@ -36,7 +36,7 @@ usage: mqlog TASK
          takes at most N steps, both in either order do both
   orders tries every order of the calls of the script on the standard input: writes what they come to (status 5 if an order ends in
          a deadlock, 6 if the budget was used up and none was found): orders --journal K writes instead the journal of the outcome
-         or deadlock K (status 1 if there is none), orders --budget N takes at most N steps in place of 10000000, about ten seconds
+         or deadlock K (status 1 if there is none), orders --budget N takes at most N steps in place of 5000000, about ten seconds
          of work, both in either order do both
 ";
 
