@@ -43,6 +43,19 @@ impl Queues {
         Ok(Queues { queues })
     }
 
+    /// How many queues there are.
+    pub fn count(&self) -> usize {
+        self.queues.len()
+    }
+
+    /// The priorities and kinds of the messages of a queue, in the order in which they are received.
+    pub fn messages(&self, queue: usize) -> &[(u32, usize)] {
+        match self.queues.get(queue) {
+            Some(contents) => contents.messages.as_slice(),
+            None => &[],
+        }
+    }
+
     /// The task can take effect.
     pub fn allow(&self, task: &Task) -> bool {
         let Some(queue) = self.queues.get(task.queue) else {

@@ -7,6 +7,9 @@ use crate::windows::{Guess, Windows};
 use std::alloc::{AllocError, Global};
 use std::collections::HashSet;
 
+// How many lessons a guide draws at most.
+const LESSONS: usize = 40;
+
 // How many calls of a process are looked at, from its next one on, for those that must come first.
 const AHEAD: usize = 32;
 
@@ -20,6 +23,24 @@ pub struct Guide {
     // how many messages of each kind were sent
     sent: Vec<usize>,
     queues: Queues,
+    lessons: Vec<Lesson>,
+}
+
+// A message by its kind, and by how many of that kind were sent before.
+type Numbered = (usize, usize);
+
+// What was learned where no call could come next: the first message is to be sent before the other one.
+#[derive(Clone, Copy, PartialEq, Eq)]
+struct Lesson {
+    first: Numbered,
+    other: Numbered,
+}
+
+// What a search came to: an order, or what can be learned from its longest dead end.
+#[derive(Drop)]
+enum Trial {
+    Found(Vec<usize>),
+    Stuck(Option<Lesson>),
 }
 
 // When a call is to be tried of those that can come next.
@@ -62,18 +83,59 @@ impl Guide {
             made,
             sent,
             queues,
+            lessons: Vec::new(alloc),
         })
     }
 
-    /// The processes in an order in which their calls can take effect, if one is found within so many steps.
+    /// The processes in an order in which their calls can take effect, if one is found: by short searches, each with what the ones before
+    /// taught, and by one of so many steps.
     pub fn order(&mut self, alloc: Global, steps: u64) -> Result<Option<Vec<usize>>, AllocError> {
+        let short = self.call_count().saturating_mul(2).saturating_add(2000);
+        for _ in 0..LESSONS {
+            match self.search(alloc, short.min(steps))? {
+                Trial::Found(order) => return Ok(Some(order)),
+                Trial::Stuck(Some(lesson)) => self.lessons.push(lesson)?,
+                Trial::Stuck(None) => break,
+            }
+        }
+        self.lessons.clear();
+        match self.search(alloc, steps)? {
+            Trial::Found(order) => Ok(Some(order)),
+            Trial::Stuck(_) => Ok(None),
+        }
+    }
+
+    fn call_count(&self) -> u64 {
+        let mut count: u64 = 0;
+        for tasks in &self.tasks {
+            count = count.saturating_add(tasks.len() as u64);
+        }
+        count
+    }
+
+    // Back to where no call has taken effect.
+    fn restart(&mut self, alloc: Global) -> Result<(), AllocError> {
+        let made = vec![in alloc; 0usize; self.made.len()]?;
+        let sent = vec![in alloc; 0usize; self.sent.len()]?;
+        let queues = Queues::new(alloc, self.queues.count())?;
+        self.made = made;
+        self.sent = sent;
+        self.queues = queues;
+        Ok(())
+    }
+
+    // A search from the start on, in so many steps.
+    fn search(&mut self, alloc: Global, steps: u64) -> Result<Trial, AllocError> {
+        self.restart(alloc)?;
+        let mut longest = 0;
+        let mut lesson = None;
         let mut dead: HashSet<u64> = HashSet::new(alloc);
         let mut path: Vec<Move> = Vec::new(alloc);
         let mut choices = self.choices(alloc)?;
         let mut tried = 0;
         for _ in 0..steps {
             if self.is_through() {
-                return Ok(Some(processes_of(alloc, &path)?));
+                return Ok(Trial::Found(processes_of(alloc, &path)?));
             }
             match choices.get(tried) {
                 Some((_, process)) => {
@@ -94,9 +156,13 @@ impl Guide {
                     }
                 }
                 None => {
+                    if path.len() > longest {
+                        longest = path.len();
+                        lesson = self.lesson(alloc)?;
+                    }
                     let _added = dead.insert(self.digest())?;
                     let Some(last) = path.pop() else {
-                        return Ok(None);
+                        return Ok(Trial::Stuck(lesson));
                     };
                     let Move {
                         process,
@@ -110,7 +176,7 @@ impl Guide {
                 }
             }
         }
-        Ok(None)
+        Ok(Trial::Stuck(lesson))
     }
 
     // The next task of a process.
@@ -222,12 +288,25 @@ impl Guide {
     // Some call of the queue that begins before the send ends must come before it.
     fn must_wait(&self, task: &Task) -> bool {
         let received = self.received_from(task);
-        (0..self.made.len()).any(|process| {
-            self.ahead(process).iter().any(|one| {
-                one.begin <= task.end
-                    && one.queue == task.queue
-                    && self.comes_first(one, task, received)
+        self.is_too_early(task)
+            || (0..self.made.len()).any(|process| {
+                self.ahead(process).iter().any(|one| {
+                    one.begin <= task.end
+                        && one.queue == task.queue
+                        && self.comes_first(one, task, received)
+                })
             })
+    }
+
+    // A message that was learned to be sent before this one was not sent.
+    fn is_too_early(&self, task: &Task) -> bool {
+        let number = (task.kind, self.sent_of(task));
+        self.lessons.iter().any(|lesson| {
+            lesson.other == number
+                && match self.sent.get(lesson.first.0) {
+                    Some(sent) => *sent <= lesson.first.1,
+                    None => false,
+                }
         })
     }
 
@@ -278,6 +357,117 @@ impl Guide {
 
     fn sent_of(&self, task: &Task) -> usize {
         self.sent.get(task.kind).copied().unwrap_or(0)
+    }
+
+    // What can be learned of a call that can't come next and whose end the others wait for.
+    fn lesson(&self, alloc: Global) -> Result<Option<Lesson>, AllocError> {
+        let limit = self.limit();
+        for process in 0..self.made.len() {
+            if let Some(task) = self.next(process)
+                && task.end == limit
+            {
+                let messages = self.numbered(alloc, task.queue)?;
+                return Ok(match task.effect {
+                    Effect::Receives => self.in_front(&messages, task.kind),
+                    Effect::Sends => match self.room_in_front(&messages, task.queue, limit) {
+                        Some(lesson) => Some(lesson),
+                        None => self.room_behind(&messages, task, limit),
+                    },
+                    _ => None,
+                });
+            }
+        }
+        Ok(None)
+    }
+
+    // The messages of a queue with their priorities, in the order in which they are received.
+    fn numbered(&self, alloc: Global, queue: usize) -> Result<Vec<(u32, Numbered)>, AllocError> {
+        let mut numbers = self.sent.as_slice().to_vec(alloc)?;
+        let messages = self.queues.messages(queue);
+        for (_, kind) in messages {
+            if *kind < numbers.len() {
+                numbers[*kind] = numbers[*kind].saturating_sub(1);
+            }
+        }
+        let mut numbered = Vec::new(alloc);
+        for (prio, kind) in messages {
+            if *kind < numbers.len() {
+                numbered.push((*prio, (*kind, numbers[*kind])))?;
+                numbers[*kind] = numbers[*kind].saturating_add(1);
+            }
+        }
+        Ok(numbered)
+    }
+
+    // The first message of a kind is to be sent before the one in front, which has its priority.
+    fn in_front(&self, messages: &[(u32, Numbered)], kind: usize) -> Option<Lesson> {
+        let (head_prio, head) = messages.first()?;
+        let (prio, first) = messages.iter().find(|message| (message.1).0 == kind)?;
+        if prio != head_prio {
+            return None;
+        }
+        self.if_new(Lesson {
+            first: *first,
+            other: *head,
+        })
+    }
+
+    // A message that can be received next is to be sent before the one in front, so that there is room.
+    fn room_in_front(
+        &self,
+        messages: &[(u32, Numbered)],
+        queue: usize,
+        limit: u64,
+    ) -> Option<Lesson> {
+        let mut best = None;
+        let mut least = u64::MAX;
+        for process in 0..self.made.len() {
+            if let Some(task) = self.next(process)
+                && task.effect == Effect::Receives
+                && task.queue == queue
+                && task.begin <= limit
+                && task.end < least
+                && let Some(lesson) = self.in_front(messages, task.kind)
+            {
+                least = task.end;
+                best = Some(lesson);
+            }
+        }
+        best
+    }
+
+    // A message is to be sent before one whose send may come after it, so that there is room.
+    fn room_behind(&self, messages: &[(u32, Numbered)], task: &Task, limit: u64) -> Option<Lesson> {
+        let mut best = None;
+        let mut most = limit;
+        for (_, number) in messages {
+            let end = self.windows.sent_by(number.0, number.1);
+            if end > most
+                && number.0 != task.kind
+                && let Some(lesson) = self.if_new(Lesson {
+                    first: (task.kind, self.sent_of(task)),
+                    other: *number,
+                })
+            {
+                most = end;
+                best = Some(lesson);
+            }
+        }
+        best
+    }
+
+    // A lesson about two messages of which none was drawn.
+    fn if_new(&self, lesson: Lesson) -> Option<Lesson> {
+        let turned = Lesson {
+            first: lesson.other,
+            other: lesson.first,
+        };
+        let is_old = lesson.first == lesson.other
+            || self
+                .lessons
+                .iter()
+                .any(|one| *one == lesson || *one == turned);
+        if is_old { None } else { Some(lesson) }
     }
 
     // Lets the next call of a process take effect.
