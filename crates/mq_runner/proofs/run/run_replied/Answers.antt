@@ -31,7 +31,7 @@ pub returns-clause-ran : goal.returns-clause-ran
 returns-clause-ran g c =
     let shares = c.in_ok-shares.shares.items in let workers = c.in_ok-workers.workers.items in let text = c.in_ok-text.text.items in
     let is : text ≡ text_in workers = rw c.as_slice.ensures.value at c.in_ok-text.ensures in
-      phase-done (said_calls c.args.calls.now) shares workers c.args.processes.items c.in_ok-processes.processes.items text c.in_ok-workers.ensures.through c.in_ok-shares.ensures.calls c.in_ok-shares.ensures.processes c.in_ok-processes.ensures is
+    phase-done (said_calls c.args.calls.now) shares workers c.args.processes.items c.in_ok-processes.processes.items text c.in_ok-workers.ensures.through c.in_ok-shares.ensures.calls c.in_ok-shares.ensures.processes c.in_ok-processes.ensures is
 
 pub returns-in_err-workers-clause-deadlock : goal.returns-in_err-workers-clause-deadlock
 returns-in_err-workers-clause-deadlock g c = λ lines failed.
