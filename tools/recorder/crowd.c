@@ -1,15 +1,19 @@
 /* Threads that call the system's message queues at random, so that their history can be recorded and judged (tools/histories).
-   usage: crowd SEED THREADS CALLS
+   usage: crowd SEED THREADS CALLS [forked]
    Each thread opens the one queue twice, once without waiting, and makes that many calls. The same seed makes the same calls, in whatever
-   order their threads come to them. */
+   order their threads come to them. With the fourth word each is a forked child. */
 #define _GNU_SOURCE
 #include <errno.h>
 #include <fcntl.h>
 #include <mqueue.h>
 #include <pthread.h>
+#include <stdbool.h>
 #include <stdint.h>
 #include <stdio.h>
 #include <stdlib.h>
+#include <string.h>
+#include <sys/mman.h>
+#include <sys/wait.h>
 #include <time.h>
 #include <unistd.h>
 
@@ -17,7 +21,7 @@ enum { MOST_THREADS = 31, MESSAGE = 16 };
 
 static char name[64];
 static unsigned long seed, threads, calls;
-static pthread_barrier_t start;
+static pthread_barrier_t *start;
 
 /* The next number of a thread, by xorshift. */
 static uint64_t next(uint64_t *state) {
@@ -60,17 +64,41 @@ static void *work(void *number) {
         perror("mq_open");
         exit(1);
     }
-    pthread_barrier_wait(&start);
+    pthread_barrier_wait(start);
     for (unsigned long place = 0; place < calls; place++) call(waits, hurries, &state, thread, place);
     mq_close(waits);
     mq_close(hurries);
     return NULL;
 }
 
-int main(int count, char **words) {
+/* Starts the threads, or children, and waits for their end. */
+static int run(bool forked) {
     pthread_t workers[MOST_THREADS];
+    int failed = 0, status;
+    for (unsigned long thread = 0; thread < threads; thread++) {
+        if (!forked) {
+            if (pthread_create(&workers[thread], NULL, work, (void *)(uintptr_t)thread)) exit(1);
+            continue;
+        }
+        pid_t child = fork();
+        if (child < 0) exit(1);
+        if (!child) {
+            work((void *)(uintptr_t)thread);
+            _exit(0);
+        }
+    }
+    for (unsigned long thread = 0; thread < threads; thread++) {
+        if (!forked) pthread_join(workers[thread], NULL);
+        else if (wait(&status) < 0 || status) failed = 1;
+    }
+    return failed;
+}
+
+int main(int count, char **words) {
     struct mq_attr limits = {.mq_maxmsg = 4, .mq_msgsize = MESSAGE};
-    if (count != 4) return 2;
+    pthread_barrierattr_t shared;
+    bool forked = count == 5 && !strcmp(words[4], "forked");
+    if (count != 4 && !forked) return 2;
     seed = strtoul(words[1], NULL, 10);
     threads = strtoul(words[2], NULL, 10);
     calls = strtoul(words[3], NULL, 10);
@@ -81,12 +109,13 @@ int main(int count, char **words) {
         perror("mq_open");
         return 1;
     }
-    pthread_barrier_init(&start, NULL, (unsigned)threads);
-    for (unsigned long thread = 0; thread < threads; thread++) {
-        if (pthread_create(&workers[thread], NULL, work, (void *)(uintptr_t)thread)) return 1;
-    }
-    for (unsigned long thread = 0; thread < threads; thread++) pthread_join(workers[thread], NULL);
+    start = mmap(NULL, sizeof *start, PROT_READ | PROT_WRITE, MAP_SHARED | MAP_ANONYMOUS, -1, 0);
+    if (start == MAP_FAILED) return 1;
+    pthread_barrierattr_init(&shared);
+    pthread_barrierattr_setpshared(&shared, PTHREAD_PROCESS_SHARED);
+    pthread_barrier_init(start, &shared, (unsigned)threads);
+    int failed = run(forked);
     mq_unlink(name);
     mq_close(first);
-    return 0;
+    return failed;
 }
