@@ -4,13 +4,13 @@ ghost use Rattle.std.specs.Prelude.{◌≡◌, true};
 ghost use Rattle.mq.specs.Calls.{IsFree};
 ghost use Rattle.mq_model.specs.Deadlines.{is_moment};
 
-use lines::output::write_all;
+use journal_format::text::write_journal;
 use mq::{Attr, Clock, Deadline, FastMq, FastProcess, Fault, Name, OpenFlags};
-use mq_journal::text::write_journal;
 use std::alloc::Global;
 use std::io;
 use std::io::Print;
 use std::sync::Wait;
+use text_io::output::write_all;
 
 /// How many events are simulated.
 const EVENTS: u32 = 16;

@@ -1,12 +1,12 @@
 // A test of somebody's code that no run has to be lucky for. Two writers share a pen and a sheet of paper, each the one message of a queue.
 // One takes the pen first, the other the paper. Almost each run ends well; every order of their calls is tried, and one is a deadlock.
-use lines::output::write_all;
-use mq_orders::orders::{outcomes_of, play_of};
-use mq_orders::report::report_text;
-use mq_script::script::read_script;
+use script_orders::orders::{outcomes_of, play_of};
+use script_orders::report::report_text;
+use script_text::script::read_script;
 use std::alloc::Global;
 use std::io;
 use std::io::Print;
+use text_io::output::write_all;
 
 /// The calls of both writers, as a script.
 const WRITERS: &[u8] = b"\

@@ -6,10 +6,3 @@ pub use mq_checker::checker;
 pub use mq_checker::checker::check_history;
 pub use mq_laws as laws;
 pub use mq_model::{clock, entries, faults, journals, names, owners, registrations};
-
-#[cfg(test)]
-mod histories;
-#[cfg(test)]
-mod same;
-#[cfg(test)]
-mod tests;

@@ -1,10 +1,11 @@
 //! Measures a workload of message queue calls, which one line of the standard input names.
 #![tactic(auto)]
 
+mod run;
 #[cfg(test)]
 mod tests;
 
-use mq_bench::run_line;
+use run::run_line;
 use std::io;
 use std::process::ExitCode;
 

@@ -1,7 +1,7 @@
 //! Each workload with small sizes, and lines that are refused.
-use mq_bench::run_line;
+use crate::run::run_line;
+use bench_line::fault::{BenchFault, WorkFault};
 use mq_model::faults::Fault;
-use mq_requests::fault::{BenchFault, WorkFault};
 use std::alloc::Global;
 use std::sync::Wait;
 use std::thread::Threads;

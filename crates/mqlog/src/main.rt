@@ -5,12 +5,12 @@
 mod tests;
 
 use fast_mutex::FastMutex;
-use mq::Guarded;
-use mq_log::{
+use journal_tasks::{
     Ending, LogFault, Question, Task, Trial, USAGE, Window, check_journal, draw_journal,
     judge_history, record_script, task_of, try_orders,
 };
-use mq_runner::{Plain, RunFault};
+use mq::Guarded;
+use script_runner::{Plain, RunFault};
 use std::alloc::{Alloc, Global};
 use std::io::{Eprint, ErrorKind, Input, Print};
 use std::process::ExitCode;

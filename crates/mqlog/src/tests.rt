@@ -1,10 +1,10 @@
 // Journals as text: what is printed of them, and texts that are none.
-use mq::{Cause, Departure, Fault, Reply};
-use mq_journal::fault::JournalFault;
-use mq_journal::text::{read_journal, write_journal};
-use mq_log::{
+use journal_format::fault::JournalFault;
+use journal_format::text::{read_journal, write_journal};
+use journal_tasks::{
     Counts, LogFault, Task, Verdict, WHOLE, Window, check_journal, draw_journal, task_of,
 };
+use mq::{Cause, Departure, Fault, Reply};
 use std::alloc::{AllocError, Global};
 use std::io;
 use std::io::{Error, ErrorKind, Read, Write};

@@ -6,7 +6,7 @@ mod tests;
 
 use fast_mutex::FastMutex;
 use mq::Guarded;
-use mq_runner::{Plain, run_script};
+use script_runner::{Plain, run_script};
 use std::io;
 use std::process::ExitCode;
 

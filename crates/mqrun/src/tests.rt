@@ -1,7 +1,7 @@
 // Scripts with the replies that they must have.
 use fast_mutex::FastMutex;
 use mq::Guarded;
-use mq_runner::{Gate, Plain, RunFault, run_script};
+use script_runner::{Gate, Plain, RunFault, run_script};
 use scripts::{BLOCKED_RECEIVES, BLOCKED_SEND, RUNS, Run};
 use std::alloc::Global;
 use std::io::{Read, Write};

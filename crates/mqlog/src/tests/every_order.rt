@@ -1,7 +1,7 @@
 // Every order of the calls of a script: what is written of them, and the journals that lead to it.
 use super::{Narrow, OneByOne, output_of, words_of};
-use mq_log::{Ending, REPORT, Task, Trial, Verdict, task_of, try_orders};
-use mq_runner::RunFault;
+use journal_tasks::{Ending, REPORT, Task, Trial, Verdict, task_of, try_orders};
+use script_runner::RunFault;
 use std::alloc::{AllocError, Global};
 use std::process::Abort;
 use std::test::Fail;

@@ -1,6 +1,6 @@
 // Concurrent histories: what is said of them, and the journals that explain them.
 use super::output_of;
-use mq_log::{LogFault, PLAIN, Question, Verdict, judge_history};
+use journal_tasks::{LogFault, PLAIN, Question, Verdict, judge_history};
 use std::alloc::Global;
 use std::process::Abort;
 

@@ -1,5 +1,5 @@
 // Histories whose calls overlap: simulated ones, and all orders of small ones.
-use mq_log::{Question, judge_history};
+use journal_tasks::{Question, judge_history};
 use std::alloc::{AllocError, Global};
 use std::test::Fail;
 

@@ -1,6 +1,6 @@
 //! Pictures of journals that have waits and messages over their edges, many processes, or many entries.
 use super::Fail;
-use mq_log::{LogFault, WHOLE, Window, draw_journal};
+use journal_tasks::{LogFault, WHOLE, Window, draw_journal};
 use std::alloc::Global;
 use std::process::Abort;
 use std::rt::HostRuntime;

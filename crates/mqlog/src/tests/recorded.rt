@@ -1,10 +1,10 @@
 // Scripts with the text of their journals.
 use super::output_of;
 use fast_mutex::FastMutex;
+use journal_format::text::{read_journal, write_journal};
+use journal_tasks::{Verdict, record_script};
 use mq::Guarded;
-use mq_journal::text::{read_journal, write_journal};
-use mq_log::{Verdict, record_script};
-use mq_runner::{Plain, RunFault};
+use script_runner::{Plain, RunFault};
 use std::alloc::Global;
 use std::sync::Wait;
 use std::test::Fail;

@@ -1,7 +1,7 @@
 // Scripts with deadlines, and the moments of their phases.
 use super::scripts::Run;
 use super::{expect_replies, output_of};
-use mq_runner::RunFault;
+use script_runner::RunFault;
 use std::test::Fail;
 
 // At the moment of the deadline it has passed, and one second later not; but a call that can be done at once is done.

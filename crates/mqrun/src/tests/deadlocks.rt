@@ -1,7 +1,7 @@
 // Scripts that can't go on, and those that can by one call more.
 use super::scripts::Run;
 use super::{expect_replies, output_at, output_of};
-use mq_runner::{Gate, RunFault};
+use script_runner::{Gate, RunFault};
 use std::alloc::Global;
 use std::process::Abort;
 use std::sync::Wait;

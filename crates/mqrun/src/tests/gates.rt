@@ -1,7 +1,7 @@
 // Gates at which the processes of a phase meet.
 use super::output_at;
 use crossbeam_utils::Backoff;
-use mq_runner::Gate;
+use script_runner::Gate;
 use std::sync::atomic::{AtomicU64, Ordering};
 use std::test::Fail;
 

@@ -1,7 +1,7 @@
 // The limits of a script, and the lines that are at fault.
 use super::scripts::{EQUAL_PRIORITIES, NOTICES, Run};
 use super::{Lamport, expect_output, output_of};
-use mq_runner::{Plain, RunFault, script_journal};
+use script_runner::{Plain, RunFault, script_journal};
 use std::alloc::{AllocError, Global};
 use std::test::Fail;
 

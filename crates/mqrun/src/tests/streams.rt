@@ -1,7 +1,7 @@
 // Readers and writers that fail, give one byte at a time, or do not end.
 use super::run;
 use super::scripts::{EQUAL_PRIORITIES, NOTICES, Run, TWO_PROCESSES};
-use mq_runner::{Gate, Plain, RunFault};
+use script_runner::{Gate, Plain, RunFault};
 use std::alloc::Global;
 use std::io;
 use std::io::{Error, ErrorKind, Read, Write};

@@ -1,0 +1,104 @@
+//! The calls that workloads are made of.
+ghost use Rattle.std.specs.Prelude.{◌≡◌, OnOk};
+ghost use Rattle.bench_workloads.specs.Ready.{IsReady};
+
+use crate::course::{Course, DEADLINE};
+use bench_line::fault::WorkFault;
+use fast_mutex::Look;
+use mq::{Guarded, Mq, Process};
+use mq_model::entries::{Access, Attr, OpenFlags};
+use mq_model::names::Name;
+use std::sync::Wait;
+use std::time::Clock;
+
+/// How many bytes each message has.
+pub const MESSAGE_SIZE: usize = 16;
+
+/// A message.
+pub const MESSAGE: [u8; MESSAGE_SIZE] = *b"sixteen bytes ..";
+
+/// Opens a queue for sends and receives that may wait, which it creates with this depth where there is none.
+pub fn open<L: Look<Guarded>, R: Wait>(
+    rt: &R,
+    mq: &Mq<L>,
+    process: &mut Process<L>,
+    name: &[u8],
+    depth: u32,
+) -> Result<u32, WorkFault>
+    requires ready { IsReady mq.now process.old }
+    ensures ready { IsReady mq.now process.new }
+{
+    let name = Name::read(name)?;
+    let flags = OpenFlags {
+        access: Access::Both,
+        create: true,
+        excl: false,
+        nonblock: false,
+    };
+    let attr = Attr {
+        maxmsg: i64::from(depth),
+        msgsize: MESSAGE_SIZE as i64,
+    };
+    Ok(process.open(rt, mq, &name, flags, Some(attr))?)
+}
+
+/// Sends a message of 16 bytes.
+#[inline(always)]
+pub fn send<L: Look<Guarded>, R: Wait + Clock>(
+    rt: &R,
+    mq: &Mq<L>,
+    process: &mut Process<L>,
+    d: u32,
+    prio: u32,
+) -> Result<(), WorkFault>
+    requires ready { IsReady mq.now process.old }
+    ensures ready { IsReady mq.now process.new }
+{
+    Ok(process.send(rt, mq, d, &MESSAGE, prio)?)
+}
+
+/// Receives a message.
+#[inline(always)]
+pub fn receive<L: Look<Guarded>, R: Wait + Clock>(
+    rt: &R,
+    mq: &Mq<L>,
+    process: &mut Process<L>,
+    d: u32,
+) -> Result<(), WorkFault>
+    requires ready { IsReady mq.now process.old }
+    ensures ready { IsReady mq.now process.new }
+{
+    let mut buffer = [0; MESSAGE_SIZE];
+    process.receive(rt, mq, d, &mut buffer)?;
+    Ok(())
+}
+
+/// Sends a message of 16 bytes, and waits as long as the run goes on.
+pub fn send_in<L: Look<Guarded>, R: Wait + Clock>(
+    rt: &R,
+    mq: &Mq<L>,
+    process: &mut Process<L>,
+    course: &Course,
+    d: u32,
+) -> Result<(), WorkFault>
+    requires ready { IsReady mq.now process.old }
+    ensures ready { IsReady mq.now process.new }
+{
+    Ok(process.timed_send(rt, mq, d, &MESSAGE, 0, DEADLINE, course)?)
+}
+
+/// Receives a message, and waits as long as the run goes on.
+pub fn receive_in<L: Look<Guarded>, R: Wait + Clock>(
+    rt: &R,
+    mq: &Mq<L>,
+    process: &mut Process<L>,
+    course: &Course,
+    d: u32,
+) -> Result<(), WorkFault>
+    requires ready { IsReady mq.now process.old }
+    ensures ready { IsReady mq.now process.new }
+{
+    let mut buffer = [0; MESSAGE_SIZE];
+    process.timed_receive(rt, mq, d, &mut buffer, DEADLINE, course)?;
+    Ok(())
+}

@@ -1,0 +1,63 @@
+//! Workloads of processes that take two parts in turn, each process in a thread of its own.
+ghost use Rattle.std.specs.Prelude.{◌≡◌};
+ghost use Rattle.std.specs.List.{All};
+ghost use Rattle.bench_workloads.specs.Ready.{IsReady};
+
+use crate::course::Course;
+use crate::made::make;
+use crate::members::{Part, start_members};
+use bench_line::fault::WorkFault;
+use fast_mutex::Look;
+use mq::{Guarded, Mq, Process};
+use mq_model::bounds::Bounds;
+use std::alloc::Global;
+use std::sync::Wait;
+use std::thread;
+use std::thread::Threads;
+use std::time::{Clock, Duration, Instant};
+
+/// So many processes over a fresh system, which take the two parts in turn, each so many rounds and in a thread of its own. Gives
+/// the time from the start of the first thread until all had ended.
+pub fn crowd<L: Look<Guarded> + Sync, R: Wait + Threads + Clock + Sync>(
+    rt: &R,
+    alloc: Global,
+    bounds: Option<Bounds>,
+    count: u32,
+    parts: (Part, Part),
+    rounds: u32,
+) -> Result<Duration, WorkFault>
+where
+    L::Seat: Send,
+    L::Walk: Send,
+{
+    let (mq, processes) = make::<L>(alloc, count, bounds)?;
+    let course = Course::new();
+    let start = Instant::now(rt)?;
+    in_threads(rt, &mq, &course, processes, parts, rounds)?;
+    let time = start.elapsed(rt)?;
+    course.outcome()?;
+    Ok(time)
+}
+
+// Starts the threads, which have all ended when it returns.
+fn in_threads<L: Look<Guarded> + Sync, R: Wait + Threads + Clock + Sync>(
+    rt: &R,
+    mq: &Mq<L>,
+    course: &Course,
+    processes: Vec<Process<L>>,
+    parts: (Part, Part),
+    rounds: u32,
+) -> Result<(), WorkFault>
+where
+    L::Seat: Send,
+    L::Walk: Send,
+    requires ready { All (IsReady mq.now) processes.items }
+{
+    thread::scope(
+        thread::scope_env(),
+        rt,
+        |scope| -> Result<(), WorkFault>
+            requires { All (IsReady mq.now) processes.items }
+        { start_members(scope, rt, mq, course, processes, parts, rounds) },
+    )
+}

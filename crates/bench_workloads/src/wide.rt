@@ -1,0 +1,78 @@
+//! The workload of one process beside many others, which have opened many queues.
+ghost use Rattle.std.specs.Prelude.{◌≡◌};
+ghost use Rattle.std.specs.List.{All};
+ghost use Rattle.bench_workloads.specs.Ready.{IsReady};
+
+use crate::alone::{DEPTH, pairs};
+use crate::calls::open;
+use crate::made::make;
+use bench_line::fault::WorkFault;
+use fast_mutex::Look;
+use mq::{Guarded, Mq, Process};
+use mq_model::bounds::Bounds;
+use std::alloc::Global;
+use std::sync::Wait;
+use std::time::{Clock, Duration, Instant};
+
+/// How many processes there are, the most of a system.
+const PROCESSES: u32 = 32;
+
+/// How many descriptors each has.
+const DESCRIPTORS: u32 = 16;
+
+/// How many queues there are.
+const QUEUES: u32 = 64;
+
+/// The descriptor that the last process has of the queue that was created last.
+const LAST: u32 = 1;
+
+/// Sends and receives in turn, so many times each, by the last process of a fresh system of 32, on the last of 64 queues. Gives the time
+/// that this took, without the opens before it.
+pub fn wide<L: Look<Guarded>, R: Wait + Clock>(
+    rt: &R,
+    alloc: Global,
+    bounds: Option<Bounds>,
+    rounds: u32,
+) -> Result<Duration, WorkFault> {
+    let (mq, mut others) = make::<L>(alloc, PROCESSES, bounds)?;
+    let Some(mut process) = others.pop() else {
+        unreachable!()
+    };
+    open_all(rt, &mq, others)?;
+    open_queues(rt, &mq, &mut process)?;
+    let start = Instant::now(rt)?;
+    pairs(rt, &mq, &mut process, LAST, rounds)?;
+    Ok(start.elapsed(rt)?)
+}
+
+// Each of these processes opens its queues, in turn.
+fn open_all<L: Look<Guarded>, R: Wait>(
+    rt: &R,
+    mq: &Mq<L>,
+    processes: Vec<Process<L>>,
+) -> Result<(), WorkFault>
+    requires ready { All (IsReady mq.now) processes.items }
+{
+    for process in processes {
+        let mut process = process;
+        open_queues(rt, mq, &mut process)?;
+    }
+    Ok(())
+}
+
+// Opens the queues of a process, from two to two processes the next two, and registers it on the first of them.
+fn open_queues<L: Look<Guarded>, R: Wait>(
+    rt: &R,
+    mq: &Mq<L>,
+    process: &mut Process<L>,
+) -> Result<(), WorkFault>
+    requires ready { IsReady mq.now process.old }
+    ensures ready { IsReady mq.now process.new }
+{
+    let first = process.number() % PROCESSES * 2;
+    for k in 0..DESCRIPTORS {
+        let queue = (first + k) % QUEUES;
+        open(rt, mq, process, &[b'/', b'0' + queue as u8], DEPTH)?;
+    }
+    Ok(process.notify(rt, mq, 0, Some(u64::from(first)))?)
+}

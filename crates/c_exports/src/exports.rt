@@ -1,0 +1,294 @@
+//! The calls of a process, as C makes them. Where the handle is empty, or its process has or has not an open wait as the call needs
+//! it, or the process does not come inside by this try, nothing has changed.
+ghost use Rattle.std.specs.Prelude.{◌≡◌, Some, None, IfSome, IfNone, [], length, if◌then◌else◌};
+ghost use Rattle.mq_model.specs.declared.entries.Call.{Call};
+ghost use Rattle.mq_model.specs.Fault.{number_of};
+ghost use Rattle.c_handles.specs.Openings.{open_fault, name_fault, flags_of, attr_of, deadline_of};
+ghost use Rattle.mq.specs.Calls.{OneCall, ReceiveCall, Exits};
+ghost use Rattle.mq.specs.Says.{open_says, done_says, attributes_says, notice_says, start_send_says, start_receive_says};
+ghost use Rattle.c_handles.specs.Tries.{Gives, GivesWith};
+ghost use Rattle.c_handles.specs.Endings.{GivesEnd, GivesLook};
+ghost use Rattle.c_handles.specs.Handles.{process_in, under_way_in};
+ghost use Rattle.c_handles.specs.Codes.{told, code_of, written, given_code, given, notice_code, notice_given, sent_code, got_code, message_got, attributes_got, end_code, end_message};
+
+use c_handles::handle::Handle;
+use c_handles::numbers::{self, EMPTY};
+use c_handles::requests::{
+    Attributes, Message, Moment, Opening, limits, read_name, read_open, registration,
+};
+use mq::Status;
+use std::alloc::Global;
+
+/// Opens a queue (`mq_open`) and writes its descriptor. A name or an access that is none is refused before all else.
+#[unsafe(no_mangle)]
+pub extern "C" fn yak_open(
+    alloc: Global,
+    process: &mut Handle,
+    name: &[u8],
+    opening: &Opening,
+    d: &mut u32,
+) -> u32
+    ensures bad { IfSome (open_fault name.now opening.now) (λ fault. (result ≡ number_of fault) × (process.new ≡ process.old) × (d.new ≡ d.old)) }
+    ensures good { IfNone (open_fault name.now opening.now) (Gives (λ old new result. OneCall open_says old new (Call.MqOpen (flags_of opening.now) (attr_of opening.now)) name.now result) (λ t. told (code_of given_code t) (written (given d.old) d.old t)) (process_in process.old) (process_in process.new) (told result d.new)) }
+{
+    let (name, flags) = match read_open(name, opening) {
+        Ok(read) => read,
+        Err(fault) => return fault.number(),
+    };
+    let Some(mut member) = process.take(alloc) else {
+        return EMPTY;
+    };
+    let tried = member.open(&name, flags, limits(opening));
+    process.put(member);
+    numbers::opened(tried, d)
+}
+
+/// Unbinds a name (`mq_unlink`). A name that is none is refused before all else.
+#[unsafe(no_mangle)]
+pub extern "C" fn yak_unlink(alloc: Global, process: &mut Handle, name: &[u8]) -> u32
+    ensures bad { IfSome (name_fault name.now) (λ fault. (result ≡ number_of fault) × (process.new ≡ process.old)) }
+    ensures good { IfNone (name_fault name.now) (Gives (λ old new result. OneCall done_says old new Call.MqUnlink name.now result) (code_of given_code) (process_in process.old) (process_in process.new) result) }
+{
+    let name = match read_name(name) {
+        Ok(name) => name,
+        Err(fault) => return fault.number(),
+    };
+    let Some(mut member) = process.take(alloc) else {
+        return EMPTY;
+    };
+    let tried = member.unlink(&name);
+    process.put(member);
+    numbers::done(tried)
+}
+
+/// Closes a descriptor (`mq_close`).
+#[unsafe(no_mangle)]
+pub extern "C" fn yak_close(alloc: Global, process: &mut Handle, d: u32) -> u32
+    ensures { Gives (λ old new result. OneCall done_says old new (Call.MqClose d) [] result) (code_of given_code) (process_in process.old) (process_in process.new) result }
+{
+    let Some(mut member) = process.take(alloc) else {
+        return EMPTY;
+    };
+    let tried = member.close(d);
+    process.put(member);
+    numbers::done(tried)
+}
+
+/// Registers on the queue of a descriptor with this value, or removes the registration (`mq_notify`).
+#[unsafe(no_mangle)]
+pub extern "C" fn yak_notify(
+    alloc: Global,
+    process: &mut Handle,
+    d: u32,
+    registers: bool,
+    value: u64,
+) -> u32
+    ensures { Gives (λ old new result. OneCall done_says old new (Call.MqNotify d (if registers then Some value else None)) [] result) (code_of given_code) (process_in process.old) (process_in process.new) result }
+{
+    let Some(mut member) = process.take(alloc) else {
+        return EMPTY;
+    };
+    let tried = member.notify(d, registration(registers, value));
+    process.put(member);
+    numbers::done(tried)
+}
+
+/// Writes the attributes of a descriptor (`mq_getattr`).
+#[unsafe(no_mangle)]
+pub extern "C" fn yak_getattr(
+    alloc: Global,
+    process: &mut Handle,
+    d: u32,
+    attributes: &mut Attributes,
+) -> u32
+    ensures { Gives (λ old new result. OneCall attributes_says old new (Call.MqGetattr d) [] result) (λ t. told (code_of given_code t) (written (attributes_got attributes.old) attributes.old t)) (process_in process.old) (process_in process.new) (told result attributes.new) }
+{
+    let Some(mut member) = process.take(alloc) else {
+        return EMPTY;
+    };
+    let tried = member.getattr(d);
+    process.put(member);
+    numbers::attributes(tried, attributes)
+}
+
+/// Sets the flag of a descriptor and writes the attributes from before (`mq_setattr`).
+#[unsafe(no_mangle)]
+pub extern "C" fn yak_setattr(
+    alloc: Global,
+    process: &mut Handle,
+    d: u32,
+    nonblock: bool,
+    before: &mut Attributes,
+) -> u32
+    ensures { Gives (λ old new result. OneCall attributes_says old new (Call.MqSetattr d nonblock) [] result) (λ t. told (code_of given_code t) (written (attributes_got before.old) before.old t)) (process_in process.old) (process_in process.new) (told result before.new) }
+{
+    let Some(mut member) = process.take(alloc) else {
+        return EMPTY;
+    };
+    let set = Status {
+        nonblock,
+        maxmsg: 0,
+        msgsize: 0,
+        curmsgs: 0,
+    };
+    let tried = member.setattr(d, set);
+    process.put(member);
+    numbers::attributes(tried, before)
+}
+
+/// Writes the value of the oldest notice that the process has not taken.
+#[unsafe(no_mangle)]
+pub extern "C" fn yak_next_notice(alloc: Global, process: &mut Handle, value: &mut u64) -> u32
+    ensures { Gives (λ old new result. OneCall notice_says old new Call.NextNotice [] result) (λ t. told (code_of notice_code t) (written (notice_given value.old) value.old t)) (process_in process.old) (process_in process.new) (told result value.new) }
+{
+    let Some(mut member) = process.take(alloc) else {
+        return EMPTY;
+    };
+    let tried = member.next_notice();
+    process.put(member);
+    numbers::notice(tried, value)
+}
+
+/// Closes all descriptors of the process, as the end of a process does.
+#[unsafe(no_mangle)]
+pub extern "C" fn yak_exit(alloc: Global, process: &mut Handle) -> u32
+    ensures { Gives (λ old new result. Exits old new result) (code_of given_code) (process_in process.old) (process_in process.new) result }
+{
+    let Some(mut member) = process.take(alloc) else {
+        return EMPTY;
+    };
+    let tried = member.exit();
+    process.put(member);
+    numbers::done(tried)
+}
+
+/// Sends a message, or begins to wait for its admission (`mq_send`).
+#[unsafe(no_mangle)]
+pub extern "C" fn yak_start_send(
+    alloc: Global,
+    process: &mut Handle,
+    d: u32,
+    bytes: &[u8],
+    prio: u32,
+) -> u32
+    ensures { Gives (λ old new result. OneCall start_send_says old new (Call.MqSend d prio (length bytes.now)) bytes.now result) (code_of sent_code) (process_in process.old) (process_in process.new) result }
+{
+    let Some(mut member) = process.take(alloc) else {
+        return EMPTY;
+    };
+    let tried = member.start_send(d, bytes, prio);
+    process.put(member);
+    numbers::sent(tried)
+}
+
+/// The same at the moment `now`, with a deadline (`mq_timedsend`).
+#[unsafe(no_mangle)]
+pub extern "C" fn yak_start_timed_send(
+    alloc: Global,
+    process: &mut Handle,
+    d: u32,
+    bytes: &[u8],
+    prio: u32,
+    until: &Moment,
+    now: &Moment,
+) -> u32
+    ensures { Gives (λ old new result. OneCall start_send_says old new (Call.MqTimedSend d prio (length bytes.now) (deadline_of until.now) (deadline_of now.now)) bytes.now result) (code_of sent_code) (process_in process.old) (process_in process.new) result }
+{
+    let Some(mut member) = process.take(alloc) else {
+        return EMPTY;
+    };
+    let tried = member.start_timed_send(d, bytes, prio, until.deadline(), now.deadline());
+    process.put(member);
+    numbers::sent(tried)
+}
+
+/// Receives the oldest message of the highest priority into the front of the buffer, or begins to wait for one (`mq_receive`).
+#[unsafe(no_mangle)]
+pub extern "C" fn yak_start_receive(
+    alloc: Global,
+    process: &mut Handle,
+    d: u32,
+    buf: &mut [u8],
+    message: &mut Message,
+) -> u32
+    ensures { GivesWith (buf.new ≡ buf.old) (λ old new result. ReceiveCall start_receive_says old new (Call.MqReceive d (length buf.old)) buf.old buf.new result) (λ t. told (code_of got_code t) (written (message_got message.old) message.old t)) (process_in process.old) (process_in process.new) (told result message.new) }
+{
+    let Some(mut member) = process.take(alloc) else {
+        return EMPTY;
+    };
+    let tried = member.start_receive(d, buf);
+    process.put(member);
+    numbers::got(tried, message)
+}
+
+/// The same at the moment `now`, with a deadline (`mq_timedreceive`).
+#[unsafe(no_mangle)]
+pub extern "C" fn yak_start_timed_receive(
+    alloc: Global,
+    process: &mut Handle,
+    d: u32,
+    buf: &mut [u8],
+    message: &mut Message,
+    until: &Moment,
+    now: &Moment,
+) -> u32
+    ensures { GivesWith (buf.new ≡ buf.old) (λ old new result. ReceiveCall start_receive_says old new (Call.MqTimedReceive d (length buf.old) (deadline_of until.now) (deadline_of now.now)) buf.old buf.new result) (λ t. told (code_of got_code t) (written (message_got message.old) message.old t)) (process_in process.old) (process_in process.new) (told result message.new) }
+{
+    let Some(mut member) = process.take(alloc) else {
+        return EMPTY;
+    };
+    let tried = member.start_timed_receive(d, buf, until.deadline(), now.deadline());
+    process.put(member);
+    numbers::got(tried, message)
+}
+
+/// Ends the open wait, if it is answered: a message that was received lies in the front of the buffer then.
+#[unsafe(no_mangle)]
+pub extern "C" fn yak_collect(
+    alloc: Global,
+    process: &mut Handle,
+    buf: &mut [u8],
+    message: &mut Message,
+) -> u32
+    ensures { GivesEnd None (λ e. told (end_code e) (end_message message.old e)) (process_in process.old) (process_in process.new) buf.old buf.new (told result message.new) }
+{
+    let Some(mut member) = process.take(alloc) else {
+        return EMPTY;
+    };
+    let tried = member.collect(buf);
+    process.put(member);
+    numbers::ended(tried, message)
+}
+
+/// Ends the open wait, whose deadline has passed at the moment `now`: as `yak_collect` where it is answered, and else it is withdrawn.
+#[unsafe(no_mangle)]
+pub extern "C" fn yak_end_wait(
+    alloc: Global,
+    process: &mut Handle,
+    buf: &mut [u8],
+    message: &mut Message,
+    now: &Moment,
+) -> u32
+    ensures { GivesEnd (Some (deadline_of now.now)) (λ e. told (end_code e) (end_message message.old e)) (process_in process.old) (process_in process.new) buf.old buf.new (told result message.new) }
+{
+    let Some(mut member) = process.take(alloc) else {
+        return EMPTY;
+    };
+    let tried = member.end_wait(buf, now.deadline());
+    process.put(member);
+    numbers::ended(tried, message)
+}
+
+/// Looks from outside the lock whether the open wait is answered, which takes one load.
+#[unsafe(no_mangle)]
+pub extern "C" fn yak_answered(alloc: Global, process: &mut Handle) -> u32
+    ensures look { GivesLook (under_way_in process.old) (process_in process.old) (process_in process.new) result }
+    ensures under_way { under_way_in process.new ≡ under_way_in process.old }
+{
+    let Some(mut member) = process.take(alloc) else {
+        return EMPTY;
+    };
+    let looked = member.answered();
+    process.put(member);
+    numbers::looked(looked)
+}

@@ -1,0 +1,37 @@
+-- A handle may cross threads: its member may, and the heap's right to free names no thread.
+use base.Fraction.{full_share}
+use base.Shift.{Keyless}
+use mir.Raw.{raw}
+use denote.Exit.{Exit, unchanged, leaves, hidden, under}
+use denote.Memory.{lone}
+use denote.RattleType.{RattleType}
+use denote.RawPtr.{Ptr, block_ptr, null_ptr, lies_at}
+use denote.Struct.Struct.{exits_of}
+use denote.Struct.Owning.{shape, fields, to}
+use denote.Param.Send.{IsSend, AllSend, Quiet, part_keyless, owning_send, struct_send, sendable}
+use Rattle.std.specs.Prelude.{Option, Some, None}
+use Rattle.std.specs.Global.{Global}
+use Rattle.std.proofs.Crossing as heap
+use Rattle.std.proofs.alloc.Global.TheSendSync as handle
+use Rattle.c_handles.specs.Owning.{seal_owns}
+use Rattle.c_handles.specs.contracts.member.Member as Member
+use Rattle.c_handles.proofs.member.Member.TheSendSync.{the_send as member}
+use Rattle.c_handles.specs.contracts.seal.Seal.{the_row, the_type}
+
+quiet : {D X : Type 0} (to : D → X) (e : Exit X) → Quiet e → Quiet (hidden (under to e))
+quiet to unchanged q = λ x w. tt
+quiet to (leaves L l S s r₀) q = λ d. q (to d)
+
+lies : (R : RattleType) → IsSend R → (p : Ptr) (x : R.Denot) → Keyless (lies_at R full_share p x)
+lies R s (block_ptr b o) x = part_keyless R s full_share x b o
+lies R s null_ptr x = tt
+
+owned : (a : Global) (p : Ptr) (m : Option (Member.the_row).Denot) → Keyless (seal_owns a p m)
+owned a p None = tt
+owned a p (Some d) = (lies Member.the_row member p d, heap.frees.frees a (raw (lone (Member.the_row).mir)) p)
+
+pub send : IsSend the_row
+send =
+    let all : AllSend (fields the_type) = (search sendable, (handle.the_field_send, tt)) in
+    owning_send the_type all (λ d. owned d.alloc d.at d.member)
+    (λ k. quiet (to the_type) (exits_of k (fields the_type)) ((struct_send (shape the_type) all).leaving k))

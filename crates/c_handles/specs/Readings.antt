@@ -1,0 +1,72 @@
+-- What reading the journal leaves and gives.
+use Rattle.std.specs.Prelude.{ℕ, ◌≡◌, ◌⊎◌, nat_le, List, [], length, take, Option, Some, None, if◌then◌else◌}
+use Rattle.fast_mutex.specs.Items.{Ticket}
+use Rattle.mq_model.specs.Record.{Record, record_at}
+use Rattle.mq_model.specs.declared.bounds.Bounds.{Bounds}
+use Rattle.mq_state.specs.Buffers.{with_front}
+use Rattle.mq_state.specs.Room.{NobodyCanCall, room_left}
+use Rattle.journal_format.specs.Text.{line_text}
+use Rattle.mq.specs.Calls.{Calls, bounds_of}
+use Rattle.c_handles.specs.declared.requests.Room.{Room}
+
+-- a check that came inside says that the journal is legal, 0, and made no call
+abbrev pub Checks : Option (Ticket Record) → Option (Ticket Record) → ℕ → Type 0
+Checks None None code = code ≡ 18
+Checks (Some old) (Some new) code = ((code ≡ 0) × Calls old new []) ⊎ ((code ≡ 16) × (new ≡ old))
+Checks None (Some new) code = ⊥
+Checks (Some old) None code = ⊥
+
+-- a buffer that held `before` and a length have these now, and this number is returned
+pub record Wrote : Type 0 where
+  pub before : List ℕ
+  pub after : List ℕ
+  pub len_before : ℕ
+  pub len : ℕ
+  pub code : ℕ
+
+-- nothing was written
+pub record IsUntouched (w : Wrote) (code : ℕ) : Type 0 where
+  pub text : w.after ≡ w.before
+  pub same_len : w.len ≡ w.len_before
+  pub code_is : w.code ≡ code
+
+-- the front of the buffer has the line, or as much of it as there is room for, and the length is that of the line: 0, or 21 where that is
+-- more than the buffer has room for
+pub record WritesLine (line : List ℕ) (w : Wrote) : Type 0 where
+  pub text : w.after ≡ with_front (take (length w.before) line) w.before
+  pub len_is : w.len ≡ length line
+  pub code_is : w.code ≡ (if nat_le (length line) (length w.before) then 0 else 21)
+
+-- the line of the record at a place, or 25 for none
+abbrev pub WritesRecord : ℕ → Option Record → Wrote → Type 0
+WritesRecord place None w = IsUntouched w 25
+WritesRecord place (Some r) w = WritesLine (line_text place r) w
+
+-- a reading that came inside made no call, and wrote the line of the record at the place; or memory for that was refused, 11
+abbrev pub ReadsAt : ℕ → Option (Ticket Record) → Option (Ticket Record) → Wrote → Type 0
+ReadsAt place None None w = IsUntouched w 18
+ReadsAt place (Some old) (Some new) w =
+    (Calls old new [] × WritesRecord place (record_at new.left place) w) ⊎ (Calls old new [] × IsUntouched w 11) ⊎ ((new ≡ old) × IsUntouched w 16)
+ReadsAt place None (Some new) w = ⊥
+ReadsAt place (Some old) None w = ⊥
+
+-- the room as C sees it: without bounds all that the numbers can say
+abbrev pub room_shown : Option Bounds → Room
+room_shown None = record { entries = 18446744073709551615; bytes = 18446744073709551615 }
+room_shown (Some b) = record { entries = b.entries; bytes = b.bytes }
+
+-- a question for the room that came inside made no call, and wrote the room that is left
+abbrev pub GivesRoom : Option (Ticket Record) → Option (Ticket Record) → Room → Room → ℕ → Type 0
+GivesRoom None None before after code = (code ≡ 18) × (after ≡ before)
+GivesRoom (Some old) (Some new) before after code =
+    ((code ≡ 0) × Calls old new [] × (after ≡ room_shown (room_left (bounds_of old) new.left))) ⊎ ((code ≡ 16) × (new ≡ old) × (after ≡ before))
+GivesRoom None (Some new) before after code = ⊥
+GivesRoom (Some old) None before after code = ⊥
+
+-- a question whether nobody can make a call that came inside made none itself: 0 where that is so, else 26
+abbrev pub GivesNobody : Option (Ticket Record) → Option (Ticket Record) → ℕ → Type 0
+GivesNobody None None code = code ≡ 18
+GivesNobody (Some old) (Some new) code =
+    ((code ≡ 0) × Calls old new [] × NobodyCanCall (bounds_of old) new.left old.lock.count) ⊎ ((code ≡ 26) × Calls old new [] × (NobodyCanCall (bounds_of old) new.left old.lock.count → ⊥)) ⊎ ((code ≡ 16) × (new ≡ old))
+GivesNobody None (Some new) code = ⊥
+GivesNobody (Some old) None code = ⊥

@@ -1,0 +1,32 @@
+-- The process that a member has, at rest or under way.
+use Rattle.std.specs.Prelude.{◌≡◌, ◌||◌, Bool, true, false, Option, Some, None, IsSome}
+use Rattle.fast_mutex.specs.Items.{Ticket}
+use Rattle.mq_model.specs.Record.{Record}
+use Rattle.mq_model.specs.Waits.{is_answered}
+use Rattle.mq_state.specs.Buffers.{waiting_room}
+use Rattle.mq.specs.Calls.{no_ticket}
+use Rattle.c_handles.specs.declared.standing.Standing.{Standing}
+use Rattle.c_handles.specs.declared.standing.Standing.TheVariants.{AtRest, UnderWay}
+
+abbrev pub ticket_of : Option Standing → Ticket Record
+ticket_of (Some (AtRest process)) = process
+ticket_of (Some (UnderWay approach)) = approach
+ticket_of None = no_ticket
+
+abbrev pub is_under_way : Option Standing → Bool
+is_under_way (Some (AtRest process)) = false
+is_under_way (Some (UnderWay approach)) = true
+is_under_way None = false
+
+-- a look from outside at a process at rest, as `Process::answered`: where it is true the process was told so, and nothing else changes.
+-- It is false without an open wait, and true of a wait that the journal last left answers, or that it was true of before
+pub record LooksAtRest (old new : Ticket Record) (answered : Bool) : Type 0 where
+  pub ticket : new ≡ record old { told = old.told || answered }
+  pub free : waiting_room old.left old.number ≡ None → answered ≡ false
+  pub left : is_answered old.left old.number ≡ true → answered ≡ true
+  pub again : old.told ≡ true → IsSome (waiting_room old.left old.number) → answered ≡ true
+
+-- such a look, and none at a process that is under way
+abbrev pub LooksAt : Bool → Ticket Record → Ticket Record → Option Bool → Type 0
+LooksAt under_way old new (Some answered) = (under_way ≡ false) × LooksAtRest old new answered
+LooksAt under_way old new None = (under_way ≡ true) × (new ≡ old)

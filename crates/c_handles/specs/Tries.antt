@@ -1,0 +1,42 @@
+-- What the try of a call leaves.
+use Rattle.std.specs.Prelude.{◌≡◌, Bool, true, false, Option, Some, None, Result, Ok, Err}
+use Rattle.fast_mutex.specs.Items.{Ticket}
+use Rattle.mq_model.specs.Record.{Record}
+use Rattle.mq_model.specs.declared.entries.Received.{Received}
+use Rattle.mq_model.specs.declared.entries.Deadline.{Deadline}
+use Rattle.mq_model.specs.declared.faults.Fault.{Fault}
+use Rattle.mq.specs.Calls.{IsFree}
+use Rattle.c_handles.specs.declared.tried.Tried.{Tried}
+use Rattle.c_handles.specs.declared.tried.Tried.TheVariants.{Waiting, Retry, Made}
+
+-- a try of a call that needs a process without an open wait: the call was made, or nothing has changed, and what `kept` says holds too
+abbrev pub TriesWith : {R : Type 0} → Type 0 → (Ticket Record → Ticket Record → R → Type 0) → Ticket Record → Ticket Record → Tried R → Type 0
+TriesWith kept call old new (Made result) = call old new result
+TriesWith kept call old new Retry = (new ≡ old) × IsFree old × kept
+TriesWith kept call old new Waiting = (new ≡ old) × (IsFree old → ⊥) × kept
+
+abbrev pub Tries : {R : Type 0} → (Ticket Record → Ticket Record → R → Type 0) → Ticket Record → Ticket Record → Tried R → Type 0
+Tries call old new t = TriesWith (Unit {0}) call old new t
+
+-- the try of an export on a handle that has this process, or none, and has that one after it: what it returns is what `says` gives
+-- of the try, or, where the handle is empty, of none
+abbrev pub GivesWith : {R A : Type 0} → Type 0 → (Ticket Record → Ticket Record → R → Type 0) → (Option (Tried R) → A) → Option (Ticket Record) → Option (Ticket Record) → A → Type 0
+GivesWith kept call says None None code = (code ≡ says None) × kept
+GivesWith {R} kept call says (Some old) (Some new) code = (t : Tried R) × TriesWith kept call old new t × (code ≡ says (Some t))
+GivesWith kept call says None (Some new) code = ⊥
+GivesWith kept call says (Some old) None code = ⊥
+
+abbrev pub Gives : {R A : Type 0} → (Ticket Record → Ticket Record → R → Type 0) → (Option (Tried R) → A) → Option (Ticket Record) → Option (Ticket Record) → A → Type 0
+Gives call says old new code = GivesWith (Unit {0}) call says old new code
+
+-- until when a send waits that gave this
+abbrev pub until_sent : Result Bool Fault → Option Deadline → Option Deadline
+until_sent (Ok false) until = until
+until_sent (Ok true) until = None
+until_sent (Err fault) until = None
+
+-- until when a receive waits that gave this
+abbrev pub until_received : Result (Option Received) Fault → Option Deadline → Option Deadline
+until_received (Ok None) until = until
+until_received (Ok (Some received)) until = None
+until_received (Err fault) until = None

@@ -1,0 +1,117 @@
+//! Reading the journal from C.
+ghost use Rattle.std.specs.Prelude.{◌≡◌};
+ghost use Rattle.c_handles.specs.Handles.{process_in};
+ghost use Rattle.c_handles.specs.Readings.{Checks, GivesNobody, GivesRoom, ReadsAt, WritesLine, room_shown};
+
+use crate::handle::Handle;
+use crate::numbers::{DONE, EMPTY, GOES_ON, NO_ENTRY, RETRY, SHORT};
+use crate::requests::Room;
+use journal_format::line::line_of;
+use mq::{Bounds, Fault};
+use std::alloc::Global;
+
+/// Checks the journal of the system from its first entry on, inside the lock, which is the longer the more entries there are. The process
+/// may have an open wait, and keeps it.
+pub fn check(alloc: Global, process: &mut Handle) -> u32
+    ensures { Checks (process_in process.old) (process_in process.new) result }
+{
+    let Some(mut member) = process.take(alloc) else {
+        return EMPTY;
+    };
+    let checked = member.check(alloc);
+    process.put(member);
+    match checked {
+        Some(Ok(())) => DONE,
+        Some(Err(_)) => unreachable!(),
+        None => RETRY,
+    }
+}
+
+/// Writes the line of the entry at a place of the journal, as its text has it, into the front of a buffer, and how long the line is. The
+/// process may have an open wait, and keeps it.
+pub fn entry(
+    alloc: Global,
+    process: &mut Handle,
+    place: u64,
+    text: &mut [u8],
+    len: &mut usize,
+) -> u32
+    ensures { ReadsAt place (process_in process.old) (process_in process.new) (record { before = text.old; after = text.new; len_before = len.old; len = len.new; code = result }) }
+{
+    let Some(mut member) = process.take(alloc) else {
+        return EMPTY;
+    };
+    let read = member.record(alloc, place);
+    process.put(member);
+    match read {
+        None => RETRY,
+        Some(Err(_)) => Fault::NoMemory.number(),
+        Some(Ok(None)) => NO_ENTRY,
+        Some(Ok(Some((entry, payload)))) => {
+            match line_of(alloc, place, entry, payload.as_slice()) {
+                Ok(line) => write_line(line.as_bytes(), text, len),
+                Err(_) => Fault::NoMemory.number(),
+            }
+        }
+    }
+}
+
+// Writes as much of a line as the buffer has room for, and how long the line is.
+fn write_line(line: &[u8], text: &mut [u8], len: &mut usize) -> u32
+    ensures { WritesLine line.now (record { before = text.old; after = text.new; len_before = len.old; len = len.new; code = result }) }
+{
+    let count = line.len().min(text.len());
+    text[..count].copy_from_slice(&line[..count]);
+    *len = line.len();
+    if count == line.len() { DONE } else { SHORT }
+}
+
+/// Writes for how many more entries and payload bytes the journal has room, of a journal without bounds the greatest numbers. The process
+/// may have an open wait, and keeps it.
+pub fn room(alloc: Global, process: &mut Handle, room: &mut Room) -> u32
+    ensures { GivesRoom (process_in process.old) (process_in process.new) room.old room.new result }
+{
+    let Some(mut member) = process.take(alloc) else {
+        return EMPTY;
+    };
+    let left = member.room();
+    process.put(member);
+    match left {
+        None => RETRY,
+        Some(left) => {
+            *room = room_shown(left);
+            DONE
+        }
+    }
+}
+
+fn room_shown(left: Option<Bounds>) -> Room
+    ensures { result ≡ room_shown left }
+{
+    match left {
+        None => Room {
+            entries: u64::MAX,
+            bytes: u64::MAX,
+        },
+        Some(left) => Room {
+            entries: left.entries,
+            bytes: left.bytes,
+        },
+    }
+}
+
+/// Whether no process of the system can make a call any more. The process may have an open wait, and keeps it.
+pub fn nobody_can_call(alloc: Global, process: &mut Handle) -> u32
+    ensures { GivesNobody (process_in process.old) (process_in process.new) result }
+{
+    let Some(mut member) = process.take(alloc) else {
+        return EMPTY;
+    };
+    let asked = member.nobody_can_call();
+    process.put(member);
+    match asked {
+        None => RETRY,
+        Some(true) => DONE,
+        Some(false) => GOES_ON,
+    }
+}

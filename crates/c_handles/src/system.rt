@@ -1,0 +1,139 @@
+//! The making of a system, and the end of a handle.
+ghost use Rattle.std.specs.Prelude.{◌≡◌, ◌≤◌, ◌<◌, ◌⊎◌, true, Some, None, Option, [], length, map, IfOk, IfErr, IfSome, vec_len};
+ghost use Rattle.std.specs.List.{All, list_all};
+ghost use Rattle.std.specs.Arc.{arc_value};
+ghost use Rattle.fast_mutex.specs.Items.{tickets_from};
+ghost use Rattle.mq_model.specs.Fault.{number_of};
+ghost use Rattle.mq_model.specs.declared.bounds.Bounds.{Bounds};
+ghost use Rattle.mq_model.specs.declared.faults.Fault.TheVariants.{Invalid, NoMemory};
+ghost use Rattle.mq.specs.Calls.{bounds_in};
+ghost use Rattle.c_handles.specs.Standings.{ticket_of};
+ghost use Rattle.c_handles.specs.Handles.{process_in};
+ghost use Rattle.c_handles.specs.Codes.{freed_code};
+ghost use Rattle.c_handles.specs.Systems.{Makes, is_empty};
+
+use crate::handle::Handle;
+use crate::member::Member;
+use crate::numbers::{DONE, EMPTY, FULL};
+use mq::{FastMq, FastProcess, Fault};
+use std::alloc::Global;
+use std::sync::Arc;
+
+/// Makes a system with as many processes as there are handles, 1 to 32 of them and all empty, and puts its processes into them, in
+/// their order.
+pub fn new(alloc: Global, processes: &mut [Handle]) -> u32
+    ensures { Makes None processes.old processes.new result }
+{
+    if !are_empty(processes) {
+        return FULL;
+    }
+    let Some(n) = count_of(processes) else {
+        return Fault::Invalid.number();
+    };
+    match FastMq::new(alloc, n) {
+        Ok((mq, made)) => hand_out(alloc, mq, made, processes),
+        Err(fault) => fault.number(),
+    }
+}
+
+/// The same, with a journal that may hold so many entries and so many payload bytes: all the memory that later calls could need is taken
+/// here.
+pub fn bounded(alloc: Global, processes: &mut [Handle], entries: u64, bytes: u64) -> u32
+    ensures { Makes (Some (record { entries = entries; bytes = bytes })) processes.old processes.new result }
+{
+    if !are_empty(processes) {
+        return FULL;
+    }
+    let Some(n) = count_of(processes) else {
+        return Fault::Invalid.number();
+    };
+    match FastMq::bounded(alloc, n, entries, bytes) {
+        Ok((mq, made)) => hand_out(alloc, mq, made, processes),
+        Err(fault) => fault.number(),
+    }
+}
+
+/// Empties a handle: `DONE`, or `EMPTY` where it was. Its process is lost: what it holds stays held, and where it was on its way into the lock it can keep all others
+/// out for good.
+pub fn free(alloc: Global, process: &mut Handle) -> u32
+    ensures empty { process_in process.new ≡ None }
+    ensures code { result ≡ freed_code (process_in process.old) }
+{
+    match process.end(alloc) {
+        Some(_) => DONE,
+        None => EMPTY,
+    }
+}
+
+fn are_empty(processes: &[Handle]) -> bool
+    ensures { result ≡ list_all is_empty processes.now }
+{
+    processes.iter().all(|process| process.is_empty())
+}
+
+// How many handles there are, where it is 1 to 32.
+fn count_of(processes: &[Handle]) -> Option<u32>
+    ensures some { IfSome result (λ n. (n ≡ length processes.now) × (1 ≤ n) × (n ≤ 32)) }
+    ensures none { result ≡ None → (length processes.now ≡ 0) ⊎ (32 < length processes.now) }
+{
+    match processes.len() {
+        n if n >= 1 && n <= 32 => Some(n as u32),
+        _ => None,
+    }
+}
+
+// Puts the processes of a new system into the handles.
+fn hand_out(alloc: Global, mq: FastMq, made: Vec<FastProcess>, processes: &mut [Handle]) -> u32
+    requires empty { list_all is_empty processes.old ≡ true }
+    requires some { 1 ≤ length processes.old }
+    requires count { mq.count ≡ length processes.old }
+    requires made { made.items ≡ tickets_from mq 1 (length processes.old) }
+    ensures { Makes (bounds_in mq.fixed) processes.old processes.new result }
+{
+    let Ok(mq) = Arc::new(alloc, mq) else {
+        return Fault::NoMemory.number();
+    };
+    let Ok(members) = members_of(alloc, &mq, made) else {
+        return Fault::NoMemory.number();
+    };
+    fill(processes, members);
+    DONE
+}
+
+// A member for each process, in their order.
+fn members_of(
+    alloc: Global,
+    mq: &Arc<FastMq, Global>,
+    made: Vec<FastProcess>,
+) -> Result<Vec<Box<Member>>, Fault>
+    requires made { All (λ p. p.lock ≡ arc_value mq.now) made.items }
+    requires new { All (λ p. p.left ≡ []) made.items }
+    ensures ok { IfOk result (λ members. map (λ b. ticket_of b.value.standing) members.items ≡ made.items) }
+{
+    let Ok(mut members) = Vec::with_capacity(alloc, made.len()) else {
+        return Err(Fault::NoMemory);
+    };
+    'made: for process in made {
+        let Ok(mq) = Arc::try_clone(mq) else {
+            return Err(Fault::NoMemory);
+        };
+        let Ok(member) = Box::new(alloc, Member::new(mq, process)) else {
+            return Err(Fault::NoMemory);
+        };
+        members.push(member).unwrap();
+    }
+    Ok(members)
+}
+
+// Puts the members into the handles, which are empty and as many, in their order.
+fn fill(processes: &mut [Handle], members: Vec<Box<Member>>)
+    requires empty { list_all is_empty processes.old ≡ true }
+    requires count { vec_len members ≡ length processes.old }
+    ensures { map process_in processes.new ≡ map (λ b. Some (ticket_of b.value.standing)) members.items }
+{
+    let mut place = 0;
+    'members: for member in members {
+        processes[place].begin(member);
+        place += 1;
+    }
+}

@@ -1,0 +1,105 @@
+//! The line of a call.
+ghost use Rattle.std.specs.Prelude.{◌≡◌, IfOk, IfSome, codes, string_bytes};
+ghost use Rattle.journal_format.specs.Text.{number_or};
+ghost use Rattle.history_judge.specs.Text.{end_of, line_text};
+
+use crate::outcome::{outcome_of, outcome_text};
+use histories::operation::{Operation, Outcome};
+use journal_format::call::{call_of, call_text};
+use journal_format::payload::payload_text;
+use journal_format::words::{number_of, number_or_of, quoted_of, small_number_of, word_of};
+use mq_model::entries::Call;
+use percent_encoding::percent_decode;
+use std::alloc::{AllocError, Global};
+use text_io::words::words;
+
+/// A call of a process with what it returned.
+#[derive(Debug, Drop)]
+pub struct Called {
+    pub process: u32,
+    pub operation: Operation,
+}
+
+// The moment at which an operation ended, or a dash where it had not.
+fn end_text(alloc: Global, operation: &Operation) -> Result<String, AllocError>
+    ensures { IfOk result (λ text. string_bytes text ≡ number_or (codes "-") (end_of operation.now)) }
+{
+    let end = operation.end;
+    match operation.outcome {
+        Outcome::Pending => String::from_str(alloc, "-"),
+        _ => format!(in alloc; "{end}"),
+    }
+}
+
+/// The line of a call.
+#[tactic(auto, using(crate::proofs::Joining::line_parts))]
+pub fn line_of(alloc: Global, called: &Called) -> Result<String, AllocError>
+    ensures { IfOk result (λ line. string_bytes line ≡ line_text called.now) }
+{
+    let process = called.process;
+    let begin = called.operation.begin;
+    let end = end_text(alloc, &called.operation)?;
+    let call = call_text(alloc, &called.operation.call)?;
+    let quoted = payload_text(alloc, &called.operation.given)?;
+    let outcome = outcome_text(alloc, &called.operation.outcome)?;
+    format!(in alloc; "{process} {begin} {end} {call}{quoted} ->{outcome}\n")
+}
+
+// What the words of a line read as, what stands between the quotes of its call, and the words after its arrow.
+#[derive(Drop)]
+struct Parts<'w, 's> {
+    process: u32,
+    begin: u64,
+    end: Option<u64>,
+    call: Call,
+    quoted: &'s [u8],
+    result: &'w [&'s [u8]],
+}
+
+fn parts_of<'w, 's>(words: &'w [&'s [u8]]) -> Option<Parts<'w, 's>> {
+    let (process, words) = small_number_of(words)?;
+    let (begin, words) = number_of(words)?;
+    let (end, words) = number_or_of(b"-", words)?;
+    let (call, words) = call_of(words)?;
+    let (quoted, words) = quoted_of(words);
+    let (_arrow, result) = word_of(words)?;
+    Some(Parts {
+        process,
+        begin,
+        end,
+        call,
+        quoted,
+        result,
+    })
+}
+
+/// The call whose line this is, if it is one. The line ends with its feed.
+pub fn read_line(alloc: Global, line: &[u8]) -> Result<Option<Called>, AllocError>
+    ensures { IfOk result (λ read. IfSome read (λ called. line.now ≡ line_text called)) }
+{
+    let words = words(alloc, line)?;
+    let Some(parts) = parts_of(words.as_slice()) else {
+        return Ok(None);
+    };
+    let Some(outcome) = outcome_of(alloc, parts.result)? else {
+        return Ok(None);
+    };
+    let mut given = Vec::new(alloc);
+    percent_decode(parts.quoted).append_to(&mut given)?;
+    let called = Called {
+        process: parts.process,
+        operation: Operation {
+            call: parts.call,
+            given,
+            begin: parts.begin,
+            end: parts.end.unwrap_or(u64::MAX),
+            outcome,
+        },
+    };
+    // Words that no line has may have been read, as numbers with zeros in front: then the line of what was read is another.
+    let written = line_of(alloc, &called)?;
+    if written.as_bytes() != line {
+        return Ok(None);
+    }
+    Ok(Some(called))
+}

@@ -1,0 +1,327 @@
+-- How a text is cut into the lines of records: in one way only.
+use Rattle.std.proofs.Common.{◌≡◌, ◌≢◌, ◌<◌, ◌+◌, ◌^◌, ◌∙◌, ◌++◌, ℕ, suc, Bool, true, false, not, ◌==◌, List, [], ◌∷◌, length, arith, refl, ap, sym, Option, Some, None, append_assoc, append-nil, inl, inr}
+use Rattle.std.proofs.lemmas.Bool.{and_from, cases_Bool}
+use Rattle.std.proofs.lemmas.Bool.Decides.{nat_tests}
+use Rattle.std.proofs.lemmas.List.{length-append}
+use Rattle.std.specs.List.{list_all, join_with_byte, concat}
+use Rattle.text_io.specs.Words.{Word, words_of}
+use Rattle.mq_model.specs.Record.{Record, Past}
+use Rattle.mq_model.specs.declared.entries.Entry.{Entry}
+use Rattle.script_text.specs.Script.{lines_of, onto_first_line}
+use Rattle.journal_format.specs.Fitting.{AllFit, Fits}
+use Rattle.journal_format.specs.JournalFault.{IsNoLine, StopsAt}
+use Rattle.journal_format.specs.Text.{escaped, has_feed, journal_text, line_text, record_words}
+use Rattle.journal_format.specs.Reading.{entry_at}
+use Rattle.percent_encoding.specs.Percent.{percent_decode}
+use Rattle.journal_format.proofs.WholeWords.{AreWords, IsWord, parts_none}
+use Rattle.journal_format.proofs.WrittenLines.{line_again, payload_again, record-words}
+
+-- ---- feeds
+
+abbrev pub no_feed : ℕ → Bool
+no_feed b = not (b == 10)
+
+abbrev pub HasNoFeed : List ℕ → Type 0
+HasNoFeed bytes = list_all no_feed bytes ≡ true
+
+feedless : (bytes : List ℕ) → list_all parts_none bytes ≡ true → HasNoFeed bytes
+feedless [] none = refl
+feedless (b ∷ bytes) none =
+    let here : no_feed b ≡ true = grind (arith, nat_tests) in
+    let rest : list_all parts_none bytes ≡ true = grind (arith, nat_tests) in
+    and_from (no_feed b) (list_all no_feed bytes) here (feedless bytes rest)
+
+feedless_word : (w : Word) → IsWord w → HasNoFeed w
+feedless_word w word = feedless w (grind (arith, nat_tests))
+
+feedless-append : (xs ys : List ℕ) → HasNoFeed xs → HasNoFeed ys → HasNoFeed (xs ++ ys)
+feedless-append [] ys first second = second
+feedless-append (x ∷ xs) ys first second =
+    let here : no_feed x ≡ true = grind (arith, nat_tests) in
+    let rest : HasNoFeed xs = grind (arith, nat_tests) in
+    and_from (no_feed x) (list_all no_feed (xs ++ ys)) here (feedless-append xs ys rest second)
+
+feedless-join : (ws : List Word) → AreWords ws → HasNoFeed (join_with_byte 32 ws)
+feedless-join [] words = refl
+feedless-join (w ∷ []) words = feedless_word w words.0
+feedless-join (w ∷ v ∷ ws) words = feedless-append w (32 ∷ join_with_byte 32 (v ∷ ws)) (feedless_word w words.0) (feedless-join (v ∷ ws) words.1)
+
+-- where two texts begin with a front without a feed, and then a feed, the fronts are one
+one_front : (u v x y : List ℕ) → HasNoFeed u → HasNoFeed v → u ++ 10 ∷ x ≡ v ++ 10 ∷ y → (u ≡ v) × (x ≡ y)
+one_front [] [] x y first second same = (refl, cc)
+one_front [] (b ∷ v) x y first second same = let is : 10 ≡ b = cc in absurd (grind (arith, nat_tests))
+one_front (b ∷ u) [] x y first second same = let is : b ≡ 10 = cc in absurd (grind (arith, nat_tests))
+one_front (b ∷ u) (d ∷ v) x y first second same =
+    let is : b ≡ d = cc in
+    let behind : u ++ 10 ∷ x ≡ v ++ 10 ∷ y = cc in
+    let rest : HasNoFeed u = grind (arith, nat_tests) in
+    let other : HasNoFeed v = grind (arith, nat_tests) in
+    let fronts = one_front u v x y rest other behind in
+    (ap (λ t. b ∷ t) fronts.0 ∙ ap (λ h. h ∷ v) is, fronts.1)
+
+-- ---- lines
+
+concat-onto : (b : ℕ) (lines : List (List ℕ)) → concat (onto_first_line b lines) ≡ b ∷ concat lines
+concat-onto b [] = refl
+concat-onto b (line ∷ lines) = refl
+
+concat-lines : (text : List ℕ) → concat (lines_of text) ≡ text
+concat-lines [] = refl
+concat-lines (b ∷ text) = elim (cases_Bool (b == 10)) [
+  | inl feed ↦ rw (feed, concat-lines text) refl
+  | inr other ↦ rw (other, concat-onto b (lines_of text), concat-lines text) refl
+]
+
+-- a text is its first line, and what is after it
+pub first-whole : (text line others : List ℕ) → lines_of text ≡ line ∷ lines_of others → text ≡ line ++ others
+first-whole text line others lines = sym (concat-lines text) ∙ ap concat lines ∙ ap (λ t. line ++ t) (concat-lines others)
+
+lines_of-front : (u rest : List ℕ) → HasNoFeed u → lines_of (u ++ 10 ∷ rest) ≡ (u ++ 10 ∷ []) ∷ lines_of rest
+lines_of-front [] rest none = refl
+lines_of-front (b ∷ u) rest none =
+    let other : (b == 10) ≡ false = grind (arith, nat_tests) in
+    let behind : HasNoFeed u = grind (arith, nat_tests) in
+    rw (other, lines_of-front u rest behind) refl
+
+-- ---- the line of a record
+
+front-feedless : (place : ℕ) (r : Record) → place < 2 ^ 64 → Fits r → HasNoFeed (join_with_byte 32 (record_words place r))
+front-feedless place r small fits = feedless-join (record_words place r) (record-words place r small fits)
+
+pub line-first : (place : ℕ) (r : Record) (others : List ℕ) → place < 2 ^ 64 → Fits r → lines_of (line_text place r ++ others) ≡ line_text place r ∷ lines_of others
+unfolding line_text
+line-first place r others small fits = rw append_assoc (lines_of-front (join_with_byte 32 (record_words place r)) others (front-feedless place r small fits))
+
+pair_parts : (e f : Entry) (v w : Word) → ◌≡◌ {A = Option (Entry × Word)} (Some (e, v)) (Some (f, w)) → (e ≡ f) × (v ≡ w)
+pair_parts e f v w same =
+    let pairs : ◌≡◌ {A = Entry × Word} (e, v) (f, w) = cc in
+    (ap (λ (p : Entry × Word). p.0) pairs, ap (λ (p : Entry × Word). p.1) pairs)
+
+record_is : (r s : Record) → r.entry ≡ s.entry → r.payload ≡ s.payload → r ≡ s
+record_is r s entry payload = λ i. record { entry = entry i; payload = payload i }
+
+-- a line reads as one record
+pub read_is : (place : ℕ) (r : Record) (e : Entry) (quoted : Word) → place < 2 ^ 64 → Fits r → entry_at (words_of (line_text place r)) ≡ Some (e, quoted) → ◌≡◌ {A = Record} (record { entry = e; payload = percent_decode quoted }) r
+read_is place r e quoted small fits read =
+    let both : ◌≡◌ {A = Option (Entry × Word)} (Some (r.entry, escaped r.payload)) (Some (e, quoted)) = sym (line_again place r small fits) ∙ read in
+    let parts = pair_parts r.entry e (escaped r.payload) quoted both in
+    record_is (record { entry = e; payload = percent_decode quoted }) r (sym parts.0) (ap percent_decode (sym parts.1) ∙ payload_again r fits)
+
+one_record : (place : ℕ) (r s : Record) → place < 2 ^ 64 → Fits r → Fits s → line_text place r ≡ line_text place s → r ≡ s
+one_record place r s small r_fits s_fits same =
+    let r_read = line_again place r small r_fits in
+    let s_read : entry_at (words_of (line_text place s)) ≡ Some (r.entry, escaped r.payload) = ap (λ line. entry_at (words_of line)) (sym same) ∙ r_read in
+    sym (read_is place r r.entry (escaped r.payload) small r_fits r_read) ∙ read_is place s r.entry (escaped r.payload) small s_fits s_read
+
+-- words that read as no record are no record's
+pub reads_none : (place : ℕ) (r : Record) (line : List ℕ) (words : List Word) → place < 2 ^ 64 → Fits r → entry_at words ≡ None → words ≡ words_of line → line ≡ line_text place r → ⊥
+reads_none place r line words small fits none cut is =
+    let some : entry_at words ≡ Some (r.entry, escaped r.payload) = ap entry_at cut ∙ ap (λ t. entry_at (words_of t)) is ∙ line_again place r small fits in
+    cc
+
+-- words that read as a record whose line is another are no record's
+pub reads_other : (place : ℕ) (r : Record) (line : List ℕ) (words : List Word) (e : Entry) (quoted payload : List ℕ) → place < 2 ^ 64 → Fits r → entry_at words ≡ Some (e, quoted) → words ≡ words_of line → payload ≡ percent_decode quoted → line ≡ line_text place r → line ≡ line_text place (record { entry = e; payload = payload })
+reads_other place r line words e quoted payload small fits read cut decoded is =
+    let back : entry_at (words_of (line_text place r)) ≡ Some (e, quoted) = ap (λ t. entry_at (words_of t)) (sym is) ∙ ap entry_at (sym cut) ∙ read in
+    is ∙ ap (line_text place) (sym (read_is place r e quoted small fits back)) ∙ ap (λ p. line_text place (record { entry = e; payload = p })) (sym decoded)
+
+one_line : (place : ℕ) (r s : Record) (x y : List ℕ) → place < 2 ^ 64 → Fits r → Fits s → line_text place r ++ x ≡ line_text place s ++ y → (r ≡ s) × (x ≡ y)
+unfolding line_text
+one_line place r s x y small r_fits s_fits same =
+    let u = join_with_byte 32 (record_words place r) in
+    let v = join_with_byte 32 (record_words place s) in
+    let both : u ++ 10 ∷ x ≡ v ++ 10 ∷ y = sym (append_assoc u (10 ∷ []) x) ∙ same ∙ append_assoc v (10 ∷ []) y in
+    let fronts = one_front u v x y (front-feedless place r small r_fits) (front-feedless place s small s_fits) both in
+    (one_record place r s small r_fits s_fits (ap (λ t. t ++ 10 ∷ []) fronts.0), fronts.1)
+
+line-some : (place : ℕ) (r : Record) (others : List ℕ) → 0 < length (line_text place r ++ others)
+unfolding line_text
+line-some place r others = simp (length-append) (omega arith)
+
+-- ---- the records of a journal, the earliest first
+
+-- the lines of records that stand from this place on
+abbrev pub lines_text : ℕ → List Record → List ℕ
+lines_text place [] = []
+lines_text place (r ∷ later) = line_text place r ++ lines_text (suc place) later
+
+-- a journal that goes on with these records
+abbrev pub onto : Past → List Record → Past
+onto past [] = past
+onto past (r ∷ later) = onto (r ∷ past) later
+
+onto-last : (past : Past) (later : List Record) (r : Record) → onto past (later ++ r ∷ []) ≡ r ∷ onto past later
+onto-last past [] r = refl
+onto-last past (s ∷ later) r = onto-last (s ∷ past) later r
+
+length-onto : (past : Past) (later : List Record) → length (onto past later) ≡ length past + length later
+length-onto past [] = omega arith
+length-onto past (s ∷ later) = omega (arith, length-onto (s ∷ past) later)
+
+lines_text-last : (place : ℕ) (later : List Record) (r : Record) → lines_text place (later ++ r ∷ []) ≡ lines_text place later ++ line_text (place + length later) r
+lines_text-last place [] r = let e : place + 0 ≡ place = omega arith in rw (append-nil, e) refl
+lines_text-last place (s ∷ later) r =
+    let e : suc place + length later ≡ place + suc (length later) = omega arith in
+    rw (lines_text-last (suc place) later r, e) (sym (append_assoc (line_text place s) (lines_text (suc place) later) (line_text (place + suc (length later)) r)))
+
+allfit-last : (later : List Record) (r : Record) → AllFit later → Fits r → AllFit (later ++ r ∷ [])
+allfit-last [] r all fits = (fits, tt)
+allfit-last (s ∷ later) r all fits = (all.0, allfit-last later r all.1 fits)
+
+-- what a text goes on with after a journal
+pub record GoesOn (a b : Past) (rest : List ℕ) : Type 0 where
+  pub later : List Record
+  pub fits : AllFit later
+  pub is : a ≡ onto b later
+  pub text : rest ≡ lines_text (length b) later
+
+from_start : (a : Past) → AllFit a → GoesOn a [] (journal_text a)
+from_start [] fits = record { later = []; fits = tt; is = refl; text = refl }
+from_start (r ∷ a) fits =
+    let before = from_start a fits.1 in
+    let count : length a ≡ 0 + length before.later = ap length before.is ∙ length-onto [] before.later in
+    record {
+      later = before.later ++ r ∷ [];
+      fits = allfit-last before.later r before.fits fits.0;
+      is = ap (λ t. r ∷ t) before.is ∙ sym (onto-last [] before.later r);
+      text = ap (λ n. journal_text a ++ line_text n r) count ∙ ap (λ t. t ++ line_text (0 + length before.later) r) before.text ∙ sym (lines_text-last 0 before.later r);
+    }
+
+next : (a : Past) (r : Record) (b : Past) (rest : List ℕ) (later : List Record) → length b < 2 ^ 64 → Fits r → AllFit later → a ≡ onto b later → line_text (length b) r ++ rest ≡ lines_text (length b) later → GoesOn a (r ∷ b) rest
+next a r b rest [] small fits all is text = let some = line-some (length b) r rest in absurd (omega (arith, ap length text, some))
+next a r b rest (s ∷ later) small fits all is text =
+    let same = one_line (length b) r s rest (lines_text (suc (length b)) later) small fits all.0 text in
+    record { later = later; fits = all.1; is = is ∙ ap (λ t. onto (t ∷ b) later) (sym same.0); text = same.1 }
+
+-- a journal whose text begins with another's goes on from it
+pub goes_on : (a b : Past) (rest : List ℕ) → AllFit a → AllFit b → length b < 2 ^ 64 → journal_text a ≡ journal_text b ++ rest → GoesOn a b rest
+goes_on a [] rest a_fits b_fits small text =
+    let start = from_start a a_fits in
+    record { later = start.later; fits = start.fits; is = start.is; text = sym text ∙ start.text }
+goes_on a (r ∷ b) rest a_fits b_fits small text =
+    let low : length b < 2 ^ 64 = omega arith in
+    let before = goes_on a b (line_text (length b) r ++ rest) a_fits b_fits.1 low (text ∙ append_assoc (journal_text b) (line_text (length b) r) rest) in
+    next a r b rest before.later low b_fits.0 before.fits before.is before.text
+
+-- ---- what a reader finds
+
+no_more : (a b : Past) (later : List Record) → a ≡ onto b later → [] ≡ lines_text (length b) later → b ≡ a
+no_more a b [] is text = sym is
+no_more a b (r ∷ later) is text = let some = line-some (length b) r (lines_text (suc (length b)) later) in absurd (omega (arith, ap length text, some))
+
+-- journals with one text are one
+pub one_journal : (a b : Past) → AllFit a → AllFit b → length b < 2 ^ 64 → journal_text a ≡ journal_text b → b ≡ a
+one_journal a b a_fits b_fits small same =
+    let on = goes_on a b [] a_fits b_fits small (same ∙ sym (append-nil (journal_text b))) in
+    no_more a b on.later on.is on.text
+
+stopped : (a b : Past) (rest : List ℕ) (later : List Record) → 0 < length rest → AllFit later → rest ≡ lines_text (length b) later → ((r : Record) (others : List ℕ) → Fits r → rest ≢ line_text (length b) r ++ others) → ⊥
+stopped a b rest [] some fits text none = omega (arith, ap length text)
+stopped a b rest (r ∷ later) some fits text none = none r (lines_text (suc (length b)) later) fits.0 text
+
+-- a text that stops to be a journal's is none
+pub stops_none : (line : ℕ) (text : List ℕ) (a : Past) → StopsAt line text → line < 2 ^ 64 → AllFit a → text ≡ journal_text a → ⊥
+stops_none line text a stops small fits is =
+    let low : length stops.past < 2 ^ 64 = omega (arith, stops.line_is) in
+    let on = goes_on a stops.past stops.rest fits stops.fits low (sym is ∙ stops.whole) in
+    stopped a stops.past stops.rest on.later stops.some on.fits on.text stops.none
+
+-- after a journal the line of a record comes first
+pub no_first : (place : ℕ) (rest line others : List ℕ) → place < 2 ^ 64 → lines_of rest ≡ line ∷ lines_of others → ((r : Record) → Fits r → line ≢ line_text place r) → (r : Record) (behind : List ℕ) → Fits r → rest ≢ line_text place r ++ behind
+no_first place rest line others small lines none r behind fits is =
+    let first : lines_of rest ≡ line_text place r ∷ lines_of behind = ap lines_of is ∙ line-first place r behind small fits in
+    let both : line ∷ lines_of others ≡ line_text place r ∷ lines_of behind = sym lines ∙ first in
+    none r fits (cc)
+
+-- a text that was read up to a line, read up to the next one
+pub next_line : (text rest line others : List ℕ) (past new : Past) (place : ℕ) (r : Record) → text ≡ journal_text past ++ rest → lines_of rest ≡ line ∷ lines_of others → line ≡ line_text place r → place ≡ length past → new ≡ r ∷ past → text ≡ journal_text new ++ others
+next_line text rest line others past new place r so_far lines is count pushed =
+    so_far ∙ ap (λ t. journal_text past ++ t) (first-whole rest line others lines)
+    ∙ ap (λ t. journal_text past ++ (t ++ others)) (is ∙ ap (λ n. line_text n r) count)
+    ∙ sym (append_assoc (journal_text past) (line_text (length past) r) others)
+    ∙ ap (λ t. journal_text t ++ others) (sym pushed)
+
+pub allfit_next : (past new : Past) (r : Record) → AllFit past → Fits r → new ≡ r ∷ past → AllFit new
+allfit_next past new r all fits pushed = rw pushed (fits, all)
+
+-- a text that stops at the next line
+pub stops_here : (line place : ℕ) (text rest first others : List ℕ) (past : Past) → text ≡ journal_text past ++ rest → AllFit past → place ≡ length past → place < 2 ^ 63 → line ≡ place + 1 → 0 < length rest → lines_of rest ≡ first ∷ lines_of others → IsNoLine place first → StopsAt line text
+stops_here line place text rest first others past so_far all count small number some lines none = record {
+  past = past;
+  rest = rest;
+  fits = all;
+  whole = so_far;
+  line_is = omega arith;
+  some = some;
+  none = λ r behind fits is. no_first place rest first others (omega arith) lines none r behind fits (is ∙ ap (λ n. line_text n r ++ behind) (sym count));
+}
+
+-- ---- a text that goes on
+
+-- bytes with a feed: those before the first one, and those behind it
+record Cut (bytes : List ℕ) : Type 0 where
+  front : List ℕ
+  behind : List ℕ
+  none : HasNoFeed front
+  is : bytes ≡ front ++ 10 ∷ behind
+
+cut_at : (bytes : List ℕ) → has_feed bytes ≡ true → Cut bytes
+cut_at [] some = absurd (cc)
+cut_at (b ∷ bytes) some = elim (cases_Bool (b == 10)) [
+  | inl feed ↦ let is : b ≡ 10 = grind (arith, nat_tests) in record { front = []; behind = bytes; none = refl; is = ap (λ h. h ∷ bytes) is }
+  | inr other ↦
+      let rest : has_feed bytes ≡ true = grind (arith, nat_tests) in
+      let here : no_feed b ≡ true = grind (arith, nat_tests) in
+      let later = cut_at bytes rest in
+      record { front = b ∷ later.front; behind = later.behind; none = and_from (no_feed b) (list_all no_feed later.front) here later.none; is = ap (λ t. b ∷ t) later.is }
+]
+
+feed_some : (bytes more : List ℕ) → has_feed bytes ≡ true → 0 < length (bytes ++ more)
+feed_some [] more some = absurd (cc)
+feed_some (b ∷ bytes) more some = omega arith
+
+feed_behind : (front behind : List ℕ) → has_feed (front ++ 10 ∷ behind) ≡ true
+feed_behind [] behind = refl
+feed_behind (b ∷ front) behind = let later = feed_behind front behind in grind (arith, nat_tests)
+
+line_feed : (place : ℕ) (r : Record) (behind : List ℕ) → has_feed (line_text place r ++ behind) ≡ true
+unfolding line_text
+line_feed place r behind =
+    let u = join_with_byte 32 (record_words place r) in
+    ap has_feed (append_assoc u (10 ∷ []) behind) ∙ feed_behind u behind
+
+no_first_in : (place : ℕ) (rest line others more : List ℕ) → place < 2 ^ 64 → has_feed rest ≡ true → lines_of rest ≡ line ∷ lines_of others → IsNoLine place line → (r : Record) (behind : List ℕ) → Fits r → rest ++ more ≢ line_text place r ++ behind
+unfolding line_text
+no_first_in place rest line others more small some lines none r behind fits is =
+    let cut = cut_at rest some in
+    let u = join_with_byte 32 (record_words place r) in
+    let left : rest ++ more ≡ cut.front ++ 10 ∷ (cut.behind ++ more) = ap (λ t. t ++ more) cut.is ∙ append_assoc cut.front (10 ∷ cut.behind) more in
+    let right : (u ++ 10 ∷ []) ++ behind ≡ u ++ 10 ∷ behind = append_assoc u (10 ∷ []) behind in
+    let fronts = one_front cut.front u (cut.behind ++ more) behind cut.none (front-feedless place r small fits) (sym left ∙ is ∙ right) in
+    let first : line ∷ lines_of others ≡ (cut.front ++ 10 ∷ []) ∷ lines_of cut.behind = sym lines ∙ ap lines_of cut.is ∙ lines_of-front cut.front cut.behind cut.none in
+    let line_is : line ≡ cut.front ++ 10 ∷ [] = cc in
+    none r fits (line_is ∙ ap (λ t. t ++ 10 ∷ []) fronts.0)
+
+-- a text that stops at the next line, whatever it goes on with
+pub stops_in : (line place : ℕ) (text rest first others more : List ℕ) (past : Past) → text ≡ journal_text past ++ rest → AllFit past → place ≡ length past → place < 2 ^ 63 → line ≡ place + 1 → has_feed rest ≡ true → lines_of rest ≡ first ∷ lines_of others → IsNoLine place first → StopsAt line (text ++ more)
+stops_in line place text rest first others more past so_far all count small number some lines none = record {
+  past = past;
+  rest = rest ++ more;
+  fits = all;
+  whole = ap (λ t. t ++ more) so_far ∙ append_assoc (journal_text past) rest more;
+  line_is = omega arith;
+  some = feed_some rest more some;
+  none = λ r behind fits is. no_first_in place rest first others more (omega arith) some lines none r behind fits (is ∙ ap (λ n. line_text n r ++ behind) (sym count));
+}
+
+-- a text that stops with a line that lacks its feed
+pub stops_short : (line : ℕ) (rest : List ℕ) (past : Past) → AllFit past → line ≡ length past + 1 → 0 < length rest → has_feed rest ≡ false → StopsAt line (journal_text past ++ rest)
+stops_short line rest past all number some short = record {
+  past = past;
+  rest = rest;
+  fits = all;
+  whole = refl;
+  line_is = number;
+  some = some;
+  none = λ r behind fits is. let feed : has_feed rest ≡ true = ap has_feed is ∙ line_feed (length past) r behind in let no : false ≡ true = sym short ∙ feed in cc;
+}

@@ -1,0 +1,152 @@
+-- A line reads as the record that it was written from.
+use Rattle.std.proofs.Common.{◌≡◌, ◌≢◌, ◌<◌, ◌^◌, ◌-◌, ◌∙◌, ◌++◌, ℕ, true, false, List, [], ◌∷◌, length, take, arith, refl, ap, codes, All, Some, None, append_assoc, ltb}
+use Rattle.std.proofs.lemmas.Bool.{and_from, both_ways, lt-ltb}
+use Rattle.std.proofs.lemmas.Bool.Decides.{nat_tests}
+use Rattle.std.proofs.lemmas.List.{length-append}
+use Rattle.std.proofs.lemmas.List.Elements.{All-head, All-tail}
+use Rattle.std.proofs.Math.Seq.{take-append_seam}
+use Rattle.std.specs.Fmt.{decimal}
+use Rattle.std.specs.List.{list_all, join_with_byte}
+use Rattle.percent_encoding.specs.AsciiSet.{should_percent_encode}
+use Rattle.percent_encoding.specs.Percent.{percent_decode}
+use Rattle.percent_encoding.proofs.AsciiSetLemmas.{escaped_from_inside}
+use Rattle.percent_encoding.proofs.PercentLemmas.{IsEscapeByte, All-percent_encode, percent_encode-nil, round_trip}
+use Rattle.text_io.specs.Words.{Word, words_of}
+use Rattle.mq_model.specs.Record.{Record}
+use Rattle.mq_model.specs.declared.entries.Entry.{Entry}
+use Rattle.mq_model.specs.declared.entries.Call.{Call}
+use Rattle.mq_model.specs.declared.entries.Call.TheVariants as call
+use Rattle.mq_model.specs.declared.entries.Reply.{Reply}
+use Rattle.mq_model.specs.declared.entries.Reply.TheVariants as reply
+use Rattle.journal_format.specs.declared.payload.TheConstants.{ESCAPED}
+use Rattle.journal_format.specs.Fitting.{Fits}
+use Rattle.journal_format.specs.Text.{call_words, escaped, line_text, payload_text, payload_words, record_words, reply_words}
+use Rattle.journal_format.specs.Reading.{entry_at, limits_at, quoted_at, word_at}
+use Rattle.journal_format.proofs.WholeWords.{AreWords, parts_none, word-decimal, words-append, words_of-line}
+use Rattle.journal_format.proofs.WrittenCalls.{call_again, call-words, small_at_again}
+use Rattle.journal_format.proofs.WrittenReplies.{reply_again, reply-words}
+
+-- ---- what stands between quotes
+
+space_escaped : should_percent_encode ESCAPED 32 ≡ true
+space_escaped = escaped_from_inside ESCAPED 32 refl
+
+feed_escaped : should_percent_encode ESCAPED 10 ≡ true
+feed_escaped = escaped_from_inside ESCAPED 10 refl
+
+kept_parts_none : (b : ℕ) → should_percent_encode ESCAPED b ≡ false → parts_none b ≡ true
+kept_parts_none b kept =
+    let no_space : b ≢ 32 = λ is. both_ways (should_percent_encode ESCAPED b) kept (ap (should_percent_encode ESCAPED) is ∙ space_escaped) in
+    let no_feed : b ≢ 10 = λ is. both_ways (should_percent_encode ESCAPED b) kept (ap (should_percent_encode ESCAPED) is ∙ feed_escaped) in
+    grind (arith, nat_tests)
+
+hex_parts_none : (b : ℕ) → IsEscapeByte b → parts_none b ≡ true
+hex_parts_none b hex = grind (arith, nat_tests)
+
+all_from : (bs : List ℕ) → All (λ b. parts_none b ≡ true) bs → list_all parts_none bs ≡ true
+all_from [] all = refl
+all_from (b ∷ bs) all = and_from (parts_none b) (list_all parts_none bs) (All-head (λ b. parts_none b ≡ true) b bs all) (all_from bs (All-tail (λ b. parts_none b ≡ true) b bs all))
+
+list_all-append : (xs ys : List ℕ) → list_all parts_none xs ≡ true → list_all parts_none ys ≡ true → list_all parts_none (xs ++ ys) ≡ true
+list_all-append [] ys first second = second
+list_all-append (x ∷ xs) ys first second =
+    let here : parts_none x ≡ true = grind (arith, nat_tests) in
+    let rest : list_all parts_none xs ≡ true = grind (arith, nat_tests) in
+    and_from (parts_none x) (list_all parts_none (xs ++ ys)) here (list_all-append xs ys rest second)
+
+escaped_part_none : (bytes : List ℕ) → list_all parts_none (escaped bytes) ≡ true
+escaped_part_none bytes = all_from (escaped bytes) (All-percent_encode (λ b. parts_none b ≡ true) ESCAPED bytes kept_parts_none hex_parts_none)
+
+pub payload-words : (payload : List ℕ) → AreWords (payload_words payload)
+payload-words [] = tt
+payload-words (b ∷ bytes) =
+    let quoted = 34 ∷ escaped (b ∷ bytes) ++ 34 ∷ [] in
+    let none = list_all-append (escaped (b ∷ bytes)) (34 ∷ []) (escaped_part_none (b ∷ bytes)) refl in
+    (and_from (ltb 0 (length quoted)) (list_all parts_none quoted) (lt-ltb 0 (length quoted) (omega arith)) none, tt)
+
+all_but_last : (xs : List ℕ) (x : ℕ) → take (length (xs ++ x ∷ []) - 1) (xs ++ x ∷ []) ≡ xs
+all_but_last xs x = let e : length (xs ++ x ∷ []) - 1 ≡ length xs = omega (arith, length-append xs (x ∷ [])) in rw e (take-append_seam xs (x ∷ []))
+
+pub quoted_again : (payload : List ℕ) (ws : List Word) → quoted_at (payload_words payload ++ codes "->" ∷ ws) ≡ (escaped payload, codes "->" ∷ ws)
+unfolding quoted_at
+quoted_again [] ws = rw percent_encode-nil refl
+quoted_again (b ∷ bytes) ws = rw (all_but_last (escaped (b ∷ bytes)) 34) refl
+
+pub no_limit : (payload : List ℕ) (ws : List Word) → limits_at (payload_words payload ++ codes "->" ∷ ws) ≡ Some (None, payload_words payload ++ codes "->" ∷ ws)
+unfolding limits_at
+no_limit [] ws = refl
+no_limit (b ∷ bytes) ws = refl
+
+-- ---- a line
+
+pub record-words : (place : ℕ) (r : Record) → place < 2 ^ 64 → Fits r → AreWords (record_words place r)
+record-words place r small fits =
+    let process : r.entry.process < 2 ^ 64 = omega (arith, fits.process) in
+    let behind : AreWords (payload_words r.payload ++ codes "->" ∷ reply_words r.entry.reply) =
+    words-append (payload_words r.payload) (codes "->" ∷ reply_words r.entry.reply) (payload-words r.payload) (refl, reply-words r.entry.reply fits.reply) in
+    (word-decimal place small, (word-decimal r.entry.process process, words-append (call_words r.entry.call) (payload_words r.payload ++ codes "->" ∷ reply_words r.entry.reply) (call-words r.entry.call fits.call) behind))
+
+entry_again : (place : ℕ) (r : Record) → Fits r → entry_at (record_words place r) ≡ Some (r.entry, escaped r.payload)
+unfolding entry_at word_at
+entry_again place r fits =
+    let behind = payload_words r.payload ++ codes "->" ∷ reply_words r.entry.reply in
+    rw (
+      small_at_again r.entry.process (call_words r.entry.call ++ behind) fits.process,
+      call_again r.entry.call behind fits.call (no_limit r.payload (reply_words r.entry.reply)),
+      quoted_again r.payload (reply_words r.entry.reply),
+      reply_again r.entry.reply fits.reply,
+    )
+    refl
+
+pub line_again : (place : ℕ) (r : Record) → place < 2 ^ 64 → Fits r → entry_at (words_of (line_text place r)) ≡ Some (r.entry, escaped r.payload)
+unfolding line_text
+line_again place r small fits = rw (words_of-line (record_words place r) (record-words place r small fits)) (entry_again place r fits)
+
+pub payload_again : (r : Record) → Fits r → percent_decode (escaped r.payload) ≡ r.payload
+payload_again r fits = round_trip ESCAPED r.payload refl fits.payload
+
+-- ---- a line in parts
+
+pub join-more : (v : Word) (vs : List Word) (w : Word) (ws : List Word) → join_with_byte 32 (v ∷ vs ++ w ∷ ws) ≡ join_with_byte 32 (v ∷ vs) ++ 32 ∷ join_with_byte 32 (w ∷ ws)
+join-more v [] w ws = refl
+join-more v (u ∷ us) w ws = rw append_assoc (ap (λ t. v ++ 32 ∷ t) (join-more u us w ws))
+
+parts : (place process : Word) (cs : List Word) (payload : List ℕ) (rs : List Word) → 0 < length cs → 0 < length rs → join_with_byte 32 (place ∷ process ∷ cs ++ (payload_words payload ++ codes "->" ∷ rs)) ++ 10 ∷ [] ≡ place ++ (codes " " ++ (process ++ (codes " " ++ (join_with_byte 32 cs ++ (payload_text payload ++ (codes " -> " ++ (join_with_byte 32 rs ++ codes "\n")))))))
+parts place process [] payload rs some_call some_reply = absurd (omega arith)
+parts place process (c ∷ cs) payload [] some_call some_reply = absurd (omega arith)
+parts place process (c ∷ cs) [] (r ∷ rs) some_call some_reply = rw (join-more c cs (codes "->") (r ∷ rs)) (simp append_assoc)
+parts place process (c ∷ cs) (b ∷ bytes) (r ∷ rs) some_call some_reply = rw (join-more c cs (34 ∷ escaped (b ∷ bytes) ++ 34 ∷ []) (codes "->" ∷ r ∷ rs)) (simp append_assoc)
+
+pub call_some : (c : Call) → 0 < length (call_words c)
+call_some (call.MqOpen flags attr) = omega arith
+call_some (call.MqClose d) = omega arith
+call_some call.MqUnlink = omega arith
+call_some (call.MqSend d prio len) = omega arith
+call_some (call.MqReceive d room) = omega arith
+call_some (call.MqTimedSend d prio len until now) = omega arith
+call_some (call.MqTimedReceive d room until now) = omega arith
+call_some (call.MqGetattr d) = omega arith
+call_some (call.MqSetattr d nonblock) = omega arith
+call_some (call.MqNotify d value) = omega arith
+call_some call.NextNotice = omega arith
+call_some call.Collect = omega arith
+call_some (call.Withdraw now) = omega arith
+
+pub reply_some : (r : Reply) → 0 < length (reply_words r)
+reply_some (reply.Opened d true) = omega arith
+reply_some (reply.Opened d false) = omega arith
+reply_some (reply.Queued notified) = omega arith
+reply_some (reply.Handed wait) = omega arith
+reply_some reply.Waits = omega arith
+reply_some (reply.Got place admitted notified) = omega arith
+reply_some (reply.Collected by) = omega arith
+reply_some (reply.Withdrawn wait) = omega arith
+reply_some (reply.Attrs status) = omega arith
+reply_some (reply.Notice value) = omega arith
+reply_some reply.Done = omega arith
+reply_some (reply.Refused fault) = omega arith
+
+-- the line as the program puts it together
+pub line_text-parts : (place : ℕ) (e : Entry) (payload : List ℕ) → line_text place (record { entry = e; payload = payload }) ≡ decimal place ++ (codes " " ++ (decimal e.process ++ (codes " " ++ (join_with_byte 32 (call_words e.call) ++ (payload_text payload ++ (codes " -> " ++ (join_with_byte 32 (reply_words e.reply) ++ codes "\n")))))))
+unfolding line_text
+line_text-parts place e payload = parts (decimal place) (decimal e.process) (call_words e.call) payload (reply_words e.reply) (call_some e.call) (reply_some e.reply)

@@ -1,0 +1,29 @@
+-- Why a journal was not read.
+use Rattle.std.specs.Prelude.{ℕ, ◌≡◌, ◌≢◌, ◌<◌, ◌+◌, List, ◌++◌, length, codes}
+use Rattle.std.specs.Fmt.{decimal}
+use Rattle.mq_model.specs.Record.{Record, Past}
+use Rattle.journal_format.specs.Fitting.{AllFit, Fits}
+use Rattle.journal_format.specs.Text.{journal_text, line_text}
+use Rattle.journal_format.specs.declared.fault.JournalFault.{JournalFault}
+use Rattle.journal_format.specs.declared.fault.JournalFault.TheVariants.{BadLine, Input, NoMemory}
+
+-- the printed text
+abbrev pub journal_fault_text : JournalFault → List ℕ
+journal_fault_text (BadLine line) = codes "line " ++ (decimal line ++ codes ": no entry")
+journal_fault_text Input = codes "a read failed"
+journal_fault_text NoMemory = codes "no memory"
+
+-- this line is no record's at this place
+abbrev pub IsNoLine : ℕ → List ℕ → Type 0
+IsNoLine place line = (r : Record) → Fits r → line ≢ line_text place r
+
+-- The text ends to be a journal's in this line: those before it are the text of a journal, there is something after them, and it
+-- does not begin with the line of a record at the next place.
+pub record StopsAt (line : ℕ) (text : List ℕ) : Type 0 where
+  pub past : Past
+  pub rest : List ℕ
+  pub fits : AllFit past
+  pub whole : text ≡ journal_text past ++ rest
+  pub line_is : line ≡ length past + 1
+  pub some : 0 < length rest
+  pub none : (r : Record) (others : List ℕ) → Fits r → rest ≢ line_text (length past) r ++ others

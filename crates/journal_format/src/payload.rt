@@ -1,0 +1,22 @@
+//! Names and messages in quotes.
+ghost use Rattle.std.specs.Prelude.{◌≡◌, IfOk, string_bytes};
+ghost use Rattle.journal_format.specs.Text.{payload_text};
+
+use percent_encoding::{AsciiSet, CONTROLS, ascii_set, percent_encode};
+use std::alloc::{AllocError, Global};
+
+/// The ASCII bytes that are escaped: the controls, a space and `%`.
+pub const ESCAPED: AsciiSet = ascii_set!(CONTROLS.add(b' ').add(b'%'));
+
+/// A name or a message in quotes after a space, or nothing where it has no bytes.
+pub fn payload_text(alloc: Global, payload: &[u8]) -> Result<String, AllocError>
+    ensures { IfOk result (λ text. string_bytes text ≡ payload_text payload.now) }
+{
+    let mut text = String::new(alloc);
+    if !payload.is_empty() {
+        text.push_str(" \"")?;
+        percent_encode(payload, ESCAPED).append_to(&mut text)?;
+        text.push('"')?;
+    }
+    Ok(text)
+}

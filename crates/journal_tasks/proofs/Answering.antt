@@ -1,0 +1,25 @@
+-- What was found of a script, from where its processes begin.
+use Rattle.std.proofs.Common.{◌≡◌, ◌∙◌, ℕ, true, Option, ap, subst}
+use Rattle.std.specs.List.{All}
+use Rattle.schedules.specs.Outcomes.{AreAll, AreDistinct, IsWitness}
+use Rattle.schedules.specs.declared.outcomes.Collected.{Collected}
+use Rattle.script_orders.specs.Orders.{AreLegal}
+use Rattle.script_orders.specs.Stage.{Stage, first_stage, next_stage, stands_still, told}
+use Rattle.journal_tasks.specs.EveryOrder.{AreFound, answer_text}
+
+pub found-from : (play : Stage) (collected : Collected) → first_stage play ≡ play →
+    All (IsWitness next_stage stands_still told (first_stage play)) collected.found.items → AreDistinct collected.found.items →
+    (collected.complete ≡ true → AreAll next_stage stands_still told (first_stage play) collected.found.items) →
+    AreLegal (first_stage play) → AreFound play collected
+found-from play collected first witnessed distinct all legal =
+    let P : Stage → Type 0 = λ s. AreFound s collected in
+    let here : AreFound (first_stage play) collected = record { witnessed = witnessed; distinct = distinct; all = all; legal = legal } in
+    subst P first here
+
+pub text-from : (journal : Option ℕ) (budget phases count : ℕ) (play later : Stage) (collected : Collected) →
+    phases ≡ count → first_stage later ≡ first_stage play → first_stage play ≡ play →
+    answer_text journal budget phases (first_stage later) collected ≡ answer_text journal budget count play collected
+text-from journal budget phases count play later collected same start first =
+    ap (λ (n : ℕ). answer_text journal budget n (first_stage later) collected) same
+    ∙ ap (λ (s : Stage). answer_text journal budget count s collected) start
+    ∙ ap (λ (s : Stage). answer_text journal budget count s collected) first

@@ -1,0 +1,86 @@
+-- What is written of all orders of the calls of a script.
+use Rattle.std.specs.Prelude.{◌≡◌, ℕ, zero, suc, Bool, true, List, [], Option, None, Some, if◌then◌else◌, length, slice_get}
+use Rattle.std.specs.List.{All, list_any}
+use Rattle.std.specs.Option.{option_map, unwrap_or}
+use Rattle.std.specs.Io.KnownBytes as known
+use Rattle.text_io.specs.Output.{AppendsTooLittle}
+use Rattle.script_text.specs.Script.{Whole}
+use Rattle.journal_format.specs.Text.{journal_text}
+use Rattle.schedules.specs.Schedules.{after}
+use Rattle.schedules.specs.Outcomes.{AreAll, AreDistinct, IsWitness}
+use Rattle.schedules.specs.declared.outcomes.Collected.{Collected}
+use Rattle.schedules.specs.declared.outcomes.Witnessed.{Witnessed}
+use Rattle.script_orders.specs.Orders.{AreLegal, Begins}
+use Rattle.script_orders.specs.Report.{report_text}
+use Rattle.script_orders.specs.Stage.{Stage, next_stage, stands_still, told}
+use Rattle.journal_tasks.specs.declared.every_order.Ending.{Ending}
+use Rattle.journal_tasks.specs.declared.every_order.Ending.TheVariants.{Well, NoSuch, Deadlock, OutOfBudget}
+use Rattle.journal_tasks.specs.declared.every_order.Trial.{Trial}
+
+-- the exit status of the program
+abbrev pub ending_status : Ending → ℕ
+ending_status Well = 0
+ending_status NoSuch = 1
+ending_status Deadlock = 5
+ending_status OutOfBudget = 6
+
+-- what was found from a stage on: each has a schedule that leads to it, no two tell the same, and where all was tried there is nothing else.
+-- The journal after each schedule is legal
+pub record AreFound (from : Stage) (collected : Collected) : Type 0 where
+  pub witnessed : All (IsWitness next_stage stands_still told from) collected.found.items
+  pub distinct : AreDistinct collected.found.items
+  pub all : collected.complete ≡ true → AreAll next_stage stands_still told from collected.found.items
+  pub legal : AreLegal from
+
+-- the one of this number, from 1
+abbrev pub numbered : List Witnessed → ℕ → Option Witnessed
+numbered found zero = None
+numbered found (suc index) = slice_get found index
+
+-- the text of the journal after a schedule from a stage on
+abbrev pub journal_of : Stage → List ℕ → List ℕ
+journal_of from schedule = unwrap_or (option_map (λ (to : Stage). journal_text to.past) (after next_stage schedule from)) []
+
+-- the journal that leads to the one of a number, where there is one
+abbrev pub numbered_text : Stage → Option Witnessed → List ℕ
+numbered_text from None = []
+numbered_text from (Some one) = journal_of from one.schedule.items
+
+-- what is written: the report, or the journal of a number
+abbrev pub answer_text : Option ℕ → ℕ → ℕ → Stage → Collected → List ℕ
+answer_text None budget phases from collected = report_text phases collected.found.items collected.complete budget
+answer_text (Some number) budget phases from collected = numbered_text from (numbered collected.found.items number)
+
+abbrev pub has_deadlock : List Witnessed → Bool
+has_deadlock found = list_any (λ one. one.outcome.stuck) found
+
+-- what the orders come to
+abbrev pub ending_of : Collected → Ending
+ending_of collected =
+    if has_deadlock collected.found.items then Deadlock else (if collected.complete then Well else OutOfBudget)
+
+abbrev pub ending_if : Collected → Option Witnessed → Ending
+ending_if collected None = NoSuch
+ending_if collected (Some one) = ending_of collected
+
+-- what they come to, where the report, or the journal of a number, is asked for
+abbrev pub answer_ending : Option ℕ → Collected → Ending
+answer_ending None collected = ending_of collected
+answer_ending (Some number) collected = ending_if collected (numbered collected.found.items number)
+
+-- all orders of a script were tried, unless the budget was used up, and known bytes have grown by the answer
+pub record Answers (script : Whole) (trial : Trial) (ending : Ending) (old new : Option (List ℕ)) : Type 0 where
+  pub from : Stage
+  pub begins : Begins script from
+  pub collected : Collected
+  pub found : AreFound from collected
+  pub ends : ending ≡ answer_ending trial.journal collected
+  pub written : known.Appends old new (answer_text trial.journal trial.budget (length script.phases) from collected)
+
+-- the same, and known bytes have grown by a front part of the answer that lacks a byte or more
+pub record AnswersInPart (script : Whole) (trial : Trial) (old new : Option (List ℕ)) : Type 0 where
+  pub from : Stage
+  pub begins : Begins script from
+  pub collected : Collected
+  pub found : AreFound from collected
+  pub written : AppendsTooLittle old new (answer_text trial.journal trial.budget (length script.phases) from collected)

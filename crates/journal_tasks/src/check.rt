@@ -1,0 +1,38 @@
+//! A journal, from its bytes to the verdict on it.
+ghost use Rattle.std.specs.Prelude.{◌≡◌, ◌+◌, ℕ, List, IfOk, IsErrOf, Some, take};
+ghost use Rattle.text_io.specs.Output.{AppendsTooLittle};
+ghost use Rattle.journal_format.specs.JournalFault.{StopsAt};
+ghost use Rattle.journal_tasks.specs.Verdict.{Checks, StopsInVerdict};
+ghost use Rattle.journal_tasks.specs.declared.fault.LogFault.TheVariants.{BadLine, Input, NoMemory, Output};
+
+use crate::fault::LogFault;
+use crate::verdict::{Verdict, verdict_of, verdict_text};
+use journal_format::input::{MOST_BYTES, read_input};
+use std::alloc::Global;
+use std::io::{Read, Write};
+use text_io::output::write_all;
+
+/// Reads a journal line by line, checks it, and writes a line with what stands in it, or the first entry that is not legal and why.
+/// `LogFault::BadLine`: a line is not that of an entry, and this is the first one. `LogFault::Input`: a read failed.
+/// `LogFault::Output`: a write failed, and a front part of the verdict is written. Of the others nothing is written.
+pub fn check_journal<R: Read, W: Write>(
+    alloc: Global,
+    input: &mut R,
+    output: &mut W,
+) -> Result<Verdict, LogFault>
+    ensures done { (all : List ℕ) → R.remaining input.old ≡ Some all →
+        IfOk result (λ verdict. Checks (take (MOST_BYTES + 1) all) verdict (W.contents output.old) (W.contents output.new)) }
+    ensures bad_line { (all : List ℕ) (line : ℕ) → R.remaining input.old ≡ Some all →
+        IsErrOf result (BadLine line) → StopsAt line (take (MOST_BYTES + 1) all) }
+    ensures input { IsErrOf result Input → W.contents output.new ≡ W.contents output.old }
+    ensures no_memory { IsErrOf result NoMemory → W.contents output.new ≡ W.contents output.old }
+    ensures unwritten { (line : ℕ) → IsErrOf result (BadLine line) → W.contents output.new ≡ W.contents output.old }
+    ensures output { (all : List ℕ) → R.remaining input.old ≡ Some all →
+        IsErrOf result Output → StopsInVerdict (take (MOST_BYTES + 1) all) (W.contents output.old) (W.contents output.new) }
+{
+    let journal = read_input(alloc, input)?;
+    let verdict = verdict_of(alloc, &journal)?;
+    let line = verdict_text(alloc, &journal, verdict)?;
+    write_all(output, line.as_bytes())?;
+    Ok(verdict)
+}

@@ -1,0 +1,78 @@
+//! What stands in a journal.
+#![tactic(auto, using(mq_model::proofs::Prefixes::prefixes))]
+
+ghost use Rattle.std.specs.Prelude.{◌≡◌, count_by};
+ghost use Rattle.journal_tasks.specs.Verdict.{counts_of, creates, has_process, opens_new, processes_to};
+
+use mq_model::entries::Reply;
+use mq_model::journals::Journal;
+use mq_model::limits::PROCESSES;
+
+/// What stands in a journal: its entries, the processes of these, from 1 to 32, and the queues that they created.
+#[derive(Clone, Copy, Debug, PartialEq, Eq)]
+pub struct Counts {
+    pub entries: u64,
+    pub processes: u64,
+    pub queues: u64,
+}
+
+/// What stands in a journal.
+pub fn counts_of(journal: &Journal) -> Counts
+    ensures { result ≡ counts_of journal.now.records }
+{
+    Counts {
+        entries: journal.len(),
+        processes: count_processes(journal),
+        queues: count_queues(journal),
+    }
+}
+
+// How many processes from 1 to 32 have an entry.
+#[tactic(auto, using(crate::proofs::Counting::process_counts))]
+fn count_processes(journal: &Journal) -> u64
+    ensures { result ≡ processes_to 32 journal.now.records }
+{
+    let mut count = 0;
+    for p in 0..PROCESSES {
+        if has_process(journal, p + 1) {
+            count += 1;
+        }
+    }
+    count
+}
+
+#[tactic(auto, using(mq_model::proofs::Prefixes::prefixes, crate::proofs::Counting::any_first))]
+fn has_process(journal: &Journal, p: u32) -> bool
+    ensures { result ≡ has_process journal.now.records p }
+{
+    for place in 0..journal.len() {
+        let (entry, _) = journal.record(place);
+        if entry.process == p {
+            return true;
+        }
+    }
+    false
+}
+
+// How many entries create a queue.
+fn count_queues(journal: &Journal) -> u64
+    ensures { result ≡ count_by creates journal.now.records }
+{
+    let mut count = 0;
+    for place in 0..journal.len() {
+        let (entry, _) = journal.record(place);
+        if opens_new(entry.reply) {
+            count += 1;
+        }
+    }
+    count
+}
+
+fn opens_new(reply: Reply) -> bool
+    ensures { result ≡ opens_new reply }
+{
+    match reply {
+        Reply::Opened { d: _, created } => created,
+        _ => false,
+    }
+}

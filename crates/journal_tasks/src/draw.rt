@@ -1,0 +1,39 @@
+//! A journal, from its bytes to a picture of it.
+ghost use Rattle.std.specs.Prelude.{◌≡◌, ◌+◌, ℕ, List, IsErrOf, OnOk, Some, take};
+ghost use Rattle.journal_format.specs.JournalFault.{StopsAt};
+ghost use Rattle.journal_tasks.specs.Window.{Draws, DrawsInPart};
+ghost use Rattle.journal_tasks.specs.declared.fault.LogFault.TheVariants.{BadLine, Input, NoMemory, Output};
+
+use crate::fault::LogFault;
+use crate::window::{Window, shown};
+use journal_format::input::{MOST_BYTES, read_input};
+use journal_picture::picture_of;
+use std::alloc::Global;
+use std::io::{Read, Write};
+use text_io::output::write_all;
+
+/// Reads a journal line by line, which need not be legal, and writes a picture of its entries in the window, of the first 2,000 of these.
+/// `LogFault::BadLine`: a line is not that of an entry, and this is the first one. `LogFault::Input`: a read failed.
+/// `LogFault::Output`: a write failed, and of the picture a front part is written that lacks a byte or more. Of the others nothing is written.
+pub fn draw_journal<R: Read, W: Write>(
+    alloc: Global,
+    input: &mut R,
+    output: &mut W,
+    window: Window,
+) -> Result<(), LogFault>
+    ensures done { (all : List ℕ) → R.remaining input.old ≡ Some all →
+        OnOk result (Draws (take (MOST_BYTES + 1) all) window (W.contents output.old) (W.contents output.new)) }
+    ensures bad_line { (all : List ℕ) (line : ℕ) → R.remaining input.old ≡ Some all →
+        IsErrOf result (BadLine line) → StopsAt line (take (MOST_BYTES + 1) all) }
+    ensures output { (all : List ℕ) → R.remaining input.old ≡ Some all →
+        IsErrOf result Output → DrawsInPart (take (MOST_BYTES + 1) all) window (W.contents output.old) (W.contents output.new) }
+    ensures input { IsErrOf result Input → W.contents output.new ≡ W.contents output.old }
+    ensures no_memory { IsErrOf result NoMemory → W.contents output.new ≡ W.contents output.old }
+    ensures unwritten { (line : ℕ) → IsErrOf result (BadLine line) → W.contents output.new ≡ W.contents output.old }
+{
+    let journal = read_input(alloc, input)?;
+    let (from, count) = shown(window, &journal);
+    let picture = picture_of(alloc, &journal, from, count)?;
+    write_all(output, picture.as_slice())?;
+    Ok(())
+}

@@ -1,0 +1,190 @@
+//! A script, from its bytes to what all orders of its calls come to.
+ghost use Rattle.std.specs.Prelude.{◌≡◌, ◌≢◌, ◌≤◌, ◌+◌, ℕ, List, IfErr, IfOk, IsErrOf, IsSome, OnOk, Some, Ok, Err, Vec, length, take};
+ghost use Rattle.std.specs.Option.{option_map};
+ghost use Rattle.std.specs.List.{All};
+ghost use Rattle.script_runner.specs.RunFault.{IsLate, StopsAt};
+ghost use Rattle.script_runner.specs.declared.fault.RunFault.{RunFault};
+ghost use Rattle.script_runner.specs.declared.fault.RunFault.TheVariants.{BadCall, Deadlock, Output};
+ghost use Rattle.script_text.specs.Script.{Whole, said_script, script_written};
+ghost use Rattle.schedules.specs.Schedules.{after};
+ghost use Rattle.schedules.specs.Outcomes.{IsWitness};
+ghost use Rattle.script_orders.specs.Stage.{first_stage, next_stage, stands_still, told};
+ghost use Rattle.journal_tasks.specs.EveryOrder.{Answers, AnswersInPart, AreFound, answer_ending, answer_text, ending_of, ending_status, has_deadlock, journal_of, numbered};
+
+use journal_format::text::write_journal;
+use schedules::outcomes::{Collected, Witnessed};
+use schedules::search::run_again;
+use script_orders::orders::{outcomes_of, play_of};
+use script_orders::play::Play;
+use script_orders::report::report_text;
+use script_runner::RunFault;
+use script_text::script::{MOST_BYTES, Script, read_script};
+use std::alloc::{AllocError, Global};
+use std::io::{Read, Write};
+use text_io::input::read_all;
+use text_io::output::write_all;
+
+/// How the orders of a script are tried.
+#[derive(Clone, Copy, Debug, PartialEq, Eq)]
+pub struct Trial {
+    /// In place of the report the journal of this outcome or deadlock is written.
+    pub journal: Option<u64>,
+    /// How many steps the search takes at most.
+    pub budget: u64,
+}
+
+/// The report, within five million steps.
+pub const REPORT: Trial = Trial {
+    journal: None,
+    budget: 5_000_000,
+};
+
+/// What the orders of a script come to.
+#[derive(Clone, Copy, Debug, PartialEq, Eq)]
+pub enum Ending {
+    /// Every order was tried, and none ends in a deadlock.
+    Well,
+    /// No outcome and no deadlock has the number that was asked for.
+    NoSuch,
+    /// An order ends in a deadlock.
+    Deadlock,
+    /// The budget was used up, and no order that was tried ends in a deadlock.
+    OutOfBudget,
+}
+
+impl Ending {
+    /// The exit status of the program.
+    pub fn status(self) -> u8
+        ensures { result ≡ ending_status self }
+    {
+        match self {
+            Ending::Well => 0,
+            Ending::NoSuch => 1,
+            Ending::Deadlock => 5,
+            Ending::OutOfBudget => 6,
+        }
+    }
+}
+
+/// Reads a script as `record_script` does, tries every order of its calls, and writes the report of what they come to, or the journal of an
+/// order that leads to an outcome or a deadlock. The faults are those of `record_script`, but for a deadlock, which is none here. At
+/// `RunFault::Output` a front part is written, and at the others nothing.
+pub fn try_orders<R: Read, W: Write>(
+    alloc: Global,
+    input: &mut R,
+    output: &mut W,
+    trial: Trial,
+) -> Result<Ending, RunFault>
+    ensures bad_call { (all : List ℕ) (line : ℕ) → R.remaining input.old ≡ Some all →
+        script_written (take (MOST_BYTES + 1) all) ≡ Err line →
+        StopsAt line result × (W.contents output.new ≡ W.contents output.old) }
+    ensures bad_call_only { (all : List ℕ) (line : ℕ) → R.remaining input.old ≡ Some all →
+        IsErrOf result (BadCall line) → script_written (take (MOST_BYTES + 1) all) ≡ Err line }
+    ensures no_deadlock { (lines : Vec ℕ Global) → IsErrOf result (Deadlock lines) → ⊥ }
+    ensures unwritten { (fault : RunFault) → IsErrOf result fault → fault ≢ Output →
+        W.contents output.new ≡ W.contents output.old }
+    ensures output { (all : List ℕ) (script : Whole) → R.remaining input.old ≡ Some all →
+        script_written (take (MOST_BYTES + 1) all) ≡ Ok script → IsErrOf result Output →
+        AnswersInPart script trial (W.contents output.old) (W.contents output.new) }
+    ensures done { (all : List ℕ) (script : Whole) → R.remaining input.old ≡ Some all →
+        script_written (take (MOST_BYTES + 1) all) ≡ Ok script →
+        IfOk result (λ ending. Answers script trial ending (W.contents output.old) (W.contents output.new)) }
+{
+    let text = read_all(alloc, input, MOST_BYTES)?;
+    let script = read_script(alloc, text.as_slice())?;
+    try_script(alloc, &script, output, trial)
+}
+
+// Tries every order of the calls of a script, and writes the answer.
+fn try_script<W: Write>(
+    alloc: Global,
+    script: &Script<'_>,
+    output: &mut W,
+    trial: Trial,
+) -> Result<Ending, RunFault>
+    requires { script.now.processes ≤ 32 }
+    ensures fault { IfErr result IsLate }
+    ensures no_deadlock { (lines : Vec ℕ Global) → IsErrOf result (Deadlock lines) → ⊥ }
+    ensures unwritten { (fault : RunFault) → IsErrOf result fault → fault ≢ Output →
+        W.contents output.new ≡ W.contents output.old }
+    ensures output { IsErrOf result Output →
+        AnswersInPart (said_script script.now) trial (W.contents output.old) (W.contents output.new) }
+    ensures done { IfOk result (λ ending.
+        Answers (said_script script.now) trial ending (W.contents output.old) (W.contents output.new)) }
+{
+    let mut play = play_of(alloc, script)?;
+    let collected = outcomes_of(alloc, &mut play, trial.budget)?;
+    let phases = script.phases.len() as u64;
+    let said = answer_text(alloc, &mut play, phases, &collected, trial)?;
+    write_all(output, said.as_slice())?;
+    Ok(answer_ending(&collected, trial.journal))
+}
+
+// What is written of those that were found.
+fn answer_text(
+    alloc: Global,
+    play: &mut Play,
+    phases: u64,
+    collected: &Collected,
+    trial: Trial,
+) -> Result<Vec<u8>, AllocError>
+    requires { All (IsWitness next_stage stands_still told (first_stage play.old)) collected.now.found.items }
+    ensures { IfOk result (λ text. text.items ≡
+        answer_text trial.journal trial.budget phases (first_stage play.old) collected.now) }
+{
+    match trial.journal {
+        None => report_text(alloc, phases, collected, trial.budget),
+        Some(number) => match numbered(&collected.found, number) {
+            None => Ok(Vec::new(alloc)),
+            Some(found) => journal_of(alloc, play, &found.schedule),
+        },
+    }
+}
+
+// The outcome or deadlock of this number, from 1.
+fn numbered(found: &[Witnessed], number: u64) -> Option<&Witnessed>
+    ensures { option_map (λ one. one.now) result ≡ numbered found.now number }
+{
+    if number == 0 || number > found.len() as u64 {
+        return None;
+    }
+    Some(&found[number as usize - 1])
+}
+
+// The text of the journal after a schedule.
+fn journal_of(alloc: Global, play: &mut Play, schedule: &[u32]) -> Result<Vec<u8>, AllocError>
+    requires { IsSome (after next_stage schedule.now (first_stage play.old)) }
+    ensures { IfOk result (λ text. text.items ≡ journal_of (first_stage play.old) schedule.now) }
+{
+    run_again(play, schedule)?;
+    write_journal(alloc, play.journal())
+}
+
+// What the orders come to, where the report, or the journal of a number, is asked for.
+fn answer_ending(collected: &Collected, journal: Option<u64>) -> Ending
+    ensures { result ≡ answer_ending journal collected.now }
+{
+    match journal {
+        Some(number) if numbered(&collected.found, number).is_none() => Ending::NoSuch,
+        _ => ending_of(collected),
+    }
+}
+
+// What the orders come to.
+fn ending_of(collected: &Collected) -> Ending
+    ensures { result ≡ ending_of collected.now }
+{
+    if has_deadlock(&collected.found) {
+        Ending::Deadlock
+    } else if collected.complete {
+        Ending::Well
+    } else {
+        Ending::OutOfBudget
+    }
+}
+
+fn has_deadlock(found: &[Witnessed]) -> bool
+    ensures { result ≡ has_deadlock found.now }
+{
+    found.iter().any(|one| one.outcome.stuck)
+}

@@ -1,0 +1,49 @@
+//! A concurrent history, from its bytes to the judgement of it.
+use crate::fault::LogFault;
+use history_judge::judgement::judge_calls;
+use history_judge::processes::first_stranger;
+use history_judge::said::{judgement_text, status_of};
+use history_judge::text::read_history;
+use journal_format::input::MOST_BYTES;
+use std::alloc::Global;
+use std::io::{Read, Write};
+use text_io::input::{ReadFault, read_all};
+use text_io::output::write_all;
+
+/// How a history is judged.
+#[derive(Clone, Copy, Debug, PartialEq, Eq)]
+pub struct Question {
+    /// The journal that explains the history is written, too.
+    pub journal: bool,
+    /// How many steps the search takes at most.
+    pub budget: u64,
+}
+
+/// Without a journal, within a million steps.
+pub const PLAIN: Question = Question {
+    journal: false,
+    budget: 1_000_000,
+};
+
+/// Reads a concurrent history, judges it, and writes what it comes to. The number is the exit status: 0 where it is possible, 1 where
+/// it is not, 5 where the budget was used up. `LogFault::BadLine`: this line is not that of a call of a process from 1 to 32.
+pub fn judge_history<R: Read, W: Write>(
+    alloc: Global,
+    input: &mut R,
+    output: &mut W,
+    question: Question,
+) -> Result<u8, LogFault> {
+    let text = match read_all(alloc, input, MOST_BYTES) {
+        Ok(text) => text,
+        Err(ReadFault::Failed) => return Err(LogFault::Input),
+        Err(ReadFault::NoMemory) => return Err(LogFault::NoMemory),
+    };
+    let calls = read_history(alloc, text.as_slice())?;
+    if let Some(index) = first_stranger(&calls) {
+        return Err(LogFault::BadLine((index as u64).saturating_add(1)));
+    }
+    let judgement = judge_calls(alloc, &calls, question.budget)?;
+    let said = judgement_text(alloc, &calls, &judgement, question.journal)?;
+    write_all(output, said.as_slice())?;
+    Ok(status_of(&judgement))
+}

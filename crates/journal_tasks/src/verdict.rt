@@ -1,0 +1,91 @@
+//! What a journal comes to.
+ghost use Rattle.std.specs.Prelude.{◌≡◌, ◌<◌, ◌+◌, IfOk, length, string_bytes};
+ghost use Rattle.mq_model.specs.Record.{first};
+ghost use Rattle.journal_tasks.specs.Verdict.{Judges, cause_text, last_line, verdict_text};
+
+use crate::counts::{Counts, counts_of};
+use journal_format::line::line_of;
+use journal_format::reply::reply_text;
+use mq_model::journals::Journal;
+use mq_state::replay::{Cause, Departure, replay};
+use std::alloc::{AllocError, Global};
+
+/// What a journal comes to.
+#[derive(Clone, Copy, Debug, PartialEq, Eq)]
+pub enum Verdict {
+    /// The journal is legal, and this stands in it.
+    Legal(Counts),
+    /// The first entry that is not legal, and why.
+    Illegal(Departure),
+}
+
+impl Verdict {
+    ghost use Rattle.journal_tasks.specs.Verdict.{verdict_status};
+
+    /// The exit status of the program.
+    pub fn status(self) -> u8
+        ensures { result ≡ verdict_status self }
+    {
+        match self {
+            Verdict::Legal(_) => 0,
+            Verdict::Illegal(_) => 1,
+        }
+    }
+}
+
+/// The verdict on a journal. The error is that memory was refused.
+pub fn verdict_of(alloc: Global, journal: &Journal) -> Result<Verdict, AllocError>
+    ensures { IfOk result (Judges journal.now.records) }
+{
+    let verdict = match replay(alloc, journal)? {
+        None => Verdict::Legal(counts_of(journal)),
+        Some(departure) => Verdict::Illegal(departure),
+    };
+    Ok(verdict)
+}
+
+/// What is printed of a verdict on a journal.
+pub fn verdict_text(
+    alloc: Global,
+    journal: &Journal,
+    verdict: Verdict,
+) -> Result<String, AllocError>
+    requires { Judges journal.now.records verdict }
+    ensures { IfOk result (λ text. string_bytes text ≡ verdict_text journal.now.records verdict) }
+{
+    match verdict {
+        Verdict::Legal(counts) => {
+            let (entries, processes, queues) = (counts.entries, counts.processes, counts.queues);
+            format!(in alloc; "legal: {entries} entries, {processes} processes, {queues} queues\n")
+        }
+        Verdict::Illegal(Departure { place, cause }) => {
+            let cause = cause_text(alloc, cause)?;
+            let line = line_at(alloc, journal, place)?;
+            format!(in alloc; "entry {place}: {cause}\n{line}")
+        }
+    }
+}
+
+// Why an entry is not legal.
+fn cause_text(alloc: Global, cause: Cause) -> Result<String, AllocError>
+    ensures { IfOk result (λ text. string_bytes text ≡ cause_text cause) }
+{
+    match cause {
+        Cause::Process => format!(in alloc; "no process from 1 to 32"),
+        Cause::Turn => format!(in alloc; "out of turn"),
+        Cause::Payload => format!(in alloc; "another payload expected"),
+        Cause::Reply(expected) => {
+            let reply = reply_text(alloc, &expected)?;
+            format!(in alloc; "expected {reply}")
+        }
+    }
+}
+
+// The line of the entry at a place.
+fn line_at(alloc: Global, journal: &Journal, place: u64) -> Result<String, AllocError>
+    requires { place < length journal.now.records }
+    ensures { IfOk result (λ line. string_bytes line ≡ last_line (first (place + 1) journal.now.records)) }
+{
+    let (entry, payload) = journal.record(place);
+    line_of(alloc, place, entry, payload)
+}

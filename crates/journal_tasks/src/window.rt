@@ -1,0 +1,32 @@
+//! The part of a journal that is shown.
+ghost use Rattle.std.specs.Prelude.{◌≡◌, ◌≤◌, ◌+◌, length};
+ghost use Rattle.journal_tasks.specs.Window.{count_shown, first_shown};
+
+use journal_picture::MOST_ENTRIES;
+use mq_model::journals::Journal;
+
+/// The places from `from` up to and with `to`.
+#[derive(Clone, Copy, Debug, PartialEq, Eq)]
+pub struct Window {
+    pub from: u64,
+    pub to: u64,
+}
+
+/// All places.
+pub const WHOLE: Window = Window {
+    from: 0,
+    to: u64::MAX,
+};
+
+/// The first place that is shown, and how many entries from there on: at most 2,000.
+pub fn shown(window: Window, journal: &Journal) -> (u64, u64)
+    ensures first { result.0 ≡ first_shown window (length journal.now.records) }
+    ensures count { result.1 ≡ count_shown window (length journal.now.records) }
+    ensures inside { result.0 + result.1 ≤ length journal.now.records }
+    ensures few { result.1 ≤ 2000 }
+{
+    let len = journal.len();
+    let end = if window.to < len { window.to + 1 } else { len };
+    let from = window.from.min(end);
+    (from, (end - from).min(MOST_ENTRIES))
+}

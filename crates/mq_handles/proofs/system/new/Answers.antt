@@ -1,4 +1,0 @@
-use Rattle.mq_handles.proofs.system.new.Goals as goal
-
-pub returns-in-Ok : goal.returns-in-Ok
-returns-in-Ok c = rw c.in-Ok.ensures.bounds at c.hand_out.ensures

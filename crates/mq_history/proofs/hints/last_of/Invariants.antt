@@ -1,5 +1,0 @@
-use Rattle.std.proofs.Common.{◌≡◌, length}
-use Rattle.mq_history.proofs.hints.last_of.Given as goal
-
-abbrev pub invariant-loop-operations : goal.invariant-loop-operations
-invariant-loop-operations l = length l.hints.items ≡ l.operations-index

@@ -1,5 +1,0 @@
-use Rattle.std.proofs.Common.{◌≤◌}
-use Rattle.mq_history.proofs.processes.process_count.Given as goal
-
-abbrev pub invariant-loop-called : goal.invariant-loop-called
-invariant-loop-called l = l.count ≤ 32

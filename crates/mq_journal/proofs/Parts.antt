@@ -1,4 +1,0 @@
--- The parts of a line, under a name for the tactics.
-use Rattle.mq_journal.proofs.WrittenLines.{line_text-parts}
-
-pub ruleset line_parts = (line_text-parts)

@@ -1,6 +1,0 @@
-use Rattle.mq_log.proofs.Counting.{process_at}
-use Rattle.mq_log.proofs.counts.has_process.Goals as goal
-
-pub returns-then-entry-p : goal.returns-then-entry-p
-returns-then-entry-p c =
-    process_at c.args.p c.loop-place.place c.args.journal.now.records (record { entry = c.record.result.0; payload = c.record.result.1.now }) c.record.ensures c.if-entry-p.true

@@ -1,9 +1,0 @@
-use Rattle.std.proofs.Common.{length, ap, arith}
-use Rattle.mq_orders.specs.Stage.{Stage}
-use Rattle.mq_orders.proofs.Legality.{are-legal}
-use Rattle.mq_orders.proofs.play.Play.stays_legal.Goals as goal
-
-pub returns : goal.returns
-returns c =
-    let count = ap (λ (t : Stage). length t.programs) c.self.view_is in
-    are-legal c.args.self.now (omega (arith, count, c.self.invariant.few))

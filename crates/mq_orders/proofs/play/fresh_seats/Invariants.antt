@@ -1,6 +1,0 @@
-use Rattle.std.proofs.Common.{◌≡◌, replicate}
-use Rattle.mq_orders.specs.Stage.{fresh}
-use Rattle.mq_orders.proofs.play.fresh_seats.Given as goal
-
-abbrev pub invariant-loop : goal.invariant-loop
-invariant-loop l = l.seats.items ≡ replicate l.counter fresh

@@ -1,6 +1,0 @@
-use Rattle.std.proofs.Common.{◌≡◌, ◌++◌, drop}
-use Rattle.mq_orders.specs.Stage.{replies}
-use Rattle.mq_orders.proofs.play.replies.Given as goal
-
-abbrev pub invariant-loop-seat : goal.invariant-loop-seat
-invariant-loop-seat l = l.text.items ++ replies (drop l.seat-index l.seats) ≡ replies l.seats

@@ -1,5 +1,0 @@
-use Rattle.mq_orders.specs.Progress.{Progress}
-use Rattle.mq_orders.specs.declared.turn.Seat.TheInside.{Inside}
-
-abbrev pub shown : Inside → Progress
-shown x = record { begun = x.begun; text = x.text.items }

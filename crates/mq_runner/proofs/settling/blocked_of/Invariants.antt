@@ -1,6 +1,0 @@
-use Rattle.std.proofs.Common.{◌≡◌, take}
-use Rattle.mq_runner.specs.Stands.{blocked_processes}
-use Rattle.mq_runner.proofs.settling.blocked_of.Given as goal
-
-abbrev pub invariant-loop-worked : goal.invariant-loop-worked
-invariant-loop-worked g l = l.processes.items ≡ blocked_processes (take l.worked-index l.workers)

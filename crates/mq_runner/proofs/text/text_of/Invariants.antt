@@ -1,6 +1,0 @@
-use Rattle.std.proofs.Common.{◌≡◌, take}
-use Rattle.mq_runner.specs.Phase.{text_in}
-use Rattle.mq_runner.proofs.text.text_of.Given as goal
-
-abbrev pub invariant-loop-worked : goal.invariant-loop-worked
-invariant-loop-worked g l = l.text.items ≡ text_in (take l.worked-index l.workers)

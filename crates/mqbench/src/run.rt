@@ -1,0 +1,51 @@
+//! A run, from the bytes of its input to its output.
+ghost use Rattle.std.specs.Prelude.{◌≡◌, ◌+◌, ℕ, List, IsErrOf, OnOk, Some, None, take};
+ghost use Rattle.std.specs.Io.KnownBytes.{Appends};
+ghost use Rattle.bench_line.specs.Faults.{IsRefusal};
+ghost use Rattle.bench_line.specs.Grammar.{request_read};
+ghost use Rattle.bench_line.specs.Usage.{usage_text};
+ghost use Rattle.bench_line.specs.declared.fault.BenchFault.TheVariants.{BadLine};
+ghost use Rattle.bench_line.specs.declared.workload.Request.TheVariants.{Usage, Measure};
+ghost use Rattle.bench_line.specs.declared.workload.Workload.{Workload};
+ghost use Rattle.bench_line.specs.declared.workload.Conditions.{Conditions};
+
+use bench_line::fault::BenchFault;
+use bench_line::line::{MOST_BYTES, read_request, write_usage};
+use bench_line::workload::Request;
+use bench_workloads::{line_of, measure, title_of};
+use std::alloc::Global;
+use std::io::{Read, Write};
+use std::sync::Wait;
+use std::thread::Threads;
+use std::time::{Clock, CpuClock};
+use text_io::output::write_all;
+
+/// Reads the line of an input, measures the workload that it names, and writes a line with the result, or the usage where the
+/// input is empty. `BenchFault::BadLine`: the line names no workload. `BenchFault::Input`, `BenchFault::Output`: a read or a
+/// write failed. Any other fault: the workload could not be carried out.
+pub fn run_line<S: Wait + Threads + Clock + CpuClock + Sync, R: Read, W: Write>(
+    rt: &S,
+    alloc: Global,
+    input: &mut R,
+    output: &mut W,
+) -> Result<(), BenchFault>
+    ensures bad_line { (all : List ℕ) → R.remaining input.old ≡ Some all →
+        request_read (take (MOST_BYTES + 1) all) ≡ None →
+        IsRefusal result × (W.contents output.new ≡ W.contents output.old) }
+    ensures usage { (all : List ℕ) → R.remaining input.old ≡ Some all →
+        request_read (take (MOST_BYTES + 1) all) ≡ Some Usage →
+        OnOk result (Appends (W.contents output.old) (W.contents output.new) usage_text) }
+    ensures workload { (all : List ℕ) (workload : Workload) (conditions : Conditions) → R.remaining input.old ≡ Some all →
+        request_read (take (MOST_BYTES + 1) all) ≡ Some (Measure workload conditions) →
+        IsErrOf result BadLine → ⊥ }
+{
+    match read_request(alloc, input)? {
+        Request::Usage => write_usage(output)?,
+        Request::Measure(workload, conditions) => {
+            let result = measure(rt, alloc, workload, conditions)?;
+            let line = line_of(alloc, title_of(workload), result)?;
+            write_all(output, line.as_bytes())?;
+        }
+    }
+    Ok(())
+}

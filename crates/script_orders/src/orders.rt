@@ -1,0 +1,48 @@
+//! Every order in which the calls of a script can come.
+ghost use Rattle.std.specs.Prelude.{◌≡◌, ◌≤◌, ◌+◌, ℕ, List, IfOk, OnOk, None, Some, true};
+ghost use Rattle.std.specs.List.{All};
+ghost use Rattle.mq_model.specs.Waits.{open_wait};
+ghost use Rattle.schedules.specs.Schedules.{after};
+ghost use Rattle.schedules.specs.Outcomes.{AreAll, AreDistinct, IsWitness};
+ghost use Rattle.script_text.specs.Script.{Whole, said_script};
+ghost use Rattle.script_orders.specs.Orders.{AreLegal, Begins, HasMade};
+ghost use Rattle.script_orders.specs.Stage.{Stage, first_stage, next_stage, stands_still, told, turn_of};
+
+use crate::plan::programs_of;
+use crate::play::Play;
+use schedules::outcomes::{Collected, collect};
+use script_text::script::Script;
+use std::alloc::{AllocError, Global};
+
+/// The processes of a script, of which none has begun.
+pub fn play_of(alloc: Global, script: &Script<'_>) -> Result<Play, AllocError>
+    requires { script.now.processes ≤ 32 }
+    ensures { IfOk result (Begins (said_script script.now)) }
+{
+    let programs = programs_of(alloc, script)?;
+    Play::new(alloc, programs, script.phases.len() as u64)
+}
+
+/// Tries every order of the calls of a script, in so many steps at most, and collects what is told where no process can go on: of
+/// each phase its replies, or that it is a deadlock, with the lines whose calls wait for ever. Each is told once. The
+/// journal of each order is legal.
+pub fn outcomes_of(alloc: Global, play: &mut Play, budget: u64) -> Result<Collected, AllocError>
+    ensures witnessed { IfOk result (λ c.
+        All (IsWitness next_stage stands_still told (first_stage play.old)) c.found.items) }
+    ensures distinct { IfOk result (λ c. AreDistinct c.found.items) }
+    ensures all { IfOk result (λ c. c.complete ≡ true →
+        AreAll next_stage stands_still told (first_stage play.old) c.found.items) }
+    ensures legal { AreLegal (first_stage play.old) }
+    ensures start { OnOk result (first_stage play.new ≡ first_stage play.old) }
+{
+    play.stays_legal();
+    collect(alloc, play, budget)
+}
+
+/// Whoever neither waits nor can go on, after a schedule from where the processes of a script begin, has made all its lines up to those
+/// of the phase. The function does nothing: its contract is the law.
+pub fn all_is_made()
+    ensures { (script : Whole) (from s : Stage) (schedule : List ℕ) (index : ℕ) →
+        script.processes ≤ 32 → Begins script from → after next_stage schedule from ≡ Some s →
+        turn_of s index ≡ None → open_wait s.past (index + 1) ≡ None → HasMade s index }
+{}

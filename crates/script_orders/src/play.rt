@@ -1,0 +1,299 @@
+//! The processes of a script as a machine: a choice is the process that goes on, and the last one begins the next phase.
+ghost use Rattle.script_orders.specs.Orders.{AreLegal};
+ghost use Rattle.script_orders.specs.Stage.{first_stage, fresh, next_stage, none_can_turn, one_waits, replies, seats_cleared, turn_of, wait_line_of, wait_of, waiting_lines, with_turn};
+ghost use Rattle.std.specs.Option.{option_map};
+ghost use Rattle.std.specs.Prelude.{◌≡◌, ◌≤◌, ◌<◌, ◌+◌, ◌^◌, [], ◌++◌, IfOk, OnOk, IsTrue, IsFalse, Some, None, is_some, length, replicate, vec_len, map};
+
+use crate::plan::Planned;
+use crate::turn::{Seat, can_turn, turn};
+use mq_model::journals::Journal;
+use mq_state::trail::Trail;
+use schedules::machine::Machine;
+use schedules::outcomes::{Outcome, Telling};
+use std::alloc::{AllocError, Global};
+use std::marker::Model;
+
+/// The processes of a script with their lines, how far each has come, and the journal so far. Each process makes its calls of a phase
+/// in their order; the next phase begins where none can go on and none waits.
+#[derive(Drop)]
+pub struct Play {
+    alloc: Global,
+    programs: Vec<Vec<Planned>>,
+    phases: u64,
+    phase: u64,
+    trail: Trail,
+    seats: Vec<Seat>,
+}
+
+impl Model for Play {
+    ghost use Rattle.script_orders.specs.Stage.{Stage};
+
+    ghost Value = { Stage };
+
+    ghost use Rattle.script_orders.specs.PlayModel.{shown, AreSeated};
+
+    ghost view = { shown };
+
+    ghost invariant = { AreSeated };
+}
+
+// Seats of processes that have begun nothing.
+fn fresh_seats(alloc: Global, count: usize) -> Result<Vec<Seat>, AllocError>
+    ensures { IfOk result (λ seats. seats.items ≡ replicate count fresh) }
+{
+    let mut seats = Vec::new(alloc);
+    for _ in 0..count {
+        seats.push(Seat::new(alloc, 0))?;
+    }
+    Ok(seats)
+}
+
+// Seats at the beginning of the next phase.
+fn cleared_seats(alloc: Global, seats: &[Seat]) -> Result<Vec<Seat>, AllocError>
+    ensures { IfOk result (λ cleared. cleared.items ≡ seats_cleared seats.now) }
+{
+    let mut cleared = Vec::new(alloc);
+    for seat in seats {
+        cleared.push(Seat::new(alloc, seat.begun()))?;
+    }
+    Ok(cleared)
+}
+
+// What is printed of the replies of all processes in a phase.
+fn replies(alloc: Global, seats: &[Seat]) -> Result<Vec<u8>, AllocError>
+    ensures { IfOk result (λ text. text.items ≡ replies seats.now) }
+{
+    let mut text = Vec::new(alloc);
+    for seat in seats {
+        text.extend_from_slice(seat.text())?;
+    }
+    Ok(text)
+}
+
+impl Play {
+    /// The processes 1, 2, .. of a script with their lines, of which none has begun one.
+    pub fn new(alloc: Global, programs: Vec<Vec<Planned>>, phases: u64) -> Result<Play, AllocError>
+        requires { length programs.items ≤ 32 }
+        ensures { IfOk result (λ play. play ≡ record {
+          programs = programs.items;
+          phases = phases;
+          phase = 0;
+          past = [];
+          seats = replicate (length programs.items) fresh;
+        }) }
+    {
+        let seats = fresh_seats(alloc, programs.len())?;
+        let trail = Trail::new(alloc)?;
+        Ok(Play {
+            alloc,
+            programs,
+            phases,
+            phase: 0,
+            trail,
+            seats,
+        })
+    }
+
+    /// The journal so far.
+    pub fn journal(&self) -> &Journal
+        ensures { result.now.records ≡ self.now.past }
+    {
+        self.trail.journal()
+    }
+
+    /// The journal after each schedule is legal. The function does nothing: its contract is the law.
+    pub fn stays_legal(&self)
+        ensures { AreLegal (first_stage self.now) }
+    {
+        let _processes = self.programs.len();
+    }
+
+    // The process at an index can go on.
+    fn can_turn(&self, index: usize) -> bool
+        requires { index < length self.now.programs }
+        ensures { result ≡ is_some (turn_of self.now index) }
+    {
+        can_turn(
+            &self.trail,
+            &self.seats[index],
+            self.phase,
+            index as u32 + 1,
+            &self.programs[index],
+        )
+    }
+
+    // The process at an index goes on, if it can.
+    fn turn(&mut self, index: usize) -> Result<bool, AllocError>
+        requires { index < length self.old.programs }
+        ensures went { IfOk result (λ went. IsTrue went →
+            option_map (with_turn self.old index) (turn_of self.old index) ≡ Some self.new) }
+        ensures none { IfOk result (λ went. IsFalse went → turn_of self.old index ≡ None) }
+        ensures stays { IfOk result (λ went. IsFalse went → self.new ≡ self.old) }
+    {
+        let Play {
+            alloc,
+            programs,
+            phases: _,
+            phase,
+            trail,
+            seats,
+        } = self;
+        turn(
+            *alloc,
+            trail,
+            &mut seats[index],
+            *phase,
+            index as u32 + 1,
+            &programs[index],
+        )
+    }
+
+    // No process can go on.
+    fn none_can_turn(&self) -> bool
+        ensures { result ≡ none_can_turn self.now (length self.now.programs) }
+    {
+        for index in 0..self.programs.len() {
+            if self.can_turn(index) {
+                return false;
+            }
+        }
+        true
+    }
+
+    // A process waits.
+    fn one_waits(&self) -> bool
+        ensures { result ≡ one_waits self.now.past (length self.now.programs) }
+    {
+        let mut one_waits = false;
+        for index in 0..self.programs.len() {
+            if self.trail.waits(index as u32 + 1) {
+                one_waits = true;
+            }
+        }
+        one_waits
+    }
+
+    // Begins the next phase, if this one is over and there is one.
+    fn next_phase(&mut self) -> Result<bool, AllocError>
+        ensures went { IfOk result (λ went. IsTrue went →
+            next_stage self.old (length self.old.programs) ≡ Some self.new) }
+        ensures none { IfOk result (λ went. IsFalse went →
+            next_stage self.old (length self.old.programs) ≡ None) }
+        ensures stays { IfOk result (λ went. IsFalse went → self.new ≡ self.old) }
+    {
+        if self.phase >= self.phases
+            || self.phases - self.phase < 2
+            || !self.none_can_turn()
+            || self.one_waits()
+        {
+            return Ok(false);
+        }
+        self.seats = cleared_seats(self.alloc, &self.seats)?;
+        self.phase += 1;
+        Ok(true)
+    }
+
+    // The line in which the process at an index waits.
+    fn wait_line(&self, index: usize) -> u64
+        requires { index < length self.now.programs }
+        ensures { result ≡ wait_line_of self.now index }
+    {
+        let begun = self.seats[index].begun();
+        let program = &self.programs[index];
+        if begun == 0 || begun > program.len() {
+            return 0;
+        }
+        program[begun - 1].line
+    }
+
+    // Adds what is printed of the process at an index where it waits.
+    fn push_wait(&self, alloc: Global, text: &mut Vec<u8>, index: usize) -> Result<(), AllocError>
+        requires { index < length self.now.programs }
+        ensures { OnOk result (text.new.items ≡ text.old.items ++ wait_of self.now index) }
+    {
+        if self.trail.waits(index as u32 + 1) {
+            let line = self.wait_line(index);
+            let waits = format!(in alloc; "line {line}: waits for ever\n")?;
+            text.extend_from_slice(waits.as_bytes())?;
+        }
+        Ok(())
+    }
+
+    // What is printed of the calls that wait.
+    fn waiting_lines(&self, alloc: Global) -> Result<Vec<u8>, AllocError>
+        ensures { IfOk result (λ text. text.items ≡ waiting_lines self.now (length self.now.programs)) }
+    {
+        let mut text = Vec::new(alloc);
+        for index in 0..self.programs.len() {
+            self.push_wait(alloc, &mut text, index)?;
+        }
+        Ok(text)
+    }
+}
+
+impl Machine for Play {
+    ghost use Rattle.script_orders.specs.Stage.{choice_count, first_stage, next_stage, stands_still};
+    ghost use Rattle.script_orders.specs.StageLaws.{next-first, next-others};
+    ghost use Rattle.std.specs.Prelude.{refl};
+
+    ghost start = { first_stage };
+
+    ghost next = { next_stage };
+
+    ghost choices = { choice_count };
+
+    ghost is_goal = { stands_still };
+
+    fn restart(&mut self) -> Result<(), AllocError> {
+        let seats = fresh_seats(self.alloc, self.programs.len())?;
+        self.trail = Trail::new(self.alloc)?;
+        self.seats = seats;
+        self.phase = 0;
+        Ok(())
+    }
+
+    fn choices(&self) -> u32 {
+        self.programs.len() as u32 + 1
+    }
+
+    fn step(&mut self, choice: u32) -> Result<bool, AllocError> {
+        let index = choice as usize;
+        if index < self.programs.len() {
+            self.turn(index)
+        } else if index == self.programs.len() {
+            self.next_phase()
+        } else {
+            Ok(false)
+        }
+    }
+
+    fn is_goal(&self) -> bool {
+        self.none_can_turn()
+    }
+
+    ghost same_start = { next-first };
+
+    ghost start_is_first = { λ x. refl };
+
+    ghost no_others = { next-others };
+}
+
+impl Telling for Play {
+    ghost use Rattle.script_orders.specs.Stage.{told};
+
+    ghost outcome = { told };
+
+    fn outcome(&self, alloc: Global) -> Result<Outcome, AllocError> {
+        let stuck = self.one_waits();
+        let text = if stuck {
+            self.waiting_lines(alloc)?
+        } else {
+            replies(alloc, &self.seats)?
+        };
+        Ok(Outcome {
+            stage: self.phase,
+            stuck,
+            text,
+        })
+    }
+}

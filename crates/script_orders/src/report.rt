@@ -1,0 +1,120 @@
+//! What is printed of all that the calls of a script can come to.
+ghost use Rattle.std.specs.Prelude.{◌≡◌, ◌++◌, ◌+◌, ◌<◌, ◌^◌, IfOk, OnOk, count_by, length, string_bytes};
+ghost use Rattle.script_orders.specs.Report.{end_text, entry_head, entries_text, head_text, is_deadlock_of, is_outcome_of, phase_text, report_text};
+
+use schedules::outcomes::{Collected, Witnessed};
+use std::alloc::{AllocError, Global};
+
+fn is_outcome_of(found: &Witnessed, phase: u64) -> bool
+    ensures { result ≡ is_outcome_of phase found.now }
+{
+    found.outcome.stage == phase && !found.outcome.stuck
+}
+
+fn is_deadlock_of(found: &Witnessed, phase: u64) -> bool
+    ensures { result ≡ is_deadlock_of phase found.now }
+{
+    found.outcome.stage == phase && found.outcome.stuck
+}
+
+// How many outcomes of a phase were found.
+fn outcomes_of(found: &[Witnessed], phase: u64) -> usize
+    ensures { result ≡ count_by (is_outcome_of phase) found.now }
+{
+    found.iter().filter(|w| is_outcome_of(w, phase)).count()
+}
+
+// How many deadlocks in a phase were found.
+fn deadlocks_of(found: &[Witnessed], phase: u64) -> usize
+    ensures { result ≡ count_by (is_deadlock_of phase) found.now }
+{
+    found.iter().filter(|w| is_deadlock_of(w, phase)).count()
+}
+
+// The line that begins a phase.
+fn head_text(alloc: Global, found: &[Witnessed], phase: u64) -> Result<String, AllocError>
+    requires { phase + 1 < 2 ^ 64 }
+    ensures { IfOk result (λ text. string_bytes text ≡ head_text found.now phase) }
+{
+    let number = phase + 1;
+    let outcomes = outcomes_of(found, phase);
+    let deadlocks = deadlocks_of(found, phase);
+    format!(in alloc; "phase {number}: outcomes {outcomes}, deadlocks {deadlocks}\n")
+}
+
+// The line before what was found.
+fn entry_head(alloc: Global, found: &Witnessed, number: u64) -> Result<String, AllocError>
+    ensures { IfOk result (λ text. string_bytes text ≡ entry_head found.now number) }
+{
+    if found.outcome.stuck {
+        format!(in alloc; "deadlock {number}\n")
+    } else {
+        format!(in alloc; "outcome {number}\n")
+    }
+}
+
+// Adds what was found in a phase.
+fn push_entries(
+    alloc: Global,
+    text: &mut Vec<u8>,
+    found: &[Witnessed],
+    phase: u64,
+) -> Result<(), AllocError>
+    ensures { OnOk result (text.new.items ≡ text.old.items ++ entries_text phase 0 found.now) }
+{
+    for at in 0..found.len() {
+        let one = &found[at];
+        if one.outcome.stage == phase {
+            let head = entry_head(alloc, one, at as u64 + 1)?;
+            text.extend_from_slice(head.as_bytes())?;
+            text.extend_from_slice(one.outcome.text.as_slice())?;
+        }
+    }
+    Ok(())
+}
+
+// Adds a phase.
+fn push_phase(
+    alloc: Global,
+    text: &mut Vec<u8>,
+    found: &[Witnessed],
+    phase: u64,
+) -> Result<(), AllocError>
+    requires { phase + 1 < 2 ^ 64 }
+    ensures { OnOk result (text.new.items ≡ text.old.items ++ phase_text found.now phase) }
+{
+    let head = head_text(alloc, found, phase)?;
+    text.extend_from_slice(head.as_bytes())?;
+    push_entries(alloc, text, found, phase)
+}
+
+// The last line.
+fn end_text(alloc: Global, complete: bool, budget: u64) -> Result<String, AllocError>
+    ensures { IfOk result (λ text. string_bytes text ≡ end_text complete budget) }
+{
+    if complete {
+        String::from_str(alloc, "every order was tried\n")
+    } else {
+        format!(in alloc; "the budget of {budget} steps was used up: there may be more\n")
+    }
+}
+
+/// What is printed of the outcomes of a script of so many phases: phase by phase how many there are and the replies of each, how many
+/// deadlocks and the calls that wait in each, and whether every order was tried. The numbers are the places in the list, from 1.
+pub fn report_text(
+    alloc: Global,
+    phases: u64,
+    collected: &Collected,
+    budget: u64,
+) -> Result<Vec<u8>, AllocError>
+    ensures { IfOk result (λ text. text.items ≡
+        report_text phases collected.now.found.items collected.now.complete budget) }
+{
+    let mut text = Vec::new(alloc);
+    for phase in 0..phases {
+        push_phase(alloc, &mut text, &collected.found, phase)?;
+    }
+    let end = end_text(alloc, collected.complete, budget)?;
+    text.extend_from_slice(end.as_bytes())?;
+    Ok(text)
+}

@@ -1,0 +1,108 @@
+// Scripts whose orders are known.
+use crate::orders::{outcomes_of, play_of};
+use crate::report::report_text;
+use script_text::script::read_script;
+use std::alloc::Global;
+use std::process::Abort;
+use std::test::Fail;
+
+// What is printed of a script is this.
+fn prints(
+    rt: &impl Abort,
+    alloc: Global,
+    script: &str,
+    budget: u64,
+    wanted: &str,
+) -> Result<(), Fail> {
+    let script = read_script(alloc, script.as_bytes())?;
+    let mut play = play_of(alloc, &script)?;
+    let collected = outcomes_of(alloc, &mut play, budget)?;
+    let text = report_text(alloc, script.phases.len() as u64, &collected, budget)?;
+    assert_eq!(rt; text.as_slice(), wanted.as_bytes());
+    Ok(())
+}
+
+// Two receives at one queue with two messages: either process may be first.
+static RACE: &str = "processes 2
+1 open /q bc 10 8
+--
+2 open /q b
+1 send 0 0 a
+1 send 0 0 b
+--
+1 recv 0 8
+2 recv 0 8
+";
+
+static RACE_ORDERS: &str = "phase 1: outcomes 1, deadlocks 0
+outcome 1
+1 fd 0
+phase 2: outcomes 1, deadlocks 0
+outcome 2
+1 ok
+1 ok
+2 fd 0
+phase 3: outcomes 2, deadlocks 0
+outcome 3
+1 got 0 1 a
+2 got 0 1 b
+outcome 4
+1 got 0 1 b
+2 got 0 1 a
+every order was tried
+";
+
+#[test]
+fn either_process_receives_first(rt: HostRuntime) -> Result<(), Fail> {
+    prints(&rt, rt.alloc(), RACE, 10000, RACE_ORDERS)
+}
+
+// A budget that is too small says so.
+#[test]
+fn budget_is_used_up(rt: HostRuntime) -> Result<(), Fail> {
+    prints(
+        &rt,
+        rt.alloc(),
+        RACE,
+        0,
+        "phase 1: outcomes 0, deadlocks 0
+phase 2: outcomes 0, deadlocks 0
+phase 3: outcomes 0, deadlocks 0
+the budget of 0 steps was used up: there may be more
+",
+    )
+}
+
+// The process that does not wait is refused where it comes late; where it comes first, the other waits for ever.
+static DEADLOCK: &str = "processes 2
+1 open /q bc 10 8
+--
+2 open /q bn
+1 send 0 0 a
+--
+1 recv 0 8
+2 recv 0 8
+2 exit
+";
+
+static DEADLOCK_ORDERS: &str = "phase 1: outcomes 1, deadlocks 0
+outcome 1
+1 fd 0
+phase 2: outcomes 1, deadlocks 0
+outcome 2
+1 ok
+2 fd 0
+phase 3: outcomes 1, deadlocks 1
+outcome 3
+1 got 0 1 a
+2 EAGAIN
+2 ok
+deadlock 4
+line 7: waits for ever
+every order was tried
+";
+
+#[test]
+fn late_receive_waits_for_ever(rt: HostRuntime) -> Result<(), Fail> {
+    prints(&rt, rt.alloc(), DEADLOCK, u64::MAX, DEADLOCK_ORDERS)
+}

@@ -1,0 +1,23 @@
+-- Phases and known bytes, where a write failed.
+use Rattle.std.proofs.Common.{◌≡◌, ◌<◌, ◌++◌, ℕ, List, ◌∷◌, length, get_or, take, drop, ap, sym, ◌∙◌, suc, Option, Vec, Global, Bor}
+use Rattle.std.proofs.Math.Seq.{drop-cons}
+use Rattle.std.proofs.lemmas.List.{take-append-drop, map-append}
+use Rattle.std.specs.Io.KnownBytes.{Appends}
+use Rattle.text_io.specs.Output.{AppendsTooLittle}
+use Rattle.text_io.specs.Words.{Word}
+use Rattle.script_text.specs.Script.{WrittenCall, said_calls, said_phases}
+use Rattle.script_text.specs.declared.line.ScriptCall.{ScriptCall}
+use Rattle.script_runner.specs.Stops.{AppendsInto}
+use Rattle.script_runner.proofs.KnownBytes.{Appends-then}
+
+-- the phases before one, that one, and the later ones
+pub phases-split : (phases : List (Vec (ScriptCall (Bor Word)) Global)) (i : ℕ) (d : Vec (ScriptCall (Bor Word)) Global) → i < length phases → said_phases phases ≡ said_phases (take i phases) ++ said_calls (get_or phases i d).items ∷ said_phases (drop (suc i) phases)
+phases-split phases i d low =
+    let said : Vec (ScriptCall (Bor Word)) Global → List WrittenCall = λ phase. said_calls phase.items in
+    let split : phases ≡ take i phases ++ get_or phases i d ∷ drop (suc i) phases =
+    sym (take-append-drop i phases) ∙ ap (λ rest. take i phases ++ rest) (drop-cons phases i d low) in
+    ap said_phases split ∙ map-append said (take i phases) (get_or phases i d ∷ drop (suc i) phases)
+
+-- a whole text was written, and of the next a front part
+pub appends-into : (a b c : Option (List ℕ)) (text next : List ℕ) → Appends a b text → AppendsTooLittle b c next → AppendsInto a c text next
+appends-into a b c text next whole part = (part.0, part.1, Appends-then a b c text (take part.0 next) whole part.2)

@@ -1,0 +1,9 @@
+pub use Rattle.script_text.specs.Replies
+pub use Rattle.script_text.specs.Script
+pub mod Buffer
+pub mod Members
+pub mod Phase
+pub mod RunFault
+pub mod Runs
+pub mod Stands
+pub mod Stops

@@ -1,0 +1,61 @@
+-- What a phase does to its shares.
+use Rattle.std.specs.Prelude.{◌≡◌, ◌≢◌, ◌++◌, ℕ, List, [], ◌∷◌, None, map}
+use Rattle.std.specs.List.{All, AllZip}
+use Rattle.fast_mutex.specs.Items.{LockId, Ticket}
+use Rattle.mq.specs.Calls.{IsFree}
+use Rattle.mq_model.specs.Record.{Record}
+use Rattle.script_runner.specs.Runs.{IsReady, IsSameProcess, RunsCalls}
+use Rattle.script_runner.specs.Stands.{EndsIn, FindsBlocked, blocked_lines, blocked_processes}
+use Rattle.script_text.specs.ReplyLines.{reply_lines}
+use Rattle.script_text.specs.Script.{WrittenCall, said_call}
+use Rattle.script_runner.specs.declared.fault.RunFault.{RunFault}
+use Rattle.script_runner.specs.declared.fault.RunFault.TheVariants.{Deadlock, NoMemory}
+use Rattle.script_runner.specs.declared.turns.Share.{Share}
+use Rattle.script_runner.specs.declared.turns.Turn.{Turn}
+use Rattle.script_runner.specs.declared.turns.Worked.{Worked}
+
+-- the calls of turns
+abbrev pub calls_in : List Turn → List WrittenCall
+calls_in turns = map (λ turn. said_call turn.call) turns
+
+-- the lines of all replies, in the order of the processes
+abbrev pub text_in : List (Worked (Ticket Record)) → List ℕ
+text_in [] = []
+text_in (worked ∷ others) = reply_lines worked.process.number worked.completions.items ++ text_in others
+
+-- the processes of the shares were made with this system, and have no open wait
+pub record AreReady (mq : LockId) (shares : List (Share (Ticket Record))) : Type 0 where
+  pub all : All (λ share. IsReady mq share.process) shares
+
+-- the calls of a share ended so: the process made them all, one after the other, and has no open wait, or it waits in one of them
+pub record Ends (share : Share (Ticket Record)) (worked : Worked (Ticket Record)) : Type 0 where
+  pub same : IsSameProcess share.process worked.process
+  pub free : worked.blocked ≡ None → IsFree worked.process
+  pub ends : EndsIn worked.blocked (calls_in share.turns.items) worked.completions.items share.process worked.process
+
+abbrev pub AllEnd : List (Share (Ticket Record)) → List (Worked (Ticket Record)) → Type 0
+AllEnd shares workers = AllZip Ends shares workers
+
+-- a process made the calls of its share, one after the other, and has no open wait
+pub record WorksOff (share : Share (Ticket Record)) (worked : Worked (Ticket Record)) : Type 0 where
+  pub same : IsSameProcess share.process worked.process
+  pub free : IsFree worked.process
+  pub calls : RunsCalls (calls_in share.turns.items) worked.completions.items share.process worked.process
+
+-- each process made the calls of its share
+abbrev pub AllWorkOff : List (Share (Ticket Record)) → List (Worked (Ticket Record)) → Type 0
+AllWorkOff shares workers = AllZip WorksOff shares workers
+
+-- the phase of these shares came to a stand, in the calls of these lines
+pub record EndsInDeadlock (shares : List (Share (Ticket Record))) (lines : List ℕ) : Type 0 where
+  pub ended : List (Worked (Ticket Record))
+  pub each : AllEnd shares ended
+  pub are : blocked_lines ended ≡ lines
+  pub some : lines ≢ []
+  pub found : All (FindsBlocked (blocked_processes ended)) ended
+
+-- why the phase of these shares ended early
+abbrev pub EndsEarly : List (Share (Ticket Record)) → RunFault → Type 0
+EndsEarly shares NoMemory = Unit {0}
+EndsEarly shares (Deadlock lines) = EndsInDeadlock shares lines.items
+EndsEarly shares other = ⊥

@@ -1,0 +1,70 @@
+-- Where a run that ends early has stopped, and what is then written.
+use Rattle.std.specs.Prelude.{◌≡◌, ◌<◌, ◌++◌, ◌∷◌, ◌⊎◌, ℕ, List, Option, length, take}
+use Rattle.std.specs.Io.KnownBytes as known
+use Rattle.fast_mutex.specs.Items.{LockId, Ticket, tickets_from}
+use Rattle.mq_model.specs.Record.{Record}
+use Rattle.script_text.specs.Script.{WrittenCall, Whole}
+use Rattle.script_runner.specs.Runs.{RunsPhase, RunsPhases, last_line}
+use Rattle.script_runner.specs.Stands.{ComesToAStand}
+
+-- some phases were run from the first on, and known bytes have grown by just their replies
+pub record RunsFront (phases : List (List WrittenCall)) (before : List (Ticket Record)) (old new : Option (List ℕ)) : Type 0 where
+  pub count : ℕ
+  pub after : List (Ticket Record)
+  pub replies : List ℕ
+  pub ran : RunsPhases (take count phases) before after replies
+  pub written : known.Appends old new replies
+
+-- a script was run up to the end of a phase, or not begun: nothing else is written
+abbrev pub StopsAfterPhase : Whole → Option (List ℕ) → Option (List ℕ) → Type 0
+StopsAfterPhase script old new = (new ≡ old) ⊎ ((system : LockId) × RunsFront script.phases (tickets_from system 1 script.processes) old new)
+
+-- known bytes grow by a text, and by a front part of the next one that lacks a byte or more
+abbrev pub AppendsInto : Option (List ℕ) → Option (List ℕ) → List ℕ → List ℕ → Type 0
+AppendsInto old new text next = (n : ℕ) × (n < length next) × known.Appends old new (text ++ take n next)
+
+-- phases were run from the first on. The replies of all but the last of these are written, and of its own replies a front part
+pub record StopsInPhase (phases : List (List WrittenCall)) (before : List (Ticket Record)) (old new : Option (List ℕ)) : Type 0 where
+  pub first : List (List WrittenCall)
+  pub last : List WrittenCall
+  pub later : List (List WrittenCall)
+  pub are : phases ≡ first ++ last ∷ later
+  pub between : List (Ticket Record)
+  pub replies : List ℕ
+  pub ran : RunsPhases first before between replies
+  pub after : List (Ticket Record)
+  pub text : List ℕ
+  pub ran_last : RunsPhase last between after text
+  pub written : AppendsInto old new replies text
+
+-- all phases were run, and their replies are written, and of the last line a front part
+pub record StopsInLastLine (phases : List (List WrittenCall)) (before : List (Ticket Record)) (old new : Option (List ℕ)) : Type 0 where
+  pub after : List (Ticket Record)
+  pub replies : List ℕ
+  pub ran : RunsPhases phases before after replies
+  pub written : AppendsInto old new replies last_line
+
+-- a script was run up to a write that failed
+pub record StopsInWrite (script : Whole) (old new : Option (List ℕ)) : Type 0 where
+  pub system : LockId
+  pub stops :
+      StopsInPhase script.phases (tickets_from system 1 script.processes) old new
+      ⊎ StopsInLastLine script.phases (tickets_from system 1 script.processes) old new
+
+-- phases were run from the first on, and their replies are written and nothing else. The next phase came to a stand in the calls of
+-- these lines
+pub record StopsBlocked (phases : List (List WrittenCall)) (before : List (Ticket Record)) (lines : List ℕ) (old new : Option (List ℕ)) : Type 0 where
+  pub first : List (List WrittenCall)
+  pub last : List WrittenCall
+  pub later : List (List WrittenCall)
+  pub are : phases ≡ first ++ last ∷ later
+  pub between : List (Ticket Record)
+  pub replies : List ℕ
+  pub ran : RunsPhases first before between replies
+  pub stands : ComesToAStand last between lines
+  pub written : known.Appends old new replies
+
+-- a script was run up to a phase that came to a stand
+pub record StopsInDeadlock (script : Whole) (lines : List ℕ) (old new : Option (List ℕ)) : Type 0 where
+  pub system : LockId
+  pub stops : StopsBlocked script.phases (tickets_from system 1 script.processes) lines old new

@@ -1,0 +1,254 @@
+//! A script, from its bytes to the bytes of its replies.
+ghost use Rattle.std.specs.Prelude.{◌≡◌, ◌≤◌, ◌+◌, ◌↔◌, ℕ, List, IfErr, IfOk, IsErr, IsErrOf, IsOk, OnErr, OnOk, Some, Ok, Err, Vec, length, take, vec_len};
+ghost use Rattle.std.specs.Io.KnownBytes.{Appends, Consumes};
+ghost use Rattle.std.specs.List.{All};
+ghost use Rattle.mq_model.specs.Legality.{Legal};
+ghost use Rattle.script_runner.specs.RunFault.{IsLate, IsUnwritten, StopsAt};
+ghost use Rattle.fast_mutex.specs.Items.{Ticket};
+ghost use Rattle.text_io.specs.Output.{AppendsTooLittle};
+ghost use Rattle.mq_model.specs.Record.{Record};
+ghost use Rattle.script_runner.specs.Runs.{IsReady, RunsPhase, RunsPhases, RunsScript, RunsWhole, last_line};
+ghost use Rattle.script_runner.specs.Stops.{RunsFront, StopsAfterPhase, StopsBlocked, StopsInDeadlock, StopsInPhase, StopsInWrite};
+ghost use Rattle.script_runner.specs.Stands.{ComesToAStand};
+ghost use Rattle.script_text.specs.Script.{Whole, said_calls, said_phases, said_script, script_written};
+ghost use Rattle.script_runner.specs.declared.fault.RunFault.TheVariants.{BadCall, Deadlock, Input, NoMemory, Output};
+
+use crate::deal::{processes_of, shares_of};
+use crate::fault::RunFault;
+use crate::gate::Gate;
+use crate::phase::run_phase;
+use crate::text::text_of;
+use fast_mutex::Look;
+use mq::{Guarded, Mq, Process, verdict};
+use mq_model::journals::Journal;
+use script_text::line::ScriptCall;
+use script_text::script::{MOST_BYTES, Script, read_script};
+use std::alloc::Global;
+use std::io::{Read, Write};
+use std::sync::Wait;
+use std::thread::Threads;
+use std::time::Clock;
+use text_io::input::read_all;
+use text_io::output::write_all;
+
+/// Reads a script, checks it whole, makes its calls over the lock `L` and writes their replies, phase by phase. In a phase each
+/// process that has calls makes them in a thread of its own, and meets the gate before each.
+/// `RunFault::BadCall`: a line of the script is at fault, and this is the first one. `RunFault::Input`: a read failed, and
+/// nothing is written. `RunFault::Output`: a write failed; the replies of the phases before are written, and of what it was to
+/// write a front part. `RunFault::NoMemory`: a growth outside a call, or a thread, was refused; the replies of the phases before
+/// are written, and nothing of that phase.
+/// `RunFault::Deadlock`: in a phase all processes that are not through with their calls wait, and nothing answers these waits; the replies
+/// of the phases before are written, and nothing of that phase.
+pub fn run_script<L, S, R, W, G>(
+    rt: &S,
+    alloc: Global,
+    input: &mut R,
+    output: &mut W,
+    gate: &G,
+) -> Result<(), RunFault>
+where
+    L: Look<Guarded> + Sync,
+    L::Seat: Send,
+    L::Walk: Send,
+    S: Threads + Wait + Clock + Sync,
+    R: Read,
+    W: Write,
+    G: Gate + Sync,
+    ensures input { IsErrOf result Input → W.contents output.new ≡ W.contents output.old }
+    ensures unread { IsErrOf result Input →
+        (lost : List ℕ) × (length lost ≤ MOST_BYTES) × Consumes (R.remaining input.old) (R.remaining input.new) lost }
+    ensures bad_call { (all : List ℕ) (line : ℕ) → R.remaining input.old ≡ Some all →
+        script_written (take (MOST_BYTES + 1) all) ≡ Err line →
+        StopsAt line result × (W.contents output.new ≡ W.contents output.old) }
+    ensures bad_call_only { (all : List ℕ) (line : ℕ) → R.remaining input.old ≡ Some all →
+        IsErrOf result (BadCall line) → script_written (take (MOST_BYTES + 1) all) ≡ Err line }
+    ensures no_memory { (all : List ℕ) (script : Whole) → R.remaining input.old ≡ Some all →
+        script_written (take (MOST_BYTES + 1) all) ≡ Ok script → IsErrOf result NoMemory →
+        StopsAfterPhase script (W.contents output.old) (W.contents output.new) }
+    ensures output { (all : List ℕ) (script : Whole) → R.remaining input.old ≡ Some all →
+        script_written (take (MOST_BYTES + 1) all) ≡ Ok script → IsErrOf result Output →
+        StopsInWrite script (W.contents output.old) (W.contents output.new) }
+    ensures deadlock { (all : List ℕ) (script : Whole) (lines : Vec ℕ Global) → R.remaining input.old ≡ Some all →
+        script_written (take (MOST_BYTES + 1) all) ≡ Ok script → IsErrOf result (Deadlock lines) →
+        StopsInDeadlock script lines.items (W.contents output.old) (W.contents output.new) }
+    ensures done { (all : List ℕ) (script : Whole) → R.remaining input.old ≡ Some all →
+        script_written (take (MOST_BYTES + 1) all) ≡ Ok script →
+        OnOk result (RunsScript script (W.contents output.old) (W.contents output.new)) }
+{
+    let text = read_all(alloc, input, MOST_BYTES)?;
+    let script = read_script(alloc, text.as_slice())?;
+    run_phases::<L, S, W, G>(rt, alloc, &script, output, gate)
+}
+
+// Makes the calls of a script, and writes the replies of each phase after it.
+fn run_phases<L, S, W, G>(
+    rt: &S,
+    alloc: Global,
+    script: &Script<'_>,
+    output: &mut W,
+    gate: &G,
+) -> Result<(), RunFault>
+where
+    L: Look<Guarded> + Sync,
+    L::Seat: Send,
+    L::Walk: Send,
+    S: Threads + Wait + Clock + Sync,
+    W: Write,
+    G: Gate + Sync,
+    requires { (1 ≤ script.now.processes) × (script.now.processes ≤ 32) }
+    ensures fault { IfErr result IsLate }
+    ensures no_memory { IsErrOf result NoMemory → StopsAfterPhase (said_script script.now) (W.contents output.old) (W.contents output.new) }
+    ensures output { IsErrOf result Output → StopsInWrite (said_script script.now) (W.contents output.old) (W.contents output.new) }
+    ensures deadlock { (lines : Vec ℕ Global) → IsErrOf result (Deadlock lines) → StopsInDeadlock (said_script script.now) lines.items (W.contents output.old) (W.contents output.new) }
+    ensures done { OnOk result (RunsScript (said_script script.now) (W.contents output.old) (W.contents output.new)) }
+{
+    let journal = run_whole::<L, S, W, G>(rt, alloc, script, output, gate)?;
+    // The journal of the queues is legal.
+    write_last_line(output, alloc, &journal)?.unwrap();
+    Ok(())
+}
+
+// Makes the calls of a script, writes the replies of each phase after it, and gives the journal.
+pub(crate) fn run_whole<L, S, W, G>(
+    rt: &S,
+    alloc: Global,
+    script: &Script<'_>,
+    output: &mut W,
+    gate: &G,
+) -> Result<Journal, RunFault>
+where
+    L: Look<Guarded> + Sync,
+    L::Seat: Send,
+    L::Walk: Send,
+    S: Threads + Wait + Clock + Sync,
+    W: Write,
+    G: Gate + Sync,
+    requires { (1 ≤ script.now.processes) × (script.now.processes ≤ 32) }
+    ensures fault { IfErr result IsLate }
+    ensures no_memory { IsErrOf result NoMemory → StopsAfterPhase (said_script script.now) (W.contents output.old) (W.contents output.new) }
+    ensures output { IsErrOf result Output → StopsInWrite (said_script script.now) (W.contents output.old) (W.contents output.new) }
+    ensures deadlock { (lines : Vec ℕ Global) → IsErrOf result (Deadlock lines) → StopsInDeadlock (said_script script.now) lines.items (W.contents output.old) (W.contents output.new) }
+    ensures legal { IfOk result (λ journal. Legal journal.records) }
+    ensures done { IfOk result (λ journal. (replies : List ℕ) × RunsWhole (said_script script.now) replies journal.records × Appends (W.contents output.old) (W.contents output.new) replies) }
+{
+    let Ok((mq, processes)) = Mq::<L>::new(alloc, script.processes) else {
+        return Err(RunFault::NoMemory);
+    };
+    let phases = script.phases.as_slice();
+    let processes = run_written_phases(rt, alloc, &mq, output, gate, processes, phases)?;
+    let Ok(journal) = mq.finish(processes) else {
+        unreachable!()
+    };
+    Ok(journal)
+}
+
+// Runs phases one after the other and writes the replies of each.
+fn run_written_phases<'s, L, S, W, G>(
+    rt: &'s S,
+    alloc: Global,
+    mq: &'s Mq<L>,
+    output: &mut W,
+    gate: &'s G,
+    mut processes: Vec<Process<L>>,
+    phases: &'s [Vec<ScriptCall<&'s [u8]>>],
+) -> Result<Vec<Process<L>>, RunFault>
+where
+    L: Look<Guarded> + Sync,
+    L::Seat: Send,
+    L::Walk: Send,
+    S: Threads + Wait + Clock + Sync,
+    W: Write,
+    G: Gate + Sync,
+    requires { All (IsReady mq.now) processes.items }
+    ensures fault { IfErr result IsLate }
+    ensures no_memory { IsErrOf result NoMemory → RunsFront (said_phases phases.now) processes.items (W.contents output.old) (W.contents output.new) }
+    ensures output { IsErrOf result Output → StopsInPhase (said_phases phases.now) processes.items (W.contents output.old) (W.contents output.new) }
+    ensures deadlock { (lines : Vec ℕ Global) → IsErrOf result (Deadlock lines) → StopsBlocked (said_phases phases.now) processes.items lines.items (W.contents output.old) (W.contents output.new) }
+    ensures ready { IfOk result (λ after. All (IsReady mq.now) after.items) }
+    ensures count { IfOk result (λ after. vec_len after ≡ vec_len processes) }
+    ensures ran { IfOk result (λ after. (replies : List ℕ) × RunsPhases (said_phases phases.now) processes.items after.items replies × Appends (W.contents output.old) (W.contents output.new) replies) }
+{
+    for calls in phases {
+        processes = run_written(rt, alloc, mq, output, gate, processes, calls.as_slice())?;
+    }
+    Ok(processes)
+}
+
+// Runs a phase and writes its replies.
+fn run_written<'s, L, S, W, G>(
+    rt: &'s S,
+    alloc: Global,
+    mq: &'s Mq<L>,
+    output: &mut W,
+    gate: &'s G,
+    processes: Vec<Process<L>>,
+    calls: &[ScriptCall<&'s [u8]>],
+) -> Result<Vec<Process<L>>, RunFault>
+where
+    L: Look<Guarded> + Sync,
+    L::Seat: Send,
+    L::Walk: Send,
+    S: Threads + Wait + Clock + Sync,
+    W: Write,
+    G: Gate + Sync,
+    requires { All (IsReady mq.now) processes.items }
+    ensures fault { IfErr result IsLate }
+    ensures no_memory { IsErrOf result NoMemory → W.contents output.new ≡ W.contents output.old }
+    ensures deadlock { (lines : Vec ℕ Global) → IsErrOf result (Deadlock lines) → ComesToAStand (said_calls calls.now) processes.items lines.items × (W.contents output.new ≡ W.contents output.old) }
+    ensures output { IsErrOf result Output → (after : List (Ticket Record)) × (text : List ℕ) × RunsPhase (said_calls calls.now) processes.items after text × AppendsTooLittle (W.contents output.old) (W.contents output.new) text }
+    ensures ready { IfOk result (λ after. All (IsReady mq.now) after.items) }
+    ensures count { IfOk result (λ after. vec_len after ≡ vec_len processes) }
+    ensures ran { IfOk result (λ after. (text : List ℕ) × RunsPhase (said_calls calls.now) processes.items after.items text × Appends (W.contents output.old) (W.contents output.new) text) }
+{
+    let (processes, text) = run_replied(rt, alloc, mq, gate, processes, calls)?;
+    write_all(output, text.as_slice())?;
+    Ok(processes)
+}
+
+// Runs a phase, and gives the processes after it and the text of their replies.
+pub(crate) fn run_replied<'s, L, S, G>(
+    rt: &'s S,
+    alloc: Global,
+    mq: &'s Mq<L>,
+    gate: &'s G,
+    processes: Vec<Process<L>>,
+    calls: &[ScriptCall<&'s [u8]>],
+) -> Result<(Vec<Process<L>>, Vec<u8>), RunFault>
+where
+    L: Look<Guarded> + Sync,
+    L::Seat: Send,
+    L::Walk: Send,
+    S: Threads + Wait + Clock + Sync,
+    G: Gate + Sync,
+    requires { All (IsReady mq.now) processes.items }
+    ensures fault { IfErr result IsUnwritten }
+    ensures deadlock { (lines : Vec ℕ Global) → IsErrOf result (Deadlock lines) → ComesToAStand (said_calls calls.now) processes.items lines.items }
+    ensures ready { IfOk result (λ after. All (IsReady mq.now) after.0.items) }
+    ensures count { IfOk result (λ after. vec_len after.0 ≡ vec_len processes) }
+    ensures ran { IfOk result (λ after. RunsPhase (said_calls calls.now) processes.items after.0.items after.1.items) }
+{
+    let shares = shares_of(alloc, processes, calls)?;
+    let workers = run_phase(rt, alloc, mq, gate, shares)?;
+    let text = text_of(alloc, workers.as_slice())?;
+    let processes = processes_of(alloc, workers)?;
+    Ok((processes, text))
+}
+
+// Writes that the history is ok, where it is legal; else nothing, and gives the first place that is not legal.
+fn write_last_line<W: Write>(
+    output: &mut W,
+    alloc: Global,
+    journal: &Journal,
+) -> Result<Result<(), u64>, RunFault>
+    ensures fault { IfErr result (λ fault. fault ≡ Output) }
+    ensures part { OnErr result (AppendsTooLittle (W.contents output.old) (W.contents output.new) last_line) }
+    ensures checked { IfOk result (λ verdict. IsOk verdict ↔ Legal journal.now.records) }
+    ensures written { IfOk result (λ verdict. OnOk verdict (Appends (W.contents output.old) (W.contents output.new) last_line)) }
+    ensures silent { IfOk result (λ verdict. IsErr verdict → W.contents output.new ≡ W.contents output.old) }
+{
+    let found = verdict(alloc, journal);
+    if found.is_ok() {
+        write_all(output, b"history ok\n")?;
+    }
+    Ok(found)
+}

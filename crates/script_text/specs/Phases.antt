@@ -1,0 +1,11 @@
+-- The phases of a script, as far as they were read.
+use Rattle.std.specs.Prelude.{◌∷◌, ◌++◌}
+use Rattle.script_text.specs.declared.script.Phases.{Phases}
+use Rattle.script_text.specs.Script.{Written, Whole, said_calls, said_phases}
+
+-- the script whose front was read, and whose rest is this
+abbrev pub whole_behind : Phases → Written → Whole
+whole_behind phases rest = record {
+  processes = rest.processes;
+  phases = said_phases phases.ended.items ++ (said_calls phases.current.items ++ rest.first) ∷ rest.later;
+}

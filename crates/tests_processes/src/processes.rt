@@ -1,0 +1,258 @@
+//! Processes over a lock, by functions that are generic over it. What processes are told in one thread is a table of steps.
+ghost use Rattle.std.specs.Prelude.{◌≡◌, None, IfSome, length, []};
+ghost use Rattle.mq.specs.Calls.{IsFree};
+
+use fast_mutex::{FastMutex, Look};
+use mq::{Guarded, Mq, Process, verdict};
+use mq_checker::checker::check_history;
+use mq_model::entries::{Received, Reply};
+use mq_model::faults::Fault;
+use mq_model::journals::Journal;
+use mq_state::collected::Collected;
+use std::alloc::Global;
+use std::io::Print;
+use std::process::Abort;
+use std::sync::Wait;
+use std::time::Clock;
+use steps::{Ask, CREATE, OPEN, Step, Told, expect_steps};
+use tests_refusals::say_refused;
+
+mod blocked;
+mod bounded;
+mod calls;
+mod deadlines;
+mod ends;
+mod exits;
+mod memory;
+mod steps;
+mod threads;
+mod walks;
+
+/// Queues for two processes, and those.
+#[derive(Drop)]
+struct Pair<L: Look<Guarded>> {
+    mq: Mq<L>,
+    one: Process<L>,
+    two: Process<L>,
+}
+
+// One growth may be refused from outside.
+fn make_pair<L: Look<Guarded>, R: Print>(rt: &R, alloc: Global) -> Option<Pair<L>>
+    ensures { IfSome result (λ p. (p.one.lock ≡ p.mq) × IsFree p.one × (p.two.lock ≡ p.mq) × IsFree p.two) }
+{
+    let (mq, mut processes) = match Mq::<L>::new(alloc, 2) {
+        Ok(made) => made,
+        Err(_) => {
+            say_refused(rt, "the making");
+            Mq::<L>::new(alloc, 2).ok()?
+        }
+    };
+    match (processes.pop(), processes.pop()) {
+        (Some(two), Some(one)) => Some(Pair { mq, one, two }),
+        _ => None,
+    }
+}
+
+// Room for two processes. One growth may be refused from outside.
+fn room<L: Look<Guarded>, R: Print>(rt: &R, alloc: Global) -> Option<Vec<Process<L>>>
+    ensures { IfSome result (λ room. room.items ≡ []) }
+{
+    match Vec::with_capacity(alloc, 2) {
+        Ok(processes) => Some(processes),
+        Err(_) => {
+            say_refused(rt, "room for two processes");
+            Vec::with_capacity(alloc, 2).ok()
+        }
+    }
+}
+
+// The end with both processes: the journal.
+fn finish<L: Look<Guarded>>(
+    mut processes: Vec<Process<L>>,
+    mq: Mq<L>,
+    one: Process<L>,
+    two: Process<L>,
+) -> Option<Journal>
+    requires room { processes.items ≡ [] }
+    requires one { one.lock ≡ mq }
+    requires two { two.lock ≡ mq }
+{
+    processes.push(one).ok()?;
+    processes.push(two).ok()?;
+    mq.finish(processes).ok()
+}
+
+/// The journal after the steps of two processes in one thread.
+fn after<L: Look<Guarded>, R: Wait + Clock + Abort + Print>(
+    rt: &R,
+    alloc: Global,
+    steps: &[Step],
+) -> Option<Journal> {
+    let mut pair = make_pair::<L, R>(rt, alloc)?;
+    expect_steps(rt, &pair.mq, &mut pair.one, &mut pair.two, steps);
+    let Pair { mq, one, two } = pair;
+    finish(room(rt, alloc)?, mq, one, two)
+}
+
+/// The journal is legal, and has just these processes and replies.
+fn expect_journal<R: Abort>(rt: &R, journal: &Journal, wanted: &[(u32, Reply)]) {
+    assert_eq!(rt; journal.len(), wanted.len() as u64);
+    for (place, wanted) in (0..).zip(wanted) {
+        let entry = journal.entry(place).expect(rt, "an entry");
+        assert_eq!(rt; (entry.process, entry.reply), *wanted, "at {place}");
+    }
+    assert_eq!(rt; check_history(journal), Ok(()));
+}
+
+const IN_ORDER: [Step; 9] = [
+    (1, Ask::Number, Told::Number(1)),
+    (2, Ask::Number, Told::Number(2)),
+    (1, Ask::Open(CREATE, 2), Told::Opened(0)),
+    (1, Ask::Send(0, b"a", 1), Told::Done),
+    (1, Ask::Send(0, b"b", 1), Told::Done),
+    (1, Ask::Receive(0), RECEIVED),
+    (1, Ask::Buffer, Told::Bytes([b'a', 0, 0, 0, 0, 0, 0, 0])),
+    (1, Ask::Receive(0), RECEIVED),
+    (1, Ask::Buffer, Told::Bytes([b'b', 0, 0, 0, 0, 0, 0, 0])),
+];
+
+const RECEIVED: Told = Told::Got(Received { len: 1, prio: 1 });
+
+const BOTH_WAIT: [Step; 21] = [
+    (1, Ask::Open(CREATE, 1), Told::Opened(0)),
+    (2, Ask::Open(OPEN, 1), Told::Opened(0)),
+    (1, Ask::StartReceive(0), Told::Waits),
+    (1, Ask::Waiting, Told::Room(Some(8))),
+    (1, Ask::Answered, Told::Is(false)),
+    (1, Ask::Collect, Told::Came(None)),
+    (2, Ask::Send(0, b"hi", 4), Told::Done),
+    (1, Ask::Answered, Told::Is(true)),
+    (1, Ask::Answered, Told::Is(true)),
+    (
+        1,
+        Ask::Collect,
+        Told::Came(Some(Collected::Got(Received { len: 2, prio: 4 }))),
+    ),
+    (1, Ask::Answered, Told::Is(false)),
+    (1, Ask::Buffer, Told::Bytes([b'h', b'i', 0, 0, 0, 0, 0, 0])),
+    (2, Ask::StartSend(0, b"a", 0), Told::Done),
+    (2, Ask::StartSend(0, b"b", 0), Told::Waits),
+    (2, Ask::Waiting, Told::Room(Some(0))),
+    (2, Ask::Send(0, b"c", 0), Told::Nothing),
+    (1, Ask::Waiting, Told::Room(None)),
+    (1, Ask::Receive(0), Told::Got(Received { len: 1, prio: 0 })),
+    (1, Ask::Buffer, Told::Bytes([b'a', b'i', 0, 0, 0, 0, 0, 0])),
+    (2, Ask::Collect, Told::Came(Some(Collected::Sent))),
+    (2, Ask::Waiting, Told::Room(None)),
+];
+
+const CREATED: Reply = Reply::Opened {
+    d: 0,
+    created: true,
+};
+
+const OPENED: Reply = Reply::Opened {
+    d: 0,
+    created: false,
+};
+
+const QUEUED: Reply = Reply::Queued { notified: None };
+
+// The fourth entry hands a message to a waiting receive, and the last but one admits a waiting send.
+const REPLIES: [(u32, Reply); 9] = [
+    (1, CREATED),
+    (2, OPENED),
+    (1, Reply::Waits),
+    (2, Reply::Handed { wait: 2 }),
+    (1, Reply::Collected { by: 3 }),
+    (2, QUEUED),
+    (2, Reply::Waits),
+    (
+        1,
+        Reply::Got {
+            place: 5,
+            admitted: Some(6),
+            notified: None,
+        },
+    ),
+    (2, Reply::Collected { by: 7 }),
+];
+
+#[test]
+fn two_processes_in_one_thread_wait_for_each_other(rt: HostRuntime) {
+    let journal = after::<FastMutex<Guarded>, _>(&rt, rt.alloc(), &BOTH_WAIT);
+    expect_journal(&rt, &journal.expect(&rt, "memory"), &REPLIES);
+}
+
+const REPLIES_IN_ORDER: [(u32, Reply); 5] = [
+    (1, CREATED),
+    (1, QUEUED),
+    (1, QUEUED),
+    (
+        1,
+        Reply::Got {
+            place: 1,
+            admitted: None,
+            notified: None,
+        },
+    ),
+    (
+        1,
+        Reply::Got {
+            place: 2,
+            admitted: None,
+            notified: None,
+        },
+    ),
+];
+
+// The journal with two entries exchanged.
+fn exchanged<R: Print>(rt: &R, alloc: Global, journal: &Journal) -> Option<Journal>
+    requires { length journal.now.records ≡ 5 }
+{
+    let mut other = Journal::new(alloc);
+    for place in [0, 1, 2, 4, 3] {
+        let (entry, payload) = journal.record(place);
+        if other.reserve(1, payload.len()).is_err() {
+            say_refused(rt, "room in a journal");
+            other.reserve(1, payload.len()).ok()?;
+        }
+        other.push(entry, payload);
+    }
+    Some(other)
+}
+
+// Two receives exchanged are no history.
+fn expect_order<R: Abort + Print>(rt: &R, alloc: Global, journal: &Journal) {
+    expect_journal(rt, journal, &REPLIES_IN_ORDER);
+    assert_eq!(rt; journal.len(), 5);
+    let other = exchanged(rt, alloc, journal).expect(rt, "memory");
+    assert_eq!(rt; check_history(&other), Err(3));
+}
+
+#[test]
+fn messages_of_one_priority_leave_in_sending_order(rt: HostRuntime) {
+    let alloc = rt.alloc();
+    let journal = after::<FastMutex<Guarded>, _>(&rt, alloc, &IN_ORDER).expect(&rt, "memory");
+    expect_order(&rt, alloc, &journal);
+}
+
+#[test]
+fn a_verdict_is_that_of_the_rules_with_memory_or_without(rt: HostRuntime) {
+    let alloc = rt.alloc();
+    let journal = after::<FastMutex<Guarded>, _>(&rt, alloc, &IN_ORDER).expect(&rt, "memory");
+    assert_eq!(&rt; journal.len(), 5);
+    let other = exchanged(&rt, alloc, &journal).expect(&rt, "memory");
+    assert_eq!(&rt;
+        (verdict(alloc, &journal), verdict(alloc, &other)),
+        (Ok(()), Err(3))
+    );
+}
+
+#[test]
+fn a_system_has_1_to_32_processes(rt: HostRuntime) {
+    for n in [0, 33] {
+        let made = Mq::<FastMutex<Guarded>>::new(rt.alloc(), n);
+        assert!(rt; made.err() == Some(Fault::Invalid), "{n}");
+    }
+}

@@ -1,0 +1,168 @@
+//! Processes of a system whose journal has bounds.
+ghost use Rattle.std.specs.Prelude.{◌≡◌, [], IfSome};
+
+use super::steps::{Ask, CREATE, Step, Told, asked_once};
+use fast_mutex::{FastMutex, Look};
+use mq::{Guarded, Mq, Process};
+use mq_model::entries::{Received, Status};
+use mq_model::faults::Fault;
+use mq_model::journals::Journal;
+use std::alloc::Global;
+use std::io::Print;
+use std::process::Abort;
+use std::sync::Wait;
+use std::time::Clock;
+use tests_refusals::{refuse_all, say_refused};
+
+// A system of one process with these bounds, and a vector with room for that process. One growth may be refused from outside.
+fn make_alone<L: Look<Guarded>, R: Print>(
+    rt: &R,
+    alloc: Global,
+    entries: u64,
+    bytes: u64,
+) -> Option<(Mq<L>, Process<L>, Vec<Process<L>>)>
+    ensures { IfSome result (λ r. (r.1.lock ≡ r.0) × (r.2.items ≡ [])) }
+{
+    let (mq, mut processes) = match Mq::<L>::bounded(alloc, 1, entries, bytes) {
+        Ok(made) => made,
+        Err(_) => {
+            say_refused(rt, "the making");
+            Mq::<L>::bounded(alloc, 1, entries, bytes).ok()?
+        }
+    };
+    let room = match Vec::with_capacity(alloc, 1) {
+        Ok(room) => room,
+        Err(_) => {
+            say_refused(rt, "the room");
+            Vec::with_capacity(alloc, 1).ok()?
+        }
+    };
+    let process = processes.pop()?;
+    Some((mq, process, room))
+}
+
+fn finish_alone<L: Look<Guarded>>(
+    mq: Mq<L>,
+    process: Process<L>,
+    mut room: Vec<Process<L>>,
+) -> Option<Journal>
+    requires made { process.lock ≡ mq }
+    requires empty { room.items ≡ [] }
+{
+    room.push(process).ok()?;
+    mq.finish(room).ok()
+}
+
+// The one process takes the steps, while every growth may be refused from outside. Gives how many entries the journal has at the end.
+fn expect_alone<L: Look<Guarded>, R: Wait + Clock + Abort + Print>(
+    rt: &R,
+    alloc: Global,
+    entries: u64,
+    bytes: u64,
+    steps: &[Step],
+) -> Option<u64> {
+    let (mq, mut process, room) = make_alone::<L, R>(rt, alloc, entries, bytes)?;
+    refuse_all(rt, alloc);
+    let mut buf = [0; 8];
+    'steps: for (number, step) in steps.iter().enumerate() {
+        let (_, ask, wanted) = *step;
+        assert_eq!(rt;
+            asked_once(rt, &mq, &mut process, ask, &mut buf),
+            wanted,
+            "step {number}"
+        );
+    }
+    let journal = finish_alone(mq, process, room)?;
+    Some(journal.len())
+}
+
+const FULL: Told = Told::Refused(Fault::JournalFull);
+
+const EMPTY: Status = Status {
+    nonblock: false,
+    maxmsg: 2,
+    msgsize: 8,
+    curmsgs: 0,
+};
+
+// Four entries, and four bytes: two of the name, and two of messages.
+const FOUR_OF_EACH: [Step; 12] = [
+    (1, Ask::Open(CREATE, 2), Told::Opened(0)),
+    (1, Ask::Send(0, b"ab", 0), Told::Done),
+    (1, Ask::Send(0, b"c", 0), FULL),
+    (1, Ask::Receive(0), Told::Got(Received { len: 2, prio: 0 })),
+    (1, Ask::Buffer, Told::Bytes([b'a', b'b', 0, 0, 0, 0, 0, 0])),
+    (1, Ask::Receive(0), FULL),
+    (1, Ask::TimedReceive(0, 1), FULL),
+    (1, Ask::Send(0, b"", 0), FULL),
+    (1, Ask::Getattr(0), Told::Attrs(EMPTY)),
+    (1, Ask::Close(0), FULL),
+    (1, Ask::Exit, FULL),
+    (1, Ask::Waiting, Told::Room(None)),
+];
+
+#[test]
+fn calls_find_the_journal_full_where_the_bounds_say(rt: HostRuntime) {
+    let entries = expect_alone::<FastMutex<Guarded>, _>(&rt, rt.alloc(), 4, 4, &FOUR_OF_EACH);
+    assert_eq!(rt; entries, Some(4));
+}
+
+const NOTHING_FITS: [Step; 14] = [
+    (1, Ask::Open(CREATE, 2), FULL),
+    (1, Ask::Unlink, FULL),
+    (1, Ask::Close(0), FULL),
+    (1, Ask::Send(0, b"", 0), FULL),
+    (1, Ask::Receive(0), FULL),
+    (1, Ask::TimedSend(0, b"", 0, 1), FULL),
+    (1, Ask::TimedReceive(0, 1), FULL),
+    (1, Ask::StartSend(0, b"", 0), FULL),
+    (1, Ask::StartReceive(0), FULL),
+    (1, Ask::Notify(0, Some(7)), FULL),
+    (1, Ask::NextNotice, FULL),
+    (1, Ask::Getattr(0), FULL),
+    (1, Ask::Setattr(0, EMPTY), FULL),
+    (1, Ask::Exit, Told::Done),
+];
+
+#[test]
+fn without_an_entry_each_call_that_has_one_is_refused(rt: HostRuntime) {
+    let entries = expect_alone::<FastMutex<Guarded>, _>(&rt, rt.alloc(), 0, 100, &NOTHING_FITS);
+    assert_eq!(rt; entries, Some(0));
+}
+
+#[test]
+fn a_bounded_system_has_1_to_32_processes(rt: HostRuntime) {
+    for n in [0, 33] {
+        let made = Mq::<FastMutex<Guarded>>::bounded(rt.alloc(), n, 4, 4);
+        assert!(rt; made.err() == Some(Fault::Invalid), "{n}");
+    }
+    for n in [1, 32] {
+        let made = Mq::<FastMutex<Guarded>>::bounded(rt.alloc(), n, 4, 4);
+        assert!(rt; matches!(made.err(), None | Some(Fault::NoMemory)), "{n}");
+    }
+}
+
+#[test]
+fn bounds_beyond_all_memory_are_refused_at_the_making(rt: HostRuntime) {
+    for (entries, bytes) in [(u64::MAX, 0), (0, u64::MAX), (u64::MAX, u64::MAX)] {
+        let made = Mq::<FastMutex<Guarded>>::bounded(rt.alloc(), 1, entries, bytes);
+        assert!(rt; made.err() == Some(Fault::NoMemory), "{entries} {bytes}");
+    }
+}
+
+// One entry, and the two bytes of the name.
+const ONE_ENTRY: [Step; 3] = [
+    (1, Ask::Open(CREATE, 2), Told::Opened(0)),
+    (1, Ask::Getattr(0), FULL),
+    (1, Ask::Exit, FULL),
+];
+
+const NO_OPEN: [Step; 1] = [(1, Ask::Open(CREATE, 2), FULL)];
+
+#[test]
+fn a_bound_of_one_entry_has_room_for_an_open(rt: HostRuntime) {
+    let entries = expect_alone::<FastMutex<Guarded>, _>(&rt, rt.alloc(), 1, 2, &ONE_ENTRY);
+    assert_eq!(rt; entries, Some(1));
+    let entries = expect_alone::<FastMutex<Guarded>, _>(&rt, rt.alloc(), 1, 1, &NO_OPEN);
+    assert_eq!(rt; entries, Some(0));
+}

@@ -1,0 +1,70 @@
+//! The calls of processes that take no memory, while every growth may be refused from outside.
+use super::steps::{Ask, CREATE, OPEN, Step, Told, expect_steps};
+use super::{CREATED, OPENED, Pair, expect_journal, finish, make_pair, room};
+use fast_mutex::{FastMutex, Look};
+use mq::Guarded;
+use mq_model::entries::{Received, Reply};
+use mq_model::journals::Journal;
+use mq_state::collected::Collected;
+use std::alloc::Global;
+use std::io::Print;
+use std::process::Abort;
+use std::sync::Wait;
+use std::time::Clock;
+use tests_refusals::refuse_all;
+
+// Process 1 has a wait that is answered, process 2 one that is not.
+const WAITING: [Step; 5] = [
+    (1, Ask::Open(CREATE, 1), Told::Opened(0)),
+    (2, Ask::Open(OPEN, 1), Told::Opened(0)),
+    (1, Ask::StartReceive(0), Told::Waits),
+    (2, Ask::Send(0, b"hi", 4), Told::Done),
+    (2, Ask::StartReceive(0), Told::Waits),
+];
+
+const WITHOUT_MEMORY: [Step; 12] = [
+    (1, Ask::Number, Told::Number(1)),
+    (1, Ask::Waiting, Told::Room(Some(8))),
+    (1, Ask::Answered, Told::Is(true)),
+    (
+        1,
+        Ask::Collect,
+        Told::Came(Some(Collected::Got(Received { len: 2, prio: 4 }))),
+    ),
+    (1, Ask::Buffer, Told::Bytes([b'h', b'i', 0, 0, 0, 0, 0, 0])),
+    (1, Ask::Waiting, Told::Room(None)),
+    (1, Ask::Answered, Told::Is(false)),
+    (2, Ask::Number, Told::Number(2)),
+    (2, Ask::Waiting, Told::Room(Some(8))),
+    (2, Ask::Answered, Told::Is(false)),
+    (2, Ask::Collect, Told::Came(None)),
+    (2, Ask::Waiting, Told::Room(Some(8))),
+];
+
+const REPLIES: [(u32, Reply); 6] = [
+    (1, CREATED),
+    (2, OPENED),
+    (1, Reply::Waits),
+    (2, Reply::Handed { wait: 2 }),
+    (2, Reply::Waits),
+    (1, Reply::Collected { by: 3 }),
+];
+
+fn journal_of_waits<L: Look<Guarded>, R: Wait + Clock + Abort + Print>(
+    rt: &R,
+    alloc: Global,
+) -> Option<Journal> {
+    let processes = room(rt, alloc)?;
+    let mut pair = make_pair::<L, R>(rt, alloc)?;
+    expect_steps(rt, &pair.mq, &mut pair.one, &mut pair.two, &WAITING);
+    refuse_all(rt, alloc);
+    expect_steps(rt, &pair.mq, &mut pair.one, &mut pair.two, &WITHOUT_MEMORY);
+    let Pair { mq, one, two } = pair;
+    finish(processes, mq, one, two)
+}
+
+#[test]
+fn processes_collect_and_queues_end_without_memory(rt: HostRuntime) {
+    let journal = journal_of_waits::<FastMutex<Guarded>, _>(&rt, rt.alloc());
+    expect_journal(&rt, &journal.expect(&rt, "memory"), &REPLIES);
+}

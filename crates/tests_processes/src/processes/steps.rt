@@ -1,0 +1,240 @@
+//! Steps of two processes over one buffer: what a process asks, and what it must be told.
+ghost use Rattle.std.specs.Prelude.{◌≡◌, None};
+ghost use Rattle.mq.specs.Calls.{IsFree};
+
+use super::deadlines::{LATER, START, Ticks};
+use fast_mutex::Look;
+use mq::{Guarded, Monotonic, Mq, Process};
+use mq_model::entries::{Access, Attr, OpenFlags, Received, Status};
+use mq_model::faults::Fault;
+use mq_model::names::Name;
+use mq_state::collected::Collected;
+use std::io::Print;
+use std::process::Abort;
+use std::sync::Wait;
+use std::time::{Clock, Duration};
+use tests_refusals::say_refused;
+
+/// Both accesses, to a queue that the open creates where it is not.
+pub const CREATE: OpenFlags = OpenFlags {
+    access: Access::Both,
+    create: true,
+    excl: false,
+    nonblock: false,
+};
+
+/// Both accesses, to a queue that is there.
+pub const OPEN: OpenFlags = OpenFlags {
+    create: false,
+    ..CREATE
+};
+
+/// What a process asks. The queue is /q, for so many messages of at most 8 bytes.
+#[derive(Clone, Copy)]
+pub enum Ask<'a> {
+    Open(OpenFlags, i64),
+    Unlink,
+    Close(u32),
+    Exit,
+    Send(u32, &'a [u8], u32),
+    Receive(u32),
+    /// A send and a receive that wait so many milliseconds of real time at most.
+    TimedSend(u32, &'a [u8], u32, u64),
+    TimedReceive(u32, u64),
+    /// A receive that waits until the second moment of a clock of the test.
+    ReceiveUntilTick(u32),
+    StartSend(u32, &'a [u8], u32),
+    StartReceive(u32),
+    /// The same with a deadline, the second moment of the clock of the test, at the first one.
+    StartTimedSend(u32, &'a [u8], u32),
+    StartTimedReceive(u32),
+    /// Whether these processes are blocked.
+    AreBlocked(&'a [u32]),
+    Notify(u32, Option<u64>),
+    NextNotice,
+    Getattr(u32),
+    Setattr(u32, Status),
+    Collect,
+    Number,
+    Waiting,
+    Answered,
+    /// What the buffer has.
+    Buffer,
+}
+
+/// What it is told.
+#[derive(Clone, Copy, Debug, PartialEq, Eq)]
+pub enum Told {
+    Done,
+    Opened(u32),
+    Got(Received),
+    /// The call waits.
+    Waits,
+    Notice(Option<u64>),
+    Attrs(Status),
+    Refused(Fault),
+    Came(Option<Collected>),
+    Number(u32),
+    Room(Option<usize>),
+    Is(bool),
+    Bytes([u8; 8]),
+    /// It may not ask that now.
+    Nothing,
+}
+
+/// Process 1 or 2 asks, and must be told this.
+pub type Step = (u32, Ask<'static>, Told);
+
+// The calls of a process that has no open wait.
+fn call<L: Look<Guarded>, R: Wait + Clock>(
+    rt: &R,
+    mq: &Mq<L>,
+    p: &mut Process<L>,
+    ask: Ask,
+    buf: &mut [u8; 8],
+) -> Result<Told, Fault>
+    requires made { p.old.lock ≡ mq.now }
+    requires free { IsFree p.old }
+    ensures { p.new.lock ≡ mq.now }
+{
+    let name = Name::read(b"/q")?;
+    Ok(match ask {
+        Ask::Open(flags, maxmsg) => {
+            let attr = Some(Attr { maxmsg, msgsize: 8 });
+            Told::Opened(p.open(rt, mq, &name, flags, attr)?)
+        }
+        Ask::Unlink => done(p.unlink(rt, mq, &name)?),
+        Ask::Close(d) => done(p.close(rt, mq, d)?),
+        Ask::Exit => done(p.exit(rt, mq)?),
+        Ask::Send(d, bytes, prio) => done(p.send(rt, mq, d, bytes, prio)?),
+        Ask::Receive(d) => Told::Got(p.receive(rt, mq, d, buf)?),
+        Ask::TimedSend(d, bytes, prio, most) => {
+            let Ok(clock) = Monotonic::start(rt) else {
+                return Ok(Told::Nothing);
+            };
+            let until = clock.after(Duration::from_millis(most));
+            done(p.timed_send(rt, mq, d, bytes, prio, until, &clock)?)
+        }
+        Ask::TimedReceive(d, most) => {
+            let Ok(clock) = Monotonic::start(rt) else {
+                return Ok(Told::Nothing);
+            };
+            let until = clock.after(Duration::from_millis(most));
+            Told::Got(p.timed_receive(rt, mq, d, buf, until, &clock)?)
+        }
+        Ask::ReceiveUntilTick(d) => {
+            Told::Got(p.timed_receive(rt, mq, d, buf, LATER, &Ticks::new())?)
+        }
+        Ask::StartSend(d, bytes, prio) => begun(p.start_send(rt, mq, d, bytes, prio)?),
+        Ask::StartReceive(d) => p
+            .start_receive(rt, mq, d, buf)?
+            .map_or(Told::Waits, Told::Got),
+        Ask::StartTimedSend(d, bytes, prio) => {
+            begun(p.start_timed_send(rt, mq, d, bytes, prio, LATER, START)?)
+        }
+        Ask::StartTimedReceive(d) => p
+            .start_timed_receive(rt, mq, d, buf, LATER, START)?
+            .map_or(Told::Waits, Told::Got),
+        Ask::Notify(d, value) => done(p.notify(rt, mq, d, value)?),
+        Ask::NextNotice => Told::Notice(p.next_notice(rt, mq)?),
+        Ask::Getattr(d) => Told::Attrs(p.getattr(rt, mq, d)?),
+        Ask::Setattr(d, new) => Told::Attrs(p.setattr(rt, mq, d, new)?),
+        _ => Told::Nothing,
+    })
+}
+
+fn done(_: ()) -> Told {
+    Told::Done
+}
+
+fn begun(sent: bool) -> Told {
+    if sent { Told::Done } else { Told::Waits }
+}
+
+// What the open wait came to, if there is one that fits the buffer.
+fn collect<L: Look<Guarded>, R: Wait>(
+    rt: &R,
+    mq: &Mq<L>,
+    p: &mut Process<L>,
+    buf: &mut [u8; 8],
+) -> Told
+    requires { p.old.lock ≡ mq.now }
+    ensures { p.new.lock ≡ mq.now }
+{
+    match p.waiting() {
+        Some(room) if room <= buf.len() => Told::Came(p.collect(rt, mq, buf)),
+        _ => Told::Nothing,
+    }
+}
+
+/// What a process is told.
+pub fn asked_once<L: Look<Guarded>, R: Wait + Clock>(
+    rt: &R,
+    mq: &Mq<L>,
+    p: &mut Process<L>,
+    ask: Ask,
+    buf: &mut [u8; 8],
+) -> Told
+    requires { p.old.lock ≡ mq.now }
+    ensures { p.new.lock ≡ mq.now }
+{
+    match ask {
+        Ask::Number => Told::Number(p.number()),
+        Ask::Waiting => Told::Room(p.waiting()),
+        Ask::Answered => Told::Is(p.answered(mq)),
+        Ask::Buffer => Told::Bytes(*buf),
+        Ask::Collect => collect(rt, mq, p, buf),
+        Ask::AreBlocked(processes) => Told::Is(p.are_blocked(rt, mq, processes)),
+        _ if p.waiting().is_some() => Told::Nothing,
+        _ => match call(rt, mq, p, ask, buf) {
+            Ok(told) => told,
+            Err(fault) => Told::Refused(fault),
+        },
+    }
+}
+
+/// What a process is told. Where a growth was refused the buffer is as before, and it asks once more.
+pub fn asked<L: Look<Guarded>, R: Wait + Clock + Print>(
+    rt: &R,
+    mq: &Mq<L>,
+    p: &mut Process<L>,
+    ask: Ask,
+    buf: &mut [u8; 8],
+) -> Told
+    requires { p.old.lock ≡ mq.now }
+    ensures { p.new.lock ≡ mq.now }
+{
+    let lent = *buf;
+    match asked_once(rt, mq, p, ask, buf) {
+        Told::Refused(Fault::NoMemory) if *buf == lent => {
+            say_refused(rt, "a call");
+            asked_once(rt, mq, p, ask, buf)
+        }
+        told => told,
+    }
+}
+
+/// Two processes take the steps in turn, with one buffer.
+pub fn expect_steps<L: Look<Guarded>, R: Wait + Clock + Abort + Print>(
+    rt: &R,
+    mq: &Mq<L>,
+    one: &mut Process<L>,
+    two: &mut Process<L>,
+    steps: &[Step],
+)
+    requires one { one.old.lock ≡ mq.now }
+    requires two { two.old.lock ≡ mq.now }
+    ensures one { one.new.lock ≡ mq.now }
+    ensures two { two.new.lock ≡ mq.now }
+{
+    let mut buf = [0; 8];
+    'steps: for (number, step) in steps.iter().enumerate() {
+        let (process, ask, wanted) = *step;
+        let found = if process == 1 {
+            asked(rt, mq, one, ask, &mut buf)
+        } else {
+            asked(rt, mq, two, ask, &mut buf)
+        };
+        assert_eq!(rt; found, wanted, "step {number}");
+    }
+}
