@@ -15,6 +15,8 @@
 #include <time.h>
 #include <unistd.h>
 
+#include "want.h"
+
 /* ThreadSanitizer lets a handler run only when its thread wakes, and then inside another call. */
 #if defined __SANITIZE_THREAD__
 #define HAS_HANDLERS 0
@@ -32,29 +34,11 @@ enum { FORKS = 20, WORKERS = 3 };
 static bool gets_new;
 static mqd_t queue;
 
-#define WANT(what)                                                                                                               \
-    do                                                                                                                           \
-        if (!(what)) {                                                                                                           \
-            fprintf(stdout, "line %d: not so: %s, %s\n", __LINE__, #what, strerrorname_np(errno));                               \
-            fflush(stdout);                                                                                                      \
-            _exit(1);                                                                                                            \
-        }                                                                                                                        \
-    while (0)
-
-static struct mq_attr limits(void)
-{
-    struct mq_attr attr;
-    memset(&attr, 0, sizeof attr);
-    attr.mq_maxmsg = 4;
-    attr.mq_msgsize = 8;
-    return attr;
-}
-
 #define REFUSED(call) WANT((errno = 0, (call) == -1 && errno == ENOSYS))
 
 static void child_is_refused(void)
 {
-    struct mq_attr attr = limits();
+    struct mq_attr attr = room_for(4);
     struct sigevent event;
     struct timespec past = {0, 0};
     char buf[8];
@@ -75,7 +59,7 @@ static void child_is_refused(void)
 
 static void child_has_its_own(void)
 {
-    struct mq_attr attr = limits();
+    struct mq_attr attr = room_for(4);
     char buf[8];
     unsigned prio = 0;
     mqd_t own;
@@ -128,7 +112,7 @@ static void *work(void *of)
 static void fork_beside_threads(void)
 {
     pthread_t threads[WORKERS];
-    struct mq_attr attr = limits();
+    struct mq_attr attr = room_for(4);
     mqd_t own = mq_open("/yak-work", O_RDWR | O_CREAT, 0600, &attr);
     WANT(own != -1);
     for (int i = 0; i < WORKERS; ++i)
@@ -169,7 +153,7 @@ static void fork_from_a_wait(void)
 
 int main(int count, char **words)
 {
-    struct mq_attr attr = limits();
+    struct mq_attr attr = room_for(4);
     char buf[8];
     gets_new = count == 2 && strcmp(words[1], "new") == 0;
     WANT((queue = mq_open("/yak-fork", O_RDWR | O_CREAT, 0600, &attr)) != -1);

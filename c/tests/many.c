@@ -14,25 +14,13 @@
 #include <time.h>
 #include <yakyrombe/program.h>
 
-enum { IN_ORDER = 31, CROWD = 40, ROUNDS = 5 };
+#include "want.h"
 
-#define WANT(what)                                                                                                               \
-    do                                                                                                                           \
-        if (!(what)) {                                                                                                           \
-            printf("line %d: not so: %s, %s\n", __LINE__, #what, strerrorname_np(errno));                                        \
-            exit(1);                                                                                                             \
-        }                                                                                                                        \
-    while (0)
+enum { IN_ORDER = 31, CROWD = 40, ROUNDS = 5 };
 
 static mqd_t queue;
 static int given[CROWD];
 static sem_t begun;
-
-static void pause_for(long milliseconds)
-{
-    struct timespec t = {milliseconds / 1000, milliseconds % 1000 * 1000000};
-    nanosleep(&t, 0);
-}
 
 /* Returns when so many calls wait. */
 static void await_waits(int count)
@@ -46,11 +34,8 @@ static void await_waits(int count)
 
 static mqd_t fresh(const char *name, long maxmsg)
 {
-    struct mq_attr attr;
+    struct mq_attr attr = room_for(maxmsg);
     mqd_t it;
-    memset(&attr, 0, sizeof attr);
-    attr.mq_maxmsg = maxmsg;
-    attr.mq_msgsize = 8;
     WANT((it = mq_open(name, O_RDWR | O_CREAT | O_EXCL, 0600, &attr)) != -1);
     return it;
 }

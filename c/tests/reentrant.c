@@ -12,16 +12,10 @@
 #include <time.h>
 #include <yakyrombe/program.h>
 
+#include "want.h"
+
 static mqd_t queue;
 static volatile sig_atomic_t refused, made, others;
-
-#define WANT(what)                                                                                                               \
-    do                                                                                                                           \
-        if (!(what)) {                                                                                                           \
-            printf("line %d: not so: %s, %s\n", __LINE__, #what, strerrorname_np(errno));                                        \
-            exit(1);                                                                                                             \
-        }                                                                                                                        \
-    while (0)
 
 static void count(long result)
 {

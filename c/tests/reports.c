@@ -16,6 +16,8 @@
 #include <unistd.h>
 #include <yakyrombe/program.h>
 
+#include "want.h"
+
 #if defined __SANITIZE_THREAD__ || defined __SANITIZE_ADDRESS__
 #define HAS_MORE_THREADS 1
 #elif defined __has_feature
@@ -27,14 +29,6 @@
 #define HAS_MORE_THREADS 0
 #endif
 
-#define WANT(what)                                                                                                               \
-    do                                                                                                                           \
-        if (!(what)) {                                                                                                           \
-            printf("line %d: not so: %s, %s\n", __LINE__, #what, strerrorname_np(errno));                                        \
-            exit(1);                                                                                                             \
-        }                                                                                                                        \
-    while (0)
-
 static mqd_t empty, full, late;
 static atomic_long numbers[3];
 static char path[] = "/tmp/yak-reports-XXXXXX";
@@ -44,12 +38,6 @@ static double now(void)
     struct timespec t;
     clock_gettime(CLOCK_REALTIME, &t);
     return (double)t.tv_sec + (double)t.tv_nsec / 1e9;
-}
-
-static void pause_for(long milliseconds)
-{
-    struct timespec t = {milliseconds / 1000, milliseconds % 1000 * 1000000};
-    nanosleep(&t, 0);
 }
 
 static void *receive(void *of)

@@ -1,0 +1,38 @@
+/* What the tests of libyakyrombe-mqueue share. */
+#ifndef YAK_TESTS_WANT_H
+#define YAK_TESTS_WANT_H
+
+#include <errno.h>
+#include <mqueue.h>
+#include <stdio.h>
+#include <string.h>
+#include <time.h>
+#include <unistd.h>
+
+/* Ends the process, a forked child too, where it does not hold. */
+#define WANT(what)                                                                                                               \
+    do                                                                                                                           \
+        if (!(what)) {                                                                                                           \
+            printf("line %d: not so: %s, %s\n", __LINE__, #what, strerrorname_np(errno));                                        \
+            fflush(stdout);                                                                                                      \
+            _exit(1);                                                                                                            \
+        }                                                                                                                        \
+    while (0)
+
+static inline void pause_for(long milliseconds)
+{
+    struct timespec t = {milliseconds / 1000, milliseconds % 1000 * 1000000};
+    nanosleep(&t, 0);
+}
+
+/* Limits for messages of 8 bytes. */
+static inline struct mq_attr room_for(long maxmsg)
+{
+    struct mq_attr attr;
+    memset(&attr, 0, sizeof attr);
+    attr.mq_maxmsg = maxmsg;
+    attr.mq_msgsize = 8;
+    return attr;
+}
+
+#endif
