@@ -6,5 +6,3 @@
 mod calls;
 #[cfg(test)]
 mod histories;
-#[cfg(test)]
-mod same;

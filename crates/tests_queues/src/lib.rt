@@ -11,6 +11,4 @@ mod making;
 #[cfg(test)]
 mod rows;
 #[cfg(test)]
-mod same;
-#[cfg(test)]
 mod slots;

@@ -3,6 +3,4 @@
 
 pub mod input;
 pub mod output;
-#[cfg(test)]
-mod tests;
 pub mod words;

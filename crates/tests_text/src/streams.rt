@@ -1,74 +1,11 @@
-//! Words and numbers, and readers and writers that fail.
-use crate::input::{ReadFault, read_all};
-use crate::output::{WriteFailed, write_all};
-use crate::words::{count_of, integer, number, small_number, words};
+// Readers and writers that fail.
 use std::alloc::Global;
 use std::io;
 use std::io::{Error, ErrorKind, Read, Write};
 use std::test::Fail;
-
-#[test]
-fn words_are_what_spaces_and_the_feed_leave(rt: HostRuntime) -> Result<(), Fail> {
-    let cut = words(rt.alloc(), b"  a b\n")?;
-    assert!(rt; cut.as_slice() == [b"a".as_slice(), b"b".as_slice()].as_slice());
-    let none = words(rt.alloc(), b" \n")?;
-    assert!(rt; none.is_empty());
-    let tab = words(rt.alloc(), b"a\tb\r c")?;
-    assert!(rt; tab.as_slice() == [b"a\tb\r".as_slice(), b"c".as_slice()].as_slice());
-    Ok(())
-}
-
-#[test]
-fn numbers_are_decimal_and_fit(rt: HostRuntime) {
-    assert_eq!(rt; number(b"007"), Some(7));
-    assert_eq!(rt;
-        number(b"18446744073709551615"),
-        Some(18_446_744_073_709_551_615)
-    );
-    for word in [
-        "",
-        "18446744073709551616",
-        "99999999999999999999",
-        "+1",
-        "-1",
-        "1x",
-        "0x1",
-    ] {
-        assert_eq!(rt; number(word.as_bytes()), None, "{word}");
-    }
-    assert_eq!(rt; small_number(b"4294967295"), Some(4_294_967_295));
-    assert_eq!(rt; small_number(b"4294967296"), None);
-}
-
-#[test]
-fn counts_begin_at_one(rt: HostRuntime) {
-    assert_eq!(rt; count_of(32, b"01"), Some(1));
-    assert_eq!(rt; count_of(32, b"32"), Some(32));
-    assert_eq!(rt; count_of(32, b"33"), None);
-    assert_eq!(rt; count_of(32, b"0"), None);
-}
-
-#[test]
-fn integers_may_have_a_dash(rt: HostRuntime) {
-    assert_eq!(rt;
-        integer(b"-9223372036854775808"),
-        Some(-9_223_372_036_854_775_808)
-    );
-    assert_eq!(rt;
-        integer(b"9223372036854775807"),
-        Some(9_223_372_036_854_775_807)
-    );
-    assert_eq!(rt; integer(b"-0"), Some(0));
-    for word in [
-        "",
-        "-",
-        "--1",
-        "9223372036854775808",
-        "-9223372036854775809",
-    ] {
-        assert_eq!(rt; integer(word.as_bytes()), None, "{word}");
-    }
-}
+use tests_common::same;
+use text_io::input::{ReadFault, read_all};
+use text_io::output::{WriteFailed, write_all};
 
 // Gives its bytes one by one, and fails at one read.
 #[derive(Drop)]
@@ -109,7 +46,7 @@ fn bytes_until(alloc: Global, fails_at: usize, most: usize) -> Result<Vec<u8>, R
 fn all_is_read_unless_a_read_fails(rt: HostRuntime) -> Result<(), Fail> {
     for fails_at in 1..=4 {
         let fault = bytes_until(rt.alloc(), fails_at, 256).err();
-        assert_eq!(rt; fault, Some(ReadFault::Failed), "at {fails_at}");
+        same(&rt, fault, Some(ReadFault::Failed), "a read that fails");
     }
     for most in [3, 4, 256, usize::MAX] {
         let all = bytes_until(rt.alloc(), 5, most)?;
@@ -127,7 +64,7 @@ fn reading_stops_with_the_first_byte_that_is_one_too_many(rt: HostRuntime) -> Re
     };
     let front = read_all(rt.alloc(), &mut input, 1)?;
     assert!(rt; front.as_slice() == b"ab".as_slice());
-    assert_eq!(rt; input.reads, 2);
+    same(&rt, input.reads, 2, "the reads");
     let rest = read_all(rt.alloc(), &mut input, 1)?;
     assert!(rt; rest.as_slice() == b"c".as_slice());
     Ok(())
@@ -181,7 +118,7 @@ fn all_is_written_unless_a_write_fails(rt: HostRuntime) {
             };
             let outcome = write_all(&mut output, bytes);
             let wanted = if room < 3 { Err(WriteFailed) } else { Ok(()) };
-            assert_eq!(rt; outcome, wanted, "at {room}");
+            same(&rt, outcome, wanted, "a narrow output");
             assert!(rt; output.taken.as_slice() == &bytes[..room], "at {room}");
         }
     }
@@ -191,6 +128,11 @@ fn all_is_written_unless_a_write_fails(rt: HostRuntime) {
 fn faults_have_their_texts(rt: HostRuntime) -> Result<(), Fail> {
     let (failed, no_memory) = (ReadFault::Failed, ReadFault::NoMemory);
     let texts = format!(in rt.alloc(); "{failed}, {no_memory}, {WriteFailed}")?;
-    assert_eq!(rt; texts.as_str(), "a read failed, no memory, a write failed");
+    same(
+        &rt,
+        texts.as_str(),
+        "a read failed, no memory, a write failed",
+        "the texts",
+    );
     Ok(())
 }
