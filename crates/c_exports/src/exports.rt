@@ -12,11 +12,11 @@ ghost use Rattle.c_handles.specs.Handles.{process_in, under_way_in};
 ghost use Rattle.c_handles.specs.Codes.{told, code_of, written, given_code, given, notice_code, notice_given, sent_code, got_code, message_got, attributes_got, end_code, end_message};
 
 use c_handles::handle::Handle;
-use c_handles::numbers::{self, EMPTY};
+use c_handles::numbers;
 use c_handles::requests::{
     Attributes, Message, Moment, Opening, limits, read_name, read_open, registration,
 };
-use mq::Status;
+use mq::Call;
 use std::alloc::Global;
 
 /// Opens a queue (`mq_open`) and writes its descriptor. A name or an access that is none is refused before all else.
@@ -35,11 +35,8 @@ pub extern "C" fn yak_open(
         Ok(read) => read,
         Err(fault) => return fault.number(),
     };
-    let Some(mut member) = process.take(alloc) else {
-        return EMPTY;
-    };
-    let tried = member.open(&name, flags, limits(opening));
-    process.put(member);
+    let attr = limits(opening);
+    let tried = process.make(alloc, Call::MqOpen { flags, attr }, name.bytes(), &mut []);
     numbers::opened(tried, d)
 }
 
@@ -53,11 +50,7 @@ pub extern "C" fn yak_unlink(alloc: Global, process: &mut Handle, name: &[u8]) -
         Ok(name) => name,
         Err(fault) => return fault.number(),
     };
-    let Some(mut member) = process.take(alloc) else {
-        return EMPTY;
-    };
-    let tried = member.unlink(&name);
-    process.put(member);
+    let tried = process.make(alloc, Call::MqUnlink, name.bytes(), &mut []);
     numbers::done(tried)
 }
 
@@ -66,11 +59,7 @@ pub extern "C" fn yak_unlink(alloc: Global, process: &mut Handle, name: &[u8]) -
 pub extern "C" fn yak_close(alloc: Global, process: &mut Handle, d: u32) -> u32
     ensures { Gives (λ old new result. OneCall done_says old new (Call.MqClose d) [] result) (code_of given_code) (process_in process.old) (process_in process.new) result }
 {
-    let Some(mut member) = process.take(alloc) else {
-        return EMPTY;
-    };
-    let tried = member.close(d);
-    process.put(member);
+    let tried = process.make(alloc, Call::MqClose { d }, &[], &mut []);
     numbers::done(tried)
 }
 
@@ -85,11 +74,8 @@ pub extern "C" fn yak_notify(
 ) -> u32
     ensures { Gives (λ old new result. OneCall done_says old new (Call.MqNotify d (if registers then Some value else None)) [] result) (code_of given_code) (process_in process.old) (process_in process.new) result }
 {
-    let Some(mut member) = process.take(alloc) else {
-        return EMPTY;
-    };
-    let tried = member.notify(d, registration(registers, value));
-    process.put(member);
+    let value = registration(registers, value);
+    let tried = process.make(alloc, Call::MqNotify { d, value }, &[], &mut []);
     numbers::done(tried)
 }
 
@@ -103,11 +89,7 @@ pub extern "C" fn yak_getattr(
 ) -> u32
     ensures { Gives (λ old new result. OneCall attributes_says old new (Call.MqGetattr d) [] result) (λ t. told (code_of given_code t) (written (attributes_got attributes.old) attributes.old t)) (process_in process.old) (process_in process.new) (told result attributes.new) }
 {
-    let Some(mut member) = process.take(alloc) else {
-        return EMPTY;
-    };
-    let tried = member.getattr(d);
-    process.put(member);
+    let tried = process.make(alloc, Call::MqGetattr { d }, &[], &mut []);
     numbers::attributes(tried, attributes)
 }
 
@@ -122,17 +104,7 @@ pub extern "C" fn yak_setattr(
 ) -> u32
     ensures { Gives (λ old new result. OneCall attributes_says old new (Call.MqSetattr d nonblock) [] result) (λ t. told (code_of given_code t) (written (attributes_got before.old) before.old t)) (process_in process.old) (process_in process.new) (told result before.new) }
 {
-    let Some(mut member) = process.take(alloc) else {
-        return EMPTY;
-    };
-    let set = Status {
-        nonblock,
-        maxmsg: 0,
-        msgsize: 0,
-        curmsgs: 0,
-    };
-    let tried = member.setattr(d, set);
-    process.put(member);
+    let tried = process.make(alloc, Call::MqSetattr { d, nonblock }, &[], &mut []);
     numbers::attributes(tried, before)
 }
 
@@ -141,11 +113,7 @@ pub extern "C" fn yak_setattr(
 pub extern "C" fn yak_next_notice(alloc: Global, process: &mut Handle, value: &mut u64) -> u32
     ensures { Gives (λ old new result. OneCall notice_says old new Call.NextNotice [] result) (λ t. told (code_of notice_code t) (written (notice_given value.old) value.old t)) (process_in process.old) (process_in process.new) (told result value.new) }
 {
-    let Some(mut member) = process.take(alloc) else {
-        return EMPTY;
-    };
-    let tried = member.next_notice();
-    process.put(member);
+    let tried = process.make(alloc, Call::NextNotice, &[], &mut []);
     numbers::notice(tried, value)
 }
 
@@ -154,12 +122,7 @@ pub extern "C" fn yak_next_notice(alloc: Global, process: &mut Handle, value: &m
 pub extern "C" fn yak_exit(alloc: Global, process: &mut Handle) -> u32
     ensures { Gives (λ old new result. Exits old new result) (code_of given_code) (process_in process.old) (process_in process.new) result }
 {
-    let Some(mut member) = process.take(alloc) else {
-        return EMPTY;
-    };
-    let tried = member.exit();
-    process.put(member);
-    numbers::done(tried)
+    numbers::done(process.exit(alloc))
 }
 
 /// Sends a message, or begins to wait for its admission (`mq_send`).
@@ -173,11 +136,8 @@ pub extern "C" fn yak_start_send(
 ) -> u32
     ensures { Gives (λ old new result. OneCall start_send_says old new (Call.MqSend d prio (length bytes.now)) bytes.now result) (code_of sent_code) (process_in process.old) (process_in process.new) result }
 {
-    let Some(mut member) = process.take(alloc) else {
-        return EMPTY;
-    };
-    let tried = member.start_send(d, bytes, prio);
-    process.put(member);
+    let len = bytes.len() as u64;
+    let tried = process.make(alloc, Call::MqSend { d, prio, len }, bytes, &mut []);
     numbers::sent(tried)
 }
 
@@ -194,11 +154,14 @@ pub extern "C" fn yak_start_timed_send(
 ) -> u32
     ensures { Gives (λ old new result. OneCall start_send_says old new (Call.MqTimedSend d prio (length bytes.now) (deadline_of until.now) (deadline_of now.now)) bytes.now result) (code_of sent_code) (process_in process.old) (process_in process.new) result }
 {
-    let Some(mut member) = process.take(alloc) else {
-        return EMPTY;
+    let call = Call::MqTimedSend {
+        d,
+        prio,
+        len: bytes.len() as u64,
+        until: until.deadline(),
+        now: now.deadline(),
     };
-    let tried = member.start_timed_send(d, bytes, prio, until.deadline(), now.deadline());
-    process.put(member);
+    let tried = process.make(alloc, call, bytes, &mut []);
     numbers::sent(tried)
 }
 
@@ -213,11 +176,8 @@ pub extern "C" fn yak_start_receive(
 ) -> u32
     ensures { GivesWith (buf.new ≡ buf.old) (λ old new result. ReceiveCall start_receive_says old new (Call.MqReceive d (length buf.old)) buf.old buf.new result) (λ t. told (code_of got_code t) (written (message_got message.old) message.old t)) (process_in process.old) (process_in process.new) (told result message.new) }
 {
-    let Some(mut member) = process.take(alloc) else {
-        return EMPTY;
-    };
-    let tried = member.start_receive(d, buf);
-    process.put(member);
+    let room = buf.len() as u64;
+    let tried = process.make(alloc, Call::MqReceive { d, room }, &[], buf);
     numbers::got(tried, message)
 }
 
@@ -234,11 +194,13 @@ pub extern "C" fn yak_start_timed_receive(
 ) -> u32
     ensures { GivesWith (buf.new ≡ buf.old) (λ old new result. ReceiveCall start_receive_says old new (Call.MqTimedReceive d (length buf.old) (deadline_of until.now) (deadline_of now.now)) buf.old buf.new result) (λ t. told (code_of got_code t) (written (message_got message.old) message.old t)) (process_in process.old) (process_in process.new) (told result message.new) }
 {
-    let Some(mut member) = process.take(alloc) else {
-        return EMPTY;
+    let call = Call::MqTimedReceive {
+        d,
+        room: buf.len() as u64,
+        until: until.deadline(),
+        now: now.deadline(),
     };
-    let tried = member.start_timed_receive(d, buf, until.deadline(), now.deadline());
-    process.put(member);
+    let tried = process.make(alloc, call, &[], buf);
     numbers::got(tried, message)
 }
 
@@ -252,12 +214,7 @@ pub extern "C" fn yak_collect(
 ) -> u32
     ensures { GivesEnd None (λ e. told (end_code e) (end_message message.old e)) (process_in process.old) (process_in process.new) buf.old buf.new (told result message.new) }
 {
-    let Some(mut member) = process.take(alloc) else {
-        return EMPTY;
-    };
-    let tried = member.collect(buf);
-    process.put(member);
-    numbers::ended(tried, message)
+    numbers::ended(process.collect(alloc, buf), message)
 }
 
 /// Ends the open wait, whose deadline has passed at the moment `now`: as `yak_collect` where it is answered, and else it is withdrawn.
@@ -271,12 +228,7 @@ pub extern "C" fn yak_end_wait(
 ) -> u32
     ensures { GivesEnd (Some (deadline_of now.now)) (λ e. told (end_code e) (end_message message.old e)) (process_in process.old) (process_in process.new) buf.old buf.new (told result message.new) }
 {
-    let Some(mut member) = process.take(alloc) else {
-        return EMPTY;
-    };
-    let tried = member.end_wait(buf, now.deadline());
-    process.put(member);
-    numbers::ended(tried, message)
+    numbers::ended(process.end_wait(alloc, buf, now.deadline()), message)
 }
 
 /// Looks from outside the lock whether the open wait is answered, which takes one load.
@@ -285,10 +237,5 @@ pub extern "C" fn yak_answered(alloc: Global, process: &mut Handle) -> u32
     ensures look { GivesLook (under_way_in process.old) (process_in process.old) (process_in process.new) result }
     ensures under_way { under_way_in process.new ≡ under_way_in process.old }
 {
-    let Some(mut member) = process.take(alloc) else {
-        return EMPTY;
-    };
-    let looked = member.answered();
-    process.put(member);
-    numbers::looked(looked)
+    numbers::looked(process.answered(alloc))
 }

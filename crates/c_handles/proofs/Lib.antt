@@ -1,3 +1,4 @@
 mod AsBox
 pub mod Members
+pub mod Giving
 pub mod Systems

@@ -1,10 +1,7 @@
 -- What the try of a call leaves.
-use Rattle.std.specs.Prelude.{◌≡◌, Bool, true, false, Option, Some, None, Result, Ok, Err}
+use Rattle.std.specs.Prelude.{◌≡◌, Option, Some, None}
 use Rattle.fast_mutex.specs.Items.{Ticket}
 use Rattle.mq_model.specs.Record.{Record}
-use Rattle.mq_model.specs.declared.entries.Received.{Received}
-use Rattle.mq_model.specs.declared.entries.Deadline.{Deadline}
-use Rattle.mq_model.specs.declared.faults.Fault.{Fault}
 use Rattle.mq.specs.Calls.{IsFree}
 use Rattle.c_handles.specs.declared.tried.Tried.{Tried}
 use Rattle.c_handles.specs.declared.tried.Tried.TheVariants.{Waiting, Retry, Made}
@@ -28,15 +25,3 @@ GivesWith kept call says (Some old) None code = ⊥
 
 abbrev pub Gives : {R A : Type 0} → (Ticket Record → Ticket Record → R → Type 0) → (Option (Tried R) → A) → Option (Ticket Record) → Option (Ticket Record) → A → Type 0
 Gives call says old new code = GivesWith (Unit {0}) call says old new code
-
--- until when a send waits that gave this
-abbrev pub until_sent : Result Bool Fault → Option Deadline → Option Deadline
-until_sent (Ok false) until = until
-until_sent (Ok true) until = None
-until_sent (Err fault) until = None
-
--- until when a receive waits that gave this
-abbrev pub until_received : Result (Option Received) Fault → Option Deadline → Option Deadline
-until_received (Ok None) until = until
-until_received (Ok (Some received)) until = None
-until_received (Err fault) until = None

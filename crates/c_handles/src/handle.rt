@@ -3,6 +3,8 @@ ghost use Rattle.std.specs.Prelude.{◌≡◌, is_some};
 
 use crate::member::Member;
 use crate::seal::Seal;
+use crate::tried::{Ending, Looked, Tried};
+use mq::{Call, Deadline, Fault, Returned};
 use std::alloc::Global;
 use std::ptr::null;
 
@@ -73,5 +75,69 @@ impl Handle {
         self.number = member.number();
         self.bells = member.bells().unwrap_or(null());
         self.put(member);
+    }
+}
+
+// What the member of a handle, taken out and put back, makes of this; `None` where there is none.
+macro_rules! with_member {
+    ($handle:ident, $alloc:ident, |$member:ident| $made:expr) => {{
+        let mut $member = $handle.take($alloc)?;
+        let made = $made;
+        $handle.put($member);
+        Some(made)
+    }};
+}
+
+impl Handle {
+    ghost use Rattle.std.specs.Prelude.{◌≡◌, None, Some, length};
+    ghost use Rattle.mq_state.specs.Requests.{Brings};
+    ghost use Rattle.mq.specs.Calls.{Exits};
+    ghost use Rattle.mq.specs.Kinds.{IsOf, IsCall};
+    ghost use Rattle.c_handles.specs.Endings.{GivesEnd, LooksIn};
+    ghost use Rattle.c_handles.specs.Handles.{process_in, under_way_in};
+    ghost use Rattle.c_handles.specs.Tries.{Gives, GivesWith};
+
+    /// As [`Member::make`], where there is a member.
+    pub fn make<A: Returned>(
+        &mut self,
+        alloc: Global,
+        call: Call,
+        given: &[u8],
+        buf: &mut [u8],
+    ) -> Option<Tried<A>>
+        requires brings { Brings call given.now (length buf.old) }
+        requires kind { IsOf A.kind call }
+        ensures { let kind = A.kind in GivesWith (buf.new ≡ buf.old) (λ old new result. IsCall kind.fills kind.says old new call given.now buf.old buf.new result) (λ tried. tried) (process_in self.old) (process_in self.new) result }
+    {
+        with_member!(self, alloc, |member| member.make(call, given, buf))
+    }
+
+    /// As [`Member::exit`].
+    pub fn exit(&mut self, alloc: Global) -> Option<Tried<Result<(), Fault>>>
+        ensures { Gives (λ old new result. Exits old new result) (λ tried. tried) (process_in self.old) (process_in self.new) result }
+    {
+        with_member!(self, alloc, |member| member.exit())
+    }
+
+    /// As [`Member::collect`].
+    pub fn collect(&mut self, alloc: Global, buf: &mut [u8]) -> Option<Ending>
+        ensures { GivesEnd None (λ ending. ending) (process_in self.old) (process_in self.new) buf.old buf.new result }
+    {
+        with_member!(self, alloc, |member| member.collect(buf))
+    }
+
+    /// As [`Member::end_wait`].
+    pub fn end_wait(&mut self, alloc: Global, buf: &mut [u8], now: Deadline) -> Option<Ending>
+        ensures { GivesEnd (Some now) (λ ending. ending) (process_in self.old) (process_in self.new) buf.old buf.new result }
+    {
+        with_member!(self, alloc, |member| member.end_wait(buf, now))
+    }
+
+    /// As [`Member::answered`].
+    pub fn answered(&mut self, alloc: Global) -> Option<Looked>
+        ensures look { LooksIn (under_way_in self.old) (process_in self.old) (process_in self.new) result }
+        ensures under_way { under_way_in self.new ≡ under_way_in self.old }
+    {
+        with_member!(self, alloc, |member| member.answered())
     }
 }

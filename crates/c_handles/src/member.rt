@@ -1,16 +1,15 @@
 //! A process with its queues, and the tries of its calls.
-ghost use Rattle.std.specs.Prelude.{◌≡◌, true, false, Some, None, Ok, Err, Option, is_some};
-ghost use Rattle.c_handles.specs.Tries.{until_sent, until_received};
+ghost use Rattle.std.specs.Prelude.{◌≡◌, true, is_some, IsSome};
+ghost use Rattle.mq.specs.Calls.{WaitsIn};
 ghost use Rattle.std.specs.Arc.{arc_value};
 ghost use Rattle.mq_model.specs.Waits.{wait_deadline};
+ghost use Rattle.mq_state.specs.Buffers.{waiting_room};
 ghost use Rattle.c_handles.specs.Standings.{ticket_of};
 
 use crate::standing;
 use crate::standing::{Standing, arrive, look, settle, waiting};
 use crate::tried::{Ending, Looked, Tried};
-use mq::{
-    Attr, Bounds, Deadline, Entry, FastMq, FastProcess, Fault, Name, OpenFlags, Received, Status,
-};
+use mq::{Bounds, Call, Deadline, Entry, FastMq, FastProcess, Fault, Returned};
 use mq_model::ladder;
 use std::alloc::{AllocError, Global};
 use std::sync::Arc;
@@ -28,11 +27,11 @@ pub struct Member {
 }
 
 impl Member {
-    ghost use Rattle.std.specs.Prelude.{◌≡◌, true, Some, None, [], length};
+    ghost use Rattle.std.specs.Prelude.{◌≡◌, [], length};
     ghost use Rattle.std.specs.Arc.{arc_value};
-    ghost use Rattle.mq_model.specs.declared.entries.Call.{Call};
-    ghost use Rattle.mq.specs.Calls.{OneCall, ReceiveCall, Exits};
-    ghost use Rattle.mq.specs.Says.{open_says, done_says, attributes_says, notice_says, start_send_says, start_receive_says};
+    ghost use Rattle.mq_state.specs.Requests.{Brings};
+    ghost use Rattle.mq.specs.Calls.{Exits};
+    ghost use Rattle.mq.specs.Kinds.{IsOf, IsCall};
     ghost use Rattle.c_handles.specs.Standings.{ticket_of};
     ghost use Rattle.c_handles.specs.Tries.{Tries, TriesWith};
 
@@ -69,15 +68,12 @@ impl Member {
         standing::bell(&self.standing)
     }
 
-    /// Tries to open a queue.
-    #[tactic(auto, using(crate::proofs::Members::no_deadline))]
-    pub fn open(
-        &mut self,
-        name: &Name,
-        flags: OpenFlags,
-        attr: Option<Attr>,
-    ) -> Tried<Result<u32, Fault>>
-        ensures { Tries (λ old new result. OneCall open_says old new (Call.MqOpen flags attr) name.now result) (ticket_of self.old.standing) (ticket_of self.new.standing) result }
+    /// Tries to make a call of whichever kind, with its name, the bytes of its message or none, and the buffer that a receive fills. A send
+    /// or a receive may begin to wait.
+    pub fn make<A: Returned>(&mut self, call: Call, given: &[u8], buf: &mut [u8]) -> Tried<A>
+        requires brings { Brings call given.now (length buf.old) }
+        requires kind { IsOf A.kind call }
+        ensures { let kind = A.kind in TriesWith (buf.new ≡ buf.old) (λ old new result. IsCall kind.fills kind.says old new call given.now buf.old buf.new result) (ticket_of self.old.standing) (ticket_of self.new.standing) result }
     {
         if waiting(&self.standing).is_some() {
             return Tried::Waiting;
@@ -85,112 +81,10 @@ impl Member {
         let Some(arrived) = arrive(&self.mq, &mut self.standing) else {
             return Tried::Retry;
         };
-        let (process, opened) = arrived.open(&self.mq, name, flags, attr);
+        let (process, returned) = arrived.make(&self.mq, call, given, buf);
+        self.until = until_of(&process, call);
         settle(&mut self.standing, process);
-        self.until = None;
-        Tried::Made(opened)
-    }
-
-    /// Tries to close a descriptor.
-    #[tactic(auto, using(crate::proofs::Members::no_deadline))]
-    pub fn close(&mut self, d: u32) -> Tried<Result<(), Fault>>
-        ensures { Tries (λ old new result. OneCall done_says old new (Call.MqClose d) [] result) (ticket_of self.old.standing) (ticket_of self.new.standing) result }
-    {
-        if waiting(&self.standing).is_some() {
-            return Tried::Waiting;
-        }
-        let Some(arrived) = arrive(&self.mq, &mut self.standing) else {
-            return Tried::Retry;
-        };
-        let (process, closed) = arrived.close(&self.mq, d);
-        settle(&mut self.standing, process);
-        self.until = None;
-        Tried::Made(closed)
-    }
-
-    /// Tries to unbind a name.
-    #[tactic(auto, using(crate::proofs::Members::no_deadline))]
-    pub fn unlink(&mut self, name: &Name) -> Tried<Result<(), Fault>>
-        ensures { Tries (λ old new result. OneCall done_says old new Call.MqUnlink name.now result) (ticket_of self.old.standing) (ticket_of self.new.standing) result }
-    {
-        if waiting(&self.standing).is_some() {
-            return Tried::Waiting;
-        }
-        let Some(arrived) = arrive(&self.mq, &mut self.standing) else {
-            return Tried::Retry;
-        };
-        let (process, unlinked) = arrived.unlink(&self.mq, name);
-        settle(&mut self.standing, process);
-        self.until = None;
-        Tried::Made(unlinked)
-    }
-
-    /// Tries to register, or to remove a registration.
-    #[tactic(auto, using(crate::proofs::Members::no_deadline))]
-    pub fn notify(&mut self, d: u32, value: Option<u64>) -> Tried<Result<(), Fault>>
-        ensures { Tries (λ old new result. OneCall done_says old new (Call.MqNotify d value) [] result) (ticket_of self.old.standing) (ticket_of self.new.standing) result }
-    {
-        if waiting(&self.standing).is_some() {
-            return Tried::Waiting;
-        }
-        let Some(arrived) = arrive(&self.mq, &mut self.standing) else {
-            return Tried::Retry;
-        };
-        let (process, notified) = arrived.notify(&self.mq, d, value);
-        settle(&mut self.standing, process);
-        self.until = None;
-        Tried::Made(notified)
-    }
-
-    /// Tries to read attributes.
-    #[tactic(auto, using(crate::proofs::Members::no_deadline))]
-    pub fn getattr(&mut self, d: u32) -> Tried<Result<Status, Fault>>
-        ensures { Tries (λ old new result. OneCall attributes_says old new (Call.MqGetattr d) [] result) (ticket_of self.old.standing) (ticket_of self.new.standing) result }
-    {
-        if waiting(&self.standing).is_some() {
-            return Tried::Waiting;
-        }
-        let Some(arrived) = arrive(&self.mq, &mut self.standing) else {
-            return Tried::Retry;
-        };
-        let (process, status) = arrived.getattr(&self.mq, d);
-        settle(&mut self.standing, process);
-        self.until = None;
-        Tried::Made(status)
-    }
-
-    /// Tries to set the flag of a descriptor.
-    #[tactic(auto, using(crate::proofs::Members::no_deadline))]
-    pub fn setattr(&mut self, d: u32, set: Status) -> Tried<Result<Status, Fault>>
-        ensures { Tries (λ old new result. OneCall attributes_says old new (Call.MqSetattr d set.nonblock) [] result) (ticket_of self.old.standing) (ticket_of self.new.standing) result }
-    {
-        if waiting(&self.standing).is_some() {
-            return Tried::Waiting;
-        }
-        let Some(arrived) = arrive(&self.mq, &mut self.standing) else {
-            return Tried::Retry;
-        };
-        let (process, before) = arrived.setattr(&self.mq, d, set);
-        settle(&mut self.standing, process);
-        self.until = None;
-        Tried::Made(before)
-    }
-
-    /// Tries to take the oldest notice.
-    #[tactic(auto, using(crate::proofs::Members::no_deadline))]
-    pub fn next_notice(&mut self) -> Tried<Result<Option<u64>, Fault>>
-        ensures { Tries (λ old new result. OneCall notice_says old new Call.NextNotice [] result) (ticket_of self.old.standing) (ticket_of self.new.standing) result }
-    {
-        if waiting(&self.standing).is_some() {
-            return Tried::Waiting;
-        }
-        let Some(arrived) = arrive(&self.mq, &mut self.standing) else {
-            return Tried::Retry;
-        };
-        let (process, notice) = arrived.next_notice(&self.mq);
-        settle(&mut self.standing, process);
-        self.until = None;
-        Tried::Made(notice)
+        Tried::Made(returned)
     }
 
     /// Tries to close all descriptors.
@@ -208,87 +102,6 @@ impl Member {
         settle(&mut self.standing, process);
         self.until = None;
         Tried::Made(closed)
-    }
-
-    /// Tries to send, or to begin to wait.
-    pub fn start_send(&mut self, d: u32, bytes: &[u8], prio: u32) -> Tried<Result<bool, Fault>>
-        ensures { Tries (λ old new result. OneCall start_send_says old new (Call.MqSend d prio (length bytes.now)) bytes.now result) (ticket_of self.old.standing) (ticket_of self.new.standing) result }
-    {
-        if waiting(&self.standing).is_some() {
-            return Tried::Waiting;
-        }
-        let Some(arrived) = arrive(&self.mq, &mut self.standing) else {
-            return Tried::Retry;
-        };
-        let (process, sent) = arrived.start_send(&self.mq, d, bytes, prio);
-        settle(&mut self.standing, process);
-        self.until = None;
-        Tried::Made(sent)
-    }
-
-    /// Tries to receive, or to begin to wait.
-    pub fn start_receive(
-        &mut self,
-        d: u32,
-        buf: &mut [u8],
-    ) -> Tried<Result<Option<Received>, Fault>>
-        ensures { TriesWith (buf.new ≡ buf.old) (λ old new result. ReceiveCall start_receive_says old new (Call.MqReceive d (length buf.old)) buf.old buf.new result) (ticket_of self.old.standing) (ticket_of self.new.standing) result }
-    {
-        if waiting(&self.standing).is_some() {
-            return Tried::Waiting;
-        }
-        let Some(arrived) = arrive(&self.mq, &mut self.standing) else {
-            return Tried::Retry;
-        };
-        let (process, got) = arrived.start_receive(&self.mq, d, buf);
-        settle(&mut self.standing, process);
-        self.until = None;
-        Tried::Made(got)
-    }
-
-    /// Tries to send at the moment `now`, or to begin to wait until a deadline.
-    pub fn start_timed_send(
-        &mut self,
-        d: u32,
-        bytes: &[u8],
-        prio: u32,
-        until: Deadline,
-        now: Deadline,
-    ) -> Tried<Result<bool, Fault>>
-        ensures { Tries (λ old new result. OneCall start_send_says old new (Call.MqTimedSend d prio (length bytes.now) until now) bytes.now result) (ticket_of self.old.standing) (ticket_of self.new.standing) result }
-    {
-        if waiting(&self.standing).is_some() {
-            return Tried::Waiting;
-        }
-        let Some(arrived) = arrive(&self.mq, &mut self.standing) else {
-            return Tried::Retry;
-        };
-        let (process, sent) = arrived.start_timed_send(&self.mq, d, bytes, prio, until, now);
-        settle(&mut self.standing, process);
-        self.until = until_of_send(&sent, until);
-        Tried::Made(sent)
-    }
-
-    /// Tries to receive at the moment `now`, or to begin to wait until a deadline.
-    pub fn start_timed_receive(
-        &mut self,
-        d: u32,
-        buf: &mut [u8],
-        until: Deadline,
-        now: Deadline,
-    ) -> Tried<Result<Option<Received>, Fault>>
-        ensures { TriesWith (buf.new ≡ buf.old) (λ old new result. ReceiveCall start_receive_says old new (Call.MqTimedReceive d (length buf.old) until now) buf.old buf.new result) (ticket_of self.old.standing) (ticket_of self.new.standing) result }
-    {
-        if waiting(&self.standing).is_some() {
-            return Tried::Waiting;
-        }
-        let Some(arrived) = arrive(&self.mq, &mut self.standing) else {
-            return Tried::Retry;
-        };
-        let (process, got) = arrived.start_timed_receive(&self.mq, d, buf, until, now);
-        settle(&mut self.standing, process);
-        self.until = until_of_receive(&got, until);
-        Tried::Made(got)
     }
 }
 
@@ -419,22 +232,14 @@ impl Member {
     }
 }
 
-// Until when a send waits, where it does.
-fn until_of_send(sent: &Result<bool, Fault>, until: Deadline) -> Option<Deadline>
-    ensures { result ≡ until_sent sent.now (Some until) }
+// Until when a process waits that has made this call, where it does.
+#[tactic(auto, using(crate::proofs::Members::no_deadline))]
+fn until_of(process: &FastProcess, call: Call) -> Option<Deadline>
+    requires { IsSome (waiting_room process.now.left process.now.number) → WaitsIn process.now call }
+    ensures { result ≡ wait_deadline process.now.left process.now.number }
 {
-    match sent {
-        Ok(false) => Some(until),
-        _ => None,
-    }
-}
-
-// Until when a receive waits, where it does.
-fn until_of_receive(got: &Result<Option<Received>, Fault>, until: Deadline) -> Option<Deadline>
-    ensures { result ≡ until_received got.now (Some until) }
-{
-    match got {
-        Ok(None) => Some(until),
-        _ => None,
+    match process.waiting() {
+        None => None,
+        Some(_) => call.deadline(),
     }
 }

@@ -44,42 +44,45 @@ pub const NO_ENTRY: u32 = 25;
 pub const GOES_ON: u32 = 26;
 
 /// The number of what a call gave that is done or refused.
-pub fn done(tried: Tried<Result<(), Fault>>) -> u32
-    ensures { result ≡ code_of given_code (Some tried) }
+pub fn done(tried: Option<Tried<Result<(), Fault>>>) -> u32
+    ensures { result ≡ code_of given_code tried }
 {
     match tried {
-        Tried::Retry => RETRY,
-        Tried::Waiting => WAITING,
-        Tried::Made(Ok(())) => DONE,
-        Tried::Made(Err(fault)) => fault.number(),
+        None => EMPTY,
+        Some(Tried::Retry) => RETRY,
+        Some(Tried::Waiting) => WAITING,
+        Some(Tried::Made(Ok(()))) => DONE,
+        Some(Tried::Made(Err(fault))) => fault.number(),
     }
 }
 
 /// That of an open, which writes the descriptor.
-pub fn opened(tried: Tried<Result<u32, Fault>>, d: &mut u32) -> u32
-    ensures code { result ≡ code_of given_code (Some tried) }
-    ensures descriptor { d.new ≡ written (given d.old) d.old (Some tried) }
+pub fn opened(tried: Option<Tried<Result<u32, Fault>>>, d: &mut u32) -> u32
+    ensures code { result ≡ code_of given_code tried }
+    ensures descriptor { d.new ≡ written (given d.old) d.old tried }
 {
     match tried {
-        Tried::Retry => RETRY,
-        Tried::Waiting => WAITING,
-        Tried::Made(Ok(opened)) => {
+        None => EMPTY,
+        Some(Tried::Retry) => RETRY,
+        Some(Tried::Waiting) => WAITING,
+        Some(Tried::Made(Ok(opened))) => {
             *d = opened;
             DONE
         }
-        Tried::Made(Err(fault)) => fault.number(),
+        Some(Tried::Made(Err(fault))) => fault.number(),
     }
 }
 
 /// That of a call that writes attributes.
-pub fn attributes(tried: Tried<Result<Status, Fault>>, attributes: &mut Attributes) -> u32
-    ensures code { result ≡ code_of given_code (Some tried) }
-    ensures attributes { attributes.new ≡ written (attributes_got attributes.old) attributes.old (Some tried) }
+pub fn attributes(tried: Option<Tried<Result<Status, Fault>>>, attributes: &mut Attributes) -> u32
+    ensures code { result ≡ code_of given_code tried }
+    ensures attributes { attributes.new ≡ written (attributes_got attributes.old) attributes.old tried }
 {
     match tried {
-        Tried::Retry => RETRY,
-        Tried::Waiting => WAITING,
-        Tried::Made(Ok(status)) => {
+        None => EMPTY,
+        Some(Tried::Retry) => RETRY,
+        Some(Tried::Waiting) => WAITING,
+        Some(Tried::Made(Ok(status))) => {
             *attributes = Attributes {
                 maxmsg: status.maxmsg,
                 msgsize: status.msgsize,
@@ -88,71 +91,75 @@ pub fn attributes(tried: Tried<Result<Status, Fault>>, attributes: &mut Attribut
             };
             DONE
         }
-        Tried::Made(Err(fault)) => fault.number(),
+        Some(Tried::Made(Err(fault))) => fault.number(),
     }
 }
 
 /// That of the oldest notice, which writes its value.
-pub fn notice(tried: Tried<Result<Option<u64>, Fault>>, value: &mut u64) -> u32
-    ensures code { result ≡ code_of notice_code (Some tried) }
-    ensures value { value.new ≡ written (notice_given value.old) value.old (Some tried) }
+pub fn notice(tried: Option<Tried<Result<Option<u64>, Fault>>>, value: &mut u64) -> u32
+    ensures code { result ≡ code_of notice_code tried }
+    ensures value { value.new ≡ written (notice_given value.old) value.old tried }
 {
     match tried {
-        Tried::Retry => RETRY,
-        Tried::Waiting => WAITING,
-        Tried::Made(Ok(Some(given))) => {
+        None => EMPTY,
+        Some(Tried::Retry) => RETRY,
+        Some(Tried::Waiting) => WAITING,
+        Some(Tried::Made(Ok(Some(given)))) => {
             *value = given;
             DONE
         }
-        Tried::Made(Ok(None)) => NO_NOTICE,
-        Tried::Made(Err(fault)) => fault.number(),
+        Some(Tried::Made(Ok(None))) => NO_NOTICE,
+        Some(Tried::Made(Err(fault))) => fault.number(),
     }
 }
 
 /// That of a send.
-pub fn sent(tried: Tried<Result<bool, Fault>>) -> u32
-    ensures { result ≡ code_of sent_code (Some tried) }
+pub fn sent(tried: Option<Tried<Result<bool, Fault>>>) -> u32
+    ensures { result ≡ code_of sent_code tried }
 {
     match tried {
-        Tried::Retry => RETRY,
-        Tried::Waiting => WAITING,
-        Tried::Made(Ok(true)) => DONE,
-        Tried::Made(Ok(false)) => WAITS,
-        Tried::Made(Err(fault)) => fault.number(),
+        None => EMPTY,
+        Some(Tried::Retry) => RETRY,
+        Some(Tried::Waiting) => WAITING,
+        Some(Tried::Made(Ok(true))) => DONE,
+        Some(Tried::Made(Ok(false))) => WAITS,
+        Some(Tried::Made(Err(fault))) => fault.number(),
     }
 }
 
 /// That of a receive, which writes what it got.
-pub fn got(tried: Tried<Result<Option<Received>, Fault>>, message: &mut Message) -> u32
-    ensures code { result ≡ code_of got_code (Some tried) }
-    ensures message { message.new ≡ written (message_got message.old) message.old (Some tried) }
+pub fn got(tried: Option<Tried<Result<Option<Received>, Fault>>>, message: &mut Message) -> u32
+    ensures code { result ≡ code_of got_code tried }
+    ensures message { message.new ≡ written (message_got message.old) message.old tried }
 {
     match tried {
-        Tried::Retry => RETRY,
-        Tried::Waiting => WAITING,
-        Tried::Made(Ok(Some(received))) => {
+        None => EMPTY,
+        Some(Tried::Retry) => RETRY,
+        Some(Tried::Waiting) => WAITING,
+        Some(Tried::Made(Ok(Some(received)))) => {
             *message = message_of(received);
             DONE
         }
-        Tried::Made(Ok(None)) => WAITS,
-        Tried::Made(Err(fault)) => fault.number(),
+        Some(Tried::Made(Ok(None))) => WAITS,
+        Some(Tried::Made(Err(fault))) => fault.number(),
     }
 }
 
 /// That of the end of a wait, which writes the message of a receive.
-pub fn ended(ending: Ending, message: &mut Message) -> u32
-    ensures code { result ≡ end_code (Some ending) }
-    ensures message { message.new ≡ end_message message.old (Some ending) }
+pub fn ended(ending: Option<Ending>, message: &mut Message) -> u32
+    ensures code { result ≡ end_code ending }
+    ensures message { message.new ≡ end_message message.old ending }
 {
     match ending {
-        Ending::Retry => RETRY,
-        Ending::Unanswered => WAITS,
-        Ending::NotWaiting => NOT_WAITING,
-        Ending::Short => SHORT,
-        Ending::TooEarly => EARLY,
-        Ending::Withdrawn => Fault::TimedOut.number(),
-        Ending::Came(Collected::Sent) => DONE,
-        Ending::Came(Collected::Got(received)) => {
+        None => EMPTY,
+        Some(Ending::Retry) => RETRY,
+        Some(Ending::Unanswered) => WAITS,
+        Some(Ending::NotWaiting) => NOT_WAITING,
+        Some(Ending::Short) => SHORT,
+        Some(Ending::TooEarly) => EARLY,
+        Some(Ending::Withdrawn) => Fault::TimedOut.number(),
+        Some(Ending::Came(Collected::Sent)) => DONE,
+        Some(Ending::Came(Collected::Got(received))) => {
             *message = message_of(received);
             DONE
         }
@@ -160,14 +167,15 @@ pub fn ended(ending: Ending, message: &mut Message) -> u32
 }
 
 /// That of a look.
-pub fn looked(looked: Looked) -> u32
-    ensures { result ≡ look_code (Some looked) }
+pub fn looked(looked: Option<Looked>) -> u32
+    ensures { result ≡ look_code looked }
 {
     match looked {
-        Looked::Answered => DONE,
-        Looked::UnderWay => RETRY,
-        Looked::Unanswered => WAITS,
-        Looked::NotWaiting => NOT_WAITING,
+        None => EMPTY,
+        Some(Looked::Answered) => DONE,
+        Some(Looked::UnderWay) => RETRY,
+        Some(Looked::Unanswered) => WAITS,
+        Some(Looked::NotWaiting) => NOT_WAITING,
     }
 }
 

@@ -1,5 +1,5 @@
 -- What a call in one stay leaves.
-use Rattle.std.proofs.Common.{◌≡◌, ℕ, Bool, true, false, List, [], ◌∷◌, ◌++◌, length, Option, Some, None, is_some, Result, IfErr, refl, ap, sym, subst, ◌∙◌, eq-eqb}
+use Rattle.std.proofs.Common.{◌≡◌, ℕ, Bool, true, false, List, [], ◌∷◌, ◌++◌, length, Option, Some, None, is_some, IsSome, Result, IfErr, refl, ap, sym, subst, ◌∙◌, eq-eqb}
 use Rattle.std.specs.List.{All}
 use Rattle.std.specs.Option.{option_map}
 use Rattle.mq_model.specs.Record.{Record, Past}
@@ -180,6 +180,13 @@ module _ {old stay : Ticket Record} {system : LockId} {books : Kept} {p : ℕ} w
       let waits = now-waits call given c (rw same at is) in
       rw same (sym waits.room))
       (λ other. not-begun reply (room_of call) other ∙ sym (free-room records stay.number (still-free call given reply c free is other)))
+
+  -- where it has an open wait afterwards, it waits in this call
+  pub begun : {records : Past} (call : Call) (given : List ℕ) (reply : Reply) → Came old system stay books p → IsFree old → records ≡ made p call given reply ++ books.records → IsSome (waiting_room records stay.number)
+      → WaitsIn (record { lock = system; number = stay.number; left = records; told = false }) call
+  begun {records} call given reply c free is some = split (is_wait reply)
+      (λ yes. let same = is-waits reply yes in now-waits call given c (rw same at is))
+      (λ other. let none = free-room records stay.number (still-free call given reply c free is other) in absurd (let bad : false ≡ true = subst IsSome none some in cc))
 
 -- the fixed part has the number of processes
 pub fixed-n : (n m : ℕ) (a b : Option Bounds) → fixed_of n a ≡ fixed_of m b → n ≡ m

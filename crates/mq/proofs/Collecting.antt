@@ -20,7 +20,7 @@ use Rattle.fast_mutex.specs.Items.{LockId, Ticket}
 use Rattle.mq_state.specs.declared.collected.Collected.TheVariants.{Got as GotMessage, Sent}
 use Rattle.mq.specs.Says.{start_send_says, start_receive_says}
 use Rattle.mq.specs.Calls.{author, recorded, Calls, Came, Collects, StillWaits, WithdrawsAt, Withdraws, Expired, Begins, Waited, OneCall, ReceiveCall, WaitedSend, WaitedReceive}
-use Rattle.mq.proofs.Replies.{send-waits, receive-waits}
+use Rattle.mq.specs.KindsHold.{send-waits, receive-waits}
 use Rattle.mq.proofs.Messages.{message-kept, received-kept}
 use Rattle.mq.proofs.Growing.{own-recorded, calls-on}
 use Rattle.mq.proofs.Calling.{came-wait, came-room, came-call, came-calls, same-number, free-room}

@@ -3,6 +3,7 @@ pub mod Growing
 pub mod Seats
 pub mod Closings
 pub mod Replies
+pub mod Returning
 pub mod Calling
 pub mod Messages
 pub mod Collecting

@@ -1,7 +1,7 @@
 -- Records that are no messages change no message.
 use Rattle.std.proofs.Common.{◌≡◌, ℕ, ◌==◌, true, List, [], ◌∷◌, ◌++◌, length, Option, Some, None, refl, ap, ◌∙◌, arith, eqb-true}
 use Rattle.mq_model.specs.Record.{Record, Past, record_at}
-use Rattle.mq_model.specs.Messages.{is_send, is_receive, priority, priority_given}
+use Rattle.mq_model.specs.Messages.{is_receive, priority, priority_given}
 use Rattle.mq_model.proofs.Places.{split}
 use Rattle.mq_model.proofs.Prefixes.{record_at-below}
 use Rattle.mq_model.specs.declared.entries.Call.{Call}
@@ -9,7 +9,7 @@ use Rattle.mq_model.specs.declared.entries.Call.TheVariants.{MqReceive, MqTimedR
 use Rattle.mq_model.specs.declared.entries.Reply.{Reply}
 use Rattle.mq_model.specs.declared.entries.Reply.TheVariants.{Opened, Queued, Handed, Waits, Got, Collected, Attrs, Notice, Done, Refused, Withdrawn}
 use Rattle.mq_model.specs.Legality.{payload_of}
-use Rattle.mq_state.specs.Buffers.{message_at, received_at, with_front, filled, room_of}
+use Rattle.mq_state.specs.Buffers.{message_at, received_at, with_front, filled}
 use Rattle.mq.specs.Calls.{recorded, made}
 
 none-here : (past : Past) (m : ℕ) → m ≡ length past → record_at past m ≡ None
@@ -35,27 +35,21 @@ received-kept past r m empty low =
     let prio = priority-kept past r m low in
     ap (λ (bytes : List ℕ). record { len = length bytes; prio = priority (r ∷ past) m }) message ∙ ap (λ (n : ℕ). record { len = length (message_at past m); prio = n }) prio
 
--- a send needs no buffer
-pub no-room : (call : Call) → is_send call ≡ true → room_of call ≡ 0
-no-room (MqReceive d room) sends = absurd (cc)
-no-room (MqTimedReceive d room until now) sends = absurd (cc)
-no-room call sends = refl
-
-no-payload : (call : Call) (reply : Reply) → is_receive call ≡ true → payload_of call reply [] ≡ []
-no-payload (MqReceive d room) reply receives = refl
-no-payload (MqTimedReceive d room until now) reply receives = refl
-no-payload call reply receives = absurd (cc)
+no-payload : (call : Call) (given : List ℕ) (reply : Reply) → is_receive call ≡ true → payload_of call reply given ≡ []
+no-payload (MqReceive d room) given reply receives = refl
+no-payload (MqTimedReceive d room until now) given reply receives = refl
+no-payload call given reply receives = absurd (cc)
 
 -- the buffer that a receive fills, by the journal it leaves
-pub filled-kept : (past : Past) (p : ℕ) (call : Call) (reply : Reply) (buffer : List ℕ) → is_receive call ≡ true → filled (made p call [] reply ++ past) reply buffer ≡ filled past reply buffer
-filled-kept past p call (Got m a n) buffer receives = ap (λ (bytes : List ℕ). with_front bytes buffer) (message-kept past (recorded p call [] (Got m a n)) m (no-payload call (Got m a n) receives))
-filled-kept past p call (Opened e c) buffer receives = refl
-filled-kept past p call (Queued n) buffer receives = refl
-filled-kept past p call (Handed w) buffer receives = refl
-filled-kept past p call Waits buffer receives = refl
-filled-kept past p call (Collected by) buffer receives = refl
-filled-kept past p call (Withdrawn wait) buffer receives = refl
-filled-kept past p call (Attrs s) buffer receives = refl
-filled-kept past p call (Notice v) buffer receives = refl
-filled-kept past p call Done buffer receives = refl
-filled-kept past p call (Refused f) buffer receives = refl
+pub filled-kept : (past : Past) (p : ℕ) (call : Call) (given : List ℕ) (reply : Reply) (buffer : List ℕ) → is_receive call ≡ true → filled (made p call given reply ++ past) reply buffer ≡ filled past reply buffer
+filled-kept past p call given (Got m a n) buffer receives = ap (λ (bytes : List ℕ). with_front bytes buffer) (message-kept past (recorded p call given (Got m a n)) m (no-payload call given (Got m a n) receives))
+filled-kept past p call given (Opened e c) buffer receives = refl
+filled-kept past p call given (Queued n) buffer receives = refl
+filled-kept past p call given (Handed w) buffer receives = refl
+filled-kept past p call given Waits buffer receives = refl
+filled-kept past p call given (Collected by) buffer receives = refl
+filled-kept past p call given (Withdrawn wait) buffer receives = refl
+filled-kept past p call given (Attrs s) buffer receives = refl
+filled-kept past p call given (Notice v) buffer receives = refl
+filled-kept past p call given Done buffer receives = refl
+filled-kept past p call given (Refused f) buffer receives = refl

@@ -1,22 +1,9 @@
--- Which calls need no more than their numbers, and which replies a call is given.
+-- Which replies a call is given.
 use Rattle.std.specs.Prelude.{Bool, true, false}
 use Rattle.mq_model.specs.declared.entries.Call.{Call}
 use Rattle.mq_model.specs.declared.entries.Call.TheVariants.{MqOpen, MqClose, MqUnlink, MqSend, MqReceive, MqGetattr, MqSetattr, MqNotify, NextNotice, Collect, MqTimedSend, MqTimedReceive, Withdraw}
 use Rattle.mq_model.specs.declared.entries.Reply.{Reply}
 use Rattle.mq_model.specs.declared.entries.Reply.TheVariants.{Opened, Queued, Handed, Waits, Got, Collected, Attrs, Notice, Done, Refused, Withdrawn}
-
-abbrev pub is_of_name : Call → Bool
-is_of_name (MqOpen flags attr) = true
-is_of_name MqUnlink = true
-is_of_name _ = false
-
-abbrev pub is_plain : Call → Bool
-is_plain (MqClose d) = true
-is_plain (MqGetattr d) = true
-is_plain (MqSetattr d nonblock) = true
-is_plain (MqNotify d value) = true
-is_plain NextNotice = true
-is_plain _ = false
 
 abbrev pub is_opened : Reply → Bool
 is_opened (Opened d created) = true

@@ -2,4 +2,6 @@ pub mod Says
 pub mod Blocked
 pub mod Calls
 pub mod Asked
+pub mod Kinds
+pub mod KindsHold
 pub mod Readings

@@ -7,12 +7,12 @@
 
 mod approach;
 mod arrived;
-mod asking;
 mod guarded;
 mod judging;
 mod monotonic;
 mod naps;
 mod process;
+mod returned;
 mod stays;
 mod system;
 
@@ -37,6 +37,7 @@ pub use mq_state::memory::memory_of;
 pub use mq_state::replay::{Cause, Departure, replay};
 pub use naps::Naps;
 pub use process::Process;
+pub use returned::Returned;
 pub use system::Mq;
 
 /// The system over Lamport's lock.

@@ -15,9 +15,10 @@ mod timed;
 
 use crate::arrived::Arrived;
 use crate::guarded::Guarded;
+use crate::returned::Returned;
 use crate::system::Mq;
 use fast_mutex::{Enter, Look};
-use mq_model::entries::{Attr, OpenFlags, Status};
+use mq_model::entries::{Attr, Call, OpenFlags, Status};
 use mq_model::faults::Fault;
 use mq_model::names::Name;
 use std::marker::Model;
@@ -67,11 +68,11 @@ impl<L: Look<Guarded>> Process<L> {
     ghost use Rattle.std.specs.Prelude.{◌≡◌, ◌≢◌, ◌≤◌, Bool, true, false, Some, None, IsSome, IfSome, IfNone, OnSome, Ok, length, [], is_some};
     ghost use Rattle.mq_model.specs.Waits.{open_wait};
     ghost use Rattle.mq_model.specs.declared.entries.Call.{Call};
-    ghost use Rattle.mq_model.specs.declared.entries.Reply.{Reply};
     ghost use Rattle.mq_state.specs.Buffers.{waiting_room, waiting_call, room_of, filled};
-    ghost use Rattle.mq.specs.Asked.{is_plain, is_of_name, may_reply};
-    ghost use Rattle.mq.specs.Says.{open_says, done_says, attributes_says, notice_says, start_send_says, start_receive_says};
-    ghost use Rattle.mq.specs.Calls.{IsFree, Calls, OneCall, ReceiveCall, SendCall, WholeReceive, Collects, StillWaits, Exits, Found, made};
+    ghost use Rattle.mq_state.specs.Requests.{Brings};
+    ghost use Rattle.mq.specs.Kinds.{IsOf, IsCall, IsWaiting, IsOver};
+    ghost use Rattle.mq.specs.Says.{open_says, done_says, attributes_says, notice_says};
+    ghost use Rattle.mq.specs.Calls.{IsFree, OneCall, WaitsIn};
 
     /// The number of the process.
     pub fn number(&self) -> u32
@@ -125,6 +126,33 @@ impl<L: Look<Guarded>> Process<L> {
         self.number().saturating_add(32)
     }
 
+    /// Makes one call in one stay, of whichever kind: with its name, the bytes of its message or none, and the buffer that a receive fills.
+    /// What it returns, and where it is refused, is as the method of its name has it, and `start_send` and `start_receive` for sends and
+    /// receives.
+    #[inline(always)]
+    pub fn make<R: Wait, A: Returned>(
+        &mut self,
+        rt: &R,
+        mq: &Mq<L>,
+        call: Call,
+        given: &[u8],
+        buf: &mut [u8],
+    ) -> A
+        requires made { self.old.lock ≡ mq.now }
+        requires free { IsFree self.old }
+        requires brings { Brings call given.now (length buf.old) }
+        requires kind { IsOf A.kind call }
+        ensures call { let kind = A.kind in IsCall kind.fills kind.says self.old self.new call given.now buf.old buf.new result }
+        ensures waits { let kind = A.kind in IsWaiting kind.waiting result → WaitsIn self.new call }
+        ensures free { let kind = A.kind in IsOver kind.waiting result → IsFree self.new }
+        ensures begun { IsSome (waiting_room self.new.left self.new.number) → WaitsIn self.new call }
+    {
+        let arrived = arrive(rt, mq, &mut self.seat, self.waits);
+        let (process, returned) = arrived.make(mq, call, given, buf);
+        *self = process.settled(mq);
+        returned
+    }
+
     /// Opens the queue of that name (`mq_open`) and gives the lowest free descriptor. Refused with `Exists`, `NoEntry`, `Invalid`,
     /// `TooManyOpen`, `NoSpace`, `NoMemory` or `JournalFull`.
     pub fn open<R: Wait>(
@@ -140,10 +168,7 @@ impl<L: Look<Guarded>> Process<L> {
         ensures call { OneCall open_says self.old self.new (Call.MqOpen flags attr) name.now result }
         ensures free { IsFree self.new }
     {
-        let arrived = arrive(rt, mq, &mut self.seat, self.waits);
-        let (process, opened) = arrived.open(mq, name, flags, attr);
-        *self = process.settled(mq);
-        opened
+        self.make(rt, mq, Call::MqOpen { flags, attr }, name.bytes(), &mut [])
     }
 
     /// Closes descriptor d (`mq_close`). Refused with `BadDescriptor`, `NoMemory` or `JournalFull`.
@@ -153,10 +178,7 @@ impl<L: Look<Guarded>> Process<L> {
         ensures call { OneCall done_says self.old self.new (Call.MqClose d) [] result }
         ensures free { IsFree self.new }
     {
-        let arrived = arrive(rt, mq, &mut self.seat, self.waits);
-        let (process, closed) = arrived.close(mq, d);
-        *self = process.settled(mq);
-        closed
+        self.make(rt, mq, Call::MqClose { d }, &[], &mut [])
     }
 
     /// Unbinds a name from its queue (`mq_unlink`). Refused with `NoEntry`, `NoMemory` or `JournalFull`.
@@ -166,10 +188,7 @@ impl<L: Look<Guarded>> Process<L> {
         ensures call { OneCall done_says self.old self.new (Call.MqUnlink) name.now result }
         ensures free { IsFree self.new }
     {
-        let arrived = arrive(rt, mq, &mut self.seat, self.waits);
-        let (process, unlinked) = arrived.unlink(mq, name);
-        *self = process.settled(mq);
-        unlinked
+        self.make(rt, mq, Call::MqUnlink, name.bytes(), &mut [])
     }
 
     /// Registers on the queue of descriptor d with the value of the notice, or removes the registration (`mq_notify`). Refused
@@ -186,10 +205,7 @@ impl<L: Look<Guarded>> Process<L> {
         ensures call { OneCall done_says self.old self.new (Call.MqNotify d value) [] result }
         ensures free { IsFree self.new }
     {
-        let arrived = arrive(rt, mq, &mut self.seat, self.waits);
-        let (process, notified) = arrived.notify(mq, d, value);
-        *self = process.settled(mq);
-        notified
+        self.make(rt, mq, Call::MqNotify { d, value }, &[], &mut [])
     }
 
     /// The attributes of descriptor d (`mq_getattr`). Refused with `BadDescriptor`, `NoMemory` or `JournalFull`.
@@ -199,10 +215,7 @@ impl<L: Look<Guarded>> Process<L> {
         ensures call { OneCall attributes_says self.old self.new (Call.MqGetattr d) [] result }
         ensures free { IsFree self.new }
     {
-        let arrived = arrive(rt, mq, &mut self.seat, self.waits);
-        let (process, got) = arrived.getattr(mq, d);
-        *self = process.settled(mq);
-        got
+        self.make(rt, mq, Call::MqGetattr { d }, &[], &mut [])
     }
 
     /// Sets the flag of descriptor d and gives the attributes from before (`mq_setattr`): of `new` its `nonblock` alone is used.
@@ -219,10 +232,8 @@ impl<L: Look<Guarded>> Process<L> {
         ensures call { OneCall attributes_says self.old self.new (Call.MqSetattr d new.nonblock) [] result }
         ensures free { IsFree self.new }
     {
-        let arrived = arrive(rt, mq, &mut self.seat, self.waits);
-        let (process, set) = arrived.setattr(mq, d, new);
-        *self = process.settled(mq);
-        set
+        let nonblock = new.nonblock;
+        self.make(rt, mq, Call::MqSetattr { d, nonblock }, &[], &mut [])
     }
 
     /// The value of the oldest notice that the process has not yet taken. Refused with `NoMemory` or `JournalFull` alone.
@@ -232,10 +243,7 @@ impl<L: Look<Guarded>> Process<L> {
         ensures call { OneCall notice_says self.old self.new Call.NextNotice [] result }
         ensures free { IsFree self.new }
     {
-        let arrived = arrive(rt, mq, &mut self.seat, self.waits);
-        let (process, notice) = arrived.next_notice(mq);
-        *self = process.settled(mq);
-        notice
+        self.make(rt, mq, Call::NextNotice, &[], &mut [])
     }
 }
 

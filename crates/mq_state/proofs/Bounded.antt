@@ -28,6 +28,7 @@ use Rattle.mq_state.specs.Tables.{notices_brought}
 use Rattle.mq_slots.specs.Held.{Held}
 use Rattle.mq_state.specs.QueueShown.{QueueShown}
 use Rattle.mq_state.specs.Pool.{IsPooled, PoolWithin}
+use Rattle.mq_state.specs.Requests.{IsGiven, is_settled}
 use Rattle.mq_state.specs.Kept.{HasRoomWithin, HasNotices, IsKeptBy, IsCalled, IsRoomRefused, NeedsJust}
 use Rattle.mq_state.specs.declared.tables.Tables.{Tables}
 
@@ -249,3 +250,14 @@ receive-needs past p (MqNotify d value) e = absurd (let bad : false ≡ true = e
 receive-needs past p NextNotice e = absurd (let bad : false ≡ true = e in cc)
 receive-needs past p Collect e = absurd (let bad : false ≡ true = e in cc)
 receive-needs past p (Withdraw now) e = absurd (let bad : false ≡ true = e in cc)
+
+-- what a call needs that neither sends nor receives
+pub settled-needs : (past : Past) (p : ℕ) (call : Call) (given : List ℕ) → is_settled call ≡ true → IsGiven call given → NeedsJust 1 (length given) past p call given
+settled-needs past p (MqOpen flags attr) given e is = record { entries_are = refl; bytes_are = refl }
+settled-needs past p MqUnlink given e is = record { entries_are = refl; bytes_are = refl }
+settled-needs past p (MqClose d) given e is = record { entries_are = refl; bytes_are = sym (ap length is) }
+settled-needs past p (MqGetattr d) given e is = record { entries_are = refl; bytes_are = sym (ap length is) }
+settled-needs past p (MqSetattr d nonblock) given e is = record { entries_are = refl; bytes_are = sym (ap length is) }
+settled-needs past p (MqNotify d value) given e is = record { entries_are = refl; bytes_are = sym (ap length is) }
+settled-needs past p NextNotice given e is = record { entries_are = refl; bytes_are = sym (ap length is) }
+settled-needs past p call given e is = absurd (cc)

@@ -1,4 +1,4 @@
-use Rattle.std.specs.Prelude.{ℕ, ◌≡◌, ◌+◌, ◌≤◌, true, false, List, length, Option, Some, None, Result, Ok, Err, ◌⊎◌}
+use Rattle.std.specs.Prelude.{ℕ, ◌≡◌, ◌≢◌, ◌+◌, ◌≤◌, true, false, List, length, Option, Some, None, Result, Ok, Err, ◌⊎◌}
 use Rattle.mq_model.specs.Record.{Past, Shown, payload_bytes}
 use Rattle.mq_model.specs.Legality.{Legal, Appends}
 use Rattle.mq_model.specs.Waits.{open_wait}
@@ -9,7 +9,7 @@ use Rattle.mq_model.specs.declared.faults.Fault.TheVariants.{NoMemory, JournalFu
 use Rattle.mq_model.specs.declared.bounds.Bounds.{Bounds}
 use Rattle.mq_model.specs.Owners.{waits_count}
 use Rattle.mq_model.specs.declared.entries.Reply.{Reply}
-use Rattle.mq_model.specs.declared.entries.Reply.TheVariants.{Waits, Collected, Withdrawn}
+use Rattle.mq_model.specs.declared.entries.Reply.TheVariants.{Waits, Collected, Refused, Withdrawn}
 use Rattle.mq_state.specs.Pool.{IsPooled}
 use Rattle.mq_state.specs.InboxShown.{InboxShown}
 use Rattle.mq_state.specs.Inboxes.{notices_in, room_in}
@@ -125,6 +125,10 @@ HasEntryRoom _ waits room = waits + 1 ≤ room
 pub record IsRoomRefused (bounds : Option Bounds) (entries bytes : ℕ) (result : Result (Unit {0}) Fault) : Type 0 where
   pub full : exceeds bounds entries bytes ≡ true → result ≡ Err JournalFull
   pub room : exceeds bounds entries bytes ≡ false → (result ≡ Ok tt) ⊎ ((result ≡ Err NoMemory) × (bounds ≡ None))
+
+-- a reply that refuses, but not for want of memory, took no room for bytes
+abbrev pub SparesBytes : Shown → Shown → Reply → Type 0
+SparesBytes j j' reply = (fault : Fault) → reply ≡ Refused fault → fault ≢ NoMemory → j'.byte_room ≡ j.byte_room
 
 -- a call needs room for just so many entries and payload bytes
 pub record NeedsJust (entries bytes : ℕ) (past : Past) (p : ℕ) (call : Call) (given : List ℕ) : Type 0 where

@@ -12,6 +12,7 @@ pub mod Pool
 pub mod Kept
 pub mod Room
 pub mod Buffers
+pub mod Requests
 pub mod BooksModel
 pub mod Memory
 pub mod Replays

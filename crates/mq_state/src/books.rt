@@ -11,7 +11,9 @@ ghost use Rattle.mq_model.specs.Descriptors.{lowest_held};
 ghost use Rattle.mq_model.specs.Legality.{Appends, Legal};
 ghost use Rattle.mq_state.specs.Buffers.{filled, collected, collected_into, collected_by, into_by, waiting_call, waiting_room, room_of, FitsOutcome};
 ghost use Rattle.mq_state.specs.Kept.{IsKeptBy, IsMade, HasRoomWithin};
+ghost use Rattle.mq_state.specs.Requests.{Brings};
 ghost use Rattle.mq_state.specs.Room.{NobodyCanCall, room_left};
+ghost use Rattle.mq_model.specs.Messages.{is_send, is_receive};
 
 use crate::buffers;
 use crate::collected::{Collected, received};
@@ -50,7 +52,7 @@ impl Model for Books {
 }
 
 impl Books {
-    fn make(alloc: Global, n: u32, bounds: Option<Bounds>) -> Result<Books, AllocError>
+    fn start(alloc: Global, n: u32, bounds: Option<Bounds>) -> Result<Books, AllocError>
         requires { (1 ≤ n) × (n ≤ 32) }
         ensures empty { IfOk result (λ b. b.records ≡ []) }
         ensures processes { IfOk result (λ b. b.n ≡ n) }
@@ -72,7 +74,7 @@ impl Books {
         ensures processes { IfOk result (λ b. b.n ≡ n) }
         ensures bounds { IfOk result (λ b. b.bounds ≡ None) }
     {
-        Books::make(alloc, n, None)
+        Books::start(alloc, n, None)
     }
 
     /// The queues of n processes, whose journal may hold so many entries and so many payload bytes, those of names and of messages. All
@@ -83,7 +85,22 @@ impl Books {
         ensures processes { IfOk result (λ b. b.n ≡ n) }
         ensures bounds { IfOk result (λ b. b.bounds ≡ Some (record { entries = entries; bytes = bytes })) }
     {
-        Books::make(alloc, n, Some(Bounds { entries, bytes }))
+        Books::start(alloc, n, Some(Bounds { entries, bytes }))
+    }
+
+    /// A call of process p, whichever: with its name, the bytes of its message or none, and the buffer that a receive fills. Replies as the
+    /// method of its name below. The ends of a wait are [`collect`](Books::collect) and [`withdraw`](Books::withdraw).
+    #[inline(always)]
+    pub fn make(&mut self, p: u32, call: Call, given: &[u8], buf: &mut [u8]) -> Reply
+        requires process { (1 ≤ p) × (p ≤ self.old.n) }
+        requires no_wait { open_wait self.old.records p ≡ None }
+        requires brings { Brings call given.now (length buf.old) }
+        ensures made { IsMade self.old self.new p call given.now result }
+        ensures buffer { is_receive call ≡ true → buf.new ≡ filled self.old.records result buf.old }
+        ensures refused { is_send call ≡ true → (fault : Fault) → result ≡ Reply.Refused fault → fault ≢ Fault.NoMemory → self.new.byte_room ≡ self.old.byte_room }
+    {
+        let Shelf { journal, tables } = &mut *self.shelf;
+        tables.make(journal, p, call, given, buf)
     }
 
     /// An open of a name (`mq_open`). Replies `Opened`, or refuses with `Exists`, `NoEntry`, `Invalid`, `TooManyOpen` or `NoSpace`.
@@ -92,8 +109,7 @@ impl Books {
         requires no_wait { open_wait self.old.records p ≡ None }
         ensures { IsMade self.old self.new p (Call.MqOpen flags attr) name.now result }
     {
-        let Shelf { journal, tables } = &mut *self.shelf;
-        tables.open(journal, p, name.bytes(), flags, attr)
+        self.make(p, Call::MqOpen { flags, attr }, name.bytes(), &mut [])
     }
 
     /// A close of descriptor d (`mq_close`). Replies `Done`, or refuses with `BadDescriptor`.
@@ -102,8 +118,7 @@ impl Books {
         requires no_wait { open_wait self.old.records p ≡ None }
         ensures { IsMade self.old self.new p (Call.MqClose d) [] result }
     {
-        let Shelf { journal, tables } = &mut *self.shelf;
-        tables.close(journal, p, d)
+        self.make(p, Call::MqClose { d }, &[], &mut [])
     }
 
     /// An unlink of a name (`mq_unlink`). Replies `Done`, or refuses with `NoEntry`.
@@ -112,8 +127,7 @@ impl Books {
         requires no_wait { open_wait self.old.records p ≡ None }
         ensures { IsMade self.old self.new p Call.MqUnlink name.now result }
     {
-        let Shelf { journal, tables } = &mut *self.shelf;
-        tables.unlink(journal, p, name.bytes())
+        self.make(p, Call::MqUnlink, name.bytes(), &mut [])
     }
 
     /// The attributes of descriptor d (`mq_getattr`). Replies `Attrs`, or refuses with `BadDescriptor`.
@@ -122,8 +136,7 @@ impl Books {
         requires no_wait { open_wait self.old.records p ≡ None }
         ensures { IsMade self.old self.new p (Call.MqGetattr d) [] result }
     {
-        let Shelf { journal, tables } = &mut *self.shelf;
-        tables.getattr(journal, p, d)
+        self.make(p, Call::MqGetattr { d }, &[], &mut [])
     }
 
     /// Another flag for descriptor d (`mq_setattr`): of `new` its `nonblock` alone is used. Replies `Attrs` from before, or refuses
@@ -133,8 +146,8 @@ impl Books {
         requires no_wait { open_wait self.old.records p ≡ None }
         ensures { IsMade self.old self.new p (Call.MqSetattr d new.nonblock) [] result }
     {
-        let Shelf { journal, tables } = &mut *self.shelf;
-        tables.setattr(journal, p, d, new.nonblock)
+        let nonblock = new.nonblock;
+        self.make(p, Call::MqSetattr { d, nonblock }, &[], &mut [])
     }
 
     /// A registration on the queue of descriptor d with the value of its notice, or the removal of one (`mq_notify`). Replies
@@ -144,8 +157,7 @@ impl Books {
         requires no_wait { open_wait self.old.records p ≡ None }
         ensures { IsMade self.old self.new p (Call.MqNotify d value) [] result }
     {
-        let Shelf { journal, tables } = &mut *self.shelf;
-        tables.notify(journal, p, d, value)
+        self.make(p, Call::MqNotify { d, value }, &[], &mut [])
     }
 
     /// The oldest notice that process p has not yet taken. Replies `Notice`.
@@ -154,8 +166,7 @@ impl Books {
         requires no_wait { open_wait self.old.records p ≡ None }
         ensures { IsMade self.old self.new p Call.NextNotice [] result }
     {
-        let Shelf { journal, tables } = &mut *self.shelf;
-        tables.next_notice(journal, p)
+        self.make(p, Call::NextNotice, &[], &mut [])
     }
 
     /// A send of a message to the queue of descriptor d (`mq_send`). Replies `Queued`, `Handed` or `Waits`, or refuses with
@@ -167,8 +178,8 @@ impl Books {
         ensures made { IsMade self.old self.new p (Call.MqSend d prio (length bytes.now)) bytes.now result }
         ensures refused { (fault : Fault) → result ≡ Reply.Refused fault → fault ≢ Fault.NoMemory → self.new.byte_room ≡ self.old.byte_room }
     {
-        let Shelf { journal, tables } = &mut *self.shelf;
-        tables.send(journal, p, d, bytes, prio)
+        let len = bytes.len() as u64;
+        self.make(p, Call::MqSend { d, prio, len }, bytes, &mut [])
     }
 
     /// A receive from the queue of descriptor d (`mq_receive`). Replies `Got`, and then the front of the buffer holds the
@@ -180,8 +191,8 @@ impl Books {
         ensures made { IsMade self.old self.new p (Call.MqReceive d (length buf.old)) [] result }
         ensures buffer { buf.new ≡ filled self.old.records result buf.old }
     {
-        let Shelf { journal, tables } = &mut *self.shelf;
-        tables.receive(journal, p, d, buf)
+        let room = buf.len() as u64;
+        self.make(p, Call::MqReceive { d, room }, &[], buf)
     }
 
     /// A send of a message to the queue of descriptor d, made at the moment `now`, which would wait until the moment `until`
@@ -201,8 +212,14 @@ impl Books {
         ensures made { IsMade self.old self.new p (Call.MqTimedSend d prio (length bytes.now) until now) bytes.now result }
         ensures refused { (fault : Fault) → result ≡ Reply.Refused fault → fault ≢ Fault.NoMemory → self.new.byte_room ≡ self.old.byte_room }
     {
-        let Shelf { journal, tables } = &mut *self.shelf;
-        tables.timed_send(journal, p, d, bytes, prio, until, now)
+        let call = Call::MqTimedSend {
+            d,
+            prio,
+            len: bytes.len() as u64,
+            until,
+            now,
+        };
+        self.make(p, call, bytes, &mut [])
     }
 
     /// A receive from the queue of descriptor d, made at the moment `now`, which would wait until the moment `until`
@@ -221,8 +238,13 @@ impl Books {
         ensures made { IsMade self.old self.new p (Call.MqTimedReceive d (length buf.old) until now) [] result }
         ensures buffer { buf.new ≡ filled self.old.records result buf.old }
     {
-        let Shelf { journal, tables } = &mut *self.shelf;
-        tables.timed_receive(journal, p, d, buf, until, now)
+        let call = Call::MqTimedReceive {
+            d,
+            room: buf.len() as u64,
+            until,
+            now,
+        };
+        self.make(p, call, &[], buf)
     }
 
     /// `None` where process p has no open wait, else the length of the buffer of the receive that waits, or 0 for a send.

@@ -12,7 +12,7 @@ use Rattle.mq.specs.Says.{start_receive_says, start_send_says}
 use Rattle.mq.proofs.Collecting.{room-waits}
 use Rattle.mq.proofs.Growing.{calls-on}
 use Rattle.mq.proofs.Others.{call-grown, room-grown, wait-grown}
-use Rattle.mq.proofs.Replies.{receive-waits, send-waits}
+use Rattle.mq.specs.KindsHold.{receive-waits, send-waits}
 use Rattle.script_runner.specs.Runs.{WaitsFor}
 
 -- a collect after other processes' calls

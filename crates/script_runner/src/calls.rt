@@ -12,7 +12,7 @@ use crate::peers::Peer;
 use crate::waiting;
 use fast_mutex::Look;
 use mq::{Guarded, Mq, Process};
-use mq_model::entries::{Attr, OpenFlags, Status};
+use mq_model::entries::{Attr, Call, OpenFlags, Status};
 use mq_model::faults::Fault;
 use mq_model::names::Name;
 use script_text::clock::FixedClock;
@@ -60,7 +60,8 @@ pub fn perform<L: Look<Guarded>, R: Wait + Clock>(
         }
         Command::Getattr { d } => Some(attributes(process.getattr(rt, mq, d))),
         Command::Setattr { d, nonblock } => {
-            Some(attributes(process.setattr(rt, mq, d, flag(nonblock))))
+            let call = Call::MqSetattr { d, nonblock };
+            Some(attributes(process.make(rt, mq, call, &[], &mut [])))
         }
         Command::Notify { d, value } => Some(done(process.notify(rt, mq, d, value))),
         Command::Notice => Some(notice(process.next_notice(rt, mq))),
@@ -105,18 +106,6 @@ fn unlink<L: Look<Guarded>, R: Wait>(
     match Name::read(name) {
         Ok(name) => done(process.unlink(rt, mq, &name)),
         Err(fault) => Outcome::Refused(fault),
-    }
-}
-
-// A setattr sets the flag alone.
-fn flag(nonblock: bool) -> Status
-    ensures { result.nonblock ≡ nonblock }
-{
-    Status {
-        nonblock,
-        maxmsg: 0,
-        msgsize: 0,
-        curmsgs: 0,
     }
 }
 

@@ -8,7 +8,7 @@ use crate::guarded::Guarded;
 use crate::system::Mq;
 use fast_mutex::Look;
 use mq_model::bounds::Bounds;
-use mq_model::entries::{Deadline, Received};
+use mq_model::entries::{Call, Deadline, Received};
 use mq_model::faults::Fault;
 use std::sync::Wait;
 
@@ -84,10 +84,14 @@ impl<L: Look<Guarded>> Process<L> {
         ensures waits { result ≡ Ok false → WaitsIn self.new (Call.MqTimedSend d prio (length bytes.now) until now) }
         ensures free { result ≢ Ok false → IsFree self.new }
     {
-        let arrived = arrive(rt, mq, &mut self.seat, self.waits);
-        let (process, sent) = arrived.start_timed_send(mq, d, bytes, prio, until, now);
-        *self = process.settled(mq);
-        sent
+        let call = Call::MqTimedSend {
+            d,
+            prio,
+            len: bytes.len() as u64,
+            until,
+            now,
+        };
+        self.make(rt, mq, call, bytes, &mut [])
     }
 
     /// Begins a receive with a deadline at the moment `now`: `None` where the process now has an open wait, and else the message is
@@ -108,9 +112,12 @@ impl<L: Look<Guarded>> Process<L> {
         ensures waits { result ≡ Ok None → WaitsIn self.new (Call.MqTimedReceive d (length buf.old) until now) }
         ensures free { result ≢ Ok None → IsFree self.new }
     {
-        let arrived = arrive(rt, mq, &mut self.seat, self.waits);
-        let (process, got) = arrived.start_timed_receive(mq, d, buf, until, now);
-        *self = process.settled(mq);
-        got
+        let call = Call::MqTimedReceive {
+            d,
+            room: buf.len() as u64,
+            until,
+            now,
+        };
+        self.make(rt, mq, call, &[], buf)
     }
 }

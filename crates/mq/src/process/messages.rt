@@ -23,53 +23,6 @@ impl<L: Look<Guarded>> Process<L> {
     ghost use Rattle.mq_state.specs.Buffers.{length_sent, room_of};
     ghost use Rattle.mq.specs.Calls.{IsFree, OneCall, ReceiveCall, SendCall, WholeReceive, WaitsIn, Collects, StillWaits};
 
-    // Sends without waiting, with or without a deadline.
-    #[inline(always)]
-    pub(super) fn begin_send<R: Wait>(
-        &mut self,
-        rt: &R,
-        mq: &Mq<L>,
-        call: Call,
-        bytes: &[u8],
-    ) -> Result<bool, Fault>
-        requires made { self.old.lock ≡ mq.now }
-        requires free { IsFree self.old }
-        requires sends { is_send call ≡ true }
-        requires length { length_sent call ≡ length bytes.now }
-        ensures call { OneCall start_send_says self.old self.new call bytes.now result }
-        ensures waits { result ≡ Ok false → WaitsIn self.new call }
-        ensures free { result ≢ Ok false → IsFree self.new }
-    {
-        let arrived = arrive(rt, mq, &mut self.seat, self.waits);
-        let (process, sent) = arrived.begin_send(mq, call, bytes);
-        *self = process.settled(mq);
-        sent
-    }
-
-    // Receives without waiting, with or without a deadline.
-    #[inline(always)]
-    pub(super) fn begin_receive<R: Wait>(
-        &mut self,
-        rt: &R,
-        mq: &Mq<L>,
-        call: Call,
-        buf: &mut [u8],
-    ) -> Result<Option<Received>, Fault>
-        requires made { self.old.lock ≡ mq.now }
-        requires free { IsFree self.old }
-        requires receives { is_receive call ≡ true }
-        requires room { room_of call ≡ length buf.old }
-        ensures call { ReceiveCall start_receive_says self.old self.new call buf.old buf.new result }
-        ensures fits { IfOk result (λ got. IfSome got (λ received. received.len ≤ length buf.old)) }
-        ensures waits { result ≡ Ok None → WaitsIn self.new call }
-        ensures free { result ≢ Ok None → IsFree self.new }
-    {
-        let arrived = arrive(rt, mq, &mut self.seat, self.waits);
-        let (process, got) = arrived.begin_receive(mq, call, buf);
-        *self = process.settled(mq);
-        got
-    }
-
     /// Sends a message without waiting for its admission: true where the queue or a waiting receive took it, false where the
     /// process now has an open wait. Refused as [`Process::send`].
     pub fn start_send<R: Wait>(
@@ -86,10 +39,8 @@ impl<L: Look<Guarded>> Process<L> {
         ensures waits { result ≡ Ok false → WaitsIn self.new (Call.MqSend d prio (length bytes.now)) }
         ensures free { result ≢ Ok false → IsFree self.new }
     {
-        let arrived = arrive(rt, mq, &mut self.seat, self.waits);
-        let (process, sent) = arrived.start_send(mq, d, bytes, prio);
-        *self = process.settled(mq);
-        sent
+        let len = bytes.len() as u64;
+        self.make(rt, mq, Call::MqSend { d, prio, len }, bytes, &mut [])
     }
 
     /// Receives the oldest message of the highest priority into the front of the buffer, or begins to wait for one: `None`, and
@@ -108,10 +59,8 @@ impl<L: Look<Guarded>> Process<L> {
         ensures waits { result ≡ Ok None → WaitsIn self.new (Call.MqReceive d (length buf.old)) }
         ensures free { result ≢ Ok None → IsFree self.new }
     {
-        let arrived = arrive(rt, mq, &mut self.seat, self.waits);
-        let (process, got) = arrived.start_receive(mq, d, buf);
-        *self = process.settled(mq);
-        got
+        let room = buf.len() as u64;
+        self.make(rt, mq, Call::MqReceive { d, room }, &[], buf)
     }
 
     /// Ends the open wait, if it is answered, and gives what it came to: a message that was received lies in the front of the

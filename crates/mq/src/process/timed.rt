@@ -6,7 +6,7 @@ use crate::guarded::Guarded;
 use crate::naps::Naps;
 use crate::system::Mq;
 use fast_mutex::Look;
-use mq_model::entries::{Call, Deadline, Received};
+use mq_model::entries::{Deadline, Received};
 use mq_model::faults::Fault;
 use mq_model::{clock, ladder};
 use mq_state::collected::Collected;
@@ -128,14 +128,7 @@ impl<L: Look<Guarded>> Process<L> {
         ensures call { TimedSend (C.gives clock.now) self.old self.new d bytes.now prio until result }
         ensures free { IsFree self.new }
     {
-        let call = Call::MqTimedSend {
-            d,
-            prio,
-            len: bytes.len() as u64,
-            until,
-            now: clock.now(),
-        };
-        match self.begin_send(rt, mq, call, bytes) {
+        match self.start_timed_send(rt, mq, d, bytes, prio, until, clock.now()) {
             Ok(true) => Ok(()),
             Ok(false) => match self.await_until(rt, mq, until, clock, &mut []) {
                 Some(_) => Ok(()),
@@ -164,13 +157,7 @@ impl<L: Look<Guarded>> Process<L> {
         ensures fits { IfOk result (λ received. received.len ≤ length buf.old) }
         ensures free { IsFree self.new }
     {
-        let call = Call::MqTimedReceive {
-            d,
-            room: buf.len() as u64,
-            until,
-            now: clock.now(),
-        };
-        match self.begin_receive(rt, mq, call, buf) {
+        match self.start_timed_receive(rt, mq, d, buf, until, clock.now()) {
             Ok(Some(received)) => Ok(received),
             Ok(None) => match self.await_until(rt, mq, until, clock, buf) {
                 Some(Collected::Got(received)) => Ok(received),

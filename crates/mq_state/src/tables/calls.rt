@@ -14,12 +14,13 @@ ghost use Rattle.mq_model.specs.Record.{payload_bytes};
 ghost use Rattle.mq_model.specs.Bounds.{open_waits, exceeds};
 ghost use Rattle.mq_state.specs.Inboxes.{room_in};
 ghost use Rattle.mq_state.specs.Pool.{IsPooled};
-ghost use Rattle.mq_state.specs.Kept.{AreThoseOf, SaysSame, IsKeptBy, HasEntryRoom, MayCall, IsCalled, IsRoomRefused, NeedsJust};
+ghost use Rattle.mq_state.specs.Kept.{AreThoseOf, SaysSame, IsKeptBy, HasEntryRoom, MayCall, IsCalled, IsRoomRefused, NeedsJust, SparesBytes};
+ghost use Rattle.mq_state.specs.Requests.{Brings, IsGiven, is_settled};
 
 use crate::prefixes::Prefix;
 use crate::tables::{Tables, queue_of, waiting};
 use crate::{buffers, notices, queues};
-use mq_model::entries::{Attr, Call, Deadline, Entry, OpenFlags, Reply};
+use mq_model::entries::{Call, Deadline, Entry, Reply};
 use mq_model::faults::Fault;
 use mq_model::journals::Journal;
 use mq_model::{bounds, ladder, owners};
@@ -227,40 +228,62 @@ impl Tables {
         self.append(journal, entry, payload_of(call, reply, given), q, fresh);
     }
 
-    // Settles a call that neither waits nor creates or registers anything: makes room for its entry, and appends it.
-    fn settle(
+    /// Makes a call of process p, which is given a name, the bytes of its message or none, and the buffer that a receive fills.
+    #[inline(always)]
+    pub fn make(
         &mut self,
         journal: &mut Journal,
         p: u32,
         call: Call,
-        reply: Reply,
         given: &[u8],
+        buf: &mut [u8],
     ) -> Reply
         requires may_call { MayCall journal.old self.old p }
-        requires turn { IsTrue (may_call journal.old.records p call) }
-        requires replies { reply ≡ reply_to journal.old.records p call given.now }
-        requires payload { IsTrue (is_payload call reply (payload_of call reply given.now)) }
-        requires registration { HasRoomToRegister self.old.queues.items self.old.inboxes.items p call reply }
-        requires creates { creates call reply ≡ false }
-        requires entries { HasEntryRoom reply (waits_count self.old.owners.items) (waits_count self.old.owners.items + 1) }
-        requires needs { NeedsJust 1 (length given.now) journal.old.records p call given.now }
+        requires brings { Brings call given.now (length buf.old) }
+        ensures called { IsCalled journal.old journal.new self.old self.new p call given.now result }
+        ensures buffer { is_receive call ≡ true → buf.new ≡ filled journal.old.records result buf.old }
+        ensures refused { is_send call ≡ true → SparesBytes journal.old journal.new result }
+    {
+        match call {
+            Call::MqSend { d, prio, .. } => self.send(journal, p, d, given, prio),
+            Call::MqReceive { d, .. } => self.receive(journal, p, d, buf),
+            Call::MqTimedSend {
+                d,
+                prio,
+                len: _,
+                until,
+                now,
+            } => self.timed_send(journal, p, d, given, prio, until, now),
+            Call::MqTimedReceive {
+                d,
+                room: _,
+                until,
+                now,
+            } => self.timed_receive(journal, p, d, buf, until, now),
+            _ => self.settle(journal, p, call, given),
+        }
+    }
+
+    // Settles a call that neither sends nor receives: makes room for its entry, and for what it creates or registers, and appends it.
+    fn settle(&mut self, journal: &mut Journal, p: u32, call: Call, given: &[u8]) -> Reply
+        requires may_call { MayCall journal.old self.old p }
+        requires settled { is_settled call ≡ true }
+        requires given { IsGiven call given.now }
         ensures { IsCalled journal.old journal.new self.old self.new p call given.now result }
     {
         if let Err(fault) = self.make_room(journal, 1, given.len(), given.len()) {
             return Reply::Refused(fault);
         }
+        let reply = self.reply_to(&Prefix::whole(journal), p, call, given);
+        if self.make_notice_room(p, call, reply).is_err() {
+            return Reply::Refused(Fault::NoMemory);
+        }
+        let Ok(fresh) = self.fresh_slots(call, reply) else {
+            return Reply::Refused(Fault::NoMemory);
+        };
         let q = self.entry_queue(&Prefix::whole(journal), p, call, given);
-        self.record(journal, p, call, reply, given, q, None);
+        self.record(journal, p, call, reply, given, q, fresh);
         reply
-    }
-
-    /// A close of descriptor d (`mq_close`).
-    pub fn close(&mut self, journal: &mut Journal, p: u32, d: u32) -> Reply
-        requires { MayCall journal.old self.old p }
-        ensures { IsCalled journal.old journal.new self.old self.new p (Call.MqClose d) [] result }
-    {
-        let reply = self.reply_to_close(&Prefix::whole(journal), p, d);
-        self.settle(journal, p, Call::MqClose { d }, reply, &[])
     }
 
     // An order for so many messages: with bounds a spare one.
@@ -313,60 +336,6 @@ impl Tables {
         }
     }
 
-    /// An open of a name (`mq_open`).
-    pub fn open(
-        &mut self,
-        journal: &mut Journal,
-        p: u32,
-        name: &[u8],
-        flags: OpenFlags,
-        attr: Option<Attr>,
-    ) -> Reply
-        requires may_call { MayCall journal.old self.old p }
-        requires form { IsTrue (is_name name.now) }
-        ensures { IsCalled journal.old journal.new self.old self.new p (Call.MqOpen flags attr) name.now result }
-    {
-        if let Err(fault) = self.make_room(journal, 1, name.len(), name.len()) {
-            return Reply::Refused(fault);
-        }
-        let reply = self.reply_to_open(&Prefix::whole(journal), p, name, flags, attr);
-        let call = Call::MqOpen { flags, attr };
-        let Ok(fresh) = self.fresh_slots(call, reply) else {
-            return Reply::Refused(Fault::NoMemory);
-        };
-        let q = self.entry_queue(&Prefix::whole(journal), p, call, name);
-        self.record(journal, p, call, reply, name, q, fresh);
-        reply
-    }
-
-    /// An unlink of a name (`mq_unlink`).
-    pub fn unlink(&mut self, journal: &mut Journal, p: u32, name: &[u8]) -> Reply
-        requires may_call { MayCall journal.old self.old p }
-        requires form { IsTrue (is_name name.now) }
-        ensures { IsCalled journal.old journal.new self.old self.new p (Call.MqUnlink) name.now result }
-    {
-        let reply = self.reply_to_unlink(&Prefix::whole(journal), p, name);
-        self.settle(journal, p, Call::MqUnlink, reply, name)
-    }
-
-    /// The attributes of descriptor d (`mq_getattr`).
-    pub fn getattr(&mut self, journal: &mut Journal, p: u32, d: u32) -> Reply
-        requires { MayCall journal.old self.old p }
-        ensures { IsCalled journal.old journal.new self.old self.new p (Call.MqGetattr d) [] result }
-    {
-        let reply = self.reply_to_attributes(&Prefix::whole(journal), p, d);
-        self.settle(journal, p, Call::MqGetattr { d }, reply, &[])
-    }
-
-    /// Another flag for descriptor d (`mq_setattr`).
-    pub fn setattr(&mut self, journal: &mut Journal, p: u32, d: u32, nonblock: bool) -> Reply
-        requires { MayCall journal.old self.old p }
-        ensures { IsCalled journal.old journal.new self.old self.new p (Call.MqSetattr d nonblock) [] result }
-    {
-        let reply = self.reply_to_attributes(&Prefix::whole(journal), p, d);
-        self.settle(journal, p, Call::MqSetattr { d, nonblock }, reply, &[])
-    }
-
     // Makes room for the notice of the registration that a call of process p makes: for one from each queue, since at most
     // one registration stands on each.
     pub(crate) fn make_notice_room(
@@ -394,33 +363,6 @@ impl Tables {
         }
     }
 
-    /// A registration on the queue of descriptor d, or its removal (`mq_notify`).
-    pub fn notify(&mut self, journal: &mut Journal, p: u32, d: u32, value: Option<u64>) -> Reply
-        requires { MayCall journal.old self.old p }
-        ensures { IsCalled journal.old journal.new self.old self.new p (Call.MqNotify d value) [] result }
-    {
-        if let Err(fault) = self.make_room(journal, 1, 0, 0) {
-            return Reply::Refused(fault);
-        }
-        let call = Call::MqNotify { d, value };
-        let reply = self.reply_to_notify(&Prefix::whole(journal), p, d, value);
-        if self.make_notice_room(p, call, reply).is_err() {
-            return Reply::Refused(Fault::NoMemory);
-        }
-        let q = self.entry_queue(&Prefix::whole(journal), p, call, &[]);
-        self.record(journal, p, call, reply, &[], q, None);
-        reply
-    }
-
-    /// The oldest notice that process p has not yet taken.
-    pub fn next_notice(&mut self, journal: &mut Journal, p: u32) -> Reply
-        requires { MayCall journal.old self.old p }
-        ensures { IsCalled journal.old journal.new self.old self.new p (Call.NextNotice) [] result }
-    {
-        let reply = self.reply_to_next_notice(&Prefix::whole(journal), p);
-        self.settle(journal, p, Call::NextNotice, reply, &[])
-    }
-
     // Settles a send, which would keep `most` bytes if its deadline, where it has one, did not refuse it: makes room for its entry and,
     // where nothing refuses it, for the bytes of its message, and appends it.
     #[inline(always)]
@@ -443,7 +385,7 @@ impl Tables {
         requires most { most ≤ length bytes.now }
         requires kept { length (payload_of call reply bytes.now) ≤ most }
         ensures called { IsCalled journal.old journal.new self.old self.new p call bytes.now result }
-        ensures refused { (fault : Fault) → result ≡ Reply.Refused fault → fault ≢ Fault.NoMemory → journal.new.byte_room ≡ journal.old.byte_room }
+        ensures refused { SparesBytes journal.old journal.new result }
     {
         let kept = payload_of(call, reply, bytes);
         if let Err(fault) = self.make_room(journal, 2, most, kept.len()) {
@@ -458,7 +400,7 @@ impl Tables {
     pub fn send(&mut self, journal: &mut Journal, p: u32, d: u32, bytes: &[u8], prio: u32) -> Reply
         requires { MayCall journal.old self.old p }
         ensures called { IsCalled journal.old journal.new self.old self.new p (Call.MqSend d prio (length bytes.now)) bytes.now result }
-        ensures refused { (fault : Fault) → result ≡ Reply.Refused fault → fault ≢ Fault.NoMemory → journal.new.byte_room ≡ journal.old.byte_room }
+        ensures refused { SparesBytes journal.old journal.new result }
     {
         let len = bytes.len() as u64;
         let past = Prefix::whole(journal);
@@ -478,7 +420,7 @@ impl Tables {
     fn any_send(&mut self, journal: &mut Journal, p: u32, d: u32, bytes: &[u8], prio: u32) -> Reply
         requires { MayCall journal.old self.old p }
         ensures called { IsCalled journal.old journal.new self.old self.new p (Call.MqSend d prio (length bytes.now)) bytes.now result }
-        ensures refused { (fault : Fault) → result ≡ Reply.Refused fault → fault ≢ Fault.NoMemory → journal.new.byte_room ≡ journal.old.byte_room }
+        ensures refused { SparesBytes journal.old journal.new result }
     {
         let len = bytes.len() as u64;
         let past = Prefix::whole(journal);
@@ -503,7 +445,7 @@ impl Tables {
     ) -> Reply
         requires { MayCall journal.old self.old p }
         ensures called { IsCalled journal.old journal.new self.old self.new p (Call.MqTimedSend d prio (length bytes.now) until now) bytes.now result }
-        ensures refused { (fault : Fault) → result ≡ Reply.Refused fault → fault ≢ Fault.NoMemory → journal.new.byte_room ≡ journal.old.byte_room }
+        ensures refused { SparesBytes journal.old journal.new result }
     {
         let len = bytes.len() as u64;
         let past = Prefix::whole(journal);

@@ -9,7 +9,7 @@ use super::steps::CREATE;
 use super::{CREATED, OPENED, Pair, expect_journal, finish, make_pair, room};
 use fast_mutex::{FastMutex, Look};
 use mq::{Arrived, Guarded, Mq, Process};
-use mq_model::entries::{Attr, Deadline, Entry, Received, Reply};
+use mq_model::entries::{Attr, Call, Deadline, Entry, Received, Reply};
 use mq_model::faults::Fault;
 use mq_model::journals::Journal;
 use mq_model::names::Name;
@@ -23,6 +23,11 @@ const SMALL: Attr = Attr {
     msgsize: 8,
 };
 
+const OPEN: Call = Call::MqOpen {
+    flags: CREATE,
+    attr: Some(SMALL),
+};
+
 // The process that has opened a queue. A growth may be refused from outside.
 fn opened<L: Look<Guarded>, R: Print>(rt: &R, mq: &Mq<L>, arrived: Arrived<L>) -> Option<Process<L>>
     requires made { arrived.lock ≡ mq.now }
@@ -31,7 +36,7 @@ fn opened<L: Look<Guarded>, R: Print>(rt: &R, mq: &Mq<L>, arrived: Arrived<L>) -
     ensures free { IfSome result (λ process. IsFree process) }
 {
     let name = Name::read(b"/q").ok()?;
-    let (process, opened) = arrived.open(mq, &name, CREATE, Some(SMALL));
+    let (process, opened) = arrived.make::<Result<u32, Fault>>(mq, OPEN, name.bytes(), &mut []);
     if opened != Err(Fault::NoMemory) {
         return Some(process);
     }
@@ -39,7 +44,8 @@ fn opened<L: Look<Guarded>, R: Print>(rt: &R, mq: &Mq<L>, arrived: Arrived<L>) -
     let Ok(arrived) = process.approach(mq).advance(mq, 5) else {
         return None;
     };
-    Some(arrived.open(mq, &name, CREATE, Some(SMALL)).0)
+    let (process, _) = arrived.make::<Result<u32, Fault>>(mq, OPEN, name.bytes(), &mut []);
+    Some(process)
 }
 
 // Process 1 comes in by its fifth step and not before, and opens a queue; meanwhile process 2 does not come in, and it leaves
@@ -96,7 +102,13 @@ fn waiting<L: Look<Guarded>>(
     ensures room { IfSome result (λ process. waiting_room process.left process.number ≡ Some 8) }
     ensures deadline { IfSome result (λ process. wait_deadline process.left process.number ≡ Some until) }
 {
-    match inside(mq, process)?.start_timed_receive(mq, 0, buf, until, START) {
+    let call = Call::MqTimedReceive {
+        d: 0,
+        room: 8,
+        until,
+        now: START,
+    };
+    match inside(mq, process)?.make::<Result<Option<Received>, Fault>>(mq, call, &[], buf) {
         (process, Ok(None)) => Some(process),
         _ => None,
     }
@@ -114,7 +126,12 @@ fn journal_of_ends<L: Look<Guarded>, R: Print>(
     let one = waiting(&mq, one, buf, LATER)?;
     let (one, first) = inside(&mq, one)?.end_wait(&mq, buf, LATER);
     let one = waiting(&mq, one, buf, LATER)?;
-    let (two, _) = inside(&mq, two)?.start_send(&mq, 0, b"hi", 4);
+    let call = Call::MqSend {
+        d: 0,
+        prio: 4,
+        len: 2,
+    };
+    let (two, _) = inside(&mq, two)?.make::<Result<bool, Fault>>(&mq, call, b"hi", &mut []);
     let (one, second) = inside(&mq, one)?.end_wait(&mq, buf, LATER);
     let journal = finish(room(rt, alloc)?, mq, one, two)?;
     Some((journal, [first, second]))

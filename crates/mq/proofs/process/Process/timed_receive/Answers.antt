@@ -5,7 +5,7 @@ use Rattle.mq.proofs.process.Process.timed_receive.Goals as goal
 
 pub returns-in-Some-Got-clause-call : goal.returns-in-Some-Got-clause-call
 returns-in-Some-Got-clause-call g c =
-    let waits = c.begin_receive.ensures.waits (c.in-Ok-None.is ∙ ap (λ (o : Option Received). Ok o) c.in-Ok-None.field-0-is) in
+    let waits = c.start_timed_receive.ensures.waits (c.in-Ok-None.is ∙ ap (λ (o : Option Received). Ok o) c.in-Ok-None.field-0-is) in
     record {
       now = c.now.result;
       moment = c.now.ensures.given;
