@@ -9,7 +9,7 @@ use std::io::Print;
 use std::process::Abort;
 use std::sync::Wait;
 use std::thread::{Threads, join};
-use tests_common::{refuse_all, say_refused};
+use tests_refusals::{refuse_all, say_refused};
 
 mod looks;
 mod threads;

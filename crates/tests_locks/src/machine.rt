@@ -7,7 +7,7 @@ use std::alloc::{AllocError, Global};
 use std::io::Print;
 use std::process::Abort;
 use std::test::Fail;
-use tests_common::{refuse_all, say_refused};
+use tests_refusals::{refuse_all, say_refused};
 
 // The start. One growth may be refused from outside, and after the start every one.
 fn start<R: Print>(rt: &R, alloc: Global, n: u32) -> Result<World, AllocError>

@@ -2,6 +2,7 @@
 ghost use Rattle.std.specs.Prelude.{◌<◌};
 ghost use Rattle.mq_model.specs.OwnersNoted.{FitsSlots};
 
+use crate::same::same;
 use mq_core::entries::{Access, Attr, Call, Deadline, Entry, OpenFlags, Registration, Reply};
 use mq_core::faults::Fault;
 use mq_core::journals::Journal;
@@ -11,7 +12,6 @@ use mq_core::registrations::{notified, registration_after, touches_registrations
 use std::alloc::Global;
 use std::process::Abort;
 use std::test::Fail;
-use tests_common::same;
 
 const CREATE: OpenFlags = OpenFlags {
     access: Access::Both,

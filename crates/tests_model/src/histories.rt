@@ -1,4 +1,5 @@
 // Built journals, the checker's verdict on each, and the calls that no clause sees succeed.
+use crate::same::same;
 use mq_core::checker::check_history;
 use mq_core::entries::{Access, Attr, Call, Deadline, Entry, OpenFlags, Reply, Status};
 use mq_core::faults::Fault;
@@ -6,7 +7,6 @@ use mq_core::journals::Journal;
 use mq_core::laws;
 use std::alloc::{AllocError, Global};
 use std::process::Abort;
-use tests_common::same;
 
 // An entry and its payload.
 type Line = (Entry, &'static [u8]);

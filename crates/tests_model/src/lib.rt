@@ -6,3 +6,5 @@
 mod calls;
 #[cfg(test)]
 mod histories;
+#[cfg(test)]
+mod same;

@@ -15,7 +15,7 @@ use std::process::Abort;
 use std::sync::Wait;
 use std::time::Clock;
 use steps::{Ask, CREATE, OPEN, Step, Told, expect_steps};
-use tests_common::say_refused;
+use tests_refusals::say_refused;
 
 mod blocked;
 mod bounded;

@@ -5,6 +5,7 @@ ghost use Rattle.std.specs.Prelude.{◌≡◌, ◌≤◌, IsTrue, None};
 ghost use Rattle.mq_model.specs.Waits.{open_wait};
 
 use crate::fingerprint::fingerprint;
+use crate::same::same;
 use mq_model::entries::{Access, Attr, Deadline, OpenFlags, Received, Reply, Status};
 use mq_model::faults::Fault;
 use mq_model::names::Name;
@@ -14,7 +15,7 @@ use std::alloc::Global;
 use std::io::Print;
 use std::marker::Model;
 use std::process::Abort;
-use tests_common::{same, say_refused};
+use tests_refusals::say_refused;
 
 mod bounded;
 mod deadlines;

@@ -11,4 +11,6 @@ mod making;
 #[cfg(test)]
 mod rows;
 #[cfg(test)]
+mod same;
+#[cfg(test)]
 mod slots;

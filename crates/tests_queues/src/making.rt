@@ -4,7 +4,7 @@ use mq_state::memory::memory_of;
 use std::alloc::Global;
 use std::io::Print;
 use std::process::Abort;
-use tests_common::mark;
+use tests_refusals::mark;
 
 // A number of processes, of entries and of payload bytes.
 static SIZES: [(u32, u64, u64); 6] = [

@@ -11,7 +11,7 @@ use mq_state::books::Books;
 use std::alloc::{AllocError, Global};
 use std::io::Print;
 use std::process::Abort;
-use tests_common::say_refused;
+use tests_refusals::say_refused;
 
 mod worked;
 

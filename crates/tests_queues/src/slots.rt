@@ -1,11 +1,12 @@
 //! The messages of one queue in and out, in the order of priority and place. Their making alone takes memory.
 ghost use Rattle.std.specs.Prelude.{◌≡◌, ◌≤◌, IfOk, []};
 
+use crate::same::same;
 use mq_slots::Slots;
 use std::alloc::{AllocError, Global};
 use std::io::Print;
 use std::test::Fail;
-use tests_common::{refuse_all, same, say_refused};
+use tests_refusals::{refuse_all, say_refused};
 
 // No message, and room for so many. One growth may be refused from outside, and after the making every one.
 fn make<R: Print>(rt: &R, alloc: Global, cap: u32) -> Result<Slots, AllocError>

@@ -1,9 +1,9 @@
 // Readers and writers that fail.
+use crate::same::same;
 use std::alloc::Global;
 use std::io;
 use std::io::{Error, ErrorKind, Read, Write};
 use std::test::Fail;
-use tests_common::same;
 use text_io::input::{ReadFault, read_all};
 use text_io::output::{WriteFailed, write_all};
 

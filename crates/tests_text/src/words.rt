@@ -1,6 +1,6 @@
 // Words and numbers.
+use crate::same::same;
 use std::test::Fail;
-use tests_common::same;
 use text_io::words::{count_of, integer, number, small_number, words};
 
 #[test]

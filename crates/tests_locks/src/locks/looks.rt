@@ -7,7 +7,7 @@ use std::alloc::Global;
 use std::io::Print;
 use std::process::Abort;
 use std::sync::Wait;
-use tests_common::{refuse_all, say_refused};
+use tests_refusals::{refuse_all, say_refused};
 
 #[derive(Drop)]
 struct Bell {

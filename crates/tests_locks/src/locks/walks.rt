@@ -10,7 +10,7 @@ use lamport_core::At;
 use std::alloc::Global;
 use std::io::Print;
 use std::process::Abort;
-use tests_common::refuse_all;
+use tests_refusals::refuse_all;
 
 // One step of an entry, which is not yet inside.
 fn step<A: Abort>(rt: &A, lock: &FastMutex<Notes>, walk: Walk<Notes>) -> Walk<Notes>

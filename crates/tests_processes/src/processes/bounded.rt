@@ -12,7 +12,7 @@ use std::io::Print;
 use std::process::Abort;
 use std::sync::Wait;
 use std::time::Clock;
-use tests_common::{refuse_all, say_refused};
+use tests_refusals::{refuse_all, say_refused};
 
 // A system of one process with these bounds, and a vector with room for that process. One growth may be refused from outside.
 fn make_alone<L: Look<Guarded>, R: Print>(

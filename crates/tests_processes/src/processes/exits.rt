@@ -14,7 +14,7 @@ use std::io::Print;
 use std::process::Abort;
 use std::sync::Wait;
 use std::time::Clock;
-use tests_common::say_refused;
+use tests_refusals::say_refused;
 
 // Whether descriptor d stands open.
 fn is_open<L: Look<Guarded>, R: Wait + Clock + Print>(

@@ -11,7 +11,7 @@ use std::io::Print;
 use std::process::Abort;
 use std::sync::Wait;
 use std::time::Clock;
-use tests_common::refuse_all;
+use tests_refusals::refuse_all;
 
 // Process 1 has a wait that is answered, process 2 one that is not.
 const WAITING: [Step; 5] = [

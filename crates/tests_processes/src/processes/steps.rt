@@ -13,7 +13,7 @@ use std::io::Print;
 use std::process::Abort;
 use std::sync::Wait;
 use std::time::{Clock, Duration};
-use tests_common::say_refused;
+use tests_refusals::say_refused;
 
 /// Both accesses, to a queue that the open creates where it is not.
 pub const CREATE: OpenFlags = OpenFlags {

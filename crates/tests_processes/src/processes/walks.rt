@@ -16,7 +16,7 @@ use mq_model::names::Name;
 use mq_state::collected::Collected;
 use std::alloc::Global;
 use std::io::Print;
-use tests_common::say_refused;
+use tests_refusals::say_refused;
 
 const SMALL: Attr = Attr {
     maxmsg: 1,

@@ -9,6 +9,7 @@ use super::{
     CREATE, CREATED, DONE, ONE, OPEN, OPENED, Outcome, QUEUED, Step, TWO, Trial, WAITS,
     expect_steps,
 };
+use crate::same::same;
 use mq_model::entries::{Attr, Deadline, Received, Reply, Status};
 use mq_model::faults::Fault;
 use mq_state::books::Books;
@@ -17,7 +18,7 @@ use mq_state::memory::memory_of;
 use std::alloc::Global;
 use std::io::Print;
 use std::process::Abort;
-use tests_common::{refuse_all, same, say_refused};
+use tests_refusals::{refuse_all, say_refused};
 
 // The queues of five processes with these bounds. One growth may be refused from outside, and after the making every one.
 fn make_bounded<A: Abort + Print>(rt: &A, alloc: Global, entries: u64, bytes: u64) -> Trial {

@@ -9,6 +9,7 @@ use super::Outcome::{Byte, Came, Count, Is, Lowest, Replied, Room};
 use super::{
     CREATE, CREATED, ONE, OPEN, OPENED, QUEUED, Step, Trial, WAITS, expect_steps, make_trial,
 };
+use crate::same::same;
 use mq_checker::checker::check_history;
 use mq_model::entries::{Call, Deadline, Entry, Received, Reply};
 use mq_model::faults::Fault;
@@ -19,7 +20,7 @@ use std::alloc::AllocError;
 use std::io::Print;
 use std::process::Abort;
 use std::test::Fail;
-use tests_common::{refuse_all, same, say_refused};
+use tests_refusals::{refuse_all, say_refused};
 
 const START: Deadline = Deadline { sec: 0, nsec: 0 };
 

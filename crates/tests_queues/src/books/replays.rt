@@ -9,6 +9,7 @@ use super::Outcome::{Came, Is, Replied};
 use super::{
     CREATE, CREATED, DONE, ONE, OPEN, OPENED, Step, Trial, WAITS, expect_steps, make_trial,
 };
+use crate::same::same;
 use mq_checker::checker::check_history;
 use mq_model::entries::{Call, Deadline, Entry, Received, Reply, Status};
 use mq_model::faults::Fault;
@@ -18,7 +19,7 @@ use mq_state::replay::{Cause, Departure, replay};
 use std::alloc::{AllocError, Global};
 use std::io::Print;
 use std::process::Abort;
-use tests_common::{same, say_refused};
+use tests_refusals::say_refused;
 
 const START: Deadline = Deadline { sec: 0, nsec: 0 };
 

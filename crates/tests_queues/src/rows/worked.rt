@@ -11,7 +11,7 @@ use std::alloc::Global;
 use std::io::Print;
 use std::process::Abort;
 use std::test::Fail;
-use tests_common::say_refused;
+use tests_refusals::say_refused;
 
 const OPEN: OpenFlags = OpenFlags {
     access: Access::Both,

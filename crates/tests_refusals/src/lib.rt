@@ -1,17 +1,8 @@
-//! What tests share: an assertion, and what they say where a growth of memory was refused from outside, which shows that nothing
-//! changed by it.
+//! What tests say where a growth of memory was refused from outside, which shows that nothing changed by it.
 #![tactic(auto)]
 
 use std::alloc::Global;
-use std::fmt::Debug;
 use std::io::Print;
-use std::process::Abort;
-
-/// What was found is what was wanted. `what` says of which value, where it is not. A function of its own, so that no test carries what
-/// was known of the values.
-pub fn same<A: Abort, T: PartialEq + Debug + Drop>(rt: &A, found: T, wanted: T, what: &str) {
-    assert_eq!(rt; found, wanted, "{what}");
-}
 
 /// Says that a growth was refused, and where, once it was found that nothing had changed.
 pub fn say_refused<R: Print>(rt: &R, place: &str) {
