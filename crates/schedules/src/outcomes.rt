@@ -1,5 +1,6 @@
 //! What all schedules of a machine come to.
-ghost use Rattle.std.specs.Prelude.{◌≡◌, ℕ, All, IfOk, OnOk, Some, false, true};
+ghost use Rattle.std.specs.Prelude.{◌≡◌, ◌++◌, ◌∷◌, [], ℕ, All, IfOk, List, OnOk, Option, Some, false, is_some, true};
+ghost use Rattle.schedules.specs.Choices.{IsFirstFrom};
 ghost use Rattle.schedules.specs.Schedules.{after};
 ghost use Rattle.schedules.specs.Told.{Told};
 ghost use Rattle.schedules.specs.Outcomes.{AreAll, AreDistinct, IsWitness, are_same, is_among, told_by};
@@ -23,6 +24,10 @@ pub trait Telling: Machine {
 
     fn outcome(&self, alloc: Global) -> Result<Outcome, AllocError>
         ensures { IfOk result (λ o. told_by o ≡ outcome self.now) };
+
+    /// A choice can be taken. It is not taken.
+    fn can_step(&self, choice: u32) -> bool
+        ensures { result ≡ is_some (Self.next self.now choice) };
 }
 
 /// An outcome, and a schedule that has it.
@@ -83,7 +88,31 @@ fn note<M: Telling>(
     Ok(())
 }
 
-/// Tries every schedule of a machine, in so many steps at most, and collects what is told of the goals that they lead to.
+// The first choice from this one on that can be taken.
+fn first_from<M: Telling>(machine: &M, from: u64) -> Option<u32>
+    ensures { IsFirstFrom M.next machine.now from result }
+{
+    for choice in from..u64::from(machine.choices()) {
+        if machine.can_step(choice as u32) {
+            return Some(choice as u32);
+        }
+    }
+    None
+}
+
+// Takes off the last one.
+fn last_of(later: &mut Vec<Option<u32>>) -> Option<u32>
+    ensures { (front : List (Option ℕ)) (last : Option ℕ) → later.old.items ≡ front ++ last ∷ [] →
+        (result ≡ last) × (later.new.items ≡ front) }
+{
+    match later.pop() {
+        Some(last) => last,
+        None => None,
+    }
+}
+
+/// Tries every schedule of a machine, in so many steps at most, and collects what is told of the goals that they lead to. A step takes a
+/// choice, or takes one back; the choices before it are taken again only where another one is left to be taken after them.
 pub fn collect<M: Telling>(
     alloc: Global,
     machine: &mut M,
@@ -98,29 +127,32 @@ pub fn collect<M: Telling>(
 {
     machine.restart()?;
     let mut path: Vec<u32> = Vec::new(alloc);
+    // after each choice of the path, the one that is taken next in its place
+    let mut later: Vec<Option<u32>> = Vec::new(alloc);
     let mut found = Vec::new(alloc);
     note(alloc, machine, &path, &mut found)?;
-    let mut choice: u64 = 0;
+    let mut next = first_from(machine, 0);
     for _ in 0..budget {
-        if choice >= u64::from(machine.choices()) {
-            match path.pop() {
-                None => {
+        match next {
+            Some(choice) => {
+                later.push(first_from(machine, u64::from(choice) + 1))?;
+                let _went = machine.step(choice)?;
+                path.push(choice)?;
+                note(alloc, machine, &path, &mut found)?;
+                next = first_from(machine, 0);
+            }
+            None => {
+                let Some(_taken) = path.pop() else {
                     return Ok(Collected {
                         found,
                         complete: true,
                     });
-                }
-                Some(last) => {
+                };
+                next = last_of(&mut later);
+                if next.is_some() {
                     run_again(machine, &path)?;
-                    choice = u64::from(last) + 1;
                 }
             }
-        } else if machine.step(choice as u32)? {
-            path.push(choice as u32)?;
-            note(alloc, machine, &path, &mut found)?;
-            choice = 0;
-        } else {
-            choice += 1;
         }
     }
     Ok(Collected {

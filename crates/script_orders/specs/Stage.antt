@@ -65,9 +65,12 @@ seats_cleared seats = map (λ (seat : Progress). let next : Progress = record { 
 abbrev pub in_next_phase : Stage → Stage
 in_next_phase s = record { programs = s.programs; phases = s.phases; phase = s.phase + 1; past = s.past; seats = seats_cleared s.seats }
 
--- a phase ends where no process can go on and none waits
+-- a phase ends where no process can go on and none waits, and there is a next one
+abbrev pub is_phase_over : Stage → Bool
+is_phase_over s = nat_lt (s.phase + 1) s.phases && (stands_still s && not (waits s))
+
 abbrev pub after_phase : Stage → Option Stage
-after_phase s = if nat_lt (s.phase + 1) s.phases && (stands_still s && not (waits s)) then Some (in_next_phase s) else None
+after_phase s = if is_phase_over s then Some (in_next_phase s) else None
 
 -- the process at an index goes on, or, at the number of processes, the next phase begins
 abbrev pub next_stage : Stage → ℕ → Option Stage

@@ -1,6 +1,6 @@
 //! The processes of a script as a machine: a choice is the process that goes on, and the last one begins the next phase.
 ghost use Rattle.script_orders.specs.Orders.{AreLegal};
-ghost use Rattle.script_orders.specs.Stage.{first_stage, fresh, next_stage, none_can_turn, one_waits, replies, seats_cleared, turn_of, wait_line_of, wait_of, waiting_lines, with_turn};
+ghost use Rattle.script_orders.specs.Stage.{first_stage, fresh, is_phase_over, next_stage, none_can_turn, one_waits, replies, seats_cleared, turn_of, wait_line_of, wait_of, waiting_lines, with_turn};
 ghost use Rattle.std.specs.Option.{option_map};
 ghost use Rattle.std.specs.Prelude.{◌≡◌, ◌≤◌, ◌<◌, ◌+◌, ◌^◌, [], ◌++◌, IfOk, OnOk, IsTrue, IsFalse, Some, None, is_some, length, replicate, vec_len, map};
 
@@ -173,6 +173,16 @@ impl Play {
         one_waits
     }
 
+    // This phase is over, and there is a next one.
+    fn is_phase_over(&self) -> bool
+        ensures { result ≡ is_phase_over self.now }
+    {
+        self.phase < self.phases
+            && self.phases - self.phase >= 2
+            && self.none_can_turn()
+            && !self.one_waits()
+    }
+
     // Begins the next phase, if this one is over and there is one.
     fn next_phase(&mut self) -> Result<bool, AllocError>
         ensures went { IfOk result (λ went. IsTrue went →
@@ -181,11 +191,7 @@ impl Play {
             next_stage self.old (length self.old.programs) ≡ None) }
         ensures stays { IfOk result (λ went. IsFalse went → self.new ≡ self.old) }
     {
-        if self.phase >= self.phases
-            || self.phases - self.phase < 2
-            || !self.none_can_turn()
-            || self.one_waits()
-        {
+        if !self.is_phase_over() {
             return Ok(false);
         }
         self.seats = cleared_seats(self.alloc, &self.seats)?;
@@ -295,5 +301,14 @@ impl Telling for Play {
             stuck,
             text,
         })
+    }
+
+    fn can_step(&self, choice: u32) -> bool {
+        let index = choice as usize;
+        if index < self.programs.len() {
+            self.can_turn(index)
+        } else {
+            index == self.programs.len() && self.is_phase_over()
+        }
     }
 }

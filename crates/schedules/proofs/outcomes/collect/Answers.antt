@@ -1,35 +1,62 @@
 use Rattle.std.proofs.lemmas.List.{nil_from_length}
-use Rattle.std.proofs.Common.{arith, ◌≡◌, Some, None, ℕ, false, List, [], ◌∷◌, ◌++◌, ◌∙◌, subst}
+use Rattle.std.proofs.Common.{arith, ◌≡◌, Some, None, IsSome, ℕ, Option, false, List, [], ◌∷◌, ◌++◌, ◌∙◌, ◌+◌, ap, is_some, refl, subst, sym, true}
+use Rattle.schedules.specs.Choices.{IsFirstFrom}
 use Rattle.schedules.specs.Schedules.{after, HasNoGoal}
-use Rattle.schedules.proofs.Covering.{after-push, front_runs, covered-push, covered-back, covered-skip, no_goal_here}
-use Rattle.schedules.proofs.Collecting.{all-found, covered-fewer, is_new_goal, new-fewer, noted-is_old}
+use Rattle.schedules.proofs.Covering.{after-push, front_runs}
+use Rattle.schedules.proofs.Collecting.{all-found, is_new_goal, new-fewer, noted-is_old}
+use Rattle.schedules.proofs.Ahead.{Stands, stands-back, stands-fewer, stands-first, stands-push, step-goes}
 use Rattle.schedules.proofs.outcomes.collect.Goals as goal
-use Rattle.schedules.proofs.outcomes.collect.Goals.{then-choice-from+in-Some+in_ok-run_again-in-Some, else-choice-from+in_ok-step+then-branch+in_ok-push+in_ok-note-2, else-choice-from+in_ok-step+else-branch}
+use Rattle.schedules.proofs.outcomes.collect.Goals.{in-Some+in_ok-push-in-Some+in_ok-_went-in-Some+in_ok-push-in-Some-2+in_ok-note-in-Some, in-None+in-Some-pop+then-is_some+in_ok-run_again-in-None, in-None+in-Some-pop+else-is_some}
 
-pub returns-in-None-clause-all : goal.returns-in-None-clause-all
-returns-in-None-clause-all g c =
+pub loop-init : goal.loop-init
+loop-init g c =
+    let next = g.M.Machine.next in
+    let start = g.M.Machine.start c.args.machine.now in
+    let found = c.note.new.found.items in
+    let is_new = is_new_goal g.M.Machine.is_goal g.M.Telling.outcome found in
+    let now = c.restart.new.self in
+    let first = c.first_from-next.result in
+    let at : now ≡ start = c.in_ok-restart.ensures in
+    let old : is_new now ≡ false = noted-is_old g.M.Machine.is_goal g.M.Telling.outcome found now c.in_ok-note.ensures.noted in
+    let same : g.M.Machine.start now ≡ start = ap g.M.Machine.start at ∙ g.met.M.Machine.start_is_first c.args.machine.now in
+    let begins : Stands next is_new [] [] start now first =
+    rw at (stands-first next is_new start first (rw (← at) old) (rw (← at) c.first_from-next.ensures))
+    in
+    record {
+      stands = rw (c.new-path.ensures.items, c.new-later.ensures.items) begins;
+      start = same;
+      distinct = c.in_ok-note.ensures.distinct;
+      witnessed = (rw same at c.in_ok-note.ensures.witnessed);
+    }
+
+pub note-requires-in-Some-clause-runs : goal.note-requires-in-Some-clause-runs
+note-requires-in-Some-clause-runs g c =
+    let next = g.M.Machine.next in
+    let stands = (rw c.in-Some.is at c.loop.invariant.stands) in
+    let at : c.loop.machine ≡ stands.node = stands.here refl in
+    let some : IsSome (next c.loop.machine c.in-Some.choice) = rw at stands.ahead.1 in
+    let step = step-goes next c.loop.machine c.step.new.self c.in-Some.choice _ c.in_ok-_went-in-Some.ensures.went c.in_ok-_went-in-Some.ensures.none some in
+    let start = g.met.M.Machine.same_start c.loop.machine c.step.new.self c.in-Some.choice step ∙ c.loop.invariant.start in
+    let runs : after next c.loop.path.items (g.M.Machine.start c.args.machine.now) ≡ Some c.loop.machine = rw at stands.runs in
+    rw (c.deref-in-Some.ensures.value, start, c.in_ok-push-in-Some-2.ensures.items)
+    (after-push next c.loop.path.items c.in-Some.choice _ c.loop.machine c.step.new.self runs step)
+
+pub returns-in_default-clause-all : goal.returns-in_default-clause-all
+returns-in_default-clause-all g c =
     let next = g.M.Machine.next in
     let start = g.M.Machine.start c.args.machine.now in
     let is_new = is_new_goal g.M.Machine.is_goal g.M.Telling.outcome c.loop.found.items in
-    let empty : c.loop.path.items ≡ [] = nil_from_length _ (omega (arith, c.in-None.ensures.cases)) in
-    let here : start ≡ c.loop.machine = (let P : List ℕ → Type 0 = λ xs. after next xs start ≡ Some c.loop.machine in let h : Some start ≡ Some c.loop.machine = subst P empty c.loop.invariant.runs in cc) in
-    let none = no_goal_here next is_new c.loop.path.items c.loop.choice start c.loop.machine c.loop.invariant.runs
-    (λ more above. g.met.M.Machine.no_others c.loop.machine more (omega arith)) c.loop.invariant.covered in
-    let from : HasNoGoal next is_new start = rw here none in
+    let stands = (rw c.in-None.is at c.loop.invariant.stands) in
+    let empty : c.loop.path.items ≡ [] = nil_from_length _ (omega (arith, c.in_default.ensures.cases)) in
+    let here : start ≡ stands.node = (let P : List ℕ → Type 0 = λ xs. after next xs start ≡ Some stands.node in let h : Some start ≡ Some stands.node = subst P empty stands.runs in cc) in
+    let from : HasNoGoal next is_new start = rw here stands.ahead in
     λ _. all-found next g.M.Machine.is_goal g.M.Telling.outcome start c.loop.found.items from
 
 pub run_again-requires : goal.run_again-requires
 run_again-requires g c =
-    rw (c.deref-in-Some.ensures.value, c.loop.invariant.start)
-    (front_runs g.M.Machine.next c.pop.new.self.items (c.in-Some.last ∷ []) _ c.loop.machine
-    (rw (← c.in-Some.ensures.items) c.loop.invariant.runs))
-
-pub note-requires-then-branch-clause-runs : goal.note-requires-then-branch-clause-runs
-note-requires-then-branch-clause-runs g c =
-    let step = c.in_ok-step.ensures.went c.if-branch.true in
-    let start = g.met.M.Machine.same_start c.loop.machine c.step.new.self c.loop.choice step ∙ c.loop.invariant.start in
-    rw (c.deref-then-branch.ensures.value, start, c.in_ok-push.ensures.items)
-    (after-push g.M.Machine.next c.loop.path.items c.loop.choice _ c.loop.machine c.step.new.self c.loop.invariant.runs step)
+    rw (c.deref-then-is_some.ensures.value, c.loop.invariant.start)
+    (front_runs g.M.Machine.next c.pop.new.self.items (c.in-Some-pop._taken ∷ []) _ c.loop.invariant.stands.node
+    (rw (← c.in-Some-pop.ensures.items) c.loop.invariant.stands.runs))
 
 pub loop-preserved : goal.loop-preserved
 loop-preserved g c =
@@ -38,47 +65,52 @@ loop-preserved g c =
     let outcome = g.M.Telling.outcome in
     let start = g.M.Machine.start c.args.machine.now in
     let path = c.loop.path.items in
+    let later = c.loop.later.items in
     let now = c.loop.machine in
     let found = c.loop.found.items in
-    elim c.if-choice-from.branch [
-      | then-choice-from+in-Some+in_ok-run_again-in-Some w ↦
-          rw (w.path-is, w.choice-is, w.machine-is, w.found-is)
+    let is_new = is_new_goal is_goal outcome found in
+    elim c.match-next.branch [
+      | in-Some+in_ok-push-in-Some+in_ok-_went-in-Some+in_ok-push-in-Some-2+in_ok-note-in-Some w ↦
+          let choice = w.in-Some.choice in
+          let t = w.step.new.self in
+          let more = w.note-in-Some.new.found.items in
+          let stands = (rw w.in-Some.is at c.loop.invariant.stands) in
+          let at : now ≡ stands.node = stands.here refl in
+          let some : IsSome (next now choice) = rw at stands.ahead.1 in
+          let step = step-goes next now t choice _ w.in_ok-_went-in-Some.ensures.went w.in_ok-_went-in-Some.ensures.none some in
+          let same : g.M.Machine.start t ≡ start = g.met.M.Machine.same_start now t choice step ∙ c.loop.invariant.start in
+          let old_goal : is_new_goal is_goal outcome more t ≡ false = noted-is_old is_goal outcome more t w.in_ok-note-in-Some.ensures.noted in
+          let fewer = stands-fewer next is_new (is_new_goal is_goal outcome more) (new-fewer is_goal outcome found more w.in_ok-note-in-Some.ensures.kept) path later start now (Some choice) stands in
+          let others : IsFirstFrom next now (choice + 1) w.first_from.result = (rw w.from.ensures at w.first_from.ensures) in
+          let further = stands-push next (is_new_goal is_goal outcome more) path later start now t choice _ _ fewer others step old_goal w.first_from-next-in-Some.ensures in
+          rw (w.path-is, w.later-is, w.machine-is, w.found-is, w.next-is)
           record {
-            runs = (rw (w.deref-in-Some.ensures.value, c.loop.invariant.start) at w.in_ok-run_again-in-Some.ensures.runs);
-            covered =
-                rw w.from-choice.ensures
-                (covered-back next (is_new_goal is_goal outcome found) path w.pop.new.self.items w.in-Some.last c.loop.choice start now w.in-Some.ensures.items c.loop.invariant.runs
-                (λ more above. g.met.M.Machine.no_others now more (omega arith)) c.loop.invariant.covered);
-            start = w.in_ok-run_again-in-Some.ensures.start ∙ c.loop.invariant.start;
+            stands = rw (w.in_ok-push-in-Some-2.ensures.items, w.in_ok-push-in-Some.ensures.items) further;
+            start = same;
+            distinct = w.in_ok-note-in-Some.ensures.distinct;
+            witnessed = (rw same at w.in_ok-note-in-Some.ensures.witnessed);
+          }
+      | in-None+in-Some-pop+then-is_some+in_ok-run_again-in-None w ↦
+          let stands = (rw w.in-None.is at c.loop.invariant.stands) in
+          let back = stands-back next is_new path w.pop.new.self.items w.in-Some-pop._taken later start now stands w.in-Some-pop.ensures.items in
+          let last = w.last_of-next.ensures back.0 back.1 back.2 in
+          let runs : after next w.pop.new.self.items start ≡ Some w.run_again.new.machine = (rw (w.deref-then-is_some.ensures.value, c.loop.invariant.start) at w.in_ok-run_again-in-None.ensures.runs) in
+          rw (w.path-is, w.later-is, w.machine-is, w.found-is, w.next-is)
+          record {
+            stands = rw (last.0, last.1) (back.3 w.run_again.new.machine (λ some. runs));
+            start = w.in_ok-run_again-in-None.ensures.start ∙ c.loop.invariant.start;
             distinct = c.loop.invariant.distinct;
             witnessed = c.loop.invariant.witnessed;
           }
-      | else-choice-from+in_ok-step+then-branch+in_ok-push+in_ok-note-2 w ↦
-          let step : next now c.loop.choice ≡ Some w.step.new.self = w.in_ok-step.ensures.went w.if-branch.true in
-          let same : g.M.Machine.start w.step.new.self ≡ start = g.met.M.Machine.same_start now w.step.new.self c.loop.choice step ∙ c.loop.invariant.start in
-          let runs : after next (path ++ c.loop.choice ∷ []) start ≡ Some w.step.new.self =
-          after-push next path c.loop.choice start now w.step.new.self c.loop.invariant.runs step
-          in
-          let more = w.note-then-branch.new.found.items in
-          let old_goal : is_new_goal is_goal outcome more w.step.new.self ≡ false = noted-is_old is_goal outcome more w.step.new.self w.in_ok-note-2.ensures.noted in
-          let covered = covered-fewer next (is_new_goal is_goal outcome found) (is_new_goal is_goal outcome more)
-          (new-fewer is_goal outcome found more w.in_ok-note-2.ensures.kept) (path ++ c.loop.choice ∷ []) start c.loop.invariant.covered
-          in
-          rw (w.path-is, w.choice-is, w.machine-is, w.found-is)
+      | in-None+in-Some-pop+else-is_some w ↦
+          let stands = (rw w.in-None.is at c.loop.invariant.stands) in
+          let back = stands-back next is_new path w.pop.new.self.items w.in-Some-pop._taken later start now stands w.in-Some-pop.ensures.items in
+          let last = w.last_of-next.ensures back.0 back.1 back.2 in
+          let none : is_some back.1 ≡ false = rw (← last.0) cc in
+          let machine : IsSome back.1 → after next w.pop.new.self.items start ≡ Some now = λ some. let k : true ≡ false = sym some ∙ none in cc in
+          rw (w.path-is, w.later-is, w.machine-is, w.found-is, w.next-is)
           record {
-            runs = rw w.in_ok-push.ensures.items runs;
-            covered = rw w.in_ok-push.ensures.items (covered-push next (is_new_goal is_goal outcome more) (path ++ c.loop.choice ∷ []) start w.step.new.self runs old_goal covered);
-            start = same;
-            distinct = w.in_ok-note-2.ensures.distinct;
-            witnessed = (rw same at w.in_ok-note-2.ensures.witnessed);
-          }
-      | else-choice-from+in_ok-step+else-branch w ↦
-          let stays : w.step.new.self ≡ now = w.in_ok-step.ensures.stays w.if-branch.false in
-          let none : next now c.loop.choice ≡ None = w.in_ok-step.ensures.none w.if-branch.false in
-          rw (w.path-is, w.choice-is, w.machine-is, w.found-is, stays)
-          record {
-            runs = c.loop.invariant.runs;
-            covered = covered-skip next (is_new_goal is_goal outcome found) path c.loop.choice start now c.loop.invariant.runs none c.loop.invariant.covered;
+            stands = rw (last.0, last.1) (back.3 now machine);
             start = c.loop.invariant.start;
             distinct = c.loop.invariant.distinct;
             witnessed = c.loop.invariant.witnessed;

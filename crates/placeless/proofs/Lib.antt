@@ -1,0 +1,5 @@
+pub mod Falling
+pub mod Changes
+pub mod Effects
+pub mod Alike
+pub mod Stays

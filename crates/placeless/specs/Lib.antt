@@ -1,0 +1,3 @@
+pub mod Views
+pub mod Likeness
+pub mod Steps

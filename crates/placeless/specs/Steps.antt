@@ -1,0 +1,39 @@
+-- What a plain call makes of two journals that are alike.
+use Rattle.std.specs.Prelude.{◌≡◌, ℕ, List, ◌∷◌, Option, None}
+use Rattle.std.specs.Option.{option_map}
+use Rattle.mq_model.specs.Record.{Record, Past, Process}
+use Rattle.mq_model.specs.Legality.{IsLegalNext, may_call, payload_of, reply_to}
+use Rattle.mq_model.specs.declared.entries.Call.{Call}
+use Rattle.mq_model.specs.declared.entries.Reply.{Reply}
+use Rattle.mq_model.specs.declared.entries.Reply.TheVariants.{Queued, Handed, Got, Collected, Withdrawn}
+use Rattle.placeless.specs.Likeness.{AreAlike}
+use Rattle.placeless.specs.Views.{Message, at, sent}
+
+-- a reply without its places: whether a send was admitted is left
+abbrev pub shape : Reply → Reply
+shape (Queued n) = Queued None
+shape (Handed w) = Handed 0
+shape (Got m a n) = Got 0 (option_map (λ k. 0) a) None
+shape (Collected b) = Collected 0
+shape (Withdrawn w) = Withdrawn 0
+shape reply = reply
+
+-- the record of a call of process p that is given these bytes, a name or a message, with its reply
+abbrev pub record_of : Past → Process → Call → List ℕ → Record
+record_of past p call given = record {
+  entry = record { process = p; call = call; reply = reply_to past p call given };
+  payload = payload_of call (reply_to past p call given) given;
+}
+
+-- the message that a reply gives its caller, of the journal with that reply
+abbrev pub message_given : Past → Reply → Option Message
+message_given past (Got m a n) = at sent past m
+message_given past reply = None
+
+-- the call may be made after both or after neither. It has replies that differ in their places alone, and gives its caller the same
+-- message. And after it the two are alike again
+pub record StepsAlike (x y : Past) (p : Process) (call : Call) (given : List ℕ) : Type 0 where
+  pub turn : may_call y p call ≡ may_call x p call
+  pub reply : shape (reply_to y p call given) ≡ shape (reply_to x p call given)
+  pub message : message_given (record_of y p call given ∷ y) (reply_to y p call given) ≡ message_given (record_of x p call given ∷ x) (reply_to x p call given)
+  pub next : IsLegalNext x (record_of x p call given) → IsLegalNext y (record_of y p call given) → AreAlike (record_of x p call given ∷ x) (record_of y p call given ∷ y)

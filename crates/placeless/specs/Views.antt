@@ -1,0 +1,47 @@
+-- What replies depend on, without places: messages by their priority and bytes, waits by their process.
+use Rattle.std.specs.Prelude.{ℕ, List, map, Option, Some, None, if◌then◌else◌}
+use Rattle.std.specs.Option.{option_map}
+use Rattle.mq_model.specs.Record.{Record, Past, Place, Process, Queue, record_at}
+use Rattle.mq_model.specs.Messages.{is_send, present, priority_given, waiting_sends, waiting_receives}
+use Rattle.mq_model.specs.Waits.{answered_by}
+
+pub record Message : Type 0 where
+  pub prio : ℕ
+  pub bytes : List ℕ
+
+-- a process that waits to send, and its message
+pub record Sender : Type 0 where
+  pub process : Process
+  pub message : Message
+
+abbrev pub sent : Record → Message
+sent r = record { prio = priority_given r.entry.call; bytes = r.payload }
+
+abbrev pub sender : Record → Sender
+sender r = record { process = r.entry.process; message = sent r }
+
+abbrev pub author : Record → Process
+author r = r.entry.process
+
+-- the message that a record sends, if it is a send
+abbrev pub told : Record → Option Message
+told r = if is_send r.entry.call then Some (sent r) else None
+
+-- what is to be said of the record at a place
+abbrev pub at : {X : Type 0} → (Record → X) → Past → Place → Option X
+at f past place = option_map f (record_at past place)
+
+-- the messages in a queue, the last to enter first
+abbrev pub contents : Past → Queue → List (Option Message)
+contents past q = map (at sent past) (present past q)
+
+-- the processes that wait to send, with their messages, and those that wait to receive, the latest first
+abbrev pub senders : Past → Queue → List (Option Sender)
+senders past q = map (at sender past) (waiting_sends past q)
+
+abbrev pub receivers : Past → Queue → List (Option Process)
+receivers past q = map (at author past) (waiting_receives past q)
+
+-- what the open wait of a process was answered with, if it was: the message of a send, or nothing
+abbrev pub answer : Past → Process → Option (Option (Option Message))
+answer past p = option_map (at told past) (answered_by past p)
