@@ -1,11 +1,9 @@
 //! The wait for an answer, by the looks of any lock.
 ghost use Rattle.std.specs.Prelude.{◌≡◌, ◌||◌, true};
 
-use crate::bells::Bells;
-use crate::enter::MOST_SPINS;
 use crate::lock::Look;
 use crate::logged::Logged;
-use crossbeam_utils::Backoff;
+use crate::pauses::Pauses;
 use std::sync::Wait;
 use std::time::Duration;
 
@@ -31,13 +29,17 @@ fn look_some_times<S: Logged, L: Look<S>>(lock: &L, seat: &mut L::Seat) -> bool
     requires { (L.ticket seat.old).lock ≡ L.id lock.now }
     ensures { L.ticket seat.new ≡ record (L.ticket seat.old) { told = (L.ticket seat.old).told || result } }
 {
-    let backoff = Backoff::new();
-    for _ in 0..MOST_SPINS {
+    let bells = lock.bells();
+    let process = L::number(seat);
+    let mut pauses = Pauses::new();
+    for _ in 0..bells.looks(process) {
         if lock.answered(seat) {
+            bells.learn(process, true);
             return true;
         }
-        backoff.spin();
+        pauses.pause(bells);
     }
+    bells.learn(process, false);
     false
 }
 
@@ -53,12 +55,12 @@ fn look_after_sleep<S: Logged, L: Look<S>, R: Wait>(
     ensures again { (L.ticket seat.old).told ≡ true → result ≡ true }
     ensures left { S.is_answered (L.ticket seat.old).number (L.ticket seat.old).left ≡ true → result ≡ true }
 {
-    let bell = Bells::of_answer(L::number(seat));
     let bells = lock.bells();
-    bells.announce(bell);
+    let process = L::number(seat);
+    bells.announce_wait(process);
     if !lock.answered(seat) {
-        bells.sleep(rt, bell, at_most);
+        bells.sleep_until_answered(rt, process, at_most);
     }
-    bells.withdraw(bell);
+    bells.end_wait(process);
     lock.answered(seat)
 }

@@ -6,26 +6,46 @@ use std::sync::atomic::AtomicU64;
 use std::sync::atomic::Ordering::SeqCst;
 use std::time::Duration;
 
-// The bells of a lock for the most processes: that of y, of each flag b[j], and of the answer of each process.
-const BELLS: u32 = 65;
+// The bells of a lock for the most processes, that of y, of each flag b[j], and of the answer of each process, and behind them the doubt
+// of each process, and a word that stays as it is.
+const WORDS: u32 = 98;
+
+const STILL: usize = 97;
 
 // How long a walk sleeps at the most before it takes its next step anyway, in milliseconds.
-const LONGEST_REST: u64 = 10;
+const LONGEST_NAP: u64 = 10;
+
+// How often a process looks for its answer before it sleeps, and how often where it doubts that this is worth it: where of its last looks
+// one in four or more was in vain. It doubts for so many waits, and then tries again.
+const LONG_LOOKS: u32 = 12;
+
+const SHORT_LOOKS: u32 = 6;
+
+const MOST_DOUBT: u64 = 12;
+
+const FOR_A_LOOK_IN_VAIN: u64 = 3;
+
+const DOUBTFUL_WAITS: u64 = 32;
 
 /// Bells, each a word that is 1 where somebody may sleep on it. Who is about to sleep announces it, looks once more at what it waits
-/// for, and sleeps while the word is 1; who changes that rings. All are sequentially consistent loads and stores.
+/// for, and sleeps while the word is 1; who changes that rings. All are sequentially consistent.
 #[derive(Drop)]
 pub struct Bells {
     words: Vec<AtomicU64>,
+    // how many walks sleep, or are about to
+    sleepers: AtomicU64,
 }
 
 impl Bells {
     pub(crate) fn new(alloc: Global) -> Result<Bells, AllocError> {
-        let mut words = Vec::with_capacity(alloc, BELLS as usize)?;
-        for _ in 0..BELLS {
+        let mut words = Vec::with_capacity(alloc, WORDS as usize)?;
+        for _ in 0..WORDS {
             words.push(AtomicU64::new(0))?;
         }
-        Ok(Bells { words })
+        Ok(Bells {
+            words,
+            sleepers: AtomicU64::new(0),
+        })
     }
 
     /// The bell of y.
@@ -38,61 +58,88 @@ impl Bells {
         process
     }
 
-    /// The bell of the answer of a process.
-    pub(crate) fn of_answer(process: u32) -> u32 {
+    // The bell of the answer of a process.
+    fn of_answer(process: u32) -> u32 {
         process.saturating_add(32)
     }
 
-    /// Says that the caller may sleep on this bell.
-    pub(crate) fn announce(&self, bell: u32) {
-        if let Some(word) = self.words.get(bell as usize) {
-            word.store(1, SeqCst);
+    fn set(&self, word: u32, value: u64) {
+        if let Some(word) = self.words.get(word as usize) {
+            word.store(value, SeqCst);
         }
     }
 
-    /// Takes that back.
-    pub(crate) fn withdraw(&self, bell: u32) {
-        if let Some(word) = self.words.get(bell as usize) {
-            word.store(0, SeqCst);
-        }
-    }
-
-    /// Sleeps where it was announced, until the bell rings, and no longer than that.
-    pub(crate) fn sleep<R: Wait>(&self, rt: &R, bell: u32, at_most: Duration) {
+    // Sleeps where it was announced, until the bell rings, and no longer than that.
+    fn sleep<R: Wait>(&self, rt: &R, bell: u32, at_most: Duration) {
         if let Some(word) = self.words.get(bell as usize) {
             word.park_timeout(rt, 1, at_most);
         }
     }
 
-    /// Wakes one that sleeps on this bell. Where nobody announced it, this is one load.
-    #[inline(always)]
-    pub(crate) fn ring(&self, bell: u32) {
+    // Wakes one that sleeps on this bell, where that was announced.
+    fn ring(&self, bell: u32) {
         if let Some(word) = self.words.get(bell as usize)
             && word.load(SeqCst) == 1
         {
-            wake(word);
+            word.store(0, SeqCst);
+            word.wake_one();
         }
     }
 
-    /// Sleeps until the bell rings, where that was announced before the caller's last look, and announces the next sleep. Whoever is
-    /// woken so announces for those that still sleep.
-    pub(crate) fn rest<R: Wait>(&self, rt: &R, bell: u32) {
-        self.sleep(rt, bell, Duration::from_millis(LONGEST_REST));
-        self.announce(bell);
+    /// Says that a walk may sleep on this bell, and wakes one that sleeps until it has lowered its own flag.
+    pub(crate) fn announce_walk(&self, bell: u32, own: u32) {
+        self.ring(own);
+        self.sleepers.fetch_add(1, SeqCst);
+        self.set(bell, 1);
     }
 
-    /// Wakes one that sleeps until this process has left, and those whose waits it answered.
+    /// Sleeps until the bell rings, where its last look was in vain.
+    pub(crate) fn sleep_on_the_way<R: Wait>(&self, rt: &R, bell: u32) {
+        self.sleep(rt, bell, Duration::from_millis(LONGEST_NAP));
+    }
+
+    /// Ends what was announced. Who was woken so announces for those that still sleep, and the next departure wakes the next.
+    pub(crate) fn end_walk(&self, bell: u32) {
+        if self.sleepers.fetch_sub(1, SeqCst) != 1 {
+            self.set(bell, 1);
+        }
+    }
+
+    /// Says that a process may sleep until it is answered.
+    pub(crate) fn announce_wait(&self, process: u32) {
+        self.set(Bells::of_answer(process), 1);
+    }
+
+    /// Sleeps until the process is answered, where its last look was in vain, and no longer than that.
+    pub(crate) fn sleep_until_answered<R: Wait>(&self, rt: &R, process: u32, at_most: Duration) {
+        self.sleep(rt, Bells::of_answer(process), at_most);
+    }
+
+    /// Takes back that the process may sleep.
+    pub(crate) fn end_wait(&self, process: u32) {
+        self.set(Bells::of_answer(process), 0);
+    }
+
+    /// Wakes one that sleeps until this process has left, and those whose waits it answered. Where nobody sleeps this is one load.
     #[inline(always)]
     pub(crate) fn ring_after(&self, process: u32, answered: u32) {
-        self.ring(Bells::of_y());
-        self.ring(Bells::of_flag(process));
+        if self.sleepers.load(SeqCst) != 0 {
+            self.ring_walks(process);
+        }
         if answered != 0 {
             self.ring_answers(answered);
         }
     }
 
-    /// Wakes the processes whose bits are set, that of process p by bit p - 1, where they sleep until they are answered. Apart, so that a
-    /// departure that answers nobody is short.
+    // Apart, as the next, so that a departure that wakes nobody is short.
+    #[cold]
+    #[inline(never)]
+    fn ring_walks(&self, process: u32) {
+        self.ring(Bells::of_y());
+        self.ring(Bells::of_flag(process));
+    }
+
+    // Wakes the processes whose bits are set, that of process p by bit p - 1, where they sleep until they are answered.
     #[cold]
     #[inline(never)]
     fn ring_answers(&self, answered: u32) {
@@ -105,7 +152,53 @@ impl Bells {
         }
     }
 
-    /// The first of the 65 words, for those who sleep on them outside of Rattle: that of y, then of each flag b[j], then of the answer of
+    /// Passes the time of so many loads. A loop that only says that it spins does nothing here, and is left out by the compiler.
+    pub(crate) fn linger(&self, loads: u32) {
+        if let Some(word) = self.words.get(STILL) {
+            for _ in 0..loads {
+                let _ = word.load(SeqCst);
+            }
+        }
+    }
+
+    /// How often a process looks for its answer before it sleeps.
+    pub(crate) fn looks(&self, process: u32) -> u32 {
+        if self.doubt(process) < MOST_DOUBT {
+            LONG_LOOKS
+        } else {
+            SHORT_LOOKS
+        }
+    }
+
+    /// What the process learns from these looks: whether one was true.
+    pub(crate) fn learn(&self, process: u32, was_answered: bool) {
+        let doubt = self.doubt(process);
+        let next = if doubt >= MOST_DOUBT + DOUBTFUL_WAITS {
+            MOST_DOUBT - FOR_A_LOOK_IN_VAIN
+        } else if doubt >= MOST_DOUBT {
+            doubt + 1
+        } else if was_answered {
+            doubt.saturating_sub(1)
+        } else {
+            doubt + FOR_A_LOOK_IN_VAIN
+        };
+        if next != doubt {
+            self.set(Bells::of_doubt(process), next);
+        }
+    }
+
+    fn of_doubt(process: u32) -> u32 {
+        process.saturating_add(64)
+    }
+
+    fn doubt(&self, process: u32) -> u64 {
+        match self.words.get(Bells::of_doubt(process) as usize) {
+            Some(word) => word.load(SeqCst),
+            None => 0,
+        }
+    }
+
+    /// The first of the 65 bells, for those who sleep on them outside of Rattle: that of y, then of each flag b[j], then of the answer of
     /// each process. A thread sleeps while its word is 1, which it stores before its last look, and is woken by who stores 0. They stay
     /// where they are as long as the lock is there.
     pub fn address(&self) -> Option<*const u64> {
@@ -114,11 +207,4 @@ impl Bells {
             None => None,
         }
     }
-}
-
-// Apart, so that a ring that wakes nobody is short.
-#[inline(never)]
-fn wake(word: &AtomicU64) {
-    word.store(0, SeqCst);
-    word.wake_one();
 }

@@ -1,14 +1,14 @@
 //! The entry that waits, by the steps of any lock.
-ghost use Rattle.std.specs.Prelude.{◌≡◌, ◌≤◌, true, []};
+ghost use Rattle.std.specs.Prelude.{◌≡◌, ◌≤◌, true, false, []};
 ghost use Rattle.fast_mutex.specs.Items.{Grows};
 
 use crate::lock::Lock;
 use crate::logged::Logged;
-use crossbeam_utils::Backoff;
+use crate::pauses::Pauses;
 use std::sync::Wait;
 
-/// How often a wait looks, with pauses that grow up to 32 spins, before it sleeps.
-pub(crate) const MOST_SPINS: u32 = 6;
+// How often a walk that can't go on pauses before it sleeps.
+const MOST_PAUSES: u32 = 12;
 
 /// The entry that waits, which each lock has. It stands apart from `Lock`, so that code that never waits can use a lock.
 pub trait Enter<S: Logged>: Lock<S> {
@@ -65,8 +65,8 @@ fn wait_apart<S: Logged, L: Lock<S>, R: Wait>(lock: &L, rt: &R, walk: L::Walk) -
     waited
 }
 
-// Step by step. After a step that left the walk where it was it spins, longer each time, and after some of these it sleeps until it is
-// woken; once the walk has moved it begins anew. It never yields: beside a busy thread a yield costs that thread's whole slice.
+// Step by step. After a step that left the walk where it was it pauses, longer each time, and after some pauses it takes a nap; once the
+// walk has moved, or been asleep, it begins anew. It never yields: beside a busy thread a yield costs that thread's whole slice.
 // It stands apart, so that the way of an entry that meets nobody has no more than that needs.
 #[inline(never)]
 fn wait_in<S: Logged, L: Lock<S>, R: Wait>(lock: &L, rt: &R, mut walk: L::Walk) -> L::Walk
@@ -74,26 +74,45 @@ fn wait_in<S: Logged, L: Lock<S>, R: Wait>(lock: &L, rt: &R, mut walk: L::Walk) 
     ensures ticket { L.walking result ≡ L.walking walk }
     ensures inside { L.is_in result ≡ true }
 {
-    let backoff = Backoff::new();
-    let mut spins = 0;
+    let mut pauses = Pauses::new();
+    let mut paused = 0;
     for _ in rt.forever() {
         if L::is_admitted(&walk) {
             return walk;
         }
-        let (next, has_moved) = lock.step(walk);
-        walk = next;
-        if has_moved {
-            backoff.reset();
-            spins = 0;
-        } else if spins < MOST_SPINS {
-            backoff.spin();
-            spins += 1;
+        let is_tired = paused >= MOST_PAUSES;
+        let (next, has_moved) = if is_tired {
+            nap(lock, rt, walk)
         } else {
-            lock.bells().ring(L::own_bell(&walk));
-            lock.bells().rest(rt, L::bell(&walk));
+            lock.step(walk)
+        };
+        walk = next;
+        if has_moved || is_tired {
+            pauses = Pauses::new();
+            paused = 0;
+        } else {
+            pauses.pause(lock.bells());
+            paused += 1;
         }
     }
     unreachable!()
+}
+
+// Announces that it sleeps, takes the next step, and sleeps until it is woken where that has not moved the walk.
+fn nap<S: Logged, L: Lock<S>, R: Wait>(lock: &L, rt: &R, walk: L::Walk) -> (L::Walk, bool)
+    requires lock { (L.walking walk).lock ≡ L.id lock.now }
+    requires outside { L.is_in walk ≡ false }
+    ensures { L.walking result.0 ≡ L.walking walk }
+{
+    let bells = lock.bells();
+    let bell = L::bell(&walk);
+    bells.announce_walk(bell, L::own_bell(&walk));
+    let (walk, has_moved) = lock.step(walk);
+    if !has_moved {
+        bells.sleep_on_the_way(rt, bell);
+    }
+    bells.end_walk(bell);
+    (walk, has_moved)
 }
 
 // Five steps, as many as an entry takes that meets nobody. In straight line the compiler knows where the walk stands at each.

@@ -8,6 +8,7 @@ mod fast;
 mod fast_lock;
 mod lock;
 mod logged;
+mod pauses;
 mod seats;
 mod slot;
 mod word;

@@ -1,0 +1,27 @@
+//! The pauses of a wait that looks again and again.
+use crate::bells::Bells;
+
+// The shortest and the longest, in loads of a word.
+const SHORTEST: u32 = 16;
+
+const LONGEST: u32 = 16_384;
+
+/// Pauses, each twice as long as the one before, up to some microseconds. A short one does for a wait that is over at once; where threads
+/// crowd, long ones let the one that is inside make several calls in a row, with all that they touch in its own cache.
+#[derive(Drop)]
+pub(crate) struct Pauses {
+    next: u32,
+}
+
+impl Pauses {
+    /// From the shortest on.
+    pub(crate) fn new() -> Pauses {
+        Pauses { next: SHORTEST }
+    }
+
+    /// The next one.
+    pub(crate) fn pause(&mut self, bells: &Bells) {
+        bells.linger(self.next);
+        self.next = self.next.saturating_mul(2).min(LONGEST);
+    }
+}
