@@ -232,7 +232,7 @@ uint32_t yak_nobody_can_call(yak_process *process);
 
 /* Writes which of the 65 bells of its system a process sleeps on: 0 where it waits for the lock, j where it waits there for process j, and
  * 32 + its own number at rest, for its answer. A bell is a word that is 1 where somebody may sleep on it: who sleeps stores 1, looks once
- * more, and sleeps while it is 1; who rings stores 0 and wakes one. YAK_EMPTY. */
+ * more, and sleeps while it is 1; who rings stores 0 and wakes one. Behind the bells word 64 + j is process j's own, its doubt. YAK_EMPTY. */
 uint32_t yak_bell(yak_process *process, uint32_t *bell);
 
 /* ---- what waits ---------------------------------------------------------------------------------------------------------- */
@@ -242,18 +242,19 @@ uint32_t yak_bell(yak_process *process, uint32_t *bell);
 void yak_sleep(uint64_t *bell, long millis);
 void yak_rouse(uint64_t *bell);
 
-enum { YAK_SPINS = 6, YAK_NAP = 10, YAK_LONGEST_NAP = 80 };
+/* How many tries lie between two naps; how often a wait looks for its answer before it sleeps, and how often where its process doubts that this is
+ * worth it (see yak_learn_); how long it sleeps at first and at the most. */
+enum { YAK_SPINS = 12, YAK_LONG_LOOKS = 12, YAK_SHORT_LOOKS = 6, YAK_MOST_DOUBT = 12, YAK_DOUBTFUL_WAITS = 32, YAK_NAP = 10, YAK_LONGEST_NAP = 80 };
 
-/* Spins for the next try, longer each time, or is false after some tries. */
-static inline bool yak_spin(unsigned *tries)
+/* Passes some time before the next try, twice as much each time up to some microseconds, or is false after so many tries. Where threads crowd, long
+ * pauses let the one that is inside make several calls in a row. */
+static inline bool yak_spin(unsigned *tries, unsigned most)
 {
-    if (*tries >= YAK_SPINS)
+    if (*tries >= most)
         return false;
-    for (unsigned left = 1u << (*tries)++; left != 0; --left) {
-#if defined __x86_64__ || defined __i386__
-        __builtin_ia32_pause();
-#endif
-    }
+    for (unsigned left = 16u << (*tries < 10 ? *tries : 10); left != 0; --left)
+        __asm__ volatile("" ::: "memory"); /* so that the loop stays */
+    ++*tries;
     return true;
 }
 
@@ -277,15 +278,21 @@ static inline void yak_wake(yak_process *process)
             yak_ring(&process->bells[32 + p]);
 }
 
-/* Passes the time before the next try of a call that was YAK_RETRY: spins, and after some tries sleeps until who keeps the process out of the
- * lock wakes it, for 10 milliseconds at the most, and announces the next sleep. */
+/* Passes the time before the next try of a call that was YAK_RETRY: spins, and after some tries announces that it sleeps. Where the try after that
+ * is in vain too it sleeps until who keeps the process out of the lock wakes it, for 10 milliseconds at the most, announces the next sleep for
+ * those that sleep on, and begins anew. */
 static inline void yak_rest(yak_process *process, unsigned *tries)
 {
     uint32_t bell;
-    if (yak_spin(tries) || process->bells == 0 || yak_bell(process, &bell) != YAK_DONE || bell > 32)
+    if (yak_spin(tries, YAK_SPINS) || process->bells == 0 || yak_bell(process, &bell) != YAK_DONE || bell > 32)
         return;
-    yak_ring(&process->bells[process->number]);
-    yak_sleep(&process->bells[bell], YAK_NAP);
+    if (*tries == YAK_SPINS) {
+        ++*tries;
+        yak_ring(&process->bells[process->number]);
+    } else {
+        *tries = 0;
+        yak_sleep(&process->bells[bell], YAK_NAP);
+    }
     __atomic_store_n(&process->bells[bell], 1, __ATOMIC_SEQ_CST);
 }
 
@@ -343,27 +350,45 @@ static inline void yak_tell_after_(const yak_process *process)
         yak_wake(process);                                                                                                       \
     } while (0)
 
+/* The doubt of a process after it has looked for an answer: it looks a few times alone where one in four of its last looks or more was in vain,
+ * and after so many waits tries again. */
+static inline uint64_t yak_learn_(uint64_t doubt, bool was_answered)
+{
+    if (doubt >= YAK_MOST_DOUBT)
+        return doubt < YAK_MOST_DOUBT + YAK_DOUBTFUL_WAITS ? doubt + 1 : YAK_MOST_DOUBT - 3;
+    return !was_answered ? doubt + 3 : doubt != 0 ? doubt - 1 : 0;
+}
+
+/* Looks with pauses, and says whether the open wait still is not answered. The doubt of the process is a word of its own behind the bells. */
+static inline bool yak_looks_in_vain_(yak_process *process)
+{
+    uint64_t *word = &process->bells[64 + process->number];
+    uint64_t doubt = __atomic_load_n(word, __ATOMIC_RELAXED);
+    unsigned most = doubt < YAK_MOST_DOUBT ? YAK_LONG_LOOKS : YAK_SHORT_LOOKS, tries = 0;
+    bool in_vain;
+    do
+        in_vain = yak_answered(process) == YAK_WAITS;
+    while (in_vain && yak_spin(&tries, most));
+    __atomic_store_n(word, yak_learn_(doubt, !in_vain), __ATOMIC_RELAXED);
+    return in_vain;
+}
+
 /* Looks until the open wait is answered, for so many milliseconds at the most: spins, and then sleeps until the call that answers it wakes
  * the process. YAK_WAITS where it is not answered. */
 static inline uint32_t yak_await_answer(yak_process *process, long millis)
 {
-    uint32_t looked;
     uint64_t *bell;
-    unsigned tries = 0;
 #ifdef YAK_SEEDED
     if (yak_seed_decides())
         return yak_seed_answer(process, 0);
 #endif
-    do
-        looked = yak_answered(process);
-    while (looked == YAK_WAITS && yak_spin(&tries));
-    if (looked != YAK_WAITS)
-        return looked;
-    bell = &process->bells[32 + process->number];
-    __atomic_store_n(bell, 1, __ATOMIC_SEQ_CST);
-    if (yak_answered(process) == YAK_WAITS)
-        yak_sleep(bell, millis);
-    __atomic_store_n(bell, 0, __ATOMIC_SEQ_CST);
+    if (process->bells != 0 && yak_looks_in_vain_(process)) {
+        bell = &process->bells[32 + process->number];
+        __atomic_store_n(bell, 1, __ATOMIC_SEQ_CST);
+        if (yak_answered(process) == YAK_WAITS)
+            yak_sleep(bell, millis);
+        __atomic_store_n(bell, 0, __ATOMIC_SEQ_CST);
+    }
     return yak_answered(process);
 }
 

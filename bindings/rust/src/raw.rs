@@ -159,11 +159,11 @@ impl Handle {
         self.answered
     }
 
-    /// The bell of that number, 0 to 64.
+    /// The bell of that number, 0 to 64, or, behind the bells, the word 64 + j that is process j's own.
     #[inline]
     pub fn bell(&self, at: u32) -> &AtomicU64 {
-        assert!(at <= 64 && !self.bells.is_null());
-        // SAFETY: `bells` is the first of the 65 bells of the system, words that all touch by atomic accesses alone. The system lasts as
+        assert!(at <= 96 && !self.bells.is_null());
+        // SAFETY: `bells` is the first of the 97 words of the system, words that all touch by atomic accesses alone. The system lasts as
         // long as this handle is full, which is until it is dropped: that is longer than the borrow.
         unsafe { AtomicU64::from_ptr(self.bells.add(at as usize)) }
     }

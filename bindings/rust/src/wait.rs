@@ -1,13 +1,19 @@
 //! How a call waits for the lock and for others: it spins shortly, sleeps until it is woken, and wakes others once it is through.
 
 use crate::raw::{answer, rouse, sleep, Handle, Message, Moment};
-use std::hint::spin_loop;
+use std::hint::black_box;
 use std::sync::atomic::AtomicU64;
-use std::sync::atomic::Ordering::SeqCst;
+use std::sync::atomic::Ordering::{Relaxed, SeqCst};
 use std::sync::OnceLock;
 use std::time::{Duration, Instant};
 
-const SPINS: u32 = 6;
+/// How many tries lie between two naps; how often a wait looks for its answer before it sleeps, and how often where its process doubts that
+/// this is worth it.
+const SPINS: u32 = 12;
+const LONG_LOOKS: u32 = 12;
+const SHORT_LOOKS: u32 = 6;
+const MOST_DOUBT: u64 = 12;
+const DOUBTFUL_WAITS: u64 = 32;
 const NAP: Duration = Duration::from_millis(10);
 const LONGEST_NAP: Duration = Duration::from_millis(80);
 const NOBODY: u32 = 0;
@@ -19,13 +25,33 @@ fn of_answer(process: u32) -> u32 {
     32 + process
 }
 
-/// Spins for the next try, longer each time, or is false after some tries.
-fn spins(tries: &mut u32) -> bool {
-    if *tries >= SPINS {
+/// The word behind the bells that is a process's own, its doubt.
+fn of_doubt(process: u32) -> u32 {
+    64 + process
+}
+
+/// The doubt of a process after it has looked for an answer: it looks a few times alone where one in four of its last looks or more was in
+/// vain, and after so many waits tries again.
+fn learnt(doubt: u64, was_answered: bool) -> u64 {
+    if doubt >= MOST_DOUBT + DOUBTFUL_WAITS {
+        MOST_DOUBT - 3
+    } else if doubt >= MOST_DOUBT {
+        doubt + 1
+    } else if was_answered {
+        doubt.saturating_sub(1)
+    } else {
+        doubt + 3
+    }
+}
+
+/// Passes some time before the next try, twice as much each time up to some microseconds, or is false after so many tries. Where threads crowd,
+/// long pauses let the one that is inside make several calls in a row.
+fn spins(tries: &mut u32, most: u32) -> bool {
+    if *tries >= most {
         return false;
     }
-    for _ in 0..1 << *tries {
-        spin_loop();
+    for left in 0..16 << (*tries).min(10) {
+        black_box(left);
     }
     *tries += 1;
     true
@@ -103,32 +129,52 @@ impl Handle {
         }
     }
 
-    /// Passes the time before the next try: spins, and after some tries sleeps until who keeps the process out of the lock wakes it, and
-    /// announces the next sleep.
+    /// Passes the time before the next try: spins, and after some tries announces that it sleeps. Where the try after that is in vain too it
+    /// sleeps until who keeps the process out of the lock wakes it, announces the next sleep for those that sleep on, and begins anew.
     #[cold]
     fn rest(&mut self, tries: &mut u32) {
-        if spins(tries) {
+        if spins(tries, SPINS) {
             return;
         }
         let own = self.own_bell();
         if own > 32 {
             return;
         }
-        ring(self.bell(self.number()));
-        sleep(self.bell(own), NAP);
+        if *tries == SPINS {
+            *tries += 1;
+            ring(self.bell(self.number()));
+        } else {
+            *tries = 0;
+            sleep(self.bell(own), NAP);
+        }
         self.bell(own).store(1, SeqCst);
     }
 
     /// Looks until the open wait is answered, for so long at the most: spins, and then sleeps until the call that answers it wakes the
     /// process.
     fn await_answer(&mut self, at_most: Duration) -> bool {
+        self.looks() || self.sleep_until_answered(at_most)
+    }
+
+    /// Looks with pauses until the open wait is answered.
+    fn looks(&mut self) -> bool {
+        let doubt = self.doubt().load(Relaxed);
+        let most = if doubt < MOST_DOUBT { LONG_LOOKS } else { SHORT_LOOKS };
         let mut tries = 0;
-        while self.answered() == answer::WAITS {
-            if !spins(&mut tries) {
-                return self.sleep_until_answered(at_most);
+        let was_answered = loop {
+            if self.answered() != answer::WAITS {
+                break true;
             }
-        }
-        true
+            if !spins(&mut tries, most) {
+                break false;
+            }
+        };
+        self.doubt().store(learnt(doubt, was_answered), Relaxed);
+        was_answered
+    }
+
+    fn doubt(&self) -> &AtomicU64 {
+        self.bell(of_doubt(self.number()))
     }
 
     fn sleep_until_answered(&mut self, at_most: Duration) -> bool {
