@@ -70,7 +70,7 @@ impl<L: Look<Guarded>> Arrived<L> {
     {
         let room = buf.len();
         let (inside, mut state) = begin::<L>(self.walk, self.number);
-        let reply = state.books.make(self.number, call, given, buf);
+        let reply = A::ask(&mut state.books, self.number, call, given, buf);
         let returned = A::of_reply(&state.books, reply);
         let seat = depart_after(mq, inside, state, reply);
         (process_of(seat, wait_begun(reply, room)), returned)

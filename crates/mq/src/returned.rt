@@ -1,17 +1,39 @@
 //! What a call of a process returns, by the reply that it was given.
-ghost use Rattle.std.specs.Prelude.{◌≡◌, true, Some};
+ghost use Rattle.std.specs.Prelude.{◌≡◌, ◌≤◌, true, Some, None, length};
+ghost use Rattle.mq_model.specs.Messages.{is_receive};
+ghost use Rattle.mq_model.specs.Waits.{open_wait};
+ghost use Rattle.mq_state.specs.Buffers.{filled};
+ghost use Rattle.mq_state.specs.Kept.{IsMade};
+ghost use Rattle.mq_state.specs.Requests.{Brings};
 
-use mq_model::entries::{Received, Reply, Status};
+use mq_model::entries::{Call, Received, Reply, Status};
 use mq_model::faults::Fault;
 use mq_state::books::Books;
 use mq_state::collected::received;
 
 /// What a kind of call returns. The type is the kind.
 pub trait Returned: Drop {
-    ghost use Rattle.std.specs.Prelude.{◌≡◌, true, Some};
+    ghost use Rattle.std.specs.Prelude.{◌≡◌, ◌≤◌, true, Some, None, length};
+    ghost use Rattle.mq_model.specs.Messages.{is_receive};
+    ghost use Rattle.mq_model.specs.Waits.{open_wait};
+    ghost use Rattle.mq_state.specs.Buffers.{filled};
+    ghost use Rattle.mq_state.specs.Kept.{IsMade};
+    ghost use Rattle.mq_state.specs.Requests.{Brings};
     ghost use Rattle.mq.specs.Kinds.{Kind, IsKind};
 
     ghost kind: { Kind Self };
+
+    /// Makes a call of this kind, by a way of its own where it is made often: what that does is known where the call is built.
+    #[inline(always)]
+    fn ask(books: &mut Books, p: u32, call: Call, given: &[u8], buf: &mut [u8]) -> Reply
+        requires process { (1 ≤ p) × (p ≤ books.old.n) }
+        requires no_wait { open_wait books.old.records p ≡ None }
+        requires brings { Brings call given.now (length buf.old) }
+        ensures made { IsMade books.old books.new p call given.now result }
+        ensures buffer { is_receive call ≡ true → buf.new ≡ filled books.old.records result buf.old }
+    {
+        books.make(p, call, given, buf)
+    }
 
     /// What the call with this reply returns, by the journal that it left.
     fn of_reply(books: &Books, reply: Reply) -> Self
@@ -105,6 +127,14 @@ impl Returned for Result<bool, Fault> {
     ghost kind = { send_kind };
 
     #[inline(always)]
+    fn ask(books: &mut Books, p: u32, call: Call, given: &[u8], buf: &mut [u8]) -> Reply {
+        match call {
+            Call::MqSend { d, prio, .. } => books.send(p, d, given, prio),
+            _ => books.make(p, call, given, buf),
+        }
+    }
+
+    #[inline(always)]
     fn of_reply(_: &Books, reply: Reply) -> Result<bool, Fault> {
         match reply {
             Reply::Queued { .. } => Ok(true),
@@ -124,6 +154,14 @@ impl Returned for Result<Option<Received>, Fault> {
     ghost use Rattle.mq.specs.KindsHold.{receive-is_kind};
 
     ghost kind = { receive_kind };
+
+    #[inline(always)]
+    fn ask(books: &mut Books, p: u32, call: Call, given: &[u8], buf: &mut [u8]) -> Reply {
+        match call {
+            Call::MqReceive { d, .. } => books.receive(p, d, buf),
+            _ => books.make(p, call, given, buf),
+        }
+    }
 
     #[inline(always)]
     fn of_reply(books: &Books, reply: Reply) -> Result<Option<Received>, Fault> {

@@ -90,7 +90,6 @@ impl Books {
 
     /// A call of process p, whichever: with its name, the bytes of its message or none, and the buffer that a receive fills. Replies as the
     /// method of its name below. The ends of a wait are [`collect`](Books::collect) and [`withdraw`](Books::withdraw).
-    #[inline(always)]
     pub fn make(&mut self, p: u32, call: Call, given: &[u8], buf: &mut [u8]) -> Reply
         requires process { (1 ≤ p) × (p ≤ self.old.n) }
         requires no_wait { open_wait self.old.records p ≡ None }
@@ -178,8 +177,8 @@ impl Books {
         ensures made { IsMade self.old self.new p (Call.MqSend d prio (length bytes.now)) bytes.now result }
         ensures refused { (fault : Fault) → result ≡ Reply.Refused fault → fault ≢ Fault.NoMemory → self.new.byte_room ≡ self.old.byte_room }
     {
-        let len = bytes.len() as u64;
-        self.make(p, Call::MqSend { d, prio, len }, bytes, &mut [])
+        let Shelf { journal, tables } = &mut *self.shelf;
+        tables.send(journal, p, d, bytes, prio)
     }
 
     /// A receive from the queue of descriptor d (`mq_receive`). Replies `Got`, and then the front of the buffer holds the
@@ -191,8 +190,8 @@ impl Books {
         ensures made { IsMade self.old self.new p (Call.MqReceive d (length buf.old)) [] result }
         ensures buffer { buf.new ≡ filled self.old.records result buf.old }
     {
-        let room = buf.len() as u64;
-        self.make(p, Call::MqReceive { d, room }, &[], buf)
+        let Shelf { journal, tables } = &mut *self.shelf;
+        tables.receive(journal, p, d, buf)
     }
 
     /// A send of a message to the queue of descriptor d, made at the moment `now`, which would wait until the moment `until`

@@ -229,7 +229,6 @@ impl Tables {
     }
 
     /// Makes a call of process p, which is given a name, the bytes of its message or none, and the buffer that a receive fills.
-    #[inline(always)]
     pub fn make(
         &mut self,
         journal: &mut Journal,

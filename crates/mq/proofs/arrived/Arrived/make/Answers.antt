@@ -7,53 +7,53 @@ use Rattle.mq.proofs.Replies.{asked, replied, may-be-refused}
 use Rattle.mq.proofs.Returning.{is-call}
 use Rattle.mq.proofs.arrived.Arrived.make.Goals as goal
 
-pub make-reply-requires-clause-no_wait : goal.make-reply-requires-clause-no_wait
-make-reply-requires-clause-no_wait g c = came-free (came-in c.begin-inside.ensures.came c.self.view_is c.requires.made) c.requires.free
+pub ask-reply-requires-clause-no_wait : goal.ask-reply-requires-clause-no_wait
+ask-reply-requires-clause-no_wait g c = came-free (came-in c.begin-inside.ensures.came c.self.view_is c.requires.made) c.requires.free
 
 pub of_reply-returned-requires : goal.of_reply-returned-requires
-of_reply-returned-requires g c = c.requires.kind c.make-reply.result (replied c.make-reply.ensures.made.entry (may-be-refused c.args.call c.args.given.now _ c.requires.brings))
+of_reply-returned-requires g c = c.requires.kind c.ask-reply.result (replied c.ask-reply.ensures.made.entry (may-be-refused c.args.call c.args.given.now _ c.requires.brings))
 
 pub depart_after-seat-requires-clause-grows : goal.depart_after-seat-requires-clause-grows
 depart_after-seat-requires-clause-grows g c =
-    came-grows c.args.call c.args.given.now c.make-reply.result c.begin-inside.ensures.came (asked c.make-reply.ensures.made.entry c.make-reply.ensures.made.no_entry)
+    came-grows c.args.call c.args.given.now c.ask-reply.result c.begin-inside.ensures.came (asked c.ask-reply.ensures.made.entry c.ask-reply.ensures.made.no_entry)
 
 pub depart_after-seat-requires-clause-quiet : goal.depart_after-seat-requires-clause-quiet
 depart_after-seat-requires-clause-quiet g c = λ quiet.
     let came = came-in c.begin-inside.ensures.came c.self.view_is c.requires.made in
-    c.begin-inside.ensures.knows.answers_are ∙ came-quiet c.args.call c.args.given.now c.make-reply.result came c.requires.free (asked c.make-reply.ensures.made.entry c.make-reply.ensures.made.no_entry) quiet
+    c.begin-inside.ensures.knows.answers_are ∙ came-quiet c.args.call c.args.given.now c.ask-reply.result came c.requires.free (asked c.ask-reply.ensures.made.entry c.ask-reply.ensures.made.no_entry) quiet
 
 pub process_of-requires : goal.process_of-requires
 process_of-requires g c =
     let came = came-in c.begin-inside.ensures.came c.self.view_is c.requires.made in
-    let is = asked c.make-reply.ensures.made.entry c.make-reply.ensures.made.no_entry in
-    rw c.depart_after-seat.ensures.left (c.wait_begun.ensures ∙ ap (wait_begun c.make-reply.result) (sym c.requires.brings.0) ∙ room-begun c.args.call c.args.given.now c.make-reply.result came c.requires.free is)
+    let is = asked c.ask-reply.ensures.made.entry c.ask-reply.ensures.made.no_entry in
+    rw c.depart_after-seat.ensures.left (c.wait_begun.ensures ∙ ap (wait_begun c.ask-reply.result) (sym c.requires.brings.0) ∙ room-begun c.args.call c.args.given.now c.ask-reply.result came c.requires.free is)
 
 pub returns-clause-call : goal.returns-clause-call
 returns-clause-call g c =
     let came = came-in c.begin-inside.ensures.came c.self.view_is c.requires.made in
-    let is = asked c.make-reply.ensures.made.entry c.make-reply.ensures.made.no_entry in
-    rw (c.process_of.ensures, c.depart_after-seat.ensures.left) (is-call c.args.buf.now c.make-reply.new.buf g.A.Returned.kind c.make-reply.result g.met.A.Returned.is_kind c.requires.kind c.requires.brings.1
-    (came-made c.args.call c.args.given.now c.make-reply.result came c.requires.made is c.depart_after-seat.ensures.legal)
-    (came-found c.args.call c.args.given.now c.make-reply.result came c.requires.made is c.make-reply.ensures.made.full)
+    let is = asked c.ask-reply.ensures.made.entry c.ask-reply.ensures.made.no_entry in
+    rw (c.process_of.ensures, c.depart_after-seat.ensures.left) (is-call c.args.buf.now c.ask-reply.new.buf g.A.Returned.kind c.ask-reply.result g.met.A.Returned.is_kind c.requires.kind c.requires.brings.1
+    (came-made c.args.call c.args.given.now c.ask-reply.result came c.requires.made is c.depart_after-seat.ensures.legal)
+    (came-found c.args.call c.args.given.now c.ask-reply.result came c.requires.made is c.ask-reply.ensures.made.full)
     c.of_reply-returned.ensures
-    (λ receives. c.make-reply.ensures.buffer receives ∙ sym (ap (λ past. filled past c.make-reply.result c.args.buf.now) is ∙ filled-kept c.begin-inside.result.1.books.records c.self.inside.number c.args.call c.args.given.now c.make-reply.result c.args.buf.now receives)))
+    (λ receives. c.ask-reply.ensures.buffer receives ∙ sym (ap (λ past. filled past c.ask-reply.result c.args.buf.now) is ∙ filled-kept c.begin-inside.result.1.books.records c.self.inside.number c.args.call c.args.given.now c.ask-reply.result c.args.buf.now receives)))
 
 pub returns-clause-waits : goal.returns-clause-waits
 returns-clause-waits g c = λ waits.
     let came = came-in c.begin-inside.ensures.came c.self.view_is c.requires.made in
-    let is = asked c.make-reply.ensures.made.entry c.make-reply.ensures.made.no_entry in
-    let reply = g.met.A.Returned.is_kind.waits c.make-reply.new.self.records c.make-reply.result c.of_reply-returned.result c.of_reply-returned.ensures waits in
+    let is = asked c.ask-reply.ensures.made.entry c.ask-reply.ensures.made.no_entry in
+    let reply = g.met.A.Returned.is_kind.waits c.ask-reply.new.books.records c.ask-reply.result c.of_reply-returned.result c.of_reply-returned.ensures waits in
     rw (c.process_of.ensures, c.depart_after-seat.ensures.left) (now-waits c.args.call c.args.given.now came (rw reply at is))
 
 pub returns-clause-free : goal.returns-clause-free
 returns-clause-free g c = λ over.
     let came = came-in c.begin-inside.ensures.came c.self.view_is c.requires.made in
-    let is = asked c.make-reply.ensures.made.entry c.make-reply.ensures.made.no_entry in
-    let answered = g.met.A.Returned.is_kind.over c.make-reply.new.self.records c.make-reply.result c.of_reply-returned.result c.of_reply-returned.ensures over in
-    rw (c.process_of.ensures, c.depart_after-seat.ensures.left) (still-free c.args.call c.args.given.now c.make-reply.result came c.requires.free is answered)
+    let is = asked c.ask-reply.ensures.made.entry c.ask-reply.ensures.made.no_entry in
+    let answered = g.met.A.Returned.is_kind.over c.ask-reply.new.books.records c.ask-reply.result c.of_reply-returned.result c.of_reply-returned.ensures over in
+    rw (c.process_of.ensures, c.depart_after-seat.ensures.left) (still-free c.args.call c.args.given.now c.ask-reply.result came c.requires.free is answered)
 
 pub returns-clause-begun : goal.returns-clause-begun
 returns-clause-begun g c =
     let came = came-in c.begin-inside.ensures.came c.self.view_is c.requires.made in
-    let is = asked c.make-reply.ensures.made.entry c.make-reply.ensures.made.no_entry in
-    rw (c.process_of.ensures, c.depart_after-seat.ensures.left) (begun c.args.call c.args.given.now c.make-reply.result came c.requires.free is)
+    let is = asked c.ask-reply.ensures.made.entry c.ask-reply.ensures.made.no_entry in
+    rw (c.process_of.ensures, c.depart_after-seat.ensures.left) (begun c.args.call c.args.given.now c.ask-reply.result came c.requires.free is)
