@@ -4,6 +4,7 @@ ghost use Rattle.text_io.specs.Words.{count_written};
 ghost use Rattle.bench_line.specs.Grammar.{request_written, busy_written, measured_written, bounded_written, workload_written, rounds_alone, deep_written, replay_written, crowd_written, idle_written, storm_written, name_written};
 
 use mq_model::bounds::Bounds;
+use mq_model::limits;
 use text_io::words::count_of;
 
 /// What is measured, with its sizes.
@@ -65,10 +66,8 @@ pub enum Name {
 /// The most rounds of a workload, and the most messages of all rounds.
 const MOST_ROUNDS: u32 = 10_000_000;
 /// The most messages in a queue.
-const MOST_DEPTH: u32 = 4096;
+const MOST_DEPTH: u32 = limits::MESSAGES as u32;
 
-/// The most processes, the most that a system has.
-const MOST_PROCESSES: u32 = 32;
 /// The most entries of a bounded journal, and the most payload bytes.
 const MOST_BOUND: u32 = 1_000_000_000;
 /// The most threads that count beside a workload.
@@ -235,7 +234,7 @@ fn replay_of(arguments: &[&[u8]]) -> Option<Workload>
         }),
         [entries, processes] => {
             let entries = count_of(MOST_ROUNDS, entries)?;
-            let processes = count_of(MOST_PROCESSES, processes)?;
+            let processes = count_of(limits::PROCESSES, processes)?;
             Some(Workload::Replay { entries, processes })
         }
         _ => None,
@@ -247,7 +246,7 @@ fn crowd_of(arguments: &[&[u8]]) -> Option<Workload>
 {
     match arguments {
         [processes, rounds] => {
-            let processes = count_of(MOST_PROCESSES, processes)?;
+            let processes = count_of(limits::PROCESSES, processes)?;
             let rounds = count_of(MOST_ROUNDS, rounds)?;
             if processes % 2 != 0 {
                 return None;
@@ -266,7 +265,7 @@ fn idle_of(arguments: &[&[u8]]) -> Option<Workload>
 {
     match arguments {
         [processes, milliseconds] => {
-            let processes = count_of(MOST_PROCESSES, processes)?;
+            let processes = count_of(limits::PROCESSES, processes)?;
             let milliseconds = count_of(MOST_MILLISECONDS, milliseconds)?;
             if processes < 2 {
                 return None;

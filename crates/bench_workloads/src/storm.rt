@@ -15,14 +15,12 @@ use mq::{Guarded, Monotonic, Mq, Process};
 use mq_model::bounds::Bounds;
 use mq_model::faults::Fault;
 use mq_model::journals::Journal;
+use mq_model::limits::PROCESSES;
 use std::alloc::{AllocError, Global};
 use std::sync::Wait;
 use std::thread;
 use std::thread::{Promise, PromisedHandle, Threads};
 use std::time::{Clock, Duration, Instant};
-
-/// How many processes a storm has, the most of a system.
-const PROCESSES: u32 = 32;
 
 // What each process is to do: so many calls, at random from the seed.
 #[derive(Clone, Copy)]

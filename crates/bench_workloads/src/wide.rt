@@ -10,18 +10,17 @@ use bench_line::fault::WorkFault;
 use fast_mutex::Look;
 use mq::{Guarded, Mq, Process};
 use mq_model::bounds::Bounds;
+use mq_model::limits;
+use mq_model::limits::PROCESSES;
 use std::alloc::Global;
 use std::sync::Wait;
 use std::time::{Clock, Duration, Instant};
 
-/// How many processes there are, the most of a system.
-const PROCESSES: u32 = 32;
-
 /// How many descriptors each has.
-const DESCRIPTORS: u32 = 16;
+const DESCRIPTORS: u32 = limits::DESCRIPTORS as u32;
 
 /// How many queues there are.
-const QUEUES: u32 = 64;
+const QUEUES: u32 = limits::QUEUES as u32;
 
 /// The descriptor that the last process has of the queue that was created last.
 const LAST: u32 = 1;

@@ -16,6 +16,7 @@ use crate::handle::Handle;
 use crate::member::Member;
 use crate::numbers::{DONE, EMPTY, FULL};
 use mq::{FastMq, FastProcess, Fault};
+use mq_model::limits::PROCESSES;
 use std::alloc::Global;
 use std::sync::Arc;
 
@@ -77,7 +78,7 @@ fn count_of(processes: &[Handle]) -> Option<u32>
     ensures none { result ≡ None → (length processes.now ≡ 0) ⊎ (32 < length processes.now) }
 {
     match processes.len() {
-        n if n >= 1 && n <= 32 => Some(n as u32),
+        n if n >= 1 && n <= PROCESSES as usize => Some(n as u32),
         _ => None,
     }
 }

@@ -19,7 +19,7 @@ fn output_of<S: Wait + Threads + Clock + CpuClock + Sync>(
 }
 
 // Lines, and how their results begin.
-const RESULTS: [(&str, &str); 15] = [
+static RESULTS: [(&str, &str); 15] = [
     ("pair 3\n", "pair: 6 operations, "),
     (" deep  4 2 \n", "deep: 16 operations, "),
     ("deep 1 002", "deep: 4 operations, "),
@@ -91,7 +91,7 @@ fn a_replay_prints_its_history(rt: HostRuntime) {
     }
 }
 
-const REFUSED: [&str; 47] = [
+static REFUSED: [&str; 47] = [
     "word\n",
     "Pair 1\n",
     "pair\n",
@@ -142,7 +142,7 @@ const REFUSED: [&str; 47] = [
 ];
 
 // Workloads that the journal has no room for.
-const FULL: [&str; 8] = [
+static FULL: [&str; 8] = [
     "bounded 7 54 pair 3\n",
     "bounded 8 53 pair 3\n",
     "bounded 20 100 crowd 4 5\n",

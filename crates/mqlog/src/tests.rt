@@ -53,7 +53,7 @@ const RUN_COUNTS: Counts = Counts {
 };
 
 // Texts of journals, with the verdict and what is printed.
-const VERDICTS: [(&str, Verdict, &str); 6] = [
+static VERDICTS: [(&str, Verdict, &str); 6] = [
     (
         "",
         Verdict::Legal(Counts {
@@ -114,7 +114,7 @@ fn verdicts_have_their_texts(rt: HostRuntime) {
 }
 
 // Replies that no entry of that journal may have.
-const TURNED: [&str; 6] = [
+static TURNED: [&str; 6] = [
     "fd 15",
     "handed 0",
     "attr 1 2 3 4",
@@ -162,7 +162,7 @@ fn an_entry_that_is_turned_is_refused_at_its_place(rt: HostRuntime) -> Result<()
 }
 
 // A line of each call and of each reply, with the greatest and the least numbers, by hand.
-const EXTREMES: &str =
+static EXTREMES: &str =
     r#"0 4294967295 open rcxn limits 9223372036854775807 -9223372036854775808 -> fd 4294967295
 1 0 open w "%00%FF~!" -> fd 0 created
 2 1 close 4294967295 "x" -> queued
@@ -205,7 +205,7 @@ fn each_call_and_each_reply_is_read_and_written(rt: HostRuntime) -> Result<(), F
 }
 
 // Lines that no entry has, at place 0.
-const NO_LINES: [&str; 34] = [
+static NO_LINES: [&str; 34] = [
     "\n",
     " \n",
     "0\n",
@@ -407,7 +407,7 @@ fn one_word_is_a_task(rt: HostRuntime) -> Result<(), Fail> {
 }
 
 // Options of draw, and what they ask for.
-const OPTIONS: [(&[&str], Option<Window>); 10] = [
+static OPTIONS: [(&[&str], Option<Window>); 10] = [
     (
         &["--from", "3"],
         Some(Window {
@@ -459,7 +459,7 @@ fn draw_has_options_and_the_others_have_none(rt: HostRuntime) -> Result<(), Fail
 }
 
 // Windows, and how many of the twenty entries they show.
-const SHOWN: [(Window, usize); 7] = [
+static SHOWN: [(Window, usize); 7] = [
     (WHOLE, 20),
     (Window { from: 3, to: 5 }, 3),
     (Window { from: 19, to: 19 }, 1),

@@ -3,11 +3,12 @@ use crate::turns::Share;
 use arrayvec::ArrayVec;
 use fast_mutex::Look;
 use mq::{Guarded, Process};
+use mq_model::limits::PROCESSES;
 use std::alloc::{AllocError, Global};
 use std::sync::atomic::{AtomicBool, Ordering};
 
 /// The most processes of a phase.
-const MOST: usize = 32;
+const MOST: usize = PROCESSES as usize;
 
 /// A process of a phase, and whether it may still make calls. It is through only after its last call was made.
 #[derive(Drop)]

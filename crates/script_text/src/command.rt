@@ -5,6 +5,7 @@ ghost use Rattle.std.specs.Option.{option_map};
 ghost use Rattle.script_text.specs.Grammar.{said, command_written, open_written, attr_written, close_written, unlink_written, send_written, receive_written, deadline_written, text_written, timed_send_written, until_written, timed_receive_written, getattr_written, setattr_written, notify_written, notice_written, exit_written, value_written, verb_written, access_written, are_options, flags_written, flag_written, is_at_most_once, is_option_letter, option_letters, room_written};
 
 use mq_model::entries::{Access, Attr, Deadline, OpenFlags};
+use mq_model::limits::MESSAGE_BYTES;
 use text_io::words::{integer, number, small_number};
 
 /// A call of a script. `T` holds the bytes of names and messages: in a program, a slice of the script.
@@ -195,15 +196,12 @@ fn flag_of(word: &[u8]) -> Option<bool>
     }
 }
 
-/// The longest buffer of a `recv` or `trecv`.
-const MOST_ROOM: u32 = 65_536;
-
-/// The length of the buffer of a `recv` or `trecv`.
+/// The length of the buffer of a `recv` or `trecv`, at most that of the longest message.
 fn room_of(word: &[u8]) -> Option<usize>
     ensures { result ≡ room_written word.now }
 {
     let room = small_number(word)?;
-    if room > MOST_ROOM {
+    if i64::from(room) > MESSAGE_BYTES {
         return None;
     }
     Some(room as usize)

@@ -7,13 +7,8 @@ ghost use Rattle.script_text.specs.Script.{is_skipped, is_phase_end, is_clock, p
 use crate::clock::FixedClock;
 use crate::command::{Command, command_of, deadline_of};
 use mq_model::entries::Deadline;
+use mq_model::limits::{NANOSECONDS, PROCESSES};
 use text_io::words::count_of;
-
-/// The most processes of a system.
-const MOST_PROCESSES: u32 = 32;
-
-/// The nanoseconds of a second.
-const SECOND: i64 = 1_000_000_000;
 
 /// A call with its process, the line that it stands in, counted from 1, and the clock of its phase.
 #[derive(Clone, Copy)]
@@ -164,7 +159,7 @@ fn moment_of(sec: &[u8], nsec: &[u8]) -> Option<Deadline>
     ensures moment { IfSome result (λ moment. is_moment moment ≡ true) }
 {
     let moment = deadline_of(sec, nsec)?;
-    if moment.nsec < 0 || moment.nsec >= SECOND {
+    if moment.nsec < 0 || moment.nsec >= NANOSECONDS {
         return None;
     }
     Some(moment)
@@ -175,7 +170,7 @@ fn processes_of(words: &[&[u8]]) -> Option<u32>
     ensures bounds { IfSome result (λ n. (1 ≤ n) × (n ≤ 32)) }
 {
     match words {
-        [word, count] if *word == b"processes".as_slice() => count_of(MOST_PROCESSES, count),
+        [word, count] if *word == b"processes".as_slice() => count_of(PROCESSES, count),
         _ => None,
     }
 }

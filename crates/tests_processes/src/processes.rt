@@ -104,7 +104,7 @@ fn expect_journal<R: Abort>(rt: &R, journal: &Journal, wanted: &[(u32, Reply)]) 
     assert_eq!(rt; check_history(journal), Ok(()));
 }
 
-const IN_ORDER: [Step; 9] = [
+static IN_ORDER: [Step; 9] = [
     (1, Ask::Number, Told::Number(1)),
     (2, Ask::Number, Told::Number(2)),
     (1, Ask::Open(CREATE, 2), Told::Opened(0)),
@@ -118,7 +118,7 @@ const IN_ORDER: [Step; 9] = [
 
 const RECEIVED: Told = Told::Got(Received { len: 1, prio: 1 });
 
-const BOTH_WAIT: [Step; 21] = [
+static BOTH_WAIT: [Step; 21] = [
     (1, Ask::Open(CREATE, 1), Told::Opened(0)),
     (2, Ask::Open(OPEN, 1), Told::Opened(0)),
     (1, Ask::StartReceive(0), Told::Waits),
@@ -159,7 +159,7 @@ const OPENED: Reply = Reply::Opened {
 const QUEUED: Reply = Reply::Queued { notified: None };
 
 // The fourth entry hands a message to a waiting receive, and the last but one admits a waiting send.
-const REPLIES: [(u32, Reply); 9] = [
+static REPLIES: [(u32, Reply); 9] = [
     (1, CREATED),
     (2, OPENED),
     (1, Reply::Waits),
@@ -184,7 +184,7 @@ fn two_processes_in_one_thread_wait_for_each_other(rt: HostRuntime) {
     expect_journal(&rt, &journal.expect(&rt, "memory"), &REPLIES);
 }
 
-const REPLIES_IN_ORDER: [(u32, Reply); 5] = [
+static REPLIES_IN_ORDER: [(u32, Reply); 5] = [
     (1, CREATED),
     (1, QUEUED),
     (1, QUEUED),

@@ -30,7 +30,7 @@ fn recorded<S: Threads + Wait + Clock + Sync>(
 
 // Scripts in which no call waits and processes take turns, each with its journal: every call but those that end a wait, messages of
 // one priority and of several, an empty one, bytes that a text escapes, and refusals.
-const RECORDED: [(&str, &str); 4] = [
+static RECORDED: [(&str, &str); 4] = [
     ("processes 1\n", ""),
     (
         "processes 1\n\
@@ -132,7 +132,7 @@ fn scripts_have_their_journals(rt: HostRuntime) {
 }
 
 // Scripts whose processes wait for each other, so that their entries come in an order that is not said.
-const WAITING: [&str; 2] = [
+static WAITING: [&str; 2] = [
     "processes 2\n\
      1 open /a bc 1 8\n\
      1 open /b bc 1 8\n\

@@ -5,7 +5,7 @@ use script_runner::RunFault;
 use std::test::Fail;
 
 // At the moment of the deadline it has passed, and one second later not; but a call that can be done at once is done.
-const DEADLINES: Run = Run {
+static DEADLINES: Run = Run {
     script: "processes 1\n\
              1 open /q bc 1 8\n\
              --\n\
@@ -25,7 +25,7 @@ const DEADLINES: Run = Run {
 };
 
 // The last clock line before the calls of a phase counts, and its moment stays in later phases.
-const CLOCKS: Run = Run {
+static CLOCKS: Run = Run {
     script: "processes 1\n\
              clock 9 0\n\
              clock -5 999999999\n\
@@ -56,7 +56,7 @@ const CLOCKS: Run = Run {
 };
 
 // Without a clock line it is the moment (0, 0).
-const NO_CLOCK: Run = Run {
+static NO_CLOCK: Run = Run {
     script: "processes 1\n\
              1 open /q bc 1 8\n\
              1 trecv 0 8 0 0\n\
@@ -68,7 +68,7 @@ const NO_CLOCK: Run = Run {
 };
 
 // Deadlines and moments at the ends of their range.
-const ENDS: Run = Run {
+static ENDS: Run = Run {
     script: "processes 1\n\
              1 open /q bc 1 8\n\
              --\n\
@@ -102,7 +102,7 @@ const ENDS: Run = Run {
 };
 
 // A receive whose deadline lies in the future waits for the other process's send.
-const BLOCKED_UNTIL_SENT: Run = Run {
+static BLOCKED_UNTIL_SENT: Run = Run {
     script: "processes 2\n\
              1 open /q bc 1 8\n\
              --\n\

@@ -20,7 +20,7 @@ struct Stuck {
 }
 
 // Two processes that each receive from the queue that the other would fill.
-const CROSSED: Stuck = Stuck {
+static CROSSED: Stuck = Stuck {
     script: "processes 2\n\
              1 open /p bc 1 8\n\
              1 open /q bc 1 8\n\
@@ -38,7 +38,7 @@ const CROSSED: Stuck = Stuck {
 };
 
 // One send more of process 1, before it receives.
-const CROSSED_ENDS: Run = Run {
+static CROSSED_ENDS: Run = Run {
     script: "processes 2\n\
              1 open /p bc 1 8\n\
              1 open /q bc 1 8\n\
@@ -62,20 +62,20 @@ const CROSSED_ENDS: Run = Run {
 };
 
 // A full queue and its one sender.
-const FULL: Stuck = Stuck {
+static FULL: Stuck = Stuck {
     script: "processes 1\n1 open /q bc 1 8\n1 send 0 0 a\n1 send 0 0 b\n1 exit\n",
     replies: "",
     lines: &[4],
     text: "line 4: waits for ever",
 };
 
-const FULL_ENDS: Run = Run {
+static FULL_ENDS: Run = Run {
     script: "processes 1\n1 open /q bc 1 8\n1 send 0 0 a\n1 recv 0 8\n1 send 0 0 b\n1 exit\n",
     replies: "1 fd 0\n1 ok\n1 got 0 1 a\n1 ok\n1 ok\nhistory ok\n",
 };
 
 // A process that ended its lines while another waits for it, and one that has none.
-const LEFT_ALONE: Stuck = Stuck {
+static LEFT_ALONE: Stuck = Stuck {
     script: "processes 3\n\
              1 open /q bc 1 8\n\
              --\n\
@@ -89,7 +89,7 @@ const LEFT_ALONE: Stuck = Stuck {
     text: "line 8: waits for ever",
 };
 
-const LEFT_ALONE_ENDS: Run = Run {
+static LEFT_ALONE_ENDS: Run = Run {
     script: "processes 3\n\
              1 open /q bc 1 8\n\
              --\n\
@@ -109,7 +109,7 @@ const LEFT_ALONE_ENDS: Run = Run {
 };
 
 // Calls with a deadline wait for ever where it lies after the moment of the phase, and not where it has passed.
-const DEADLINE: Stuck = Stuck {
+static DEADLINE: Stuck = Stuck {
     script: "processes 2\n\
              1 open /q bc 1 8\n\
              --\n\
@@ -125,7 +125,7 @@ const DEADLINE: Stuck = Stuck {
     text: "line 9: waits for ever",
 };
 
-const DEADLINE_ENDS: Run = Run {
+static DEADLINE_ENDS: Run = Run {
     script: "processes 2\n\
              1 open /q bc 1 8\n\
              --\n\
@@ -147,7 +147,7 @@ const DEADLINE_ENDS: Run = Run {
 };
 
 // A send and a timed send to a full queue, and a receive from an empty one: one line of each process, in their order.
-const THREE: Stuck = Stuck {
+static THREE: Stuck = Stuck {
     script: "processes 3\n\
              1 open /full bc 1 8\n\
              1 open /empty bc 1 8\n\

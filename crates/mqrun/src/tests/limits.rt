@@ -34,7 +34,7 @@ fn repeated(
     Ok(script)
 }
 
-const LONG_NAMES: [(&str, usize); 4] = [
+static LONG_NAMES: [(&str, usize); 4] = [
     (
         "processes 1\n1 open q bc\n1 open / bc\n1 open /a/b bc\n1 open /",
         255,
@@ -82,7 +82,7 @@ fn a_message_may_hold_any_byte_but_a_space_and_a_feed(rt: HostRuntime) -> Result
 }
 
 // Scripts, and their first lines at fault.
-const AT_FAULT: [(&str, u64); 22] = [
+static AT_FAULT: [(&str, u64); 22] = [
     ("", 1),
     ("processes 33\n", 1),
     ("processes 0", 1),

@@ -375,7 +375,7 @@ pub const BLOCKED_SEND: Run = Run {
              history ok\n",
 };
 
-pub const RUNS: [Run; 17] = [
+pub static RUNS: [Run; 17] = [
     NO_CALL,
     COMMENTS,
     EQUAL_PRIORITIES,

@@ -39,7 +39,7 @@ impl Read for OneByOne<'_> {
 }
 
 // Errors of any kind count, also those that POSIX lets a program try again.
-const KINDS: [ErrorKind; 4] = [
+static KINDS: [ErrorKind; 4] = [
     ErrorKind::Interrupted,
     ErrorKind::WouldBlock,
     ErrorKind::UnexpectedEof,
@@ -165,7 +165,7 @@ impl Gate for Latest {
 }
 
 // Of a script its replies, and for each phase how many bytes of replies there are up to its end, and its last line.
-const WRITTEN: [(Run, &[(usize, u64)]); 2] = [
+static WRITTEN: [(Run, &[(usize, u64)]); 2] = [
     (EQUAL_PRIORITIES, &[(41, 6)]),
     (TWO_PROCESSES, &[(7, 2), (19, 5), (24, 7), (52, 11)]),
 ];

@@ -7,7 +7,7 @@ use mq::{Collected, Guarded, Received};
 const RECEIVED: Received = Received { len: 1, prio: 0 };
 
 // A process is blocked from the call that waits to the entry that names its wait, and not only to its collect.
-const STEPS: [Step; 15] = [
+static STEPS: [Step; 15] = [
     (1, Ask::Open(CREATE, 1), Told::Opened(0)),
     (2, Ask::Open(OPEN, 1), Told::Opened(0)),
     (1, Ask::AreBlocked(&[1]), Told::Is(false)),

@@ -86,7 +86,7 @@ const EMPTY: Status = Status {
 };
 
 // Four entries, and four bytes: two of the name, and two of messages.
-const FOUR_OF_EACH: [Step; 12] = [
+static FOUR_OF_EACH: [Step; 12] = [
     (1, Ask::Open(CREATE, 2), Told::Opened(0)),
     (1, Ask::Send(0, b"ab", 0), Told::Done),
     (1, Ask::Send(0, b"c", 0), FULL),
@@ -107,7 +107,7 @@ fn calls_find_the_journal_full_where_the_bounds_say(rt: HostRuntime) {
     assert_eq!(rt; entries, Some(4));
 }
 
-const NOTHING_FITS: [Step; 14] = [
+static NOTHING_FITS: [Step; 14] = [
     (1, Ask::Open(CREATE, 2), FULL),
     (1, Ask::Unlink, FULL),
     (1, Ask::Close(0), FULL),
@@ -151,13 +151,13 @@ fn bounds_beyond_all_memory_are_refused_at_the_making(rt: HostRuntime) {
 }
 
 // One entry, and the two bytes of the name.
-const ONE_ENTRY: [Step; 3] = [
+static ONE_ENTRY: [Step; 3] = [
     (1, Ask::Open(CREATE, 2), Told::Opened(0)),
     (1, Ask::Getattr(0), FULL),
     (1, Ask::Exit, FULL),
 ];
 
-const NO_OPEN: [Step; 1] = [(1, Ask::Open(CREATE, 2), FULL)];
+static NO_OPEN: [Step; 1] = [(1, Ask::Open(CREATE, 2), FULL)];
 
 #[test]
 fn a_bound_of_one_entry_has_room_for_an_open(rt: HostRuntime) {

@@ -20,7 +20,7 @@ const NONBLOCK: Status = Status {
 
 // A registration is notified once, by a message that comes to the empty queue. Where nothing is present, a descriptor with the flag
 // refuses a receive. A queue lives on without descriptors until its unlink.
-const EACH_CALL: [Step; 17] = [
+static EACH_CALL: [Step; 17] = [
     (1, Ask::Open(CREATE, 2), Told::Opened(0)),
     (1, Ask::Notify(0, Some(7)), Told::Done),
     (1, Ask::NextNotice, Told::Notice(None)),
@@ -40,7 +40,7 @@ const EACH_CALL: [Step; 17] = [
     (1, Ask::Open(OPEN, 2), Told::Refused(Fault::NoEntry)),
 ];
 
-const REPLIES: [(u32, Reply); 17] = [
+static REPLIES: [(u32, Reply); 17] = [
     (
         1,
         Reply::Opened {

@@ -51,7 +51,7 @@ impl Moments for Ticks {
 
 const MOST: u64 = 20;
 
-const STEPS: [Step; 7] = [
+static STEPS: [Step; 7] = [
     (1, Ask::Open(CREATE, 1), Told::Opened(0)),
     (2, Ask::Open(OPEN, 1), Told::Opened(0)),
     (1, Ask::ReceiveUntilTick(0), Told::Refused(Fault::TimedOut)),

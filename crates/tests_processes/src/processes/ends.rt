@@ -41,13 +41,13 @@ fn finish_early<L: Look<Guarded>>(
     Some((whole, one, parts))
 }
 
-const FIRST: [Step; 1] = [(1, Ask::Open(CREATE, 2), Told::Opened(0))];
+static FIRST: [Step; 1] = [(1, Ask::Open(CREATE, 2), Told::Opened(0))];
 
-const SECOND: [Step; 1] = [(1, Ask::Send(0, b"a", 1), Told::Done)];
+static SECOND: [Step; 1] = [(1, Ask::Send(0, b"a", 1), Told::Done)];
 
-const THIRD: [Step; 1] = [(1, Ask::Receive(0), RECEIVED)];
+static THIRD: [Step; 1] = [(1, Ask::Receive(0), RECEIVED)];
 
-const THREE_CALLS: [(u32, Reply); 3] = [
+static THREE_CALLS: [(u32, Reply); 3] = [
     (1, CREATED),
     (1, QUEUED),
     (
@@ -85,7 +85,7 @@ fn what_an_early_end_hands_back_is_used_again(rt: HostRuntime) {
     expect_journal(&rt, &journal.expect(&rt, "all handed back"), &THREE_CALLS);
 }
 
-const STILL_WAITS: [Step; 2] = [
+static STILL_WAITS: [Step; 2] = [
     (1, Ask::Open(CREATE, 1), Told::Opened(0)),
     (1, Ask::StartReceive(0), Told::Waits),
 ];

@@ -14,7 +14,7 @@ use std::time::Clock;
 use tests_refusals::refuse_all;
 
 // Process 1 has a wait that is answered, process 2 one that is not.
-const WAITING: [Step; 5] = [
+static WAITING: [Step; 5] = [
     (1, Ask::Open(CREATE, 1), Told::Opened(0)),
     (2, Ask::Open(OPEN, 1), Told::Opened(0)),
     (1, Ask::StartReceive(0), Told::Waits),
@@ -22,7 +22,7 @@ const WAITING: [Step; 5] = [
     (2, Ask::StartReceive(0), Told::Waits),
 ];
 
-const WITHOUT_MEMORY: [Step; 12] = [
+static WITHOUT_MEMORY: [Step; 12] = [
     (1, Ask::Number, Told::Number(1)),
     (1, Ask::Waiting, Told::Room(Some(8))),
     (1, Ask::Answered, Told::Is(true)),
@@ -41,7 +41,7 @@ const WITHOUT_MEMORY: [Step; 12] = [
     (2, Ask::Waiting, Told::Room(Some(8))),
 ];
 
-const REPLIES: [(u32, Reply); 6] = [
+static REPLIES: [(u32, Reply); 6] = [
     (1, CREATED),
     (2, OPENED),
     (1, Reply::Waits),

@@ -19,7 +19,7 @@ const MESSAGES: u8 = 200;
 
 const RECEIVED: Told = Told::Got(Received { len: 1, prio: 0 });
 
-const OPENS: [Step; 2] = [
+static OPENS: [Step; 2] = [
     (1, Ask::Open(CREATE, 2), Told::Opened(0)),
     (2, Ask::Open(OPEN, 2), Told::Opened(0)),
 ];

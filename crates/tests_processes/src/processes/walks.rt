@@ -137,7 +137,7 @@ fn journal_of_ends<L: Look<Guarded>, R: Print>(
     Some((journal, [first, second]))
 }
 
-const REPLIES: [(u32, Reply); 7] = [
+static REPLIES: [(u32, Reply); 7] = [
     (1, CREATED),
     (2, OPENED),
     (1, Reply::Waits),
