@@ -39,7 +39,8 @@ P from 2 to 32, from 1 for a replay, even for a crowd, P times N at most 1000000
 /// Reads what the line of an input asks for. `BenchFault::BadLine`: the line names no workload. `BenchFault::Input`: a read failed.
 /// `BenchFault::Failed`: memory was refused.
 pub fn read_request<R: Read>(alloc: Global, input: &mut R) -> Result<Request, BenchFault>
-    ensures { (all : List ℕ) → R.remaining input.old ≡ Some all → Reads (request_read (take (MOST_BYTES + 1) all)) result }
+    ensures { (all : List ℕ) → R.remaining input.old ≡ Some all →
+        Reads (request_read (take (MOST_BYTES + 1) all)) result }
 {
     let text = read_all(alloc, input, MOST_BYTES)?;
     request_in(alloc, text.as_slice())
@@ -47,8 +48,10 @@ pub fn read_request<R: Read>(alloc: Global, input: &mut R) -> Result<Request, Be
 
 /// Writes the usage. `WriteFailed`: a write failed, which may have written a part.
 pub fn write_usage<W: Write>(output: &mut W) -> Result<(), WriteFailed>
-    ensures whole { OnOk result (Appends (W.contents output.old) (W.contents output.new) usage_text) }
-    ensures failed { OnErr result (AppendsTooLittle (W.contents output.old) (W.contents output.new) usage_text) }
+    ensures whole { OnOk result (Appends (W.contents output.old)
+        (W.contents output.new) usage_text) }
+    ensures failed { OnErr result (AppendsTooLittle (W.contents output.old)
+        (W.contents output.new) usage_text) }
 {
     write_all(output, usage())
 }

@@ -68,6 +68,8 @@ const MOST_ROUNDS: u32 = 10_000_000;
 /// The most messages in a queue.
 const MOST_DEPTH: u32 = limits::MESSAGES as u32;
 
+/// The most processes, the most that a system has.
+const MOST_PROCESSES: u32 = limits::PROCESSES;
 /// The most entries of a bounded journal, and the most payload bytes.
 const MOST_BOUND: u32 = 1_000_000_000;
 /// The most threads that count beside a workload.
@@ -234,7 +236,7 @@ fn replay_of(arguments: &[&[u8]]) -> Option<Workload>
         }),
         [entries, processes] => {
             let entries = count_of(MOST_ROUNDS, entries)?;
-            let processes = count_of(limits::PROCESSES, processes)?;
+            let processes = count_of(MOST_PROCESSES, processes)?;
             Some(Workload::Replay { entries, processes })
         }
         _ => None,
@@ -246,7 +248,7 @@ fn crowd_of(arguments: &[&[u8]]) -> Option<Workload>
 {
     match arguments {
         [processes, rounds] => {
-            let processes = count_of(limits::PROCESSES, processes)?;
+            let processes = count_of(MOST_PROCESSES, processes)?;
             let rounds = count_of(MOST_ROUNDS, rounds)?;
             if processes % 2 != 0 {
                 return None;
@@ -265,7 +267,7 @@ fn idle_of(arguments: &[&[u8]]) -> Option<Workload>
 {
     match arguments {
         [processes, milliseconds] => {
-            let processes = count_of(limits::PROCESSES, processes)?;
+            let processes = count_of(MOST_PROCESSES, processes)?;
             let milliseconds = count_of(MOST_MILLISECONDS, milliseconds)?;
             if processes < 2 {
                 return None;

@@ -105,7 +105,8 @@ where
         rt,
         |scope| -> Result<Vec<PromisedHandle<Process<L>, GivesBack<L>>>, WorkFault>
             requires { All (IsReady mq.now) processes.items }
-            ensures { IfOk result (λ handles. All (λ h. h.promise.0.now ≡ mq.entry.now) handles.items) }
+            ensures { IfOk result (λ handles.
+                All (λ h. h.promise.0.now ≡ mq.entry.now) handles.items) }
         {
             let mut handles = Vec::with_capacity(alloc, processes.len())?;
             for process in processes {

@@ -13,9 +13,11 @@ pub trait AwaitAnswer<S: Logged>: Look<S> {
     /// whose stay answers the wait wakes it. It says what the last look said.
     fn await_answer<R: Wait>(&self, rt: &R, seat: &mut Self::Seat, at_most: Duration) -> bool
         requires { (Self.ticket seat.old).lock ≡ Self.id self.now }
-        ensures ticket { Self.ticket seat.new ≡ record (Self.ticket seat.old) { told = (Self.ticket seat.old).told || result } }
+        ensures ticket { Self.ticket seat.new ≡
+            record (Self.ticket seat.old) { told = (Self.ticket seat.old).told || result } }
         ensures again { (Self.ticket seat.old).told ≡ true → result ≡ true }
-        ensures left { S.is_answered (Self.ticket seat.old).number (Self.ticket seat.old).left ≡ true → result ≡ true };
+        ensures left { S.is_answered (Self.ticket seat.old).number (Self.ticket seat.old).left ≡
+            true → result ≡ true };
 }
 
 impl<S: Logged, L: Look<S>> AwaitAnswer<S> for L {
@@ -27,7 +29,9 @@ impl<S: Logged, L: Look<S>> AwaitAnswer<S> for L {
 // Looks with pauses that grow, so that a wait which is answered soon hears of it at once.
 fn look_some_times<S: Logged, L: Look<S>>(lock: &L, seat: &mut L::Seat) -> bool
     requires { (L.ticket seat.old).lock ≡ L.id lock.now }
-    ensures { L.ticket seat.new ≡ record (L.ticket seat.old) { told = (L.ticket seat.old).told || result } }
+    ensures { L.ticket seat.new ≡ record (L.ticket seat.old) {
+      told = (L.ticket seat.old).told || result;
+    } }
 {
     let bells = lock.bells();
     let process = L::number(seat);
@@ -51,9 +55,11 @@ fn look_after_sleep<S: Logged, L: Look<S>, R: Wait>(
     at_most: Duration,
 ) -> bool
     requires { (L.ticket seat.old).lock ≡ L.id lock.now }
-    ensures ticket { L.ticket seat.new ≡ record (L.ticket seat.old) { told = (L.ticket seat.old).told || result } }
+    ensures ticket { L.ticket seat.new ≡
+        record (L.ticket seat.old) { told = (L.ticket seat.old).told || result } }
     ensures again { (L.ticket seat.old).told ≡ true → result ≡ true }
-    ensures left { S.is_answered (L.ticket seat.old).number (L.ticket seat.old).left ≡ true → result ≡ true }
+    ensures left { S.is_answered (L.ticket seat.old).number (L.ticket seat.old).left ≡ true →
+        result ≡ true }
 {
     let bells = lock.bells();
     let process = L::number(seat);

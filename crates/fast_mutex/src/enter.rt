@@ -23,9 +23,12 @@ pub trait Enter<S: Logged>: Lock<S> {
         requires { (Self.ticket seat).lock ≡ Self.id self.now }
         ensures stay { Self.stay result.0 ≡ record (Self.ticket seat) { left = S.items result.1 } }
         ensures fixed { S.fixed result.1 ≡ (Self.id self.now).fixed }
-        ensures grows { Grows S.author (Self.ticket seat).number (Self.ticket seat).left (S.items result.1) [] }
-        ensures told { (Self.ticket seat).told ≡ true → S.is_answered (Self.ticket seat).number (S.items result.1) ≡ true }
-        ensures number { (1 ≤ (Self.ticket seat).number) × ((Self.ticket seat).number ≤ (Self.id self.now).count) };
+        ensures grows { Grows S.author (Self.ticket seat).number (Self.ticket seat).left
+            (S.items result.1) [] }
+        ensures told { (Self.ticket seat).told ≡ true →
+            S.is_answered (Self.ticket seat).number (S.items result.1) ≡ true }
+        ensures number { (1 ≤ (Self.ticket seat).number) ×
+            ((Self.ticket seat).number ≤ (Self.id self.now).count) };
 
     /// Wakes who sleeps until this process has left, or until its last stay answered a wait. Where nobody sleeps it is a few loads.
     /// Who is not woken so looks again after some milliseconds.

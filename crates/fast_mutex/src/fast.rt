@@ -44,7 +44,9 @@ pub struct FastMutex<S: Logged> {
     table: Table<Option<S>, View<S::Item>, About<S>, FastRule<S>, Global>,
     count: u32,
     bells: Bells,
-    ghost shape: { (table.shared.table_id.words ≡ 2 * count + 2) × (table.shared.table_id.slots ≡ 1) × (count ≡ table.shared.key.count) × (1 ≤ count) × (count ≤ 32) },
+    ghost shape: { (table.shared.table_id.words ≡ 2 * count + 2) ×
+        (table.shared.table_id.slots ≡ 1) × (count ≡ table.shared.key.count) × (1 ≤ count) ×
+        (count ≤ 32) },
 }
 
 /// The right of one process to enter a `FastMutex`. The process is at rest.
@@ -60,11 +62,17 @@ pub struct Walk<S: Logged> {
     state: Option<S>,
     seat: Seat<Option<S>, View<S::Item>>,
     ghost range: { (1 ≤ number) × (number ≤ seat.me.0.fixed.0) },
-    ghost alone: { seat.me ≡ (seat_view at seat.me.0.found seat.me.0.fixed ((number, last_left seat.me.0.claims) ∷ []) seat.me.0.plan, slots_at at) },
+    ghost alone: { seat.me ≡ (
+      seat_view at seat.me.0.found seat.me.0.fixed
+          ((number, last_left seat.me.0.claims) ∷ []) seat.me.0.plan,
+      slots_at at,
+    ) },
     ghost held: { state_shown S.items S.fixed state ≡ state_at at seat.me.0.found seat.me.0.fixed },
-    ghost grown: { is_inside at ≡ true → HasGrown S.author number (last_left seat.me.0.claims) seat.me.0.found },
+    ghost grown: { is_inside at ≡ true →
+        HasGrown S.author number (last_left seat.me.0.claims) seat.me.0.found },
     ghost unstored: { is_inside at ≡ true → seat.me.0.plan.stored ≡ [] },
-    ghost told: { is_inside at ≡ true → seat.me.0.plan.told ≡ true → S.is_answered number seat.me.0.found ≡ true },
+    ghost told: { is_inside at ≡ true → seat.me.0.plan.told ≡ true →
+        S.is_answered number seat.me.0.found ≡ true },
     ghost entering: { at ≡ Leaving → ⊥ },
     ghost counted: { IsCounted seat.me.0.fixed.0 at steps } by { counted_prop seat.me.0.fixed.0 at steps },
 }
@@ -80,7 +88,11 @@ pub struct FastInside<S: Logged> {
     ghost is_in: { is_inside at ≡ true },
     ghost unstored: { seat.me.0.plan.stored ≡ [] },
     ghost known: { answers ≡ answer_bits (λ p. S.is_answered p seat.me.0.found) 1 32 },
-    ghost alone: { seat.me ≡ (seat_view at seat.me.0.found seat.me.0.fixed ((number, last_left seat.me.0.claims) ∷ []) seat.me.0.plan, (0, None) ∷ []) },
+    ghost alone: { seat.me ≡ (
+      seat_view at seat.me.0.found seat.me.0.fixed
+          ((number, last_left seat.me.0.claims) ∷ []) seat.me.0.plan,
+      (0, None) ∷ [],
+    ) },
     ghost counted: { IsCounted seat.me.0.fixed.0 at steps } by { counted_prop seat.me.0.fixed.0 at steps },
 }
 
@@ -96,7 +108,8 @@ impl<S: Logged> FastMutex<S> {
     // b[i] := true, the first step of a pass
     #[inline(always)]
     fn raise_b(&self, mut walk: Walk<S>) -> Walk<S>
-        requires lock { IsSeatOf S.fixed self.now.table.shared.table_id self.now.table.shared.key walk.seat }
+        requires lock { IsSeatOf S.fixed self.now.table.shared.table_id
+            self.now.table.shared.key walk.seat }
         requires at { (walk.at ≡ Rest) ⊎ (walk.at ≡ Start) }
         ensures at { result.at ≡ SetX }
         ensures steps { result.steps ≡ 1 }
@@ -112,7 +125,8 @@ impl<S: Logged> FastMutex<S> {
     // x := i
     #[inline(always)]
     fn set_x(&self, mut walk: Walk<S>) -> Walk<S>
-        requires lock { IsSeatOf S.fixed self.now.table.shared.table_id self.now.table.shared.key walk.seat }
+        requires lock { IsSeatOf S.fixed self.now.table.shared.table_id
+            self.now.table.shared.key walk.seat }
         requires at { walk.at ≡ SetX }
         ensures at { result.at ≡ TestY }
         ensures steps { result.steps ≡ one_more walk.steps }
@@ -128,7 +142,8 @@ impl<S: Logged> FastMutex<S> {
     // load y: on where it is 0, else back
     #[inline(always)]
     fn test_y(&self, mut walk: Walk<S>) -> Walk<S>
-        requires lock { IsSeatOf S.fixed self.now.table.shared.table_id self.now.table.shared.key walk.seat }
+        requires lock { IsSeatOf S.fixed self.now.table.shared.table_id
+            self.now.table.shared.key walk.seat }
         requires at { walk.at ≡ TestY }
         ensures at { (result.at ≡ SetY) ⊎ (result.at ≡ BackB) }
         ensures steps { result.steps ≡ one_more walk.steps }
@@ -142,7 +157,8 @@ impl<S: Logged> FastMutex<S> {
 
     // b[i] := false, on the way back
     fn back_b(&self, mut walk: Walk<S>) -> Walk<S>
-        requires lock { IsSeatOf S.fixed self.now.table.shared.table_id self.now.table.shared.key walk.seat }
+        requires lock { IsSeatOf S.fixed self.now.table.shared.table_id
+            self.now.table.shared.key walk.seat }
         requires at { walk.at ≡ BackB }
         ensures at { result.at ≡ AwaitY }
         ensures steps { result.steps ≡ one_more walk.steps }
@@ -157,7 +173,8 @@ impl<S: Logged> FastMutex<S> {
 
     // load y: begin again where it is 0, else wait
     fn await_y(&self, mut walk: Walk<S>) -> Walk<S>
-        requires lock { IsSeatOf S.fixed self.now.table.shared.table_id self.now.table.shared.key walk.seat }
+        requires lock { IsSeatOf S.fixed self.now.table.shared.table_id
+            self.now.table.shared.key walk.seat }
         requires at { walk.at ≡ AwaitY }
         ensures at { (result.at ≡ Start) ⊎ (result.at ≡ AwaitY) }
         ensures steps { result.steps ≡ one_more walk.steps }
@@ -172,7 +189,8 @@ impl<S: Logged> FastMutex<S> {
     // y := i
     #[inline(always)]
     fn set_y(&self, mut walk: Walk<S>) -> Walk<S>
-        requires lock { IsSeatOf S.fixed self.now.table.shared.table_id self.now.table.shared.key walk.seat }
+        requires lock { IsSeatOf S.fixed self.now.table.shared.table_id
+            self.now.table.shared.key walk.seat }
         requires at { walk.at ≡ SetY }
         ensures at { result.at ≡ TestX }
         ensures steps { result.steps ≡ one_more walk.steps }
@@ -188,7 +206,8 @@ impl<S: Logged> FastMutex<S> {
     // load x: inside where it is i, else the slow path
     #[inline(always)]
     fn test_x(&self, mut walk: Walk<S>) -> Walk<S>
-        requires lock { IsSeatOf S.fixed self.now.table.shared.table_id self.now.table.shared.key walk.seat }
+        requires lock { IsSeatOf S.fixed self.now.table.shared.table_id
+            self.now.table.shared.key walk.seat }
         requires at { walk.at ≡ TestX }
         ensures at { (result.at ≡ Fast) ⊎ (result.at ≡ SlowB) }
         ensures steps { result.steps ≡ one_more walk.steps }
@@ -210,7 +229,8 @@ impl<S: Logged> FastMutex<S> {
 
     // b[i] := false, before the scan
     fn slow_b(&self, mut walk: Walk<S>) -> Walk<S>
-        requires lock { IsSeatOf S.fixed self.now.table.shared.table_id self.now.table.shared.key walk.seat }
+        requires lock { IsSeatOf S.fixed self.now.table.shared.table_id
+            self.now.table.shared.key walk.seat }
         requires at { walk.at ≡ SlowB }
         ensures at { result.at ≡ Scan 1 }
         ensures steps { result.steps ≡ one_more walk.steps }
@@ -225,7 +245,8 @@ impl<S: Logged> FastMutex<S> {
 
     // load b[j]: on where it is false, else again
     fn scan(&self, mut walk: Walk<S>, j: u32) -> Walk<S>
-        requires lock { IsSeatOf S.fixed self.now.table.shared.table_id self.now.table.shared.key walk.seat }
+        requires lock { IsSeatOf S.fixed self.now.table.shared.table_id
+            self.now.table.shared.key walk.seat }
         requires at { walk.at ≡ Scan j }
         ensures at { IsLine self.now.count (Scan j) result.at }
         ensures steps { result.steps ≡ one_more walk.steps }
@@ -246,7 +267,8 @@ impl<S: Logged> FastMutex<S> {
 
     // load y after the scan: inside where it is i, else wait
     fn slow_y(&self, mut walk: Walk<S>) -> Walk<S>
-        requires lock { IsSeatOf S.fixed self.now.table.shared.table_id self.now.table.shared.key walk.seat }
+        requires lock { IsSeatOf S.fixed self.now.table.shared.table_id
+            self.now.table.shared.key walk.seat }
         requires at { walk.at ≡ SlowY }
         ensures at { (result.at ≡ Slow) ⊎ (result.at ≡ SlowAwait) }
         ensures steps { result.steps ≡ one_more walk.steps }
@@ -268,7 +290,8 @@ impl<S: Logged> FastMutex<S> {
 
     // load y after the scan: begin again where it is 0, else wait
     fn slow_await(&self, mut walk: Walk<S>) -> Walk<S>
-        requires lock { IsSeatOf S.fixed self.now.table.shared.table_id self.now.table.shared.key walk.seat }
+        requires lock { IsSeatOf S.fixed self.now.table.shared.table_id
+            self.now.table.shared.key walk.seat }
         requires at { walk.at ≡ SlowAwait }
         ensures at { (result.at ≡ Start) ⊎ (result.at ≡ SlowAwait) }
         ensures steps { result.steps ≡ one_more walk.steps }
@@ -286,7 +309,8 @@ impl<S: Logged> FastMutex<S> {
     /// An entry that has not begun: at `At::Rest`, with no word touched.
     #[inline(always)]
     pub fn begin(&self, seat: FastSeat<S>) -> Walk<S>
-        requires { IsSeatOf S.fixed self.now.table.shared.table_id self.now.table.shared.key seat.seat }
+        requires { IsSeatOf S.fixed self.now.table.shared.table_id
+            self.now.table.shared.key seat.seat }
         ensures at { result.at ≡ Rest }
         ensures steps { result.steps ≡ 0 }
         ensures ticket { ticket_of result.number result.seat ≡ ticket_of seat.number seat.seat }
@@ -317,7 +341,8 @@ impl<S: Logged> FastMutex<S> {
     /// The next atomic step: one line of the algorithm, one load or store of one word.
     #[inline(always)]
     pub fn step(&self, walk: Walk<S>) -> Walk<S>
-        requires lock { IsSeatOf S.fixed self.now.table.shared.table_id self.now.table.shared.key walk.seat }
+        requires lock { IsSeatOf S.fixed self.now.table.shared.table_id
+            self.now.table.shared.key walk.seat }
         requires outside { is_inside walk.at ≡ false }
         ensures line { IsLine self.now.count walk.at result.at }
         ensures steps { result.steps ≡ pass_steps walk.at walk.steps }
@@ -343,11 +368,15 @@ impl<S: Logged> FastMutex<S> {
     #[inline(always)]
     pub fn admitted(walk: Walk<S>) -> (FastInside<S>, S)
         requires inside { is_inside walk.at ≡ true }
-        ensures stay { stay_of result.0.number result.0.seat ≡ record (ticket_of walk.number walk.seat) { left = S.items result.1 } }
+        ensures stay { stay_of result.0.number result.0.seat ≡
+            record (ticket_of walk.number walk.seat) { left = S.items result.1 } }
         ensures fixed { S.fixed result.1 ≡ (ticket_of walk.number walk.seat).lock.fixed }
-        ensures grows { Grows S.author walk.number (ticket_of walk.number walk.seat).left (S.items result.1) [] }
-        ensures told { (ticket_of walk.number walk.seat).told ≡ true → S.is_answered walk.number (S.items result.1) ≡ true }
-        ensures number { (1 ≤ walk.number) × (walk.number ≤ (ticket_of walk.number walk.seat).lock.count) }
+        ensures grows { Grows S.author walk.number (ticket_of walk.number walk.seat).left
+            (S.items result.1) [] }
+        ensures told { (ticket_of walk.number walk.seat).told ≡ true →
+            S.is_answered walk.number (S.items result.1) ≡ true }
+        ensures number { (1 ≤ walk.number) ×
+            (walk.number ≤ (ticket_of walk.number walk.seat).lock.count) }
         ensures steps { (result.0.at ≡ walk.at) × (result.0.steps ≡ walk.steps) }
     {
         let Walk {
@@ -376,12 +405,17 @@ impl<S: Logged> FastMutex<S> {
 impl<S: Logged> FastMutex<S> {
     // s[process] := 1 where the list that is given back answers its wait, else 0
     fn set_mark(&self, mut seat: TableSeat<S>, process: u32, mark: u64) -> TableSeat<S>
-        requires lock { IsSeatOf S.fixed self.now.table.shared.table_id self.now.table.shared.key seat }
+        requires lock { IsSeatOf S.fixed self.now.table.shared.table_id
+            self.now.table.shared.key seat }
         requires ready { IsReady S.items S.fixed S.author S.is_answered seat.me }
         requires process { (1 ≤ process) × (process ≤ self.now.count) }
         requires mark { mark ≡ flag (S.is_answered process (list_in S.items seat.me.1)) }
         ensures own { (result.table_id ≡ seat.table_id) × (result.id ≡ seat.id) }
-        ensures view { result.me ≡ (view_marked process (list_in S.items seat.me.1) seat.me.0, seat.me.1) }
+        ensures view { result.me ≡ (
+          view_marked process
+              (list_in S.items seat.me.1) seat.me.0,
+          seat.me.1,
+        ) }
     {
         let word = self.count as usize + 1 + process as usize;
         self.table.shared.store::<Marks<S>>(&mut seat, word, mark);
@@ -390,14 +424,17 @@ impl<S: Logged> FastMutex<S> {
 
     // Stores the word s of each process whose answer is not the same after the stay as before it.
     fn set_marks(&self, mut seat: TableSeat<S>, before: u32, after: u32) -> TableSeat<S>
-        requires lock { IsSeatOf S.fixed self.now.table.shared.table_id self.now.table.shared.key seat }
+        requires lock { IsSeatOf S.fixed self.now.table.shared.table_id
+            self.now.table.shared.key seat }
         requires ready { IsReady S.items S.fixed S.author S.is_answered seat.me }
         requires before { before ≡ answer_bits (λ p. S.is_answered p seat.me.0.found) 1 32 }
-        requires after { after ≡ answer_bits (λ p. S.is_answered p (list_in S.items seat.me.1)) 1 32 }
+        requires after { after ≡ answer_bits (λ p.
+            S.is_answered p (list_in S.items seat.me.1)) 1 32 }
         ensures own { (result.table_id ≡ seat.table_id) × (result.id ≡ seat.id) }
         ensures view { result.me ≡ (view_planned result.me.0.plan seat.me.0, seat.me.1) }
         ensures ready { IsReady S.items S.fixed S.author S.is_answered result.me }
-        ensures shows { Shows S.is_answered seat.me.0.fixed.0 seat.me.0.found result.me.0.plan (list_in S.items seat.me.1) }
+        ensures shows { Shows S.is_answered seat.me.0.fixed.0 seat.me.0.found result.me.0.plan
+            (list_in S.items seat.me.1) }
     {
         let mut old = before;
         let mut new = after;
@@ -415,10 +452,15 @@ impl<S: Logged> FastMutex<S> {
 
     // load s[i], outside
     pub(crate) fn look(&self, seat: &mut FastSeat<S>) -> bool
-        requires { IsSeatOf S.fixed self.now.table.shared.table_id self.now.table.shared.key seat.old.seat }
-        ensures ticket { ticket_of seat.new.number seat.new.seat ≡ record (ticket_of seat.old.number seat.old.seat) { told = (ticket_of seat.old.number seat.old.seat).told || result } }
+        requires { IsSeatOf S.fixed self.now.table.shared.table_id self.now.table.shared.key
+            seat.old.seat }
+        ensures ticket { ticket_of seat.new.number seat.new.seat ≡
+            record (ticket_of seat.old.number seat.old.seat) {
+              told = (ticket_of seat.old.number seat.old.seat).told || result;
+            } }
         ensures again { (ticket_of seat.old.number seat.old.seat).told ≡ true → result ≡ true }
-        ensures left { S.is_answered seat.old.number (ticket_of seat.old.number seat.old.seat).left ≡ true → result ≡ true }
+        ensures left { S.is_answered seat.old.number
+            (ticket_of seat.old.number seat.old.seat).left ≡ true → result ≡ true }
     {
         let word = self.count as usize + 1 + seat.number as usize;
         let found = self.table.shared.load::<Looks<S>>(&mut seat.seat, word);
@@ -451,10 +493,12 @@ impl<S: Logged> FastMutex<S> {
     // the words s that change, y := 0, and then b[i] := false
     #[inline(always)]
     pub(crate) fn depart(&self, inside: FastInside<S>, state: S) -> FastSeat<S>
-        requires lock { IsSeatOf S.fixed self.now.table.shared.table_id self.now.table.shared.key inside.seat }
+        requires lock { IsSeatOf S.fixed self.now.table.shared.table_id self.now.table.shared.key
+            inside.seat }
         requires fixed { S.fixed state ≡ S.fixed self.now.table.shared.key.state.value }
         requires grows { GrowsBy S.author inside.number inside.seat.me.0.found (S.items state) }
-        ensures { ticket_of result.number result.seat ≡ record (stay_of inside.number inside.seat) { left = S.items state; told = false } }
+        ensures { ticket_of result.number result.seat ≡
+            record (stay_of inside.number inside.seat) { left = S.items state; told = false } }
     {
         let FastInside {
             number,
@@ -486,7 +530,8 @@ impl<S: Logged> FastMutex<S> {
     pub(crate) fn steps_of(inside: &FastInside<S>) -> u64
         ensures steps { result ≡ inside.now.steps }
         ensures fast { inside.now.at ≡ Fast → result ≡ 5 }
-        ensures slow { inside.now.at ≡ Slow → (stay_of inside.now.number inside.now.seat).lock.count + 7 ≤ result }
+        ensures slow { inside.now.at ≡ Slow →
+            (stay_of inside.now.number inside.now.seat).lock.count + 7 ≤ result }
     {
         inside.steps
     }
@@ -507,8 +552,10 @@ impl<S: Logged> FastMutex<S> {
     ) -> Result<(FastMutex<S>, TableSeat<S>), (S, AllocError)>
         requires count { (1 ≤ count) × (count ≤ 32) }
         requires empty { S.items state ≡ [] }
-        ensures made { IfOk result (λ r. made_with S.fixed r.0.table.shared.key ≡ (count, S.fixed state)) }
-        ensures first { IfOk result (λ r. (r.1.table_id ≡ r.0.table.shared.table_id) × (r.1.me ≡ (first_view resting S.fixed r.0.table.shared.key, []))) }
+        ensures made { IfOk result (λ r. made_with S.fixed r.0.table.shared.key ≡
+            (count, S.fixed state)) }
+        ensures first { IfOk result (λ r. (r.1.table_id ≡ r.0.table.shared.table_id) ×
+            (r.1.me ≡ (first_view resting S.fixed r.0.table.shared.key, []))) }
         ensures back { IfErr result (λ r. r.0 ≡ state) }
     {
         let about = About {
@@ -535,8 +582,11 @@ impl<S: Logged> FastMutex<S> {
     ) -> Result<(FastMutex<S>, Vec<FastSeat<S>>), (S, AllocError)>
         requires number { (1 ≤ n) × (n ≤ 32) }
         requires empty { S.items state ≡ [] }
-        ensures lock { IfOk result (λ r. made_with S.fixed r.0.table.shared.key ≡ (n, S.fixed state)) }
-        ensures seats { IfOk result (λ r. map (λ s. ticket_of s.number s.seat) r.1.items ≡ tickets_from (lock_id r.0.table.shared.table_id (made_with S.fixed r.0.table.shared.key)) 1 n) }
+        ensures lock { IfOk result (λ r. made_with S.fixed r.0.table.shared.key ≡
+            (n, S.fixed state)) }
+        ensures seats { IfOk result (λ r. map (λ s. ticket_of s.number s.seat) r.1.items ≡
+            tickets_from (lock_id r.0.table.shared.table_id
+            (made_with S.fixed r.0.table.shared.key)) 1 n) }
         ensures back { IfErr result (λ r. r.0 ≡ state) }
     {
         let seats = match Vec::with_capacity(alloc, n as usize) {
@@ -567,10 +617,13 @@ impl<S: Logged> FastMutex<S> {
         self,
         seats: Vec<FastSeat<S>>,
     ) -> Result<S, Missing<FastMutex<S>, FastSeat<S>>>
-        requires own { All (λ s. IsSeatOf S.fixed self.table.shared.table_id self.table.shared.key s.seat) seats.items }
+        requires own { All (λ s. IsSeatOf S.fixed self.table.shared.table_id self.table.shared.key
+            s.seat) seats.items }
         ensures all { (self.table.shared.key.count ≤ length seats.items) ↔ IsOk result }
         ensures fixed { IfOk result (λ s. S.fixed s ≡ S.fixed self.table.shared.key.state.value) }
-        ensures grows { IfOk result (λ s. All (λ t. Grows S.author t.number (last_left t.seat.me.0.claims) (S.items s) []) seats.items) }
+        ensures grows { IfOk result (λ s.
+            All (λ t. Grows S.author t.number (last_left t.seat.me.0.claims)
+            (S.items s) []) seats.items) }
         ensures back { IfErr result (λ m. (m.whole ≡ self) × (m.parts ≡ seats)) }
     {
         if seats.len() < self.count as usize {

@@ -88,7 +88,8 @@ impl<S: Logged + Drop> Lock<S> for FastMutex<S> {
     fn steps(inside: &FastInside<S>) -> u64
         ensures steps { result ≡ inside.now.steps }
         ensures fast { inside.now.at ≡ FastAt → result ≡ 5 }
-        ensures slow { inside.now.at ≡ SlowAt → (stay_of inside.now.number inside.now.seat).lock.count + 7 ≤ result }
+        ensures slow { inside.now.at ≡ SlowAt →
+            (stay_of inside.now.number inside.now.seat).lock.count + 7 ≤ result }
     {
         FastMutex::steps_of(inside)
     }
@@ -117,10 +118,13 @@ impl<S: Logged + Drop> Lock<S> for FastMutex<S> {
     }
 
     fn finish(self, seats: Vec<FastSeat<S>>) -> Result<S, Missing<FastMutex<S>, FastSeat<S>>>
-        requires { All (λ s. (⟦<Self as Lock<S>>⟧.ticket s).lock ≡ ⟦<Self as Lock<S>>⟧.id self) seats.items }
+        requires { All (λ s. (⟦<Self as Lock<S>>⟧.ticket s).lock ≡
+            ⟦<Self as Lock<S>>⟧.id self) seats.items }
         ensures all { ((⟦<Self as Lock<S>>⟧.id self).count ≤ length seats.items) ↔ IsOk result }
         ensures fixed { IfOk result (λ s. S.fixed s ≡ (⟦<Self as Lock<S>>⟧.id self).fixed) }
-        ensures grows { IfOk result (λ s. All (λ t. Grows S.author (⟦<Self as Lock<S>>⟧.ticket t).number (⟦<Self as Lock<S>>⟧.ticket t).left (S.items s) []) seats.items) }
+        ensures grows { IfOk result (λ s.
+            All (λ t. Grows S.author (⟦<Self as Lock<S>>⟧.ticket t).number
+            (⟦<Self as Lock<S>>⟧.ticket t).left (S.items s) []) seats.items) }
         ensures back { IfErr result (λ m. (m.whole ≡ self) × (m.parts ≡ seats)) }
     {
         self.gather(seats)

@@ -90,9 +90,12 @@ pub trait Lock<S: Logged>: Sized + Drop {
         requires { is_in walk ≡ true }
         ensures stay { stay result.0 ≡ record (walking walk) { left = S.items result.1 } }
         ensures fixed { S.fixed result.1 ≡ (walking walk).lock.fixed }
-        ensures grows { Grows S.author (walking walk).number (walking walk).left (S.items result.1) [] }
-        ensures told { (walking walk).told ≡ true → S.is_answered (walking walk).number (S.items result.1) ≡ true }
-        ensures number { (1 ≤ (walking walk).number) × ((walking walk).number ≤ (walking walk).lock.count) };
+        ensures grows { Grows S.author (walking walk).number (walking walk).left
+            (S.items result.1) [] }
+        ensures told { (walking walk).told ≡ true →
+            S.is_answered (walking walk).number (S.items result.1) ≡ true }
+        ensures number { (1 ≤ (walking walk).number) ×
+            ((walking walk).number ≤ (walking walk).lock.count) };
 
     /// How this stay was entered. Each lock says which paths it has.
     fn path(inside: &Self::Inside) -> Path;
@@ -124,7 +127,9 @@ pub trait Lock<S: Logged>: Sized + Drop {
         requires { All (λ s. (ticket s).lock ≡ id self) seats.items }
         ensures all { ((id self).count ≤ length seats.items) ↔ IsOk result }
         ensures fixed { IfOk result (λ s. S.fixed s ≡ (id self).fixed) }
-        ensures grows { IfOk result (λ s. All (λ t. Grows S.author (ticket t).number (ticket t).left (S.items s) []) seats.items) }
+        ensures grows { IfOk result (λ s.
+            All (λ t. Grows S.author (ticket t).number (ticket t).left
+            (S.items s) []) seats.items) }
         ensures back { IfErr result (λ m. (m.whole ≡ self) × (m.parts ≡ seats)) };
 }
 
@@ -134,7 +139,9 @@ pub trait Look<S: Logged>: Lock<S> {
     /// left answers its wait, the look is true.
     fn answered(&self, seat: &mut Self::Seat) -> bool
         requires { (Self.ticket seat.old).lock ≡ Self.id self.now }
-        ensures ticket { Self.ticket seat.new ≡ record (Self.ticket seat.old) { told = (Self.ticket seat.old).told || result } }
+        ensures ticket { Self.ticket seat.new ≡
+            record (Self.ticket seat.old) { told = (Self.ticket seat.old).told || result } }
         ensures again { (Self.ticket seat.old).told ≡ true → result ≡ true }
-        ensures left { S.is_answered (Self.ticket seat.old).number (Self.ticket seat.old).left ≡ true → result ≡ true };
+        ensures left { S.is_answered (Self.ticket seat.old).number (Self.ticket seat.old).left ≡
+            true → result ≡ true };
 }

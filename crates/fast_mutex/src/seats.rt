@@ -67,14 +67,24 @@ fn deal_one<S: Logged, V: RestView<S::Item>, R: TableRule<Option<S>, V, About<S>
     first: &mut Seat<Option<S>, V>,
     number: u32,
 ) -> LockSeat<S, V>
-    requires rule { Deals V.resting S.items S.fixed S.author shared.now.key (R.holds shared.now.key) }
+    requires rule { Deals V.resting S.items S.fixed S.author shared.now.key
+        (R.holds shared.now.key) }
     requires words { 0 < shared.now.table_id.words }
     requires own { first.old.table_id ≡ shared.now.table_id }
     requires number { (1 ≤ number) × (number ≤ shared.now.key.count) }
-    requires claims { first.old.me ≡ (fresh V.resting (made_with S.fixed shared.now.key) (new_claims number (suc (shared.now.key.count - number))), []) }
+    requires claims { first.old.me ≡ (
+      fresh V.resting (made_with S.fixed shared.now.key)
+          (new_claims number (suc (shared.now.key.count - number))),
+      [],
+    ) }
     ensures own { first.new.table_id ≡ first.old.table_id }
-    ensures claims { first.new.me ≡ (fresh V.resting (made_with S.fixed shared.now.key) (new_claims (number + 1) (shared.now.key.count - number)), []) }
-    ensures ticket { ticket_of V.resting result.number result.seat ≡ new_ticket (lock_id shared.now.table_id (made_with S.fixed shared.now.key)) number }
+    ensures claims { first.new.me ≡ (
+      fresh V.resting (made_with S.fixed shared.now.key)
+          (new_claims (number + 1) (shared.now.key.count - number)),
+      [],
+    ) }
+    ensures ticket { ticket_of V.resting result.number result.seat ≡
+        new_ticket (lock_id shared.now.table_id (made_with S.fixed shared.now.key)) number }
 {
     let seat = shared.split_seat::<DealsFirst<S::Item>>(first);
     LockSeat {
@@ -91,12 +101,15 @@ pub(crate) fn deal<S: Logged, V: RestView<S::Item>, R: TableRule<Option<S>, V, A
     mut first: Seat<Option<S>, V>,
     mut seats: Vec<LockSeat<S, V>>,
 ) -> Vec<LockSeat<S, V>>
-    requires rule { Deals V.resting S.items S.fixed S.author shared.now.key (R.holds shared.now.key) }
+    requires rule { Deals V.resting S.items S.fixed S.author shared.now.key
+        (R.holds shared.now.key) }
     requires words { 0 < shared.now.table_id.words }
     requires count { (1 ≤ count) × (count ≡ shared.now.key.count) }
-    requires first { (first.table_id ≡ shared.now.table_id) × (first.me ≡ (first_view V.resting S.fixed shared.now.key, [])) }
+    requires first { (first.table_id ≡ shared.now.table_id) ×
+        (first.me ≡ (first_view V.resting S.fixed shared.now.key, [])) }
     requires room { (vec_len seats ≡ 0) × (count ≤ vec_capacity seats) }
-    ensures tickets { map (λ s. ticket_of V.resting s.number s.seat) result.items ≡ tickets_from (lock_id shared.now.table_id (made_with S.fixed shared.now.key)) 1 count }
+    ensures tickets { map (λ s. ticket_of V.resting s.number s.seat) result.items ≡
+        tickets_from (lock_id shared.now.table_id (made_with S.fixed shared.now.key)) 1 count }
 {
     for number in 1..count {
         let seat = deal_one(shared, &mut first, number);
@@ -115,12 +128,15 @@ fn join_all<S: Logged, V: RestView<S::Item>, R: TableRule<Option<S>, V, About<S>
     shared: &Shared<Option<S>, V, About<S>, R>,
     mut seats: Vec<LockSeat<S, V>>,
 ) -> Seat<Option<S>, V>
-    requires rule { Deals V.resting S.items S.fixed S.author shared.now.key (R.holds shared.now.key) }
+    requires rule { Deals V.resting S.items S.fixed S.author shared.now.key
+        (R.holds shared.now.key) }
     requires words { 0 < shared.now.table_id.words }
     requires some { 0 < vec_len seats }
-    requires own { All (λ s. (ticket_of V.resting s.number s.seat).lock ≡ lock_id shared.now.table_id (made_with S.fixed shared.now.key)) seats.items }
+    requires own { All (λ s. (ticket_of V.resting s.number s.seat).lock ≡
+        lock_id shared.now.table_id (made_with S.fixed shared.now.key)) seats.items }
     ensures own { result.table_id ≡ shared.now.table_id }
-    ensures claims { result.me.0 ≡ V.resting.rest result.me.0 (made_with S.fixed shared.now.key) (map (λ s. claim_of V.resting s.number s.seat.me.0) seats.items) }
+    ensures claims { result.me.0 ≡ V.resting.rest result.me.0 (made_with S.fixed shared.now.key)
+        (map (λ s. claim_of V.resting s.number s.seat.me.0) seats.items) }
 {
     let Some(
         LockSeat {
@@ -151,12 +167,15 @@ pub(crate) fn close<S: Logged, V: RestView<S::Item>, R: TableRule<Option<S>, V, 
     table: Table<Option<S>, V, About<S>, R, Global>,
     seats: Vec<LockSeat<S, V>>,
 ) -> S
-    requires rule { Deals V.resting S.items S.fixed S.author table.shared.key (R.holds table.shared.key) }
+    requires rule { Deals V.resting S.items S.fixed S.author table.shared.key
+        (R.holds table.shared.key) }
     requires shape { (0 < table.shared.table_id.words) × (table.shared.table_id.slots ≡ 1) }
     requires all { (1 ≤ table.shared.key.count) × (table.shared.key.count ≤ vec_len seats) }
-    requires own { All (λ s. (ticket_of V.resting s.number s.seat).lock ≡ lock_id table.shared.table_id (made_with S.fixed table.shared.key)) seats.items }
+    requires own { All (λ s. (ticket_of V.resting s.number s.seat).lock ≡
+        lock_id table.shared.table_id (made_with S.fixed table.shared.key)) seats.items }
     ensures fixed { S.fixed result ≡ S.fixed table.shared.key.state.value }
-    ensures grows { All (λ s. Grows S.author s.number (ticket_of V.resting s.number s.seat).left (S.items result) []) seats.items }
+    ensures grows { All (λ s. Grows S.author s.number (ticket_of V.resting s.number s.seat).left
+        (S.items result) []) seats.items }
 {
     let all = join_all(&table.shared, seats);
     take_state(table.close_with(all))

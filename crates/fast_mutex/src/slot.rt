@@ -18,8 +18,10 @@ pub(crate) fn furnish<S, V, K, R: TableRule<Option<S>, V, K>>(
     state: S,
 ) -> Result<Furnished<S, V, K, R>, (S, AllocError)>
     requires { R.holds about.now (opening words.now (Some state ∷ []) (R.first about.now)) }
-    ensures table { IfOk result (λ r. (r.0.shared.table_id.words ≡ length words.now) × (r.0.shared.table_id.slots ≡ 1) × (r.0.shared.key ≡ about.now)) }
-    ensures first { IfOk result (λ r. (r.1.table_id ≡ r.0.shared.table_id) × (r.1.me ≡ (R.first about.now, []))) }
+    ensures table { IfOk result (λ r. (r.0.shared.table_id.words ≡ length words.now) ×
+        (r.0.shared.table_id.slots ≡ 1) × (r.0.shared.key ≡ about.now)) }
+    ensures first { IfOk result (λ r. (r.1.table_id ≡ r.0.shared.table_id) ×
+        (r.1.me ≡ (R.first about.now, []))) }
     ensures back { IfErr result (λ r. r.0 ≡ state) }
 {
     let mut slots = match Vec::with_capacity(alloc, 1) {
@@ -48,7 +50,8 @@ pub(crate) fn take_out<S, V, K, R: TableRule<Option<S>, V, K>>(
     requires own { seat.old.table_id ≡ shared.now.table_id }
     requires inside { (st : S) × (seat.old.me.1 ≡ (0, Some st) ∷ []) }
     ensures own { (seat.new.table_id ≡ seat.old.table_id) × (seat.new.id ≡ seat.old.id) }
-    ensures state { (seat.old.me.1 ≡ (0, Some result) ∷ []) × (seat.new.me ≡ (seat.old.me.0, (0, None) ∷ [])) }
+    ensures state { (seat.old.me.1 ≡ (0, Some result) ∷ []) ×
+        (seat.new.me ≡ (seat.old.me.0, (0, None) ∷ [])) }
 {
     let Some(state) = shared.exchange(seat, 0, None) else {
         unreachable!()

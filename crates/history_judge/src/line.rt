@@ -22,7 +22,8 @@ pub struct Called {
 
 // The moment at which an operation ended, or a dash where it had not.
 fn end_text(alloc: Global, operation: &Operation) -> Result<String, AllocError>
-    ensures { IfOk result (λ text. string_bytes text ≡ number_or (codes "-") (end_of operation.now)) }
+    ensures { IfOk result (λ text. string_bytes text ≡
+        number_or (codes "-") (end_of operation.now)) }
 {
     let end = operation.end;
     match operation.outcome {

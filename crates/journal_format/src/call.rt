@@ -80,7 +80,8 @@ pub fn call_text(alloc: Global, call: &Call) -> Result<String, AllocError>
 
 // The words of an open.
 fn open_text(alloc: Global, flags: OpenFlags, attr: Option<Attr>) -> Result<String, AllocError>
-    ensures { IfOk result (λ text. string_bytes text ≡ join_with_byte 32 (call_words (Call.MqOpen flags attr))) }
+    ensures { IfOk result (λ text. string_bytes text ≡
+        join_with_byte 32 (call_words (Call.MqOpen flags attr))) }
 {
     let flags = flags_text(alloc, flags)?;
     match attr {
@@ -127,7 +128,8 @@ pub(crate) fn flag_text(nonblock: bool) -> &'static str
 
 // The moments of a timed call.
 fn moments_text(alloc: Global, until: Deadline, now: Deadline) -> Result<String, AllocError>
-    ensures { IfOk result (λ text. string_bytes text ≡ join_with_byte 32 (moment_words (codes "until") until ++ moment_words (codes "at") now)) }
+    ensures { IfOk result (λ text. string_bytes text ≡
+        join_with_byte 32 (moment_words (codes "until") until ++ moment_words (codes "at") now)) }
 {
     let (sec, nsec) = (until.sec, until.nsec);
     let (now_sec, now_nsec) = (now.sec, now.nsec);

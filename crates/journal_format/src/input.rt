@@ -22,7 +22,8 @@ const CHUNK: usize = 4096;
 /// entry at its place, and no read was made after those that brought it. `JournalFault::Input`: a read failed.
 pub fn read_input<R: Read>(alloc: Global, input: &mut R) -> Result<Journal, JournalFault>
     ensures found { (all : List ℕ) → R.remaining input.old ≡ Some all →
-        IfOk result (λ journal. AllFit journal.records × (take (MOST_BYTES + 1) all ≡ journal_text journal.records)) }
+        IfOk result (λ journal. AllFit journal.records ×
+        (take (MOST_BYTES + 1) all ≡ journal_text journal.records)) }
     ensures bad_line { (all : List ℕ) (line : ℕ) → R.remaining input.old ≡ Some all →
         IsErrOf result (BadLine line) → StopsAt line (take (MOST_BYTES + 1) all) }
 {
@@ -54,7 +55,8 @@ fn take_in(
     requires rest { has_feed rest.old.items ≡ false }
     ensures fits { OnOk result (AllFit journal.new.records) }
     ensures rest { OnOk result (has_feed rest.new.items ≡ false) }
-    ensures lines { OnOk result (journal_text journal.old.records ++ (rest.old.items ++ chunk.now) ≡ journal_text journal.new.records ++ rest.new.items) }
+    ensures lines { OnOk result (journal_text journal.old.records ++ (rest.old.items ++ chunk.now) ≡
+        journal_text journal.new.records ++ rest.new.items) }
     ensures bad_line { (line : ℕ) → IsErrOf result (BadLine line) → (more : List ℕ) →
         StopsAt line (journal_text journal.old.records ++ ((rest.old.items ++ chunk.now) ++ more)) }
     ensures no_input { IsErrOf result Input → ⊥ }

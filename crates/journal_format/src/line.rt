@@ -22,7 +22,8 @@ pub fn line_of(
     entry: Entry,
     payload: &[u8],
 ) -> Result<String, AllocError>
-    ensures { IfOk result (λ line. string_bytes line ≡ line_text place (record { entry = entry; payload = payload.now })) }
+    ensures { IfOk result (λ line. string_bytes line ≡
+        line_text place (record { entry = entry; payload = payload.now })) }
 {
     let process = entry.process;
     let call = call_text(alloc, &entry.call)?;
@@ -56,7 +57,8 @@ pub fn read_line(
     place: u64,
     line: &[u8],
 ) -> Result<Option<(Entry, Vec<u8>)>, AllocError>
-    ensures { IfOk result (λ read. MatchOption read (IsNoLine place line.now) (λ r. line.now ≡ line_text place (record { entry = r.0; payload = r.1.items }))) }
+    ensures { IfOk result (λ read. MatchOption read (IsNoLine place line.now) (λ r.
+        line.now ≡ line_text place (record { entry = r.0; payload = r.1.items }))) }
 {
     let words = words(alloc, line)?;
     let Some((entry, quoted)) = entry_of(words.as_slice()) else {

@@ -66,7 +66,8 @@ fn got_text(
     admitted: Option<u64>,
     notified: Option<u64>,
 ) -> Result<String, AllocError>
-    ensures { IfOk result (λ text. string_bytes text ≡ join_with_byte 32 (reply_words (Reply.Got place admitted notified))) }
+    ensures { IfOk result (λ text. string_bytes text ≡
+        join_with_byte 32 (reply_words (Reply.Got place admitted notified))) }
 {
     match (admitted, notified) {
         (None, None) => format!(in alloc; "got {place}"),

@@ -35,7 +35,8 @@ fn push_line(
     entry: Entry,
     payload: &[u8],
 ) -> Result<(), AllocError>
-    ensures line { OnOk result (text.new.items ≡ text.old.items ++ line_text place (record { entry = entry; payload = payload.now })) }
+    ensures line { OnOk result (text.new.items ≡ text.old.items ++
+        line_text place (record { entry = entry; payload = payload.now })) }
     ensures fits { Fits (record { entry = entry; payload = payload.now }) }
 {
     fits(entry, payload);
@@ -47,9 +48,11 @@ fn push_line(
 /// its place; a last line that lacks its feed is none.
 pub fn read_journal(alloc: Global, text: &[u8]) -> Result<Journal, JournalFault>
     // What is read is written as it was.
-    ensures found { IfOk result (λ journal. AllFit journal.records × (text.now ≡ journal_text journal.records)) }
+    ensures found { IfOk result (λ journal. AllFit journal.records ×
+        (text.now ≡ journal_text journal.records)) }
     // What was written is read as it was, unless memory runs out.
-    ensures only { (past : Past) → AllFit past → text.now ≡ journal_text past → MatchResult result (λ journal. journal.records ≡ past) (λ fault. fault ≡ NoMemory) }
+    ensures only { (past : Past) → AllFit past → text.now ≡ journal_text past →
+        MatchResult result (λ journal. journal.records ≡ past) (λ fault. fault ≡ NoMemory) }
     // A line that is named is the first one.
     ensures bad_line { (line : ℕ) → IsErrOf result (BadLine line) → StopsAt line text.now }
     ensures no_input { IsErrOf result Input → ⊥ }
@@ -70,10 +73,12 @@ pub fn read_lines<'t>(
 ) -> Result<&'t [u8], JournalFault>
     requires fits { AllFit journal.old.records }
     ensures fits { OnOk result (AllFit journal.new.records) }
-    ensures lines { IfOk result (λ rest. journal_text journal.old.records ++ text.now ≡ journal_text journal.new.records ++ rest.now) }
+    ensures lines { IfOk result (λ rest. journal_text journal.old.records ++ text.now ≡
+        journal_text journal.new.records ++ rest.now) }
     ensures rest { IfOk result (λ rest. has_feed rest.now ≡ false) }
     ensures number { (line : ℕ) → IsErrOf result (BadLine line) → line ≤ 2 ^ 63 }
-    ensures bad_line { (line : ℕ) → IsErrOf result (BadLine line) → (more : List ℕ) → StopsAt line (journal_text journal.old.records ++ (text.now ++ more)) }
+    ensures bad_line { (line : ℕ) → IsErrOf result (BadLine line) → (more : List ℕ) →
+        StopsAt line (journal_text journal.old.records ++ (text.now ++ more)) }
     ensures no_input { IsErrOf result Input → ⊥ }
 {
     let mut rest = text;
@@ -95,7 +100,8 @@ pub fn whole(journal: Journal, rest: &[u8]) -> Result<Journal, JournalFault>
     ensures whole { IfOk result (λ read. (read ≡ journal) × (rest.now ≡ [])) }
     ensures few { IfOk result (λ read. length read.records < 2 ^ 63) }
     ensures number { (line : ℕ) → IsErrOf result (BadLine line) → line ≤ 2 ^ 63 }
-    ensures bad_line { (line : ℕ) → IsErrOf result (BadLine line) → StopsAt line (journal_text journal.records ++ rest.now) }
+    ensures bad_line { (line : ℕ) → IsErrOf result (BadLine line) →
+        StopsAt line (journal_text journal.records ++ rest.now) }
     ensures fault { IsErrOf result NoMemory → ⊥ }
     ensures no_input { IsErrOf result Input → ⊥ }
 {
@@ -109,12 +115,14 @@ pub fn whole(journal: Journal, rest: &[u8]) -> Result<Journal, JournalFault>
 
 /// Journals with one text are one. The function does nothing: its contract is the law.
 pub fn one_text()
-    ensures { (a b : Past) → AllFit a → AllFit b → length b < 2 ^ 64 → journal_text a ≡ journal_text b → a ≡ b }
+    ensures { (a b : Past) → AllFit a → AllFit b → length b < 2 ^ 64 →
+        journal_text a ≡ journal_text b → a ≡ b }
 {}
 
 // Adds an entry with its payload after all others.
 fn add_entry(journal: &mut Journal, entry: Entry, payload: &[u8]) -> Result<(), AllocError>
-    ensures records { OnOk result (journal.new.records ≡ record { entry = entry; payload = payload.now } ∷ journal.old.records) }
+    ensures records { OnOk result (journal.new.records ≡
+        record { entry = entry; payload = payload.now } ∷ journal.old.records) }
     ensures fits { Fits (record { entry = entry; payload = payload.now }) }
 {
     fits(entry, payload);

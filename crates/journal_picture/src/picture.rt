@@ -226,7 +226,9 @@ fn push_entry(
     requires shown { frame.now.from + frame.now.count ≤ length journal.now.records }
     requires few { frame.now.count ≤ 2000 }
     requires place { place < frame.now.from + frame.now.count }
-    ensures { OnOk result (text.new.items ≡ text.old.items ++ last_text journal.now.records frame.now.processes.items frame.now.from frame.now.count (first (place + 1) journal.now.records)) }
+    ensures { OnOk result (text.new.items ≡ text.old.items ++
+        last_text journal.now.records frame.now.processes.items frame.now.from frame.now.count
+        (first (place + 1) journal.now.records)) }
 {
     let (entry, payload) = journal.record(place);
     push_record(alloc, text, journal, frame, place, entry, payload)
@@ -246,7 +248,9 @@ fn push_record(
     requires shown { frame.now.from + frame.now.count ≤ length journal.now.records }
     requires few { frame.now.count ≤ 2000 }
     requires place { place < frame.now.from + frame.now.count }
-    ensures { OnOk result (text.new.items ≡ text.old.items ++ record_text journal.now.records frame.now.processes.items frame.now.from frame.now.count place (record { entry = entry; payload = payload.now })) }
+    ensures { OnOk result (text.new.items ≡ text.old.items ++
+        record_text journal.now.records frame.now.processes.items frame.now.from frame.now.count
+        place (record { entry = entry; payload = payload.now })) }
 {
     let _len = journal.len();
     push_mark(alloc, text, frame, place, entry, payload)?;
@@ -355,7 +359,8 @@ fn push_arrow(
 ) -> Result<(), AllocError>
     requires sent { IfSome arrow (λ flight. flight.sent ≤ length journal.now.records) }
     requires near { IfSome arrow (λ flight. flight.stroke.x1 < 2 ^ 40) }
-    ensures { OnOk result (text.new.items ≡ text.old.items ++ arrow_text journal.now.records arrow) }
+    ensures { OnOk result (text.new.items ≡ text.old.items ++
+        arrow_text journal.now.records arrow) }
 {
     let Some(flight) = arrow else {
         return Ok(());

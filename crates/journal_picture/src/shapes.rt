@@ -88,7 +88,8 @@ fn bar(journal: &Journal, frame: &Frame, p: u32, wait: u64) -> Option<Stroke>
     requires shown { frame.now.from + frame.now.count ≤ length journal.now.records }
     requires few { frame.now.count ≤ 2000 }
     requires wait { wait < frame.now.from + frame.now.count }
-    ensures { result ≡ bar journal.now.records frame.now.processes.items frame.now.from frame.now.count p wait }
+    ensures { result ≡ bar journal.now.records frame.now.processes.items frame.now.from
+        frame.now.count p wait }
 {
     let _len = journal.len();
     let x = lane(&frame.processes, p);
@@ -115,7 +116,8 @@ pub fn bar_of(journal: &Journal, frame: &Frame, place: u64, entry: Entry) -> Opt
     requires shown { frame.now.from + frame.now.count ≤ length journal.now.records }
     requires few { frame.now.count ≤ 2000 }
     requires place { place < frame.now.from + frame.now.count }
-    ensures { result ≡ bar_of journal.now.records frame.now.processes.items frame.now.from frame.now.count place entry }
+    ensures { result ≡ bar_of journal.now.records frame.now.processes.items frame.now.from
+        frame.now.count place entry }
 {
     match entry.reply {
         Reply::Waits => bar(journal, frame, entry.process, place),
@@ -127,7 +129,8 @@ pub fn bar_of(journal: &Journal, frame: &Frame, place: u64, entry: Entry) -> Opt
 pub fn bar_before(journal: &Journal, frame: &Frame, p: u32) -> Option<Stroke>
     requires shown { frame.now.from + frame.now.count ≤ length journal.now.records }
     requires few { frame.now.count ≤ 2000 }
-    ensures { result ≡ bar_before journal.now.records frame.now.processes.items frame.now.from frame.now.count p }
+    ensures { result ≡ bar_before journal.now.records frame.now.processes.items frame.now.from
+        frame.now.count p }
 {
     let _len = journal.len();
     let wait = wait_begun(journal, frame.from, p)?;
@@ -144,7 +147,8 @@ pub fn hue(call: Call) -> u32
 /// The arrow of the message that an entry takes or hands over.
 pub fn arrow(journal: &Journal, frame: &Frame, place: u64, entry: Entry) -> Option<Flight>
     requires { place - frame.now.from < 2 ^ 32 }
-    ensures arrow { result ≡ arrow journal.now.records frame.now.processes.items frame.now.from place entry }
+    ensures arrow { result ≡ arrow journal.now.records frame.now.processes.items frame.now.from
+        place entry }
     ensures before { IfSome result (λ flight. flight.sent ≤ place) }
     ensures near { IfSome result (λ flight. flight.stroke.x1 < 2 ^ 40) }
 {
@@ -164,7 +168,8 @@ fn arrow_got(
     sent: u64,
 ) -> Option<Flight>
     requires { place - frame.now.from < 2 ^ 32 }
-    ensures arrow { result ≡ arrow_got journal.now.records frame.now.processes.items frame.now.from place entry sent }
+    ensures arrow { result ≡ arrow_got journal.now.records frame.now.processes.items frame.now.from
+        place entry sent }
     ensures before { IfSome result (λ flight. flight.sent ≤ place) }
     ensures near { IfSome result (λ flight. flight.stroke.x1 < 2 ^ 40) }
 {
@@ -191,7 +196,8 @@ fn arrow_handed(
     wait: u64,
 ) -> Option<Flight>
     requires { place - frame.now.from < 2 ^ 32 }
-    ensures arrow { result ≡ arrow_handed journal.now.records frame.now.processes.items frame.now.from place entry wait }
+    ensures arrow { result ≡ arrow_handed journal.now.records frame.now.processes.items
+        frame.now.from place entry wait }
     ensures before { IfSome result (λ flight. flight.sent ≤ place) }
     ensures near { IfSome result (λ flight. flight.stroke.x1 < 2 ^ 40) }
 {

@@ -21,14 +21,17 @@ pub fn check_journal<R: Read, W: Write>(
     output: &mut W,
 ) -> Result<Verdict, LogFault>
     ensures done { (all : List ℕ) → R.remaining input.old ≡ Some all →
-        IfOk result (λ verdict. Checks (take (MOST_BYTES + 1) all) verdict (W.contents output.old) (W.contents output.new)) }
+        IfOk result (λ verdict. Checks (take (MOST_BYTES + 1) all) verdict (W.contents output.old)
+        (W.contents output.new)) }
     ensures bad_line { (all : List ℕ) (line : ℕ) → R.remaining input.old ≡ Some all →
         IsErrOf result (BadLine line) → StopsAt line (take (MOST_BYTES + 1) all) }
     ensures input { IsErrOf result Input → W.contents output.new ≡ W.contents output.old }
     ensures no_memory { IsErrOf result NoMemory → W.contents output.new ≡ W.contents output.old }
-    ensures unwritten { (line : ℕ) → IsErrOf result (BadLine line) → W.contents output.new ≡ W.contents output.old }
+    ensures unwritten { (line : ℕ) → IsErrOf result (BadLine line) →
+        W.contents output.new ≡ W.contents output.old }
     ensures output { (all : List ℕ) → R.remaining input.old ≡ Some all →
-        IsErrOf result Output → StopsInVerdict (take (MOST_BYTES + 1) all) (W.contents output.old) (W.contents output.new) }
+        IsErrOf result Output → StopsInVerdict (take (MOST_BYTES + 1) all) (W.contents output.old)
+        (W.contents output.new) }
 {
     let journal = read_input(alloc, input)?;
     let verdict = verdict_of(alloc, &journal)?;

@@ -26,10 +26,12 @@ pub fn draw_journal<R: Read, W: Write>(
     ensures bad_line { (all : List ℕ) (line : ℕ) → R.remaining input.old ≡ Some all →
         IsErrOf result (BadLine line) → StopsAt line (take (MOST_BYTES + 1) all) }
     ensures output { (all : List ℕ) → R.remaining input.old ≡ Some all →
-        IsErrOf result Output → DrawsInPart (take (MOST_BYTES + 1) all) window (W.contents output.old) (W.contents output.new) }
+        IsErrOf result Output → DrawsInPart (take (MOST_BYTES + 1) all) window
+        (W.contents output.old) (W.contents output.new) }
     ensures input { IsErrOf result Input → W.contents output.new ≡ W.contents output.old }
     ensures no_memory { IsErrOf result NoMemory → W.contents output.new ≡ W.contents output.old }
-    ensures unwritten { (line : ℕ) → IsErrOf result (BadLine line) → W.contents output.new ≡ W.contents output.old }
+    ensures unwritten { (line : ℕ) → IsErrOf result (BadLine line) →
+        W.contents output.new ≡ W.contents output.old }
 {
     let journal = read_input(alloc, input)?;
     let (from, count) = shown(window, &journal);

@@ -88,7 +88,8 @@ pub fn try_orders<R: Read, W: Write>(
         AnswersInPart script trial (W.contents output.old) (W.contents output.new) }
     ensures done { (all : List ℕ) (script : Whole) → R.remaining input.old ≡ Some all →
         script_written (take (MOST_BYTES + 1) all) ≡ Ok script →
-        IfOk result (λ ending. Answers script trial ending (W.contents output.old) (W.contents output.new)) }
+        IfOk result (λ ending. Answers script trial ending (W.contents output.old)
+        (W.contents output.new)) }
 {
     let text = read_all(alloc, input, MOST_BYTES)?;
     let script = read_script(alloc, text.as_slice())?;
@@ -128,7 +129,8 @@ fn answer_text(
     collected: &Collected,
     trial: Trial,
 ) -> Result<Vec<u8>, AllocError>
-    requires { All (IsWitness next_stage stands_still told (first_stage play.old)) collected.now.found.items }
+    requires { All (IsWitness next_stage stands_still told
+        (first_stage play.old)) collected.now.found.items }
     ensures { IfOk result (λ text. text.items ≡
         answer_text trial.journal trial.budget phases (first_stage play.old) collected.now) }
 {

@@ -41,8 +41,10 @@ where
         StopsAt line result × (W.contents output.new ≡ W.contents output.old) }
     ensures bad_call_only { (all : List ℕ) (line : ℕ) → R.remaining input.old ≡ Some all →
         IsErrOf result (BadCall line) → script_written (take (MOST_BYTES + 1) all) ≡ Err line }
-    ensures unwritten { (fault : RunFault) → IsErrOf result fault → fault ≢ Output → W.contents output.new ≡ W.contents output.old }
-    ensures output { IsErrOf result Output → IsLoggedInPart (W.contents output.old) (W.contents output.new) }
+    ensures unwritten { (fault : RunFault) → IsErrOf result fault → fault ≢ Output →
+        W.contents output.new ≡ W.contents output.old }
+    ensures output { IsErrOf result Output →
+        IsLoggedInPart (W.contents output.old) (W.contents output.new) }
     ensures output_of { (all : List ℕ) (script : Whole) → R.remaining input.old ≡ Some all →
         script_written (take (MOST_BYTES + 1) all) ≡ Ok script → IsErrOf result Output →
         RecordsInPart script (W.contents output.old) (W.contents output.new) }

@@ -84,7 +84,8 @@ fn cause_text(alloc: Global, cause: Cause) -> Result<String, AllocError>
 // The line of the entry at a place.
 fn line_at(alloc: Global, journal: &Journal, place: u64) -> Result<String, AllocError>
     requires { place < length journal.now.records }
-    ensures { IfOk result (λ line. string_bytes line ≡ last_line (first (place + 1) journal.now.records)) }
+    ensures { IfOk result (λ line. string_bytes line ≡
+        last_line (first (place + 1) journal.now.records)) }
 {
     let (entry, payload) = journal.record(place);
     line_of(alloc, place, entry, payload)

@@ -37,7 +37,8 @@ pub fn inside_laws()
 /// Processes at rest with their flags down keep the condition, whatever x and y are. A changed point or flag leaves
 /// those of the other processes. And the condition speaks of the values alone.
 pub fn change_laws()
-    ensures at_rest { (n x y : ℕ) (b : ℕ → Bool) (at : ℕ → At) → ((i : ℕ) → at i ≡ Rest) → ((i : ℕ) → b i ≡ false) → Safe n x y b at }
+    ensures at_rest { (n x y : ℕ) (b : ℕ → Bool) (at : ℕ → At) → ((i : ℕ) → at i ≡ Rest) →
+        ((i : ℕ) → b i ≡ false) → Safe n x y b at }
     ensures moves { (at : ℕ → At) (i : ℕ) (P Q : At) → at i ≡ P → Moves i P Q at (moved_to at i Q) }
     ensures sets { (b : ℕ → Bool) (i : ℕ) (v : Bool) → Sets i v b (flag_set_to b i v) }
     ensures same { SameValuesKeep }

@@ -74,9 +74,13 @@ impl Model for World {
 
     ghost Value = { Machine };
 
-    ghost view = { λ a. record { state = state_of a.x a.y a.flags.items a.points.items; steps = a.steps.items } };
+    ghost view = { λ a. record {
+      state = state_of a.x a.y a.flags.items a.points.items;
+      steps = a.steps.items;
+    } };
 
-    ghost invariant = { λ a. IsSound (record { state = state_of a.x a.y a.flags.items a.points.items; steps = a.steps.items }) };
+    ghost invariant = { λ a. IsSound
+        (record { state = state_of a.x a.y a.flags.items a.points.items; steps = a.steps.items }) };
 }
 
 impl World {
@@ -128,7 +132,8 @@ impl World {
     /// The process that is inside, at `At::Fast` or `At::Slow`.
     pub fn inside(&self) -> Option<u32>
         ensures found { (i : ℕ) → (result ≡ Some i) ↔ IsInside self.now.state i }
-        ensures at_most_one { (i j : ℕ) → IsInside self.now.state i → IsInside self.now.state j → i ≡ j }
+        ensures at_most_one { (i j : ℕ) → IsInside self.now.state i →
+            IsInside self.now.state j → i ≡ j }
     {
         first_inside(&self.points)
     }
@@ -200,7 +205,8 @@ fn operate(i: u32, point: At, x: &mut u32, y: &mut u32, flags: &mut [bool]) -> A
     requires process { IsProcess (length flags.old) i }
     requires point { IsPoint (length flags.old) point }
     requires numbered { length flags.old < 2 ^ 32 }
-    ensures { (points : List At) → state_of x.new y.new flags.new (with_process points i result) ≡ step_from point (state_of x.old y.old flags.old points) i }
+    ensures { (points : List At) → state_of x.new y.new flags.new (with_process points i result) ≡
+        step_from point (state_of x.old y.old flags.old points) i }
 {
     let place = (i - 1) as usize;
     match point {

@@ -12,20 +12,26 @@ ghost use Rattle.lamport_core.specs.declared.At.TheVariants.{Rest, Fast};
 /// is inside.
 pub fn mutual_exclusion()
     ensures safe { (n : ℕ) (w : State) → Reach n w → IsSafe w }
-    ensures one_inside { (n : ℕ) (w : State) (i j : ℕ) → Reach n w → IsInside w i → IsInside w j → i ≡ j }
+    ensures one_inside { (n : ℕ) (w : State) (i j : ℕ) → Reach n w → IsInside w i →
+        IsInside w j → i ≡ j }
 {}
 
 /// Each step of a process goes along one line of the algorithm, and along lines a pass takes five steps to
 /// `At::Fast`, and n + 7 or more to `At::Slow`.
 pub fn lines()
-    ensures line { (w : State) (i : ℕ) → IsSafe w → IsProcess (process_count w) i → IsLine (process_count w) (point_of w i) (point_of (next w i) i) }
-    ensures counted { (n k : ℕ) (p q : At) → 0 < n → n < 2 ^ 32 → IsCounted n p k → IsLine n p q → IsCounted n q (pass_steps p k) }
+    ensures line { (w : State) (i : ℕ) → IsSafe w → IsProcess (process_count w) i →
+        IsLine (process_count w) (point_of w i) (point_of (next w i) i) }
+    ensures counted { (n k : ℕ) (p q : At) → 0 < n → n < 2 ^ 32 → IsCounted n p k → IsLine n p q →
+        IsCounted n q (pass_steps p k) }
 {}
 
 /// Without contention, that is from any world where y is 0 and the process is at rest, five steps of the process
 /// alone lead it inside by the fast path, and two more to rest, after which x alone may differ.
 pub fn alone()
-    ensures enters { (w : State) (i : ℕ) → IsWorld w → IsProcess (process_count w) i → w.y ≡ 0 → point_of w i ≡ Rest → point_of (run w (replicate 5 i)) i ≡ Fast }
-    ensures leaves { (w : State) (i : ℕ) → IsWorld w → IsProcess (process_count w) i → w.y ≡ 0 → point_of w i ≡ Rest → point_of (run w (replicate 7 i)) i ≡ Rest }
-    ensures same { (w : State) (i : ℕ) → IsSafe w → IsProcess (process_count w) i → w.y ≡ 0 → point_of w i ≡ Rest → run w (replicate 7 i) ≡ state_of i 0 w.flags w.points }
+    ensures enters { (w : State) (i : ℕ) → IsWorld w → IsProcess (process_count w) i → w.y ≡ 0 →
+        point_of w i ≡ Rest → point_of (run w (replicate 5 i)) i ≡ Fast }
+    ensures leaves { (w : State) (i : ℕ) → IsWorld w → IsProcess (process_count w) i → w.y ≡ 0 →
+        point_of w i ≡ Rest → point_of (run w (replicate 7 i)) i ≡ Rest }
+    ensures same { (w : State) (i : ℕ) → IsSafe w → IsProcess (process_count w) i → w.y ≡ 0 →
+        point_of w i ≡ Rest → run w (replicate 7 i) ≡ state_of i 0 w.flags w.points }
 {}

@@ -40,7 +40,8 @@ fn open_facts(journal: &Journal, k: u64, tables: &Tables, p: u32, name: &[u8]) -
     requires mirror { TablesMirror (first k journal.now.records) tables.now }
     ensures bound { result.bound ≡ is_some (bound_queue (first k journal.now.records) name.now) }
     ensures free { result.free ≡ lowest_free (first k journal.now.records) p }
-    ensures queues { result.queues ≡ (if result.bound then 0 else length (alive (first k journal.now.records))) }
+    ensures queues { result.queues ≡
+        (if result.bound then 0 else length (alive (first k journal.now.records))) }
 {
     let bound = bound_queue(journal, k, name).is_some();
     let free = tables::lowest_free(journal, k, tables, p);
@@ -98,8 +99,11 @@ fn send_facts(journal: &Journal, k: u64, tables: &Tables, h: Description) -> Sen
     ensures description { result.description ≡ h }
     ensures attributes { result.attributes ≡ attributes (first k journal.now.records) h.queue }
     ensures count { result.count ≡ length (present (first k journal.now.records) h.queue) }
-    ensures waiting { result.waiting ≡ least (waiting_receives (first k journal.now.records) h.queue) }
-    ensures registered { result.registered ≡ (if result.count == 0 then registered_place (first k journal.now.records) h.queue else None) }
+    ensures waiting { result.waiting ≡
+        least (waiting_receives (first k journal.now.records) h.queue) }
+    ensures registered { result.registered ≡
+        (if result.count == 0 then registered_place
+        (first k journal.now.records) h.queue else None) }
 {
     let count = present_count(journal, k, &tables.marks, h.queue);
     SendFacts {
@@ -152,10 +156,13 @@ fn receive_facts(journal: &Journal, k: u64, tables: &Tables, h: Description) -> 
     requires legal { Legal (first k journal.now.records) }
     ensures description { result.description ≡ h }
     ensures attributes { result.attributes ≡ attributes (first k journal.now.records) h.queue }
-    ensures count { result.count ≡ (if is_some result.waiting then length (present (first k journal.now.records) h.queue) else 0) }
+    ensures count { result.count ≡ (if is_some result.waiting then length
+        (present (first k journal.now.records) h.queue) else 0) }
     ensures best { result.best ≡ best (first k journal.now.records) h.queue }
     ensures waiting { result.waiting ≡ least (waiting_sends (first k journal.now.records) h.queue) }
-    ensures registered { result.registered ≡ (if is_some result.waiting && result.count == 1 then registered_place (first k journal.now.records) h.queue else None) }
+    ensures registered { result.registered ≡
+        (if is_some result.waiting && result.count == 1 then registered_place
+        (first k journal.now.records) h.queue else None) }
 {
     let waiting = tables::first_wait(journal, k, tables, h.queue, WaitKind::Send);
     let waits = waiting.is_some();
@@ -211,7 +218,8 @@ fn reply_to_attributes(
 ) -> Reply
     requires bound { k ≤ length journal.now.records }
     requires legal { Legal (first k journal.now.records) }
-    requires created { IfSome held (λ h. IsTrue (is_in (created (first k journal.now.records)) h.queue)) }
+    requires created { IfSome held (λ h.
+        IsTrue (is_in (created (first k journal.now.records)) h.queue)) }
     requires mirror { TablesMirror (first k journal.now.records) tables.now }
     ensures { result ≡ reply_to_attributes (first k journal.now.records) held }
 {
@@ -253,7 +261,8 @@ fn held_created(journal: &Journal, k: u64, tables: &Tables, p: u32, d: u32) -> O
     requires bound { k ≤ length journal.now.records }
     requires legal { Legal (first k journal.now.records) }
     ensures held { result ≡ held (first k journal.now.records) p d }
-    ensures created { IfSome result (λ h. IsTrue (is_in (created (first k journal.now.records)) h.queue)) }
+    ensures created { IfSome result (λ h.
+        IsTrue (is_in (created (first k journal.now.records)) h.queue)) }
 {
     tables::held(journal, k, tables, p, d)
 }

@@ -104,7 +104,8 @@ fn still_present(
     requires bound { k ≤ length journal.now.records }
     requires place { i < k }
     requires mirror { TakenMirror (first k journal.now.records) marks.now }
-    ensures { result ≡ unless_in (taken (first k journal.now.records)) (entered (first i journal.now.records) entry q) }
+    ensures { result ≡ unless_in (taken (first k journal.now.records))
+        (entered (first i journal.now.records) entry q) }
 {
     let Some(m) = enters(i, entry) else {
         return None;
@@ -156,7 +157,9 @@ pub(crate) fn goes_first(journal: &Journal, k: u64, m: u64, n: u64) -> bool
 fn may_be_better(journal: &Journal, k: u64, i: u64, entry: Entry, found: Option<u64>) -> bool
     requires bound { k ≤ length journal.now.records }
     requires place { i < k }
-    ensures { IsFalse result → (q : ℕ) (places : List ℕ) → with_best (goes_first (first k journal.now.records)) (unless_in places (entered (first i journal.now.records) entry q)) found ≡ found }
+    ensures { IsFalse result → (q : ℕ) (places : List ℕ) →
+        with_best (goes_first (first k journal.now.records))
+        (unless_in places (entered (first i journal.now.records) entry q)) found ≡ found }
 {
     let Some(m) = enters(i, entry) else {
         return false;
@@ -194,7 +197,9 @@ fn best_with(
     requires bound { k ≤ length journal.now.records }
     requires place { i < k }
     requires mirror { TakenMirror (first k journal.now.records) marks.now }
-    ensures { result ≡ with_best (goes_first (first k journal.now.records)) (unless_in (taken (first k journal.now.records)) (entered (first i journal.now.records) entry q)) found }
+    ensures { result ≡ with_best (goes_first (first k journal.now.records))
+        (unless_in (taken (first k journal.now.records))
+        (entered (first i journal.now.records) entry q)) found }
 {
     if !may_be_better(journal, k, i, entry, found) {
         return found;

@@ -143,8 +143,10 @@ fn called_queue(journal: &Journal, k: u64, tables: &Tables, p: u32, call: Call) 
 fn entry_queue(journal: &Journal, k: u64, tables: &Tables, entry: Entry, payload: &[u8]) -> u64
     requires bound { k ≤ length journal.now.records }
     requires mirror { TablesMirror (first k journal.now.records) tables.now }
-    ensures opened { (d : ℕ) (created : Bool) → entry.reply ≡ Reply.Opened d created → result ≡ opened_queue (first k journal.now.records) payload.now created }
-    ensures waits { entry.reply ≡ Reply.Waits → result ≡ unwrap_or (called_queue (first k journal.now.records) entry.process entry.call) 0 }
+    ensures opened { (d : ℕ) (created : Bool) → entry.reply ≡ Reply.Opened d created →
+        result ≡ opened_queue (first k journal.now.records) payload.now created }
+    ensures waits { entry.reply ≡ Reply.Waits →
+        result ≡ unwrap_or (called_queue (first k journal.now.records) entry.process entry.call) 0 }
 {
     match entry.reply {
         Reply::Opened { d: _, created } => opened_queue(journal, k, payload, created),

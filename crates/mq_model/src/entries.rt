@@ -32,28 +32,48 @@ pub struct OpenFlags {
 impl OpenFlags {
     /// A descriptor for receiving alone (`O_RDONLY`), with no other flag.
     pub fn read_only() -> OpenFlags
-        ensures { result ≡ record { access = Access.Read; create = false; excl = false; nonblock = false } }
+        ensures { result ≡ record {
+          access = Access.Read;
+          create = false;
+          excl = false;
+          nonblock = false;
+        } }
     {
         OpenFlags::with_access(Access::Read)
     }
 
     /// A descriptor for sending alone (`O_WRONLY`), with no other flag.
     pub fn write_only() -> OpenFlags
-        ensures { result ≡ record { access = Access.Write; create = false; excl = false; nonblock = false } }
+        ensures { result ≡ record {
+          access = Access.Write;
+          create = false;
+          excl = false;
+          nonblock = false;
+        } }
     {
         OpenFlags::with_access(Access::Write)
     }
 
     /// A descriptor for sending and receiving (`O_RDWR`), with no other flag.
     pub fn read_write() -> OpenFlags
-        ensures { result ≡ record { access = Access.Both; create = false; excl = false; nonblock = false } }
+        ensures { result ≡ record {
+          access = Access.Both;
+          create = false;
+          excl = false;
+          nonblock = false;
+        } }
     {
         OpenFlags::with_access(Access::Both)
     }
 
     /// A descriptor with this access and no other flag.
     pub fn with_access(access: Access) -> OpenFlags
-        ensures { result ≡ record { access = access; create = false; excl = false; nonblock = false } }
+        ensures { result ≡ record {
+          access = access;
+          create = false;
+          excl = false;
+          nonblock = false;
+        } }
     {
         OpenFlags {
             access,
@@ -65,7 +85,12 @@ impl OpenFlags {
 
     /// These flags and `O_CREAT`.
     pub fn create(self) -> OpenFlags
-        ensures { result ≡ record { access = self.access; create = true; excl = self.excl; nonblock = self.nonblock } }
+        ensures { result ≡ record {
+          access = self.access;
+          create = true;
+          excl = self.excl;
+          nonblock = self.nonblock;
+        } }
     {
         OpenFlags {
             create: true,
@@ -75,14 +100,24 @@ impl OpenFlags {
 
     /// These flags and `O_EXCL`.
     pub fn exclusive(self) -> OpenFlags
-        ensures { result ≡ record { access = self.access; create = self.create; excl = true; nonblock = self.nonblock } }
+        ensures { result ≡ record {
+          access = self.access;
+          create = self.create;
+          excl = true;
+          nonblock = self.nonblock;
+        } }
     {
         OpenFlags { excl: true, ..self }
     }
 
     /// These flags and `O_NONBLOCK`.
     pub fn nonblocking(self) -> OpenFlags
-        ensures { result ≡ record { access = self.access; create = self.create; excl = self.excl; nonblock = true } }
+        ensures { result ≡ record {
+          access = self.access;
+          create = self.create;
+          excl = self.excl;
+          nonblock = true;
+        } }
     {
         OpenFlags {
             nonblock: true,

@@ -93,7 +93,8 @@ impl Journal {
         ensures entry_room { self.old.entry_room ≤ self.new.entry_room }
         ensures byte_room { self.old.byte_room ≤ self.new.byte_room }
         ensures ok { OnOk result ((entries ≤ self.new.entry_room) × (bytes ≤ self.new.byte_room)) }
-        ensures succeeds { entries ≤ self.old.entry_room → bytes ≤ self.old.byte_room → IsOk result }
+        ensures succeeds { entries ≤ self.old.entry_room → bytes ≤ self.old.byte_room →
+            IsOk result }
         ensures enough { bytes ≤ self.old.byte_room → self.new.byte_room ≡ self.old.byte_room }
     {
         self.stored.reserve(entries)?;
@@ -109,7 +110,8 @@ impl Journal {
     pub fn push(&mut self, entry: Entry, payload: &[u8])
         requires entry_room { 0 < self.old.entry_room }
         requires byte_room { length payload.now ≤ self.old.byte_room }
-        ensures records { self.new.records ≡ record { entry = entry; payload = payload.now } ∷ self.old.records }
+        ensures records { self.new.records ≡ record { entry = entry; payload = payload.now } ∷
+            self.old.records }
         ensures entry_room { self.old.entry_room ≤ self.new.entry_room + 1 }
         ensures byte_room { self.old.byte_room ≤ self.new.byte_room + length payload.now }
         ensures no_bytes { payload.now ≡ [] → self.new.byte_room ≡ self.old.byte_room }
@@ -159,7 +161,8 @@ impl Journal {
     /// The payload of the entry at a place, or `None` at the length and beyond.
     #[inline(always)]
     pub fn payload(&self, place: u64) -> Option<&[u8]>
-        ensures { option_map (λ p. p.now) result ≡ option_map (λ r. r.payload) (record_at self.now.records place) }
+        ensures { option_map (λ p. p.now) result ≡ option_map (λ r. r.payload)
+            (record_at self.now.records place) }
     {
         if place >= self.len() {
             return None;
@@ -171,7 +174,8 @@ impl Journal {
     /// The entry at a place with its payload: what the first `place + 1` records have more than the first `place`.
     pub fn record(&self, place: u64) -> (Entry, &[u8])
         requires { place < length self.now.records }
-        ensures { first (place + 1) self.now.records ≡ record { entry = result.0; payload = result.1.now } ∷ first place self.now.records }
+        ensures { first (place + 1) self.now.records ≡
+            record { entry = result.0; payload = result.1.now } ∷ first place self.now.records }
     {
         let s = self.stored[place as usize];
         (entry_of(&self.apart, s), &self.bytes[s.start..s.end])

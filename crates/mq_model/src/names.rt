@@ -63,7 +63,8 @@ impl Name {
     pub fn read(bytes: &[u8]) -> Result<Name, Fault>
         ensures form { IsOk result ↔ IsTrue (is_name bytes.now) }
         ensures ok { IfOk result (λ name. name ≡ bytes.now) }
-        ensures too_long { (result ≡ Err Fault.NameTooLong) ↔ IsTrue (has_name_form bytes.now) × IsFalse (is_short bytes.now) }
+        ensures too_long { (result ≡ Err Fault.NameTooLong) ↔ IsTrue (has_name_form bytes.now) ×
+            IsFalse (is_short bytes.now) }
         ensures invalid { (result ≡ Err Fault.Invalid) ↔ IsFalse (has_name_form bytes.now) }
     {
         if !has_name_form(bytes) {

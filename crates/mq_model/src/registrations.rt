@@ -141,8 +141,10 @@ fn is_about_registrations(call: Call) -> bool
 
 /// The entry changes some registration, wherever it stands.
 pub fn touches_registrations(entry: Entry) -> bool
-    ensures none { IsFalse result → (on : Bool) (here : ℕ) (before : Option _) → registration_after on here entry before ≡ before }
-    ensures some { IsTrue result → (on : Bool) × (here : ℕ) × (before : Option _) × (registration_after on here entry before ≢ before) }
+    ensures none { IsFalse result → (on : Bool) (here : ℕ) (before : Option _) →
+        registration_after on here entry before ≡ before }
+    ensures some { IsTrue result → (on : Bool) × (here : ℕ) × (before : Option _) ×
+        (registration_after on here entry before ≢ before) }
 {
     match entry.reply {
         Reply::Done => is_about_registrations(entry.call),

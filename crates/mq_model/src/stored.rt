@@ -113,7 +113,8 @@ fn brief(call: Call, len: usize) -> Option<StoredCall>
 // The form of a call that is kept apart, at that index.
 fn apart_at(index: usize) -> StoredCall
     ensures needs { needs result ≡ index + 1 }
-    ensures call { (apart : List Call) → (len : ℕ) → call_of apart len result ≡ slice_index_or apart index Call.MqUnlink }
+    ensures call { (apart : List Call) → (len : ℕ) →
+        call_of apart len result ≡ slice_index_or apart index Call.MqUnlink }
 {
     let index = index as u64;
     StoredCall::Apart {

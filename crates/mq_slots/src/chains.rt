@@ -63,7 +63,8 @@ impl Slots {
         requires room { length self.old.messages < self.old.cap }
         requires prio { prio < 32768 }
         requires newest { (m : ℕ × ℕ) → Contains self.old.messages m → m.1 < place }
-        ensures messages { (m : ℕ × ℕ) → Contains self.new.messages m ↔ ((m ≡ (prio, place)) ⊎ Contains self.old.messages m) }
+        ensures messages { (m : ℕ × ℕ) → Contains self.new.messages m ↔ ((m ≡ (prio, place)) ⊎
+            Contains self.old.messages m) }
         ensures newest { (m : ℕ × ℕ) → Contains self.new.messages m → m.1 ≤ place }
         ensures count { length self.new.messages ≡ length self.old.messages + 1 }
         ensures latest { self.new.messages ≡ (prio, place) ∷ self.old.messages }
@@ -83,7 +84,8 @@ impl Slots {
     pub fn pop(&mut self) -> Option<(u32, u64)>
         ensures none { IsNone result ↔ (self.old.messages ≡ []) }
         ensures best { IfSome result (λ m. IsBest self.old.messages m) }
-        ensures rest { IfSome result (λ m. (other : ℕ × ℕ) → Contains self.new.messages other ↔ (Contains self.old.messages other × (other ≢ m))) }
+        ensures rest { IfSome result (λ m. (other : ℕ × ℕ) →
+            Contains self.new.messages other ↔ (Contains self.old.messages other × (other ≢ m))) }
         ensures kept { (m : ℕ × ℕ) → Contains self.new.messages m → Contains self.old.messages m }
         ensures others { IfSome result (λ m. self.new.messages ≡ without m.1 self.old.messages) }
         ensures count { length self.new.messages ≡ length self.old.messages - 1 }

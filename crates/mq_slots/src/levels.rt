@@ -27,7 +27,8 @@ pub fn find_level(levels: &[Level], prio: u32) -> usize
     requires { IsRising levels.now }
     ensures within { result ≤ length levels.now }
     ensures below { (k : ℕ) → k < result → (level_at levels.now k).prio < prio }
-    ensures rest { (k : ℕ) → result ≤ k → k < length levels.now → prio ≤ (level_at levels.now k).prio }
+    ensures rest { (k : ℕ) → result ≤ k → k < length levels.now →
+        prio ≤ (level_at levels.now k).prio }
 {
     let mut low = 0;
     let mut high = levels.len();

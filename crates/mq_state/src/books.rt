@@ -83,7 +83,8 @@ impl Books {
         requires { (1 ≤ n) × (n ≤ 32) }
         ensures empty { IfOk result (λ b. b.records ≡ []) }
         ensures processes { IfOk result (λ b. b.n ≡ n) }
-        ensures bounds { IfOk result (λ b. b.bounds ≡ Some (record { entries = entries; bytes = bytes })) }
+        ensures bounds { IfOk result (λ b.
+            b.bounds ≡ Some (record { entries = entries; bytes = bytes })) }
     {
         Books::start(alloc, n, Some(Bounds { entries, bytes }))
     }
@@ -96,7 +97,8 @@ impl Books {
         requires brings { Brings call given.now (length buf.old) }
         ensures made { IsMade self.old self.new p call given.now result }
         ensures buffer { is_receive call ≡ true → buf.new ≡ filled self.old.records result buf.old }
-        ensures refused { is_send call ≡ true → (fault : Fault) → result ≡ Reply.Refused fault → fault ≢ Fault.NoMemory → self.new.byte_room ≡ self.old.byte_room }
+        ensures refused { is_send call ≡ true → (fault : Fault) → result ≡ Reply.Refused fault →
+            fault ≢ Fault.NoMemory → self.new.byte_room ≡ self.old.byte_room }
     {
         let Shelf { journal, tables } = &mut *self.shelf;
         tables.make(journal, p, call, given, buf)
@@ -174,8 +176,10 @@ impl Books {
     pub fn send(&mut self, p: u32, d: u32, bytes: &[u8], prio: u32) -> Reply
         requires process { (1 ≤ p) × (p ≤ self.old.n) }
         requires no_wait { open_wait self.old.records p ≡ None }
-        ensures made { IsMade self.old self.new p (Call.MqSend d prio (length bytes.now)) bytes.now result }
-        ensures refused { (fault : Fault) → result ≡ Reply.Refused fault → fault ≢ Fault.NoMemory → self.new.byte_room ≡ self.old.byte_room }
+        ensures made { IsMade self.old self.new p
+            (Call.MqSend d prio (length bytes.now)) bytes.now result }
+        ensures refused { (fault : Fault) → result ≡ Reply.Refused fault → fault ≢ Fault.NoMemory →
+            self.new.byte_room ≡ self.old.byte_room }
     {
         let Shelf { journal, tables } = &mut *self.shelf;
         tables.send(journal, p, d, bytes, prio)
@@ -208,8 +212,10 @@ impl Books {
     ) -> Reply
         requires process { (1 ≤ p) × (p ≤ self.old.n) }
         requires no_wait { open_wait self.old.records p ≡ None }
-        ensures made { IsMade self.old self.new p (Call.MqTimedSend d prio (length bytes.now) until now) bytes.now result }
-        ensures refused { (fault : Fault) → result ≡ Reply.Refused fault → fault ≢ Fault.NoMemory → self.new.byte_room ≡ self.old.byte_room }
+        ensures made { IsMade self.old self.new p (Call.MqTimedSend d prio
+            (length bytes.now) until now) bytes.now result }
+        ensures refused { (fault : Fault) → result ≡ Reply.Refused fault → fault ≢ Fault.NoMemory →
+            self.new.byte_room ≡ self.old.byte_room }
     {
         let call = Call::MqTimedSend {
             d,
@@ -234,7 +240,8 @@ impl Books {
     ) -> Reply
         requires process { (1 ≤ p) × (p ≤ self.old.n) }
         requires no_wait { open_wait self.old.records p ≡ None }
-        ensures made { IsMade self.old self.new p (Call.MqTimedReceive d (length buf.old) until now) [] result }
+        ensures made { IsMade self.old self.new p (Call.MqTimedReceive d
+            (length buf.old) until now) [] result }
         ensures buffer { buf.new ≡ filled self.old.records result buf.old }
     {
         let call = Call::MqTimedReceive {
@@ -272,7 +279,8 @@ impl Books {
         requires room { room_of (waiting_call self.old.records p) ≤ length buf.old }
         ensures some { IsSome result ↔ IsSome (answered_by self.old.records p) }
         ensures value { result ≡ collected self.old.records p }
-        ensures entry { IfSome (answered_by self.old.records p) (λ by. Appends self.old.records self.new.records p Call.Collect [] (Reply.Collected by)) }
+        ensures entry { IfSome (answered_by self.old.records p) (λ by.
+            Appends self.old.records self.new.records p Call.Collect [] (Reply.Collected by)) }
         ensures none { result ≡ None → self.new ≡ self.old }
         ensures buffer { buf.new ≡ collected_into self.old.records p buf.old }
         ensures processes { self.new.n ≡ self.old.n }
@@ -290,8 +298,12 @@ impl Books {
     /// the moment `now`; then it is true. Takes no memory.
     pub fn withdraw(&mut self, p: u32, now: Deadline) -> bool
         requires process { (1 ≤ p) × (p ≤ self.old.n) }
-        ensures value { result ≡ (is_none (answered_by self.old.records p) && is_over (wait_deadline self.old.records p) now) }
-        ensures entry { IsTrue result → IfSome (open_wait self.old.records p) (λ wait. Appends self.old.records self.new.records p (Call.Withdraw now) [] (Reply.Withdrawn wait)) }
+        ensures value { result ≡ (is_none (answered_by self.old.records p) && is_over
+            (wait_deadline self.old.records p) now) }
+        ensures entry { IsTrue result →
+            IfSome (open_wait self.old.records p) (λ wait.
+            Appends self.old.records self.new.records p (Call.Withdraw now) []
+            (Reply.Withdrawn wait)) }
         ensures waited { IsTrue result → IsSome (open_wait self.old.records p) }
         ensures none { result ≡ false → self.new ≡ self.old }
         ensures processes { self.new.n ≡ self.old.n }

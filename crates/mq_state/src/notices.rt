@@ -89,8 +89,10 @@ pub fn first(inboxes: &[Inbox], p: u32) -> Option<u64>
 /// Process p's inbox has a notice more, in room that is there.
 pub fn push(inboxes: &mut [Inbox], p: u32, value: u64)
     requires { 0 < room_in inboxes.old p }
-    ensures notices { (k : ℕ) → notices_in inboxes.new k ≡ (if p == k then notices_in inboxes.old k ++ value ∷ [] else notices_in inboxes.old k) }
-    ensures room { (k : ℕ) → room_in inboxes.old k ≤ room_in inboxes.new k + (if p == k then 1 else 0) }
+    ensures notices { (k : ℕ) → notices_in inboxes.new k ≡
+        (if p == k then notices_in inboxes.old k ++ value ∷ [] else notices_in inboxes.old k) }
+    ensures room { (k : ℕ) → room_in inboxes.old k ≤ room_in inboxes.new k +
+        (if p == k then 1 else 0) }
 {
     inboxes[p as usize].push(value);
 }
@@ -98,7 +100,8 @@ pub fn push(inboxes: &mut [Inbox], p: u32, value: u64)
 /// The oldest notice of process p is taken.
 pub fn take(inboxes: &mut [Inbox], p: u32)
     requires { p < length inboxes.old }
-    ensures notices { (k : ℕ) → notices_in inboxes.new k ≡ (if p == k then drop 1 (notices_in inboxes.old k) else notices_in inboxes.old k) }
+    ensures notices { (k : ℕ) → notices_in inboxes.new k ≡
+        (if p == k then drop 1 (notices_in inboxes.old k) else notices_in inboxes.old k) }
     ensures room { (k : ℕ) → room_in inboxes.old k ≤ room_in inboxes.new k }
 {
     inboxes[p as usize].pop();

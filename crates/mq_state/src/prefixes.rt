@@ -64,7 +64,8 @@ impl<'a> Prefix<'a> {
 
     /// The payload of the entry at a place, or `None` at the length and beyond.
     pub fn payload(&self, place: u64) -> Option<&[u8]>
-        ensures { option_map (λ p. p.now) result ≡ option_map (λ r. r.payload) (record_at self.now.records place) }
+        ensures { option_map (λ p. p.now) result ≡ option_map (λ r. r.payload)
+            (record_at self.now.records place) }
     {
         if place >= self.len {
             return None;

@@ -342,7 +342,8 @@ pub fn bound(journal: &Prefix<'_>, queues: &[Queue], name: &[u8]) -> Option<u64>
 // Keeps an order, emptied, for a queue to come, where there is a place for it.
 fn keep(spares: &mut Vec<Slots>, mut slots: Slots)
     ensures capacity { vec_capacity spares.new ≡ vec_capacity spares.old }
-    ensures kept { vec_len spares.old < vec_capacity spares.old → spares.new.items ≡ spares.old.items ++ emptied slots ∷ [] }
+    ensures kept { vec_len spares.old < vec_capacity spares.old →
+        spares.new.items ≡ spares.old.items ++ emptied slots ∷ [] }
 {
     if spares.len() < spares.capacity() {
         slots.clear();
@@ -360,8 +361,12 @@ fn first_at(queues: &[Queue], q: u64) -> Option<usize>
 // Queue q exists no longer. Its order is kept for a queue to come.
 fn remove(queues: &mut Vec<Queue>, spares: &mut Vec<Slots>, q: u64)
     ensures items { queues.new.items ≡ without_queue queues.old.items q }
-    ensures room { (vec_len queues.new ≤ vec_len queues.old) × (vec_capacity queues.new ≡ vec_capacity queues.old) }
-    ensures pool { (m : ℕ) → Pool m queues.old.items spares.old.items (vec_capacity queues.old) (vec_capacity spares.old) → Pool m queues.new.items spares.new.items (vec_capacity queues.new) (vec_capacity spares.new) }
+    ensures room { (vec_len queues.new ≤ vec_len queues.old) ×
+        (vec_capacity queues.new ≡ vec_capacity queues.old) }
+    ensures pool { (m : ℕ) → Pool m queues.old.items spares.old.items (vec_capacity queues.old)
+        (vec_capacity spares.old) →
+        Pool m queues.new.items spares.new.items (vec_capacity queues.new)
+        (vec_capacity spares.new) }
 {
     while let Some(i) = first_at(queues, q) {
         let queue = queues.remove(i);
@@ -392,7 +397,8 @@ fn renew(
 ) -> Option<usize>
     requires rising { HaveRisingPlaces queues.old }
     requires room { (x : QueueShown) → queue_in queues.old q ≡ Some x → HasRoom entry.reply x }
-    requires order { (x : QueueShown) → queue_in queues.old q ≡ Some x → IsInOrder here entry.call entry.reply prio x }
+    requires order { (x : QueueShown) → queue_in queues.old q ≡ Some x →
+        IsInOrder here entry.call entry.reply prio x }
     ensures { queues.new ≡ changed (renewed here entry.call entry.reply prio) queues.old q }
 {
     if !touches_line(entry.reply) {
@@ -440,8 +446,12 @@ fn may_free(entry: Entry) -> bool
 #[inline(always)]
 fn release(owners: &[Owner], freed: bool, queues: &mut Vec<Queue>, spares: &mut Vec<Slots>, q: u64)
     ensures items { queues.new.items ≡ released owners.now freed queues.old.items q }
-    ensures room { (vec_len queues.new ≤ vec_len queues.old) × (vec_capacity queues.new ≡ vec_capacity queues.old) }
-    ensures pool { (m : ℕ) → Pool m queues.old.items spares.old.items (vec_capacity queues.old) (vec_capacity spares.old) → Pool m queues.new.items spares.new.items (vec_capacity queues.new) (vec_capacity spares.new) }
+    ensures room { (vec_len queues.new ≤ vec_len queues.old) ×
+        (vec_capacity queues.new ≡ vec_capacity queues.old) }
+    ensures pool { (m : ℕ) → Pool m queues.old.items spares.old.items (vec_capacity queues.old)
+        (vec_capacity spares.old) →
+        Pool m queues.new.items spares.new.items (vec_capacity queues.new)
+        (vec_capacity spares.new) }
 {
     if freed && !(is_named(queues, q) || owners::is_held(owners, q)) {
         remove(queues, spares, q);
@@ -459,10 +469,16 @@ fn note_lines(
     hint: usize,
 ) -> Option<usize>
     requires rising { HaveRisingPlaces queues.old.items }
-    requires room { (x : QueueShown) → queue_in (map (reregistered q here entry) queues.old.items) q ≡ Some x → HasRoom entry.reply x }
-    requires order { (x : QueueShown) → queue_in (map (reregistered q here entry) queues.old.items) q ≡ Some x → IsInOrder here entry.call entry.reply prio x }
-    ensures items { queues.new.items ≡ changed (renewed here entry.call entry.reply prio) (map (reregistered q here entry) queues.old.items) q }
-    ensures room { (vec_len queues.new ≡ vec_len queues.old) × (vec_capacity queues.new ≡ vec_capacity queues.old) }
+    requires room { (x : QueueShown) →
+        queue_in (map (reregistered q here entry) queues.old.items) q ≡ Some x →
+        HasRoom entry.reply x }
+    requires order { (x : QueueShown) →
+        queue_in (map (reregistered q here entry) queues.old.items) q ≡ Some x →
+        IsInOrder here entry.call entry.reply prio x }
+    ensures items { queues.new.items ≡ changed (renewed here entry.call entry.reply prio)
+        (map (reregistered q here entry) queues.old.items) q }
+    ensures room { (vec_len queues.new ≡ vec_len queues.old) ×
+        (vec_capacity queues.new ≡ vec_capacity queues.old) }
 {
     note_registrations(queues, q, here, entry);
     renew(queues, q, here, entry, prio, hint)
@@ -483,11 +499,19 @@ pub fn note(
     hint: usize,
 ) -> Option<usize>
     requires rising { HaveRisingPlaces queues.old.items }
-    requires room { (x : QueueShown) → queue_in (map (reregistered q here entry) queues.old.items) q ≡ Some x → HasRoom entry.reply x }
-    requires order { (x : QueueShown) → queue_in (map (reregistered q here entry) queues.old.items) q ≡ Some x → IsInOrder here entry.call entry.reply prio x }
+    requires room { (x : QueueShown) →
+        queue_in (map (reregistered q here entry) queues.old.items) q ≡ Some x →
+        HasRoom entry.reply x }
+    requires order { (x : QueueShown) →
+        queue_in (map (reregistered q here entry) queues.old.items) q ≡ Some x →
+        IsInOrder here entry.call entry.reply prio x }
     ensures items { queues.new.items ≡ noted_queues owners.now here entry q prio queues.old.items }
-    ensures room { vec_len queues.old < vec_capacity queues.old → vec_len queues.new < vec_capacity queues.new }
-    ensures pool { (m : ℕ) → Pool m queues.old.items spares.old.items (vec_capacity queues.old) (vec_capacity spares.old) → Pool m queues.new.items spares.new.items (vec_capacity queues.new) (vec_capacity spares.new) }
+    ensures room { vec_len queues.old < vec_capacity queues.old →
+        vec_len queues.new < vec_capacity queues.new }
+    ensures pool { (m : ℕ) → Pool m queues.old.items spares.old.items (vec_capacity queues.old)
+        (vec_capacity spares.old) →
+        Pool m queues.new.items spares.new.items (vec_capacity queues.new)
+        (vec_capacity spares.new) }
 {
     let found = note_lines(queues, here, entry, q, prio, hint);
     release(owners, may_free(entry), queues, spares, q);

@@ -39,8 +39,10 @@ ghost use Rattle.mq_state.specs.Replays.{IsCause, IsDeparture};
 // Why an entry may not stand after those that the tables are those of, if it may not.
 fn cause_at(past: &Prefix<'_>, tables: &Tables, entry: Entry, payload: &[u8]) -> Option<Cause>
     requires { AreThoseOf past.now.records tables.now }
-    ensures legal { result ≡ None → IsLegalNext past.now.records (record { entry = entry; payload = payload.now }) }
-    ensures cause { IfSome result (IsCause past.now.records (record { entry = entry; payload = payload.now })) }
+    ensures legal { result ≡ None →
+        IsLegalNext past.now.records (record { entry = entry; payload = payload.now }) }
+    ensures cause { IfSome result (IsCause past.now.records
+        (record { entry = entry; payload = payload.now })) }
 {
     if !is_process(entry.process) {
         return Some(Cause::Process);

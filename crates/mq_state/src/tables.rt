@@ -55,7 +55,10 @@ impl Tables {
     /// The tables of n processes that have nothing, with no queue. With bounds they have room for all that the bounds allow.
     pub fn new(alloc: Global, n: u32, bounds: Option<Bounds>) -> Result<Tables, AllocError>
         requires { n ≤ 32 }
-        ensures empty { IfOk result (λ t. (t.n ≡ n) × TablesMirror [] t.n t.owners.items t.queues.items t.inboxes.items × (waits_count t.owners.items ≡ 0) × (t.waits ≡ 0) × HasNoticeRoom t.queues.items t.inboxes.items) }
+        ensures empty { IfOk result (λ t. (t.n ≡ n) ×
+            TablesMirror [] t.n t.owners.items t.queues.items t.inboxes.items ×
+            (waits_count t.owners.items ≡ 0) × (t.waits ≡ 0) ×
+            HasNoticeRoom t.queues.items t.inboxes.items) }
         ensures known { IfOk result (λ t. KnowWaits t.owners.items t.queues.items) }
         ensures bounds { IfOk result (λ t. t.bounds ≡ bounds) }
         ensures notices { IfOk result (λ t. HasNotices bounds 0 n t.inboxes.items) }
@@ -96,7 +99,8 @@ impl Tables {
     // The queue of the descriptor that a call names, or the place of its entry.
     fn descriptor_queue(&self, journal: &Prefix<'_>, p: u32, d: u32) -> u64
         requires mirror { Mirrors journal.now self.now }
-        ensures { result ≡ unwrap_or (option_map (λ h. h.queue) (held journal.now.records p d)) (length journal.now.records) }
+        ensures { result ≡ unwrap_or (option_map (λ h. h.queue) (held journal.now.records p d))
+            (length journal.now.records) }
     {
         queue_of(journal, owners::held(&self.owners, p, d))
     }
@@ -104,7 +108,8 @@ impl Tables {
     // The queue that a name is bound to, or the place of the entry.
     fn named_queue(&self, journal: &Prefix<'_>, name: &[u8]) -> u64
         requires mirror { Mirrors journal.now self.now }
-        ensures { result ≡ unwrap_or (bound_queue journal.now.records name.now) (length journal.now.records) }
+        ensures { result ≡ unwrap_or (bound_queue journal.now.records name.now)
+            (length journal.now.records) }
     {
         match self.bound(journal, name) {
             Some(q) => q,
@@ -146,7 +151,8 @@ impl Tables {
     #[inline(always)]
     fn note_notices(&mut self, entry: Entry, q: u64)
         requires process { entry.process < length self.old.inboxes.items }
-        requires room { (n : Registration) → registration_in self.old.queues.items q ≡ Some n → 0 < room_in self.old.inboxes.items n.process }
+        requires room { (n : Registration) → registration_in self.old.queues.items q ≡ Some n →
+            0 < room_in self.old.inboxes.items n.process }
         ensures owners { self.new.owners.items ≡ self.old.owners.items }
         ensures waits { self.new.waits ≡ self.old.waits }
         ensures queues { self.new.queues ≡ self.old.queues }
@@ -154,8 +160,13 @@ impl Tables {
         ensures bounds { self.new.bounds ≡ self.old.bounds }
         ensures spares { self.new.spares ≡ self.old.spares }
         ensures count { length self.new.inboxes.items ≡ length self.old.inboxes.items }
-        ensures inboxes { (k : ℕ) → notices_in self.new.inboxes.items k ≡ noted_values entry.process (registration_in self.old.queues.items q) entry.reply k (notices_in self.old.inboxes.items k) }
-        ensures notice_room { (k : ℕ) → room_in self.old.inboxes.items k ≤ room_in self.new.inboxes.items k + notices_brought (registration_in self.old.queues.items q) entry.reply k }
+        ensures inboxes { (k : ℕ) →
+            notices_in self.new.inboxes.items k ≡ noted_values entry.process
+            (registration_in self.old.queues.items q) entry.reply k
+            (notices_in self.old.inboxes.items k) }
+        ensures notice_room { (k : ℕ) →
+            room_in self.old.inboxes.items k ≤ room_in self.new.inboxes.items k + notices_brought
+            (registration_in self.old.queues.items q) entry.reply k }
     {
         if registrations::notified(entry.reply).is_some() {
             if let Some(n) = queues::registration(&self.queues, q) {
@@ -170,12 +181,21 @@ impl Tables {
     // Notes an entry made on queue q, which brings the order of a queue that it creates.
     #[inline(always)]
     fn note(&mut self, journal: &Prefix<'_>, entry: Entry, q: u64, fresh: Option<Slots>)
-        requires process { (entry.process < length self.old.owners.items) × (entry.process < length self.old.inboxes.items) }
+        requires process { (entry.process < length self.old.owners.items) ×
+            (entry.process < length self.old.inboxes.items) }
         requires numbers { FitsSlots entry.call entry.reply }
-        requires room { (x : QueueShown) → queue_in (map (reregistered q (length journal.now.records) entry) self.old.queues.items) q ≡ Some x → HasRoom entry.reply x }
-        requires order { (x : QueueShown) → queue_in (map (reregistered q (length journal.now.records) entry) self.old.queues.items) q ≡ Some x → IsInOrder (length journal.now.records) entry.call entry.reply (admitted_priority journal.now.records entry.reply) x }
-        requires notice_room { (n : Registration) → registration_in self.old.queues.items q ≡ Some n → 0 < room_in self.old.inboxes.items n.process }
-        requires brings { BringsOrder entry.call entry.reply (vec_len self.old.queues) (vec_capacity self.old.queues) fresh }
+        requires room { (x : QueueShown) →
+            queue_in (map (reregistered q (length journal.now.records) entry) self.old.queues.items)
+            q ≡ Some x → HasRoom entry.reply x }
+        requires order { (x : QueueShown) →
+            queue_in (map (reregistered q (length journal.now.records) entry) self.old.queues.items)
+            q ≡ Some x → IsInOrder (length journal.now.records) entry.call entry.reply
+            (admitted_priority journal.now.records entry.reply) x }
+        requires notice_room { (n : Registration) →
+            registration_in self.old.queues.items q ≡ Some n →
+            0 < room_in self.old.inboxes.items n.process }
+        requires brings { BringsOrder entry.call entry.reply (vec_len self.old.queues)
+            (vec_capacity self.old.queues) fresh }
         requires few { length self.old.owners.items ≤ 33 }
         requires waits { self.old.waits ≡ waits_count self.old.owners.items }
         requires own { MovesOwnWait entry.reply (wait_in self.old.owners.items entry.process) }
@@ -184,11 +204,20 @@ impl Tables {
         ensures n { self.new.n ≡ self.old.n }
         ensures bounds { self.new.bounds ≡ self.old.bounds }
         ensures pool { IsPooled fresh self.old → IsPooled None self.new }
-        ensures owners { self.new.owners.items ≡ noted self.old.owners.items (length journal.now.records) entry.process entry.call entry.reply q }
-        ensures queues { self.new.queues.items ≡ with_fresh fresh (attributes_given entry.call) (length journal.now.records) (noted_queues self.new.owners.items (length journal.now.records) entry q (admitted_priority journal.now.records entry.reply) self.old.queues.items) }
+        ensures owners { self.new.owners.items ≡ noted self.old.owners.items
+            (length journal.now.records) entry.process entry.call entry.reply q }
+        ensures queues { self.new.queues.items ≡ with_fresh fresh (attributes_given entry.call)
+            (length journal.now.records) (noted_queues self.new.owners.items
+            (length journal.now.records) entry q (admitted_priority journal.now.records entry.reply)
+            self.old.queues.items) }
         ensures count { length self.new.inboxes.items ≡ length self.old.inboxes.items }
-        ensures inboxes { (k : ℕ) → notices_in self.new.inboxes.items k ≡ noted_values entry.process (registration_in self.old.queues.items q) entry.reply k (notices_in self.old.inboxes.items k) }
-        ensures notice_room { (k : ℕ) → room_in self.old.inboxes.items k ≤ room_in self.new.inboxes.items k + notices_brought (registration_in self.old.queues.items q) entry.reply k }
+        ensures inboxes { (k : ℕ) →
+            notices_in self.new.inboxes.items k ≡ noted_values entry.process
+            (registration_in self.old.queues.items q) entry.reply k
+            (notices_in self.old.inboxes.items k) }
+        ensures notice_room { (k : ℕ) →
+            room_in self.old.inboxes.items k ≤ room_in self.new.inboxes.items k + notices_brought
+            (registration_in self.old.queues.items q) entry.reply k }
     {
         let here = journal.len();
         let prio = admitted_priority(journal, entry.reply);

@@ -67,8 +67,10 @@ impl Trail {
 
     /// Process p makes a call, which is given these bytes, if it may make it now. Else it is false, and all is as it was.
     pub fn make(&mut self, p: u32, call: Call, given: &[u8]) -> Result<bool, AllocError>
-        ensures made { IfOk result (λ made. IsTrue made → with_call self.old p call given.now ≡ Some self.new) }
-        ensures none { IfOk result (λ made. IsFalse made → with_call self.old p call given.now ≡ None) }
+        ensures made { IfOk result (λ made. IsTrue made →
+            with_call self.old p call given.now ≡ Some self.new) }
+        ensures none { IfOk result (λ made. IsFalse made →
+            with_call self.old p call given.now ≡ None) }
         ensures stays { IfOk result (λ made. IsFalse made → self.new ≡ self.old) }
         ensures err { OnErr result (self.new ≡ self.old) }
     {

@@ -35,7 +35,8 @@ pub fn run_line<S: Wait + Threads + Clock + CpuClock + Sync, R: Read, W: Write>(
     ensures usage { (all : List ℕ) → R.remaining input.old ≡ Some all →
         request_read (take (MOST_BYTES + 1) all) ≡ Some Usage →
         OnOk result (Appends (W.contents output.old) (W.contents output.new) usage_text) }
-    ensures workload { (all : List ℕ) (workload : Workload) (conditions : Conditions) → R.remaining input.old ≡ Some all →
+    ensures workload { (all : List ℕ) (workload : Workload) (conditions : Conditions) →
+        R.remaining input.old ≡ Some all →
         request_read (take (MOST_BYTES + 1) all) ≡ Some (Measure workload conditions) →
         IsErrOf result BadLine → ⊥ }
 {

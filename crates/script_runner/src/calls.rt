@@ -37,8 +37,10 @@ pub fn perform<L: Look<Guarded>, R: Wait + Clock>(
     ensures same { IsSameProcess process.old process.new }
     ensures free { IfSome result (λ _. IsFree process.new) }
     ensures message { IfSome result (λ came. HasMessage came (length buffer.old)) }
-    ensures performed { IfSome result (Performs clock.now.moment (said command.now) buffer.old buffer.new process.old process.new) }
-    ensures blocks { IfNone result (Blocks clock.now.moment (said command.now) buffer.old process.old process.new) }
+    ensures performed { IfSome result (Performs clock.now.moment
+        (said command.now) buffer.old buffer.new process.old process.new) }
+    ensures blocks { IfNone result (Blocks clock.now.moment
+        (said command.now) buffer.old process.old process.new) }
 {
     let now = clock.moment;
     match *command {
@@ -82,7 +84,8 @@ fn open<L: Look<Guarded>, R: Wait>(
     ensures free { IsFree process.new }
     ensures same { IsSameProcess process.old process.new }
     ensures message { (room : ℕ) → HasMessage result room }
-    ensures made { MakesNamed open_says outcomes.Opened (Call.MqOpen flags attr) name.now process.old process.new result }
+    ensures made { MakesNamed open_says outcomes.Opened
+        (Call.MqOpen flags attr) name.now process.old process.new result }
 {
     match Name::read(name) {
         Ok(name) => opened(process.open(rt, mq, &name, flags, attr)),
@@ -101,7 +104,8 @@ fn unlink<L: Look<Guarded>, R: Wait>(
     ensures free { IsFree process.new }
     ensures same { IsSameProcess process.old process.new }
     ensures message { (room : ℕ) → HasMessage result room }
-    ensures made { MakesNamed done_says (λ _. outcomes.Done) Call.MqUnlink name.now process.old process.new result }
+    ensures made { MakesNamed done_says (λ _. outcomes.Done) Call.MqUnlink name.now process.old
+        process.new result }
 {
     match Name::read(name) {
         Ok(name) => done(process.unlink(rt, mq, &name)),

@@ -17,8 +17,11 @@ pub fn shares_of<'s, L: Look<Guarded>>(
     processes: Vec<Process<L>>,
     calls: &[ScriptCall<&'s [u8]>],
 ) -> Result<Vec<Share<'s, Process<L>>>, AllocError>
-    ensures processes { IfOk result (λ shares. map (λ share. share.process) shares.items ≡ processes.items) }
-    ensures calls { IfOk result (λ shares. All (λ share. calls_in share.turns.items ≡ calls_of share.process.number (said_calls calls.now)) shares.items) }
+    ensures processes { IfOk result (λ shares. map (λ share. share.process) shares.items ≡
+        processes.items) }
+    ensures calls { IfOk result (λ shares.
+        All (λ share. calls_in share.turns.items ≡ calls_of share.process.number
+        (said_calls calls.now)) shares.items) }
 {
     let mut shares = Vec::with_capacity(alloc, processes.len())?;
     for process in processes {
@@ -34,7 +37,8 @@ fn share_of<'s, L: Look<Guarded>>(
     calls: &[ScriptCall<&'s [u8]>],
 ) -> Result<Share<'s, Process<L>>, AllocError>
     ensures process { IfOk result (λ share. share.process ≡ process) }
-    ensures calls { IfOk result (λ share. calls_in share.turns.items ≡ calls_of process.number (said_calls calls.now)) }
+    ensures calls { IfOk result (λ share. calls_in share.turns.items ≡
+        calls_of process.number (said_calls calls.now)) }
 {
     let turns = turns_of(alloc, process.number(), calls)?;
     let completions = Vec::with_capacity(alloc, turns.len())?;
@@ -51,7 +55,8 @@ fn turns_of<'s>(
     process: u32,
     calls: &[ScriptCall<&'s [u8]>],
 ) -> Result<Vec<Turn<'s>>, AllocError>
-    ensures { IfOk result (λ turns. calls_in turns.items ≡ calls_of process (said_calls calls.now)) }
+    ensures { IfOk result (λ turns.
+        calls_in turns.items ≡ calls_of process (said_calls calls.now)) }
 {
     let mut turns = Vec::new(alloc);
     for call in calls {
@@ -67,7 +72,8 @@ pub fn processes_of<L: Look<Guarded>>(
     alloc: Global,
     workers: Vec<Worked<Process<L>>>,
 ) -> Result<Vec<Process<L>>, AllocError>
-    ensures { IfOk result (λ processes. processes.items ≡ map (λ worked. worked.process) workers.items) }
+    ensures { IfOk result (λ processes.
+        processes.items ≡ map (λ worked. worked.process) workers.items) }
 {
     let mut processes = Vec::with_capacity(alloc, workers.len())?;
     for worked in workers {

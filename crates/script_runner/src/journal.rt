@@ -68,7 +68,8 @@ where
     requires { (1 ≤ script.now.processes) × (script.now.processes ≤ 32) }
     ensures fault { IfErr result IsUnwritten }
     ensures legal { IfOk result (λ journal. Legal journal.records) }
-    ensures done { IfOk result (λ journal. (replies : List ℕ) × RunsWhole (said_script script.now) replies journal.records) }
+    ensures done { IfOk result (λ journal. (replies : List ℕ) ×
+        RunsWhole (said_script script.now) replies journal.records) }
 {
     let Ok((mq, processes)) = Mq::<L>::new(alloc, script.processes) else {
         return Err(RunFault::NoMemory);
@@ -100,7 +101,8 @@ where
     ensures fault { IfErr result IsUnwritten }
     ensures ready { IfOk result (λ after. All (IsReady mq.now) after.items) }
     ensures count { IfOk result (λ after. vec_len after ≡ vec_len processes) }
-    ensures ran { IfOk result (λ after. (replies : List ℕ) × RunsPhases (said_phases phases.now) processes.items after.items replies) }
+    ensures ran { IfOk result (λ after. (replies : List ℕ) ×
+        RunsPhases (said_phases phases.now) processes.items after.items replies) }
 {
     for calls in phases {
         processes = run_replied(rt, alloc, mq, gate, processes, calls.as_slice())?.0;

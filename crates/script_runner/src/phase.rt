@@ -190,8 +190,13 @@ fn complete<L: Look<Guarded>, R: Wait + Clock>(
     requires { IsReady mq.now process.old }
     ensures same { IsSameProcess process.old process.new }
     ensures free { IfSome result (λ _. IsFree process.new) }
-    ensures performed { IfSome result (λ completion. Performs turn.entry.call.clock.moment (said turn.entry.call.command) (buffer_given (said turn.entry.call.command)) completion.buffer.items process.old process.new completion.outcome) }
-    ensures blocks { IfNone result (Blocks turn.entry.call.clock.moment (said turn.entry.call.command) (buffer_given (said turn.entry.call.command)) process.old process.new) }
+    ensures performed { IfSome result (λ completion.
+        Performs turn.entry.call.clock.moment (said turn.entry.call.command)
+        (buffer_given (said turn.entry.call.command)) completion.buffer.items process.old
+        process.new completion.outcome) }
+    ensures blocks { IfNone result (Blocks turn.entry.call.clock.moment
+        (said turn.entry.call.command) (buffer_given (said turn.entry.call.command)) process.old
+        process.new) }
 {
     let Turn { call, mut buffer } = turn;
     let outcome = perform(

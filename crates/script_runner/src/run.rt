@@ -56,7 +56,8 @@ where
     G: Gate + Sync,
     ensures input { IsErrOf result Input → W.contents output.new ≡ W.contents output.old }
     ensures unread { IsErrOf result Input →
-        (lost : List ℕ) × (length lost ≤ MOST_BYTES) × Consumes (R.remaining input.old) (R.remaining input.new) lost }
+        (lost : List ℕ) × (length lost ≤ MOST_BYTES) ×
+        Consumes (R.remaining input.old) (R.remaining input.new) lost }
     ensures bad_call { (all : List ℕ) (line : ℕ) → R.remaining input.old ≡ Some all →
         script_written (take (MOST_BYTES + 1) all) ≡ Err line →
         StopsAt line result × (W.contents output.new ≡ W.contents output.old) }
@@ -68,7 +69,8 @@ where
     ensures output { (all : List ℕ) (script : Whole) → R.remaining input.old ≡ Some all →
         script_written (take (MOST_BYTES + 1) all) ≡ Ok script → IsErrOf result Output →
         StopsInWrite script (W.contents output.old) (W.contents output.new) }
-    ensures deadlock { (all : List ℕ) (script : Whole) (lines : Vec ℕ Global) → R.remaining input.old ≡ Some all →
+    ensures deadlock { (all : List ℕ) (script : Whole) (lines : Vec ℕ Global) →
+        R.remaining input.old ≡ Some all →
         script_written (take (MOST_BYTES + 1) all) ≡ Ok script → IsErrOf result (Deadlock lines) →
         StopsInDeadlock script lines.items (W.contents output.old) (W.contents output.new) }
     ensures done { (all : List ℕ) (script : Whole) → R.remaining input.old ≡ Some all →
@@ -97,10 +99,15 @@ where
     G: Gate + Sync,
     requires { (1 ≤ script.now.processes) × (script.now.processes ≤ 32) }
     ensures fault { IfErr result IsLate }
-    ensures no_memory { IsErrOf result NoMemory → StopsAfterPhase (said_script script.now) (W.contents output.old) (W.contents output.new) }
-    ensures output { IsErrOf result Output → StopsInWrite (said_script script.now) (W.contents output.old) (W.contents output.new) }
-    ensures deadlock { (lines : Vec ℕ Global) → IsErrOf result (Deadlock lines) → StopsInDeadlock (said_script script.now) lines.items (W.contents output.old) (W.contents output.new) }
-    ensures done { OnOk result (RunsScript (said_script script.now) (W.contents output.old) (W.contents output.new)) }
+    ensures no_memory { IsErrOf result NoMemory →
+        StopsAfterPhase (said_script script.now) (W.contents output.old) (W.contents output.new) }
+    ensures output { IsErrOf result Output →
+        StopsInWrite (said_script script.now) (W.contents output.old) (W.contents output.new) }
+    ensures deadlock { (lines : Vec ℕ Global) → IsErrOf result (Deadlock lines) →
+        StopsInDeadlock (said_script script.now) lines.items (W.contents output.old)
+        (W.contents output.new) }
+    ensures done { OnOk result (RunsScript (said_script script.now) (W.contents output.old)
+        (W.contents output.new)) }
 {
     let journal = run_whole::<L, S, W, G>(rt, alloc, script, output, gate)?;
     // The journal of the queues is legal.
@@ -125,11 +132,17 @@ where
     G: Gate + Sync,
     requires { (1 ≤ script.now.processes) × (script.now.processes ≤ 32) }
     ensures fault { IfErr result IsLate }
-    ensures no_memory { IsErrOf result NoMemory → StopsAfterPhase (said_script script.now) (W.contents output.old) (W.contents output.new) }
-    ensures output { IsErrOf result Output → StopsInWrite (said_script script.now) (W.contents output.old) (W.contents output.new) }
-    ensures deadlock { (lines : Vec ℕ Global) → IsErrOf result (Deadlock lines) → StopsInDeadlock (said_script script.now) lines.items (W.contents output.old) (W.contents output.new) }
+    ensures no_memory { IsErrOf result NoMemory →
+        StopsAfterPhase (said_script script.now) (W.contents output.old) (W.contents output.new) }
+    ensures output { IsErrOf result Output →
+        StopsInWrite (said_script script.now) (W.contents output.old) (W.contents output.new) }
+    ensures deadlock { (lines : Vec ℕ Global) → IsErrOf result (Deadlock lines) →
+        StopsInDeadlock (said_script script.now) lines.items (W.contents output.old)
+        (W.contents output.new) }
     ensures legal { IfOk result (λ journal. Legal journal.records) }
-    ensures done { IfOk result (λ journal. (replies : List ℕ) × RunsWhole (said_script script.now) replies journal.records × Appends (W.contents output.old) (W.contents output.new) replies) }
+    ensures done { IfOk result (λ journal. (replies : List ℕ) ×
+        RunsWhole (said_script script.now) replies journal.records ×
+        Appends (W.contents output.old) (W.contents output.new) replies) }
 {
     let Ok((mq, processes)) = Mq::<L>::new(alloc, script.processes) else {
         return Err(RunFault::NoMemory);
@@ -161,12 +174,20 @@ where
     G: Gate + Sync,
     requires { All (IsReady mq.now) processes.items }
     ensures fault { IfErr result IsLate }
-    ensures no_memory { IsErrOf result NoMemory → RunsFront (said_phases phases.now) processes.items (W.contents output.old) (W.contents output.new) }
-    ensures output { IsErrOf result Output → StopsInPhase (said_phases phases.now) processes.items (W.contents output.old) (W.contents output.new) }
-    ensures deadlock { (lines : Vec ℕ Global) → IsErrOf result (Deadlock lines) → StopsBlocked (said_phases phases.now) processes.items lines.items (W.contents output.old) (W.contents output.new) }
+    ensures no_memory { IsErrOf result NoMemory →
+        RunsFront (said_phases phases.now) processes.items (W.contents output.old)
+        (W.contents output.new) }
+    ensures output { IsErrOf result Output →
+        StopsInPhase (said_phases phases.now) processes.items (W.contents output.old)
+        (W.contents output.new) }
+    ensures deadlock { (lines : Vec ℕ Global) → IsErrOf result (Deadlock lines) →
+        StopsBlocked (said_phases phases.now) processes.items lines.items (W.contents output.old)
+        (W.contents output.new) }
     ensures ready { IfOk result (λ after. All (IsReady mq.now) after.items) }
     ensures count { IfOk result (λ after. vec_len after ≡ vec_len processes) }
-    ensures ran { IfOk result (λ after. (replies : List ℕ) × RunsPhases (said_phases phases.now) processes.items after.items replies × Appends (W.contents output.old) (W.contents output.new) replies) }
+    ensures ran { IfOk result (λ after. (replies : List ℕ) ×
+        RunsPhases (said_phases phases.now) processes.items after.items replies ×
+        Appends (W.contents output.old) (W.contents output.new) replies) }
 {
     for calls in phases {
         processes = run_written(rt, alloc, mq, output, gate, processes, calls.as_slice())?;
@@ -194,11 +215,17 @@ where
     requires { All (IsReady mq.now) processes.items }
     ensures fault { IfErr result IsLate }
     ensures no_memory { IsErrOf result NoMemory → W.contents output.new ≡ W.contents output.old }
-    ensures deadlock { (lines : Vec ℕ Global) → IsErrOf result (Deadlock lines) → ComesToAStand (said_calls calls.now) processes.items lines.items × (W.contents output.new ≡ W.contents output.old) }
-    ensures output { IsErrOf result Output → (after : List (Ticket Record)) × (text : List ℕ) × RunsPhase (said_calls calls.now) processes.items after text × AppendsTooLittle (W.contents output.old) (W.contents output.new) text }
+    ensures deadlock { (lines : Vec ℕ Global) → IsErrOf result (Deadlock lines) →
+        ComesToAStand (said_calls calls.now) processes.items lines.items ×
+        (W.contents output.new ≡ W.contents output.old) }
+    ensures output { IsErrOf result Output → (after : List (Ticket Record)) × (text : List ℕ) ×
+        RunsPhase (said_calls calls.now) processes.items after text ×
+        AppendsTooLittle (W.contents output.old) (W.contents output.new) text }
     ensures ready { IfOk result (λ after. All (IsReady mq.now) after.items) }
     ensures count { IfOk result (λ after. vec_len after ≡ vec_len processes) }
-    ensures ran { IfOk result (λ after. (text : List ℕ) × RunsPhase (said_calls calls.now) processes.items after.items text × Appends (W.contents output.old) (W.contents output.new) text) }
+    ensures ran { IfOk result (λ after. (text : List ℕ) ×
+        RunsPhase (said_calls calls.now) processes.items after.items text ×
+        Appends (W.contents output.old) (W.contents output.new) text) }
 {
     let (processes, text) = run_replied(rt, alloc, mq, gate, processes, calls)?;
     write_all(output, text.as_slice())?;
@@ -222,10 +249,12 @@ where
     G: Gate + Sync,
     requires { All (IsReady mq.now) processes.items }
     ensures fault { IfErr result IsUnwritten }
-    ensures deadlock { (lines : Vec ℕ Global) → IsErrOf result (Deadlock lines) → ComesToAStand (said_calls calls.now) processes.items lines.items }
+    ensures deadlock { (lines : Vec ℕ Global) → IsErrOf result (Deadlock lines) →
+        ComesToAStand (said_calls calls.now) processes.items lines.items }
     ensures ready { IfOk result (λ after. All (IsReady mq.now) after.0.items) }
     ensures count { IfOk result (λ after. vec_len after.0 ≡ vec_len processes) }
-    ensures ran { IfOk result (λ after. RunsPhase (said_calls calls.now) processes.items after.0.items after.1.items) }
+    ensures ran { IfOk result (λ after.
+        RunsPhase (said_calls calls.now) processes.items after.0.items after.1.items) }
 {
     let shares = shares_of(alloc, processes, calls)?;
     let workers = run_phase(rt, alloc, mq, gate, shares)?;
@@ -241,10 +270,13 @@ fn write_last_line<W: Write>(
     journal: &Journal,
 ) -> Result<Result<(), u64>, RunFault>
     ensures fault { IfErr result (λ fault. fault ≡ Output) }
-    ensures part { OnErr result (AppendsTooLittle (W.contents output.old) (W.contents output.new) last_line) }
+    ensures part { OnErr result (AppendsTooLittle (W.contents output.old)
+        (W.contents output.new) last_line) }
     ensures checked { IfOk result (λ verdict. IsOk verdict ↔ Legal journal.now.records) }
-    ensures written { IfOk result (λ verdict. OnOk verdict (Appends (W.contents output.old) (W.contents output.new) last_line)) }
-    ensures silent { IfOk result (λ verdict. IsErr verdict → W.contents output.new ≡ W.contents output.old) }
+    ensures written { IfOk result (λ verdict.
+        OnOk verdict (Appends (W.contents output.old) (W.contents output.new) last_line)) }
+    ensures silent { IfOk result (λ verdict. IsErr verdict →
+        W.contents output.new ≡ W.contents output.old) }
 {
     let found = verdict(alloc, journal);
     if found.is_ok() {

@@ -21,7 +21,8 @@ pub fn settled<L: Look<Guarded>, R: Wait>(
     workers: Vec<Worked<Process<L>>>,
 ) -> Result<Vec<Worked<Process<L>>>, RunFault>
     requires { All (λ worked. worked.process.lock ≡ mq.now) workers.items }
-    ensures through { IfOk result (λ same. (same.items ≡ workers.items) × (blocked_lines workers.items ≡ [])) }
+    ensures through { IfOk result (λ same. (same.items ≡ workers.items) ×
+        (blocked_lines workers.items ≡ [])) }
     ensures fault { IfErr result (EndsStuck workers.items) }
 {
     let lines = lines_of(alloc, &workers)?;

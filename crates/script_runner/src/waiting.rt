@@ -29,9 +29,11 @@ pub fn send<L: Look<Guarded>, R: Wait>(
     requires free { IsFree process.old }
     ensures same { IsSameProcess process.old process.new }
     ensures free { IfSome result (λ _. IsFree process.new) }
-    ensures call { IfSome result (Shows (λ _. outcomes.Done) (SendCall process.old process.new d message.now prio)) }
+    ensures call { IfSome result (Shows (λ _. outcomes.Done)
+        (SendCall process.old process.new d message.now prio)) }
     ensures message { IfSome result (λ came. message_len came ≡ 0) }
-    ensures waits { IfNone result (WaitsFor process.old process.new (Call.MqSend d prio (length message.now)) message.now) }
+    ensures waits { IfNone result (WaitsFor process.old process.new
+        (Call.MqSend d prio (length message.now)) message.now) }
 {
     match process.start_send(rt, mq, d, message, prio) {
         Ok(true) => Some(Outcome::Done),
@@ -56,9 +58,11 @@ pub fn receive<L: Look<Guarded>, R: Wait>(
     requires free { IsFree process.old }
     ensures same { IsSameProcess process.old process.new }
     ensures free { IfSome result (λ _. IsFree process.new) }
-    ensures call { IfSome result (Shows outcomes.Got (WholeReceive process.old process.new d buffer.old buffer.new)) }
+    ensures call { IfSome result (Shows outcomes.Got
+        (WholeReceive process.old process.new d buffer.old buffer.new)) }
     ensures message { IfSome result (λ came. HasMessage came (length buffer.old)) }
-    ensures waits { IfNone result (WaitsFor process.old process.new (Call.MqReceive d (length buffer.old)) []) }
+    ensures waits { IfNone result (WaitsFor process.old process.new
+        (Call.MqReceive d (length buffer.old)) []) }
 {
     match process.start_receive(rt, mq, d, buffer) {
         Ok(Some(received)) => Some(Outcome::Got(received)),
@@ -87,9 +91,11 @@ pub fn timed_send<L: Look<Guarded>, R: Wait>(
     requires free { IsFree process.old }
     ensures same { IsSameProcess process.old process.new }
     ensures free { IfSome result (λ _. IsFree process.new) }
-    ensures call { IfSome result (Shows (λ _. outcomes.Done) (TimedSend (λ moment. moment ≡ now) process.old process.new d message.now prio until)) }
+    ensures call { IfSome result (Shows (λ _. outcomes.Done) (TimedSend (λ moment. moment ≡
+        now) process.old process.new d message.now prio until)) }
     ensures message { IfSome result (λ came. message_len came ≡ 0) }
-    ensures waits { IfNone result (WaitsFor process.old process.new (Call.MqTimedSend d prio (length message.now) until now) message.now) }
+    ensures waits { IfNone result (WaitsFor process.old process.new (Call.MqTimedSend d prio
+        (length message.now) until now) message.now) }
 {
     match process.start_timed_send(rt, mq, d, message, prio, until, now) {
         Ok(true) => Some(Outcome::Done),
@@ -116,9 +122,11 @@ pub fn timed_receive<L: Look<Guarded>, R: Wait>(
     requires free { IsFree process.old }
     ensures same { IsSameProcess process.old process.new }
     ensures free { IfSome result (λ _. IsFree process.new) }
-    ensures call { IfSome result (Shows outcomes.Got (TimedReceive (λ moment. moment ≡ now) process.old process.new d buffer.old buffer.new until)) }
+    ensures call { IfSome result (Shows outcomes.Got (TimedReceive (λ moment. moment ≡
+        now) process.old process.new d buffer.old buffer.new until)) }
     ensures message { IfSome result (λ came. HasMessage came (length buffer.old)) }
-    ensures waits { IfNone result (WaitsFor process.old process.new (Call.MqTimedReceive d (length buffer.old) until now) []) }
+    ensures waits { IfNone result (WaitsFor process.old process.new (Call.MqTimedReceive d
+        (length buffer.old) until now) []) }
 {
     match process.start_timed_receive(rt, mq, d, buffer, until, now) {
         Ok(Some(received)) => Some(Outcome::Got(received)),
@@ -142,8 +150,10 @@ fn await_answer<L: Look<Guarded>, R: Wait>(
     requires made { process.old.lock ≡ mq.now }
     requires legal { Legal process.old.left }
     requires wait { IsSome (waiting_room process.old.left process.old.number) }
-    requires room { IfSome (waiting_room process.old.left process.old.number) (λ room. room ≤ length buffer.old) }
-    ensures some { IfSome result (λ outcome. Collects process.old process.new outcome buffer.old buffer.new) }
+    requires room { IfSome (waiting_room process.old.left process.old.number)
+        (λ room. room ≤ length buffer.old) }
+    ensures some { IfSome result (λ outcome.
+        Collects process.old process.new outcome buffer.old buffer.new) }
     ensures free { IfSome result (λ outcome. IsFree process.new) }
     ensures fits { IfSome result (λ outcome. FitsIn outcome (length buffer.old)) }
     ensures none { IfNone result (Calls process.old process.new []) }

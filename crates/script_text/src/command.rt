@@ -329,7 +329,8 @@ fn timed_send_of<'s>(words: &[&'s [u8]]) -> Option<Command<&'s [u8]>>
 
 /// The text of a send, which may be left out.
 fn text_of<'s>(words: &[&'s [u8]]) -> Option<&'s [u8]>
-    ensures { option_map (λ text. text.now) result ≡ text_written (map (λ word. word.now) words.now) }
+    ensures { option_map (λ text. text.now) result ≡
+        text_written (map (λ word. word.now) words.now) }
 {
     match words {
         [] => Some(&[]),

@@ -93,10 +93,13 @@ pub fn line_of<'s>(
     words: &[&'s [u8]],
 ) -> Option<Line<ScriptCall<&'s [u8]>>>
     requires moment { is_moment time.moment ≡ true }
-    ensures written { option_map said_line result ≡ line_written processes number time (map (λ word. word.now) words.now) }
+    ensures written { option_map said_line result ≡ line_written processes number time
+        (map (λ word. word.now) words.now) }
     ensures count { IfSome processes (λ n. (1 ≤ n) × (n ≤ 32)) →
-        IfSome result (λ line. IfSome (processes_behind (said_line line) processes) (λ n. (1 ≤ n) × (n ≤ 32))) }
-    ensures moment { IfSome result (λ line. is_moment (time_behind (said_line line) time).moment ≡ true) }
+        IfSome result (λ line. IfSome (processes_behind (said_line line) processes) (λ n. (1 ≤ n) ×
+        (n ≤ 32))) }
+    ensures moment { IfSome result (λ line.
+        is_moment (time_behind (said_line line) time).moment ≡ true) }
 {
     if is_skipped(words) {
         return Some(Line::Skipped);
@@ -182,7 +185,8 @@ fn call_of<'s>(
     words: &[&'s [u8]],
 ) -> Option<ScriptCall<&'s [u8]>>
     requires { is_moment moment ≡ true }
-    ensures { option_map said_call result ≡ call_line_written processes number moment (map (λ word. word.now) words.now) }
+    ensures { option_map said_call result ≡ call_line_written processes number moment
+        (map (λ word. word.now) words.now) }
 {
     match words {
         [process, words @ ..] => Some(ScriptCall {

@@ -34,7 +34,8 @@ pub fn push_reply(
     buffer: &[u8],
 ) -> Result<(), AllocError>
     requires { HasMessage outcome.now (length buffer.now) }
-    ensures { OnOk result (text.new.items ≡ text.old.items ++ reply_line process outcome.now buffer.now) }
+    ensures { OnOk result (text.new.items ≡ text.old.items ++
+        reply_line process outcome.now buffer.now) }
 {
     let words = outcome_words(alloc, outcome)?;
     let line = format!(in alloc; "{process} {words}")?;

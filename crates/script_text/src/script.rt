@@ -70,10 +70,13 @@ impl Place {
     // The place after a line, if it is within the limits of a script.
     fn behind(self, bytes: &[u8], line: &Line<ScriptCall<&[u8]>>) -> Option<Place>
         requires { self.lines + 1 < 2 ^ 64 }
-        ensures next { result ≡ (let next = place_behind self bytes.now (said_line line.now) in if is_within_limits next then Some next else None) }
-        ensures time { IfSome result (λ next. next.time ≡ time_behind (said_line line.now) self.time) }
+        ensures next { result ≡ (let next = place_behind self bytes.now (said_line line.now) in
+            if is_within_limits next then Some next else None) }
+        ensures time { IfSome result (λ next.
+            next.time ≡ time_behind (said_line line.now) self.time) }
         ensures lines { IfSome result (λ next. next.lines ≡ self.lines + 1) }
-        ensures bytes { IfSome result (λ next. (next.bytes ≡ self.bytes + length bytes.now) × (next.bytes ≤ 1048576)) }
+        ensures bytes { IfSome result (λ next. (next.bytes ≡ self.bytes + length bytes.now) ×
+            (next.bytes ≤ 1048576)) }
     {
         let calls = match line {
             Line::Call(_) => self.calls.checked_add(1)?,
@@ -102,11 +105,14 @@ fn next_line<'s>(
     requires lines { at.lines + 1 < 2 ^ 64 }
     requires count { IfSome processes (λ n. (1 ≤ n) × (n ≤ 32)) }
     requires moment { is_moment at.time.moment ≡ true }
-    ensures read { Gives (λ read. (said_line read.0, read.1)) result (or_fault (line_read processes at bytes.now) (at.lines + 1) (λ read. Ok read)) }
-    ensures count { IfOk result (λ read. IfSome (processes_behind (said_line read.0) processes) (λ n. (1 ≤ n) × (n ≤ 32))) }
+    ensures read { Gives (λ read. (said_line read.0, read.1)) result
+        (or_fault (line_read processes at bytes.now) (at.lines + 1) (λ read. Ok read)) }
+    ensures count { IfOk result (λ read. IfSome (processes_behind (said_line read.0) processes)
+        (λ n. (1 ≤ n) × (n ≤ 32))) }
     ensures moment { IfOk result (λ read. is_moment read.1.time.moment ≡ true) }
     ensures lines { IfOk result (λ read. read.1.lines ≡ at.lines + 1) }
-    ensures bytes { IfOk result (λ read. (read.1.bytes ≡ at.bytes + length bytes.now) × (read.1.bytes ≤ 1048576)) }
+    ensures bytes { IfOk result (λ read. (read.1.bytes ≡ at.bytes + length bytes.now) ×
+        (read.1.bytes ≤ 1048576)) }
 {
     let number = at.lines + 1;
     let words = words(alloc, bytes)?;
@@ -149,7 +155,9 @@ impl<'s> Phases<'s> {
 
     // Takes what the next line writes.
     fn add(&mut self, line: Line<ScriptCall<&'s [u8]>>) -> Result<(), AllocError>
-        ensures { OnOk result ((rest : Written) → whole_behind self.new rest ≡ whole_behind self.old (with_line (said_line line.entry) rest)) }
+        ensures { OnOk result ((rest : Written) →
+            whole_behind self.new rest ≡
+            whole_behind self.old (with_line (said_line line.entry) rest)) }
     {
         match line {
             Line::Skipped | Line::Processes(_) | Line::Clock(_) => {}
@@ -162,7 +170,8 @@ impl<'s> Phases<'s> {
     // Ends the current phase.
     fn end(&mut self) -> Result<(), AllocError>
         ensures current { OnOk result (self.new.current.items ≡ []) }
-        ensures ended { OnOk result (self.new.ended.items ≡ self.old.ended.items ++ self.old.current ∷ []) }
+        ensures ended { OnOk result (self.new.ended.items ≡ self.old.ended.items ++
+            self.old.current ∷ []) }
     {
         let next = Vec::new(self.alloc);
         self.ended.push(mem::replace(&mut self.current, next))?;
@@ -171,7 +180,9 @@ impl<'s> Phases<'s> {
 
     // The script, where nothing is left to read.
     fn finish(mut self, processes: u32) -> Result<Script<'s>, AllocError>
-        ensures { IfOk result (λ script. said_script script ≡ whole_behind self.entry (record { processes = processes; first = []; later = [] })) }
+        ensures { IfOk result (λ script.
+            said_script script ≡ whole_behind self.entry
+            (record { processes = processes; first = []; later = [] })) }
     {
         self.end()?;
         Ok(Script {

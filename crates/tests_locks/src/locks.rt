@@ -79,8 +79,12 @@ fn add<L: Lock<Notes>, R: Wait>(
     value: u32,
 ) -> (L::Seat, Result<Stay, AllocError>)
     requires { (L.ticket seat).lock ≡ L.id lock.now }
-    ensures seat { ((L.ticket result.0).lock ≡ L.id lock.now) × ((L.ticket result.0).number ≡ (L.ticket seat).number) }
-    ensures added { MatchResult result.1 (λ n. Grows (λ x. x.0) (L.ticket seat).number (L.ticket seat).left (L.ticket result.0).left (((L.ticket seat).number, value) ∷ [])) (λ _. Grows (λ x. x.0) (L.ticket seat).number (L.ticket seat).left (L.ticket result.0).left []) }
+    ensures seat { ((L.ticket result.0).lock ≡ L.id lock.now) ×
+        ((L.ticket result.0).number ≡ (L.ticket seat).number) }
+    ensures added { MatchResult result.1 (λ n.
+        Grows (λ x. x.0) (L.ticket seat).number (L.ticket seat).left (L.ticket result.0).left
+        (((L.ticket seat).number, value) ∷ [])) (λ _.
+        Grows (λ x. x.0) (L.ticket seat).number (L.ticket seat).left (L.ticket result.0).left []) }
 {
     let number = L::number(&seat);
     let (inside, mut notes) = lock.enter(rt, seat);
@@ -99,7 +103,8 @@ fn add<L: Lock<Notes>, R: Wait>(
 fn look<L: Lock<Notes>, R: Wait>(rt: &R, lock: &L, seat: L::Seat) -> (L::Seat, Option<(u32, u32)>)
     requires { (L.ticket seat).lock ≡ L.id lock.now }
     ensures seat { (L.ticket result.0).lock ≡ L.id lock.now }
-    ensures nothing { Grows (λ x. x.0) (L.ticket seat).number (L.ticket seat).left (L.ticket result.0).left [] }
+    ensures nothing { Grows (λ x. x.0) (L.ticket seat).number (L.ticket seat).left
+        (L.ticket result.0).left [] }
 {
     let (inside, notes) = lock.enter(rt, seat);
     let latest = notes.items.last().copied();
@@ -276,12 +281,18 @@ fn in_two_threads<R: Wait + Threads + Print + Abort + Sync>(
     let (one, two) = join(
         rt,
         || -> WordSeat<Notes>
-            requires { (ticket_of one.number one.seat).lock ≡ lock_id lock.table.shared.table_id (made_with (λ s. s.title ∷ []) lock.table.shared.key) }
-            ensures { (ticket_of result.number result.seat).lock ≡ lock_id lock.table.shared.table_id (made_with (λ s. s.title ∷ []) lock.table.shared.key) }
+            requires { (ticket_of one.number one.seat).lock ≡ lock_id lock.table.shared.table_id
+                (made_with (λ s. s.title ∷ []) lock.table.shared.key) }
+            ensures { (ticket_of result.number result.seat).lock ≡
+                lock_id lock.table.shared.table_id (made_with (λ s. s.title ∷
+                []) lock.table.shared.key) }
         { add_many(rt, &lock, one, stays) },
         || -> WordSeat<Notes>
-            requires { (ticket_of two.number two.seat).lock ≡ lock_id lock.table.shared.table_id (made_with (λ s. s.title ∷ []) lock.table.shared.key) }
-            ensures { (ticket_of result.number result.seat).lock ≡ lock_id lock.table.shared.table_id (made_with (λ s. s.title ∷ []) lock.table.shared.key) }
+            requires { (ticket_of two.number two.seat).lock ≡ lock_id lock.table.shared.table_id
+                (made_with (λ s. s.title ∷ []) lock.table.shared.key) }
+            ensures { (ticket_of result.number result.seat).lock ≡
+                lock_id lock.table.shared.table_id (made_with (λ s. s.title ∷
+                []) lock.table.shared.key) }
         { add_many(rt, &lock, two, stays) },
     );
     seats.push(one).ok().expect(rt, "room for two seats");

@@ -38,7 +38,8 @@ struct Pair<L: Look<Guarded>> {
 
 // One growth may be refused from outside.
 fn make_pair<L: Look<Guarded>, R: Print>(rt: &R, alloc: Global) -> Option<Pair<L>>
-    ensures { IfSome result (λ p. (p.one.lock ≡ p.mq) × IsFree p.one × (p.two.lock ≡ p.mq) × IsFree p.two) }
+    ensures { IfSome result (λ p. (p.one.lock ≡ p.mq) × IsFree p.one × (p.two.lock ≡ p.mq) ×
+        IsFree p.two) }
 {
     let (mq, mut processes) = match Mq::<L>::new(alloc, 2) {
         Ok(made) => made,

@@ -46,10 +46,14 @@ const CHUNK: usize = 4096;
 /// `most + 1` reads. What was read before a fault is lost. No read fails once `most + 1` bytes are there.
 pub fn read_all<R: Read>(alloc: Global, input: &mut R, most: usize) -> Result<Vec<u8>, ReadFault>
     ensures size { IfOk result (λ bytes. vec_len bytes ≤ most + 1) }
-    ensures bytes { IfOk result (λ bytes. IfSome (R.remaining input.old) (λ all. bytes.items ≡ take (most + 1) all)) }
-    ensures left { IfOk result (λ bytes. Consumes (R.remaining input.old) (R.remaining input.new) bytes.items) }
-    ensures lost { OnErr result ((lost : List ℕ) × (length lost ≤ most + 1) × Consumes (R.remaining input.old) (R.remaining input.new) lost) }
-    ensures failed { IsErrOf result Failed → (lost : List ℕ) × (length lost ≤ most) × Consumes (R.remaining input.old) (R.remaining input.new) lost }
+    ensures bytes { IfOk result (λ bytes. IfSome (R.remaining input.old) (λ all. bytes.items ≡
+        take (most + 1) all)) }
+    ensures left { IfOk result (λ bytes.
+        Consumes (R.remaining input.old) (R.remaining input.new) bytes.items) }
+    ensures lost { OnErr result ((lost : List ℕ) × (length lost ≤ most + 1) ×
+        Consumes (R.remaining input.old) (R.remaining input.new) lost) }
+    ensures failed { IsErrOf result Failed → (lost : List ℕ) × (length lost ≤ most) ×
+        Consumes (R.remaining input.old) (R.remaining input.new) lost }
 {
     let mut bytes = Vec::new(alloc);
     let mut chunk = [0u8; CHUNK];

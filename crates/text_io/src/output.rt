@@ -24,9 +24,11 @@ impl Error for WriteFailed {}
 
 /// Writes all the bytes, in as many writes as it takes.
 pub fn write_all<W: Write>(output: &mut W, bytes: &[u8]) -> Result<(), WriteFailed>
-    ensures whole { OnOk result (Appends (W.contents output.old) (W.contents output.new) bytes.now) }
+    ensures whole { OnOk result (Appends (W.contents output.old)
+        (W.contents output.new) bytes.now) }
     ensures part { AppendsPart (W.contents output.old) (W.contents output.new) bytes.now }
-    ensures failed { OnErr result (AppendsTooLittle (W.contents output.old) (W.contents output.new) bytes.now) }
+    ensures failed { OnErr result (AppendsTooLittle (W.contents output.old)
+        (W.contents output.new) bytes.now) }
 {
     let mut written = 0;
     while written < bytes.len() {

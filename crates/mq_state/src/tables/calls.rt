@@ -61,7 +61,9 @@ impl Tables {
         requires kept { IsKeptBy journal.now self.now }
         requires few { entries ≤ 2 }
         requires slice { bytes < 2 ^ 63 }
-        ensures { result ≡ exceeds self.now.bounds (length journal.now.records + open_waits journal.now.records + entries) (payload_bytes journal.now.records + bytes) }
+        ensures { result ≡ exceeds self.now.bounds
+            (length journal.now.records + open_waits journal.now.records + entries)
+            (payload_bytes journal.now.records + bytes) }
     {
         let entries = journal.len() + (self.open_waits() + entries) as u64;
         let bytes = journal.payload_bytes() + bytes as u64;
@@ -84,11 +86,15 @@ impl Tables {
         requires within { bytes ≤ most }
         ensures records { journal.new.records ≡ journal.old.records }
         ensures kept { IsKeptBy journal.new self.now }
-        ensures room { OnOk result ((waits_count self.now.owners.items + entries ≤ journal.new.entry_room) × (bytes ≤ journal.new.byte_room)) }
-        ensures full { IsRoomRefused self.now.bounds (length journal.old.records + open_waits journal.old.records + entries) (payload_bytes journal.old.records + most) result }
+        ensures room { OnOk result ((waits_count self.now.owners.items + entries ≤
+            journal.new.entry_room) × (bytes ≤ journal.new.byte_room)) }
+        ensures full { IsRoomRefused self.now.bounds
+            (length journal.old.records + open_waits journal.old.records + entries)
+            (payload_bytes journal.old.records + most) result }
         ensures same { result ≡ Err Fault.JournalFull → journal.new ≡ journal.old }
         ensures no_less { journal.old.byte_room ≤ journal.new.byte_room }
-        ensures enough { bytes ≤ journal.old.byte_room → journal.new.byte_room ≡ journal.old.byte_room }
+        ensures enough { bytes ≤ journal.old.byte_room →
+            journal.new.byte_room ≡ journal.old.byte_room }
     {
         if self.exceeds(journal, entries, most) {
             return Err(Fault::JournalFull);
@@ -120,14 +126,21 @@ impl Tables {
     )
         requires queue { q ≡ entry_queue journal.now.records entry.process entry.call payload.now }
         requires tables { AreThoseOf journal.now.records self.old }
-        requires next { IsLegalNext journal.now.records (record { entry = entry; payload = payload.now }) }
+        requires next { IsLegalNext journal.now.records
+            (record { entry = entry; payload = payload.now }) }
         requires at_most { entry.process ≤ self.old.n }
-        requires registration { HasRoomToRegister self.old.queues.items self.old.inboxes.items entry.process entry.call entry.reply }
-        requires brings { BringsOrder entry.call entry.reply (vec_len self.old.queues) (vec_capacity self.old.queues) fresh }
+        requires registration { HasRoomToRegister self.old.queues.items self.old.inboxes.items
+            entry.process entry.call entry.reply }
+        requires brings { BringsOrder entry.call entry.reply (vec_len self.old.queues)
+            (vec_capacity self.old.queues) fresh }
         requires pool { IsPooled fresh self.old }
-        ensures tables { AreThoseOf (record { entry = entry; payload = payload.now } ∷ journal.now.records) self.new }
-        ensures owners { self.new.owners.items ≡ noted self.old.owners.items (length journal.now.records) entry.process entry.call entry.reply (entry_queue journal.now.records entry.process entry.call payload.now) }
-        ensures notice_room { (k : ℕ) → room_in self.old.inboxes.items k ≤ room_in self.new.inboxes.items k + 1 }
+        ensures tables { AreThoseOf (record { entry = entry; payload = payload.now } ∷
+            journal.now.records) self.new }
+        ensures owners { self.new.owners.items ≡ noted self.old.owners.items
+            (length journal.now.records) entry.process entry.call entry.reply
+            (entry_queue journal.now.records entry.process entry.call payload.now) }
+        ensures notice_room { (k : ℕ) →
+            room_in self.old.inboxes.items k ≤ room_in self.new.inboxes.items k + 1 }
         ensures pool { IsPooled None self.new }
         ensures n { self.new.n ≡ self.old.n }
         ensures bounds { self.new.bounds ≡ self.old.bounds }
@@ -145,10 +158,12 @@ impl Tables {
         payload: &[u8],
     ) -> Result<(), AllocError>
         requires tables { AreThoseOf journal.now.records self.old }
-        requires next { IsLegalNext journal.now.records (record { entry = entry; payload = payload.now }) }
+        requires next { IsLegalNext journal.now.records
+            (record { entry = entry; payload = payload.now }) }
         requires at_most { entry.process ≤ self.old.n }
         requires unbounded { self.old.bounds ≡ None }
-        ensures tables { OnOk result (AreThoseOf (record { entry = entry; payload = payload.now } ∷ journal.now.records) self.new) }
+        ensures tables { OnOk result (AreThoseOf (record { entry = entry; payload = payload.now } ∷
+            journal.now.records) self.new) }
         ensures err { OnErr result (AreThoseOf journal.now.records self.new) }
         ensures n { self.new.n ≡ self.old.n }
         ensures bounds { self.new.bounds ≡ None }
@@ -172,14 +187,19 @@ impl Tables {
     )
         requires queue { q ≡ entry_queue journal.old.records entry.process entry.call payload.now }
         requires kept { IsKeptBy journal.old self.old }
-        requires next { IsLegalNext journal.old.records (record { entry = entry; payload = payload.now }) }
+        requires next { IsLegalNext journal.old.records
+            (record { entry = entry; payload = payload.now }) }
         requires at_most { entry.process ≤ self.old.n }
-        requires registration { HasRoomToRegister self.old.queues.items self.old.inboxes.items entry.process entry.call entry.reply }
-        requires brings { BringsOrder entry.call entry.reply (vec_len self.old.queues) (vec_capacity self.old.queues) fresh }
+        requires registration { HasRoomToRegister self.old.queues.items self.old.inboxes.items
+            entry.process entry.call entry.reply }
+        requires brings { BringsOrder entry.call entry.reply (vec_len self.old.queues)
+            (vec_capacity self.old.queues) fresh }
         requires bytes { length payload.now ≤ journal.old.byte_room }
-        requires entries { HasEntryRoom entry.reply (waits_count self.old.owners.items) journal.old.entry_room }
+        requires entries { HasEntryRoom entry.reply
+            (waits_count self.old.owners.items) journal.old.entry_room }
         requires pool { IsPooled fresh self.old }
-        ensures records { journal.new.records ≡ record { entry = entry; payload = payload.now } ∷ journal.old.records }
+        ensures records { journal.new.records ≡ record { entry = entry; payload = payload.now } ∷
+            journal.old.records }
         ensures no_bytes { payload.now ≡ [] → journal.new.byte_room ≡ journal.old.byte_room }
         ensures kept { IsKeptBy journal.new self.new }
         ensures pool { IsPooled None self.new }
@@ -208,13 +228,17 @@ impl Tables {
         requires turn { IsTrue (may_call journal.old.records p call) }
         requires replies { reply ≡ reply_to journal.old.records p call given.now }
         requires payload { IsTrue (is_payload call reply (payload_of call reply given.now)) }
-        requires registration { HasRoomToRegister self.old.queues.items self.old.inboxes.items p call reply }
-        requires brings { BringsOrder call reply (vec_len self.old.queues) (vec_capacity self.old.queues) fresh }
+        requires registration { HasRoomToRegister self.old.queues.items self.old.inboxes.items p
+            call reply }
+        requires brings { BringsOrder call reply (vec_len self.old.queues)
+            (vec_capacity self.old.queues) fresh }
         requires bytes { length (payload_of call reply given.now) ≤ journal.old.byte_room }
-        requires entries { HasEntryRoom reply (waits_count self.old.owners.items) journal.old.entry_room }
+        requires entries { HasEntryRoom reply
+            (waits_count self.old.owners.items) journal.old.entry_room }
         requires pool { IsPooled fresh self.old }
         ensures appends { Appends journal.old.records journal.new.records p call given.now reply }
-        ensures no_bytes { payload_of call reply given.now ≡ [] → journal.new.byte_room ≡ journal.old.byte_room }
+        ensures no_bytes { payload_of call reply given.now ≡ [] →
+            journal.new.byte_room ≡ journal.old.byte_room }
         ensures kept { IsKeptBy journal.new self.new }
         ensures pool { IsPooled None self.new }
         ensures n { self.new.n ≡ self.old.n }
@@ -239,8 +263,10 @@ impl Tables {
     ) -> Reply
         requires may_call { MayCall journal.old self.old p }
         requires brings { Brings call given.now (length buf.old) }
-        ensures called { IsCalled journal.old journal.new self.old self.new p call given.now result }
-        ensures buffer { is_receive call ≡ true → buf.new ≡ filled journal.old.records result buf.old }
+        ensures called { IsCalled journal.old journal.new self.old self.new p call
+            given.now result }
+        ensures buffer { is_receive call ≡ true →
+            buf.new ≡ filled journal.old.records result buf.old }
         ensures refused { is_send call ≡ true → SparesBytes journal.old journal.new result }
     {
         match call {
@@ -316,7 +342,8 @@ impl Tables {
         ensures inboxes { self.new.inboxes ≡ self.old.inboxes }
         ensures pool { IfOk result (λ fresh. IsPooled fresh self.new) }
         ensures memory { OnErr result (self.new.bounds ≡ None) }
-        ensures brings { IfOk result (BringsOrder call reply (vec_len self.new.queues) (vec_capacity self.new.queues)) }
+        ensures brings { IfOk result (BringsOrder call reply (vec_len self.new.queues)
+            (vec_capacity self.new.queues)) }
     {
         match (call, reply) {
             (
@@ -347,8 +374,10 @@ impl Tables {
         requires process { p < length self.old.inboxes.items }
         ensures same { SaysSame self.old self.new }
         ensures pool { IsPooled None self.new }
-        ensures memory { OnErr result (room_in self.old.inboxes.items p < length self.old.queues.items) }
-        ensures room { OnOk result (HasRoomToRegister self.new.queues.items self.new.inboxes.items p call reply) }
+        ensures memory { OnErr result
+            (room_in self.old.inboxes.items p < length self.old.queues.items) }
+        ensures room { OnOk result (HasRoomToRegister self.new.queues.items self.new.inboxes.items p
+            call reply) }
     {
         match (call, reply) {
             (
@@ -383,7 +412,8 @@ impl Tables {
         requires needs { NeedsJust 2 most journal.old.records p call bytes.now }
         requires most { most ≤ length bytes.now }
         requires kept { length (payload_of call reply bytes.now) ≤ most }
-        ensures called { IsCalled journal.old journal.new self.old self.new p call bytes.now result }
+        ensures called { IsCalled journal.old journal.new self.old self.new p call
+            bytes.now result }
         ensures refused { SparesBytes journal.old journal.new result }
     {
         let kept = payload_of(call, reply, bytes);
@@ -398,7 +428,8 @@ impl Tables {
     #[inline(always)]
     pub fn send(&mut self, journal: &mut Journal, p: u32, d: u32, bytes: &[u8], prio: u32) -> Reply
         requires { MayCall journal.old self.old p }
-        ensures called { IsCalled journal.old journal.new self.old self.new p (Call.MqSend d prio (length bytes.now)) bytes.now result }
+        ensures called { IsCalled journal.old journal.new self.old self.new p
+            (Call.MqSend d prio (length bytes.now)) bytes.now result }
         ensures refused { SparesBytes journal.old journal.new result }
     {
         let len = bytes.len() as u64;
@@ -418,7 +449,8 @@ impl Tables {
     // Any send without a deadline, apart.
     fn any_send(&mut self, journal: &mut Journal, p: u32, d: u32, bytes: &[u8], prio: u32) -> Reply
         requires { MayCall journal.old self.old p }
-        ensures called { IsCalled journal.old journal.new self.old self.new p (Call.MqSend d prio (length bytes.now)) bytes.now result }
+        ensures called { IsCalled journal.old journal.new self.old self.new p
+            (Call.MqSend d prio (length bytes.now)) bytes.now result }
         ensures refused { SparesBytes journal.old journal.new result }
     {
         let len = bytes.len() as u64;
@@ -443,7 +475,8 @@ impl Tables {
         now: Deadline,
     ) -> Reply
         requires { MayCall journal.old self.old p }
-        ensures called { IsCalled journal.old journal.new self.old self.new p (Call.MqTimedSend d prio (length bytes.now) until now) bytes.now result }
+        ensures called { IsCalled journal.old journal.new self.old self.new p
+            (Call.MqTimedSend d prio (length bytes.now) until now) bytes.now result }
         ensures refused { SparesBytes journal.old journal.new result }
     {
         let len = bytes.len() as u64;
@@ -493,7 +526,8 @@ impl Tables {
     #[inline(always)]
     pub fn receive(&mut self, journal: &mut Journal, p: u32, d: u32, buf: &mut [u8]) -> Reply
         requires { MayCall journal.old self.old p }
-        ensures called { IsCalled journal.old journal.new self.old self.new p (Call.MqReceive d (length buf.old)) [] result }
+        ensures called { IsCalled journal.old journal.new self.old self.new p
+            (Call.MqReceive d (length buf.old)) [] result }
         ensures buffer { buf.new ≡ filled journal.old.records result buf.old }
     {
         let room = buf.len() as u64;
@@ -520,7 +554,8 @@ impl Tables {
     // Any receive without a deadline, apart.
     fn any_receive(&mut self, journal: &mut Journal, p: u32, d: u32, buf: &mut [u8]) -> Reply
         requires { MayCall journal.old self.old p }
-        ensures called { IsCalled journal.old journal.new self.old self.new p (Call.MqReceive d (length buf.old)) [] result }
+        ensures called { IsCalled journal.old journal.new self.old self.new p
+            (Call.MqReceive d (length buf.old)) [] result }
         ensures buffer { buf.new ≡ filled journal.old.records result buf.old }
     {
         let room = buf.len() as u64;
@@ -542,7 +577,8 @@ impl Tables {
         now: Deadline,
     ) -> Reply
         requires { MayCall journal.old self.old p }
-        ensures called { IsCalled journal.old journal.new self.old self.new p (Call.MqTimedReceive d (length buf.old) until now) [] result }
+        ensures called { IsCalled journal.old journal.new self.old self.new p (Call.MqTimedReceive d
+            (length buf.old) until now) [] result }
         ensures buffer { buf.new ≡ filled journal.old.records result buf.old }
     {
         let room = buf.len() as u64;
@@ -590,7 +626,8 @@ impl Tables {
         requires pool { IsPooled None self.old }
         requires process { (1 ≤ p) × (p ≤ self.old.n) }
         requires answered { answered_by journal.old.records p ≡ Some by }
-        ensures appends { Appends journal.old.records journal.new.records p Call.Collect [] (Reply.Collected by) }
+        ensures appends { Appends journal.old.records journal.new.records p Call.Collect []
+            (Reply.Collected by) }
         ensures kept { IsKeptBy journal.new self.new }
         ensures pool { IsPooled None self.new }
         ensures n { self.new.n ≡ self.old.n }
@@ -615,7 +652,9 @@ impl Tables {
         requires pool { IsPooled None self.old }
         requires process { (1 ≤ p) × (p ≤ self.old.n) }
         ensures value { result ≡ may_call journal.old.records p (Call.Withdraw now) }
-        ensures entry { IsTrue result → IfSome (open_wait journal.old.records p) (λ wait. Appends journal.old.records journal.new.records p (Call.Withdraw now) [] (Reply.Withdrawn wait)) }
+        ensures entry { IsTrue result → IfSome (open_wait journal.old.records p) (λ wait.
+            Appends journal.old.records journal.new.records p (Call.Withdraw now) []
+            (Reply.Withdrawn wait)) }
         ensures waited { IsTrue result → IsSome (open_wait journal.old.records p) }
         ensures none { result ≡ false → journal.new ≡ journal.old }
         ensures kept { IsKeptBy journal.new self.new }

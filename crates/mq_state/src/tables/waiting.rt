@@ -69,8 +69,10 @@ impl Tables {
     pub(crate) fn note_waiting(&mut self, moved: Option<u64>)
         requires few { length self.old.owners.items ≤ 33 }
         ensures same { self.new ≡ record self.old { queues = self.new.queues } }
-        ensures queues { self.new.queues.items ≡ waits_noted moved self.old.owners.items self.old.queues.items }
-        ensures room { (vec_len self.new.queues ≡ vec_len self.old.queues) × (vec_capacity self.new.queues ≡ vec_capacity self.old.queues) }
+        ensures queues { self.new.queues.items ≡
+            waits_noted moved self.old.owners.items self.old.queues.items }
+        ensures room { (vec_len self.new.queues ≡ vec_len self.old.queues) ×
+            (vec_capacity self.new.queues ≡ vec_capacity self.old.queues) }
     {
         if let Some(q) = moved {
             let bits = wait_bits(q, &self.owners);

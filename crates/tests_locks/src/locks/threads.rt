@@ -29,8 +29,11 @@ fn over_word_lock<R: Wait + Threads + Print + Abort + Sync>(
         rt,
         seats,
         &|seat: WordSeat<Notes>| -> WordSeat<Notes>
-            requires { (ticket_of seat.number seat.seat).lock ≡ lock_id lock.table.shared.table_id (made_with (λ s. s.title ∷ []) lock.table.shared.key) }
-            ensures { (ticket_of result.number result.seat).lock ≡ lock_id lock.table.shared.table_id (made_with (λ s. s.title ∷ []) lock.table.shared.key) }
+            requires { (ticket_of seat.number seat.seat).lock ≡ lock_id lock.table.shared.table_id
+                (made_with (λ s. s.title ∷ []) lock.table.shared.key) }
+            ensures { (ticket_of result.number result.seat).lock ≡
+                lock_id lock.table.shared.table_id (made_with (λ s. s.title ∷
+                []) lock.table.shared.key) }
         { add_many(rt, &lock, seat, STAYS) },
     )
     .ok()
@@ -54,8 +57,10 @@ fn over_fast_mutex<R: Wait + Threads + Print + Abort + Sync>(
         rt,
         seats,
         &|seat: FastSeat<Notes>| -> FastSeat<Notes>
-            requires { IsSeatOf (λ s. s.title ∷ []) lock.table.shared.table_id lock.table.shared.key seat.seat }
-            ensures { IsSeatOf (λ s. s.title ∷ []) lock.table.shared.table_id lock.table.shared.key result.seat }
+            requires { IsSeatOf (λ s. s.title ∷
+                []) lock.table.shared.table_id lock.table.shared.key seat.seat }
+            ensures { IsSeatOf (λ s. s.title ∷
+                []) lock.table.shared.table_id lock.table.shared.key result.seat }
         { add_many(rt, &lock, seat, STAYS) },
     )
     .ok()

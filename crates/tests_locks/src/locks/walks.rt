@@ -14,7 +14,8 @@ use tests_refusals::refuse_all;
 
 // One step of an entry, which is not yet inside.
 fn step<A: Abort>(rt: &A, lock: &FastMutex<Notes>, walk: Walk<Notes>) -> Walk<Notes>
-    requires { IsSeatOf (λ s. s.title ∷ []) lock.now.table.shared.table_id lock.now.table.shared.key walk.seat }
+    requires { IsSeatOf (λ s. s.title ∷
+        []) lock.now.table.shared.table_id lock.now.table.shared.key walk.seat }
     ensures { ticket_of result.number result.seat ≡ ticket_of walk.number walk.seat }
 {
     match FastMutex::at(&walk) {
@@ -32,8 +33,10 @@ fn by_schedule<A: Abort>(
     two: Walk<Notes>,
     schedule: &[u32],
 ) -> (Walk<Notes>, Walk<Notes>)
-    requires one { IsSeatOf (λ s. s.title ∷ []) lock.now.table.shared.table_id lock.now.table.shared.key one.seat }
-    requires two { IsSeatOf (λ s. s.title ∷ []) lock.now.table.shared.table_id lock.now.table.shared.key two.seat }
+    requires one { IsSeatOf (λ s. s.title ∷
+        []) lock.now.table.shared.table_id lock.now.table.shared.key one.seat }
+    requires two { IsSeatOf (λ s. s.title ∷
+        []) lock.now.table.shared.table_id lock.now.table.shared.key two.seat }
     ensures one { ticket_of result.0.number result.0.seat ≡ ticket_of one.number one.seat }
     ensures two { ticket_of result.1.number result.1.seat ≡ ticket_of two.number two.seat }
 {
@@ -51,7 +54,8 @@ fn by_schedule<A: Abort>(
 
 // So many steps of one process.
 fn alone<A: Abort>(rt: &A, lock: &FastMutex<Notes>, walk: Walk<Notes>, steps: u32) -> Walk<Notes>
-    requires { IsSeatOf (λ s. s.title ∷ []) lock.now.table.shared.table_id lock.now.table.shared.key walk.seat }
+    requires { IsSeatOf (λ s. s.title ∷
+        []) lock.now.table.shared.table_id lock.now.table.shared.key walk.seat }
     ensures { ticket_of result.number result.seat ≡ ticket_of walk.number walk.seat }
 {
     let mut walk = walk;
@@ -68,7 +72,8 @@ fn stay<A: Abort>(
     walk: Walk<Notes>,
     wanted: (At, Path, u64),
 ) -> FastSeat<Notes>
-    requires { IsSeatOf (λ s. s.title ∷ []) lock.now.table.shared.table_id lock.now.table.shared.key walk.seat }
+    requires { IsSeatOf (λ s. s.title ∷
+        []) lock.now.table.shared.table_id lock.now.table.shared.key walk.seat }
     ensures { (ticket_of result.number result.seat).lock ≡ (ticket_of walk.number walk.seat).lock }
 {
     let at = FastMutex::at(&walk);
@@ -107,8 +112,10 @@ fn expect_stays<A: Abort>(
     plan: Plan,
 )
     requires taken { seats.items ≡ [] }
-    requires inside { IsSeatOf (λ s. s.title ∷ []) lock.table.shared.table_id lock.table.shared.key inside.seat }
-    requires other { IsSeatOf (λ s. s.title ∷ []) lock.table.shared.table_id lock.table.shared.key other.seat }
+    requires inside { IsSeatOf (λ s. s.title ∷
+        []) lock.table.shared.table_id lock.table.shared.key inside.seat }
+    requires other { IsSeatOf (λ s. s.title ∷
+        []) lock.table.shared.table_id lock.table.shared.key other.seat }
 {
     let first = stay(rt, &lock, inside, plan.first_stay);
     let other = alone(rt, &lock, other, plan.alone);
@@ -127,8 +134,10 @@ fn expect_points<A: Abort>(
     schedule: &[u32],
     wanted: (At, At),
 ) -> (Walk<Notes>, Walk<Notes>)
-    requires one { IsSeatOf (λ s. s.title ∷ []) lock.now.table.shared.table_id lock.now.table.shared.key walks.0.seat }
-    requires two { IsSeatOf (λ s. s.title ∷ []) lock.now.table.shared.table_id lock.now.table.shared.key walks.1.seat }
+    requires one { IsSeatOf (λ s. s.title ∷
+        []) lock.now.table.shared.table_id lock.now.table.shared.key walks.0.seat }
+    requires two { IsSeatOf (λ s. s.title ∷
+        []) lock.now.table.shared.table_id lock.now.table.shared.key walks.1.seat }
     ensures one { ticket_of result.0.number result.0.seat ≡ ticket_of walks.0.number walks.0.seat }
     ensures two { ticket_of result.1.number result.1.seat ≡ ticket_of walks.1.number walks.1.seat }
 {
@@ -143,10 +152,14 @@ fn begin_two<A: Abort>(
     lock: &FastMutex<Notes>,
     seats: &mut Vec<FastSeat<Notes>>,
 ) -> (Walk<Notes>, Walk<Notes>)
-    requires { map (λ seat. ticket_of seat.number seat.seat) seats.old.items ≡ tickets_from (lock_id lock.now.table.shared.table_id (made_with (λ s. s.title ∷ []) lock.now.table.shared.key)) 1 2 }
+    requires { map (λ seat. ticket_of seat.number seat.seat) seats.old.items ≡
+        tickets_from (lock_id lock.now.table.shared.table_id (made_with (λ s. s.title ∷
+        []) lock.now.table.shared.key)) 1 2 }
     ensures taken { seats.new.items ≡ [] }
-    ensures one { IsSeatOf (λ s. s.title ∷ []) lock.now.table.shared.table_id lock.now.table.shared.key result.0.seat }
-    ensures two { IsSeatOf (λ s. s.title ∷ []) lock.now.table.shared.table_id lock.now.table.shared.key result.1.seat }
+    ensures one { IsSeatOf (λ s. s.title ∷
+        []) lock.now.table.shared.table_id lock.now.table.shared.key result.0.seat }
+    ensures two { IsSeatOf (λ s. s.title ∷
+        []) lock.now.table.shared.table_id lock.now.table.shared.key result.1.seat }
 {
     let two = seats.pop().expect(rt, "two seats");
     let one = seats.pop().expect(rt, "two seats");

@@ -100,7 +100,8 @@ fn waiting<L: Look<Guarded>>(
     requires free { IsFree process }
     ensures lock { IfSome result (λ process. process.lock ≡ mq.now) }
     ensures room { IfSome result (λ process. waiting_room process.left process.number ≡ Some 8) }
-    ensures deadline { IfSome result (λ process. wait_deadline process.left process.number ≡ Some until) }
+    ensures deadline { IfSome result (λ process. wait_deadline process.left process.number ≡
+        Some until) }
 {
     let call = Call::MqTimedReceive {
         d: 0,
