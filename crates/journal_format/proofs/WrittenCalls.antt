@@ -15,7 +15,8 @@ use Rattle.mq_model.specs.declared.entries.Call.{Call}
 use Rattle.mq_model.specs.declared.entries.Call.TheVariants as call
 use Rattle.journal_format.specs.Fitting.{IsLong, CallFits, MomentFits, AttrFits}
 use Rattle.journal_format.specs.Text.{call_words, flag_word, flags_word, limits_words, moment_words, number_or}
-use Rattle.journal_format.specs.Reading.{word_at, number_at, integer_at, moment_at, limits_at, number_or_at, flag_at, verb_written, open_at, close_at, send_at, receive_at, timed_send_at, timed_receive_at, getattr_at, setattr_at, notify_at, withdraw_at, call_at}
+use Rattle.script_text.specs.Verbs.{verb_written}
+use Rattle.journal_format.specs.Reading.{word_at, number_at, integer_at, moment_at, limits_at, number_or_at, flag_at, open_at, close_at, send_at, receive_at, timed_send_at, timed_receive_at, getattr_at, setattr_at, notify_at, withdraw_at, call_at}
 use Rattle.journal_format.proofs.Numbers.{number_again, integer_again}
 use Rattle.journal_format.proofs.WholeWords.{IsWord, AreWords, word-decimal, word-signed}
 

@@ -4,6 +4,7 @@ use Rattle.std.specs.Str.{bytes_eq}
 use denote.Ref.{Bor}
 use Rattle.text_io.specs.Words.{◌>>=◌, Word, integer_written, number_written}
 use Rattle.script_text.specs.Grammar.{flags_written}
+use Rattle.script_text.specs.Verbs.{verb_written}
 use Rattle.mq_model.specs.Fault.{text_of}
 use Rattle.mq_model.specs.declared.faults.Fault.{Fault}
 use Rattle.mq_model.specs.declared.faults.Fault.TheVariants as fault
@@ -14,8 +15,8 @@ use Rattle.mq_model.specs.declared.entries.Call.{Call}
 use Rattle.mq_model.specs.declared.entries.Call.TheVariants as call
 use Rattle.mq_model.specs.declared.entries.Reply.{Reply}
 use Rattle.mq_model.specs.declared.entries.Reply.TheVariants as reply
-use Rattle.journal_format.specs.declared.call.Verb.{Verb}
-use Rattle.journal_format.specs.declared.call.Verb.TheVariants as verb
+use Rattle.script_text.specs.declared.verb.Verb.{Verb}
+use Rattle.script_text.specs.declared.verb.Verb.TheVariants as verb
 use Rattle.journal_format.specs.declared.reply.Kind.{Kind}
 use Rattle.journal_format.specs.declared.reply.Kind.TheVariants as kind
 
@@ -94,28 +95,6 @@ unfoldable pub flag_at : List Word → Option (Bool × List Word)
 flag_at words = do
   word ← word_at words
   Some (bytes_eq word.0 (codes "1"), word.1)
-
--- the word of each call
-abbrev pub verb_text : Verb → List ℕ
-verb_text verb.Open = codes "open"
-verb_text verb.Close = codes "close"
-verb_text verb.Unlink = codes "unlink"
-verb_text verb.Send = codes "send"
-verb_text verb.Receive = codes "recv"
-verb_text verb.TimedSend = codes "tsend"
-verb_text verb.TimedReceive = codes "trecv"
-verb_text verb.Getattr = codes "getattr"
-verb_text verb.Setattr = codes "setattr"
-verb_text verb.Notify = codes "notify"
-verb_text verb.Notice = codes "notice"
-verb_text verb.Collect = codes "collect"
-verb_text verb.Withdraw = codes "withdraw"
-
-abbrev pub verbs : List Verb
-verbs = verb.Open ∷ verb.Close ∷ verb.Unlink ∷ verb.Send ∷ verb.Receive ∷ verb.TimedSend ∷ verb.TimedReceive ∷ verb.Getattr ∷ verb.Setattr ∷ verb.Notify ∷ verb.Notice ∷ verb.Collect ∷ verb.Withdraw ∷ []
-
-unfoldable pub verb_written : Word → Option Verb
-verb_written word = find (λ verb. bytes_eq word (verb_text verb)) verbs
 
 -- what the words after each verb read as
 unfoldable pub open_at : List Word → Option (Call × List Word)
@@ -196,6 +175,7 @@ call_behind verb.Notify words = notify_at words
 call_behind verb.Notice words = Some (call.NextNotice, words)
 call_behind verb.Collect words = Some (call.Collect, words)
 call_behind verb.Withdraw words = withdraw_at words
+call_behind verb.Exit words = None
 
 -- a call, without a name or a message
 unfoldable pub call_at : List Word → Option (Call × List Word)

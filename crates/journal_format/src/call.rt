@@ -2,7 +2,7 @@
 ghost use Rattle.std.specs.Prelude.{◌≡◌, ◌++◌, IfOk, codes, string_bytes};
 ghost use Rattle.std.specs.List.{join_with_byte};
 ghost use Rattle.std.specs.Option.{option_map};
-ghost use Rattle.journal_format.specs.Reading.{call_at, call_behind, close_at, getattr_at, notify_at, open_at, read_off, receive_at, send_at, setattr_at, timed_receive_at, timed_send_at, verb_written, withdraw_at, words_at};
+ghost use Rattle.journal_format.specs.Reading.{call_at, call_behind, close_at, getattr_at, notify_at, open_at, read_off, receive_at, send_at, setattr_at, timed_receive_at, timed_send_at, withdraw_at, words_at};
 ghost use Rattle.journal_format.specs.Text.{access_letter, call_words, flag_word, flags_word, letter_if, moment_words};
 
 use crate::words::{
@@ -10,25 +10,8 @@ use crate::words::{
 };
 use mq_model::entries::{Access, Attr, Call, Deadline, OpenFlags};
 use script_text::command::flags_of;
+use script_text::verb::{Verb, verb_of};
 use std::alloc::{AllocError, Global};
-
-/// The word that says which call an entry has.
-#[derive(Clone, Copy, Debug, PartialEq, Eq)]
-pub enum Verb {
-    Open,
-    Close,
-    Unlink,
-    Send,
-    Receive,
-    TimedSend,
-    TimedReceive,
-    Getattr,
-    Setattr,
-    Notify,
-    Notice,
-    Collect,
-    Withdraw,
-}
 
 /// The words of a call, without a name or a message.
 pub fn call_text(alloc: Global, call: &Call) -> Result<String, AllocError>
@@ -136,55 +119,6 @@ fn moments_text(alloc: Global, until: Deadline, now: Deadline) -> Result<String,
     format!(in alloc; "until {sec} {nsec} at {now_sec} {now_nsec}")
 }
 
-const VERBS: [Verb; 13] = [
-    Verb::Open,
-    Verb::Close,
-    Verb::Unlink,
-    Verb::Send,
-    Verb::Receive,
-    Verb::TimedSend,
-    Verb::TimedReceive,
-    Verb::Getattr,
-    Verb::Setattr,
-    Verb::Notify,
-    Verb::Notice,
-    Verb::Collect,
-    Verb::Withdraw,
-];
-
-impl Verb {
-    ghost use Rattle.journal_format.specs.Reading.{verb_text};
-
-    // The word of the verb.
-    fn text(self) -> &'static [u8]
-        ensures { result.now ≡ verb_text self }
-    {
-        match self {
-            Verb::Open => b"open",
-            Verb::Close => b"close",
-            Verb::Unlink => b"unlink",
-            Verb::Send => b"send",
-            Verb::Receive => b"recv",
-            Verb::TimedSend => b"tsend",
-            Verb::TimedReceive => b"trecv",
-            Verb::Getattr => b"getattr",
-            Verb::Setattr => b"setattr",
-            Verb::Notify => b"notify",
-            Verb::Notice => b"notice",
-            Verb::Collect => b"collect",
-            Verb::Withdraw => b"withdraw",
-        }
-    }
-}
-
-// The verb that a word is.
-#[tactic(auto, unfolding(crate::specs::Reading::verb_written))]
-fn verb_of(word: &[u8]) -> Option<Verb>
-    ensures { result ≡ verb_written word.now }
-{
-    VERBS.iter().copied().find(|verb| word == verb.text())
-}
-
 /// The call that the next words read as, without a name or a message.
 #[tactic(auto, unfolding(crate::specs::Reading::call_at))]
 pub fn call_of<'w, 's>(words: &'w [&'s [u8]]) -> Option<(Call, &'w [&'s [u8]])>
@@ -213,6 +147,7 @@ fn call_behind<'w, 's>(verb: Verb, words: &'w [&'s [u8]]) -> Option<(Call, &'w [
         Verb::Notice => Some((Call::NextNotice, words)),
         Verb::Collect => Some((Call::Collect, words)),
         Verb::Withdraw => withdraw_of(words),
+        Verb::Exit => None,
     }
 }
 

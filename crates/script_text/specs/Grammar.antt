@@ -1,5 +1,5 @@
 -- What the words of a script's lines write.
-use Rattle.std.specs.Prelude.{ℕ, Bool, true, false, ◌&&◌, ◌==◌, nat_le, List, [], ◌∷◌, find, count_by, Option, None, Some, if◌then◌else◌, codes}
+use Rattle.std.specs.Prelude.{ℕ, Bool, true, false, ◌&&◌, ◌==◌, nat_le, List, [], ◌∷◌, count_by, Option, None, Some, if◌then◌else◌, codes}
 use Rattle.std.specs.List.{list_all, list_any}
 use Rattle.std.specs.Str.{bytes_eq}
 use denote.Ref.{Bor}
@@ -11,8 +11,9 @@ use Rattle.mq_model.specs.declared.entries.Attr.{Attr}
 use Rattle.mq_model.specs.declared.entries.Deadline.{Deadline}
 use Rattle.script_text.specs.declared.command.Command.{Command}
 use Rattle.script_text.specs.declared.command.Command.TheVariants as command
-use Rattle.script_text.specs.declared.command.Verb.{Verb}
-use Rattle.script_text.specs.declared.command.Verb.TheVariants as verb
+use Rattle.script_text.specs.Verbs.{verb_written}
+use Rattle.script_text.specs.declared.verb.Verb.{Verb}
+use Rattle.script_text.specs.declared.verb.Verb.TheVariants as verb
 
 -- the access that a letter gives: r, w or b
 abbrev pub access_written : ℕ → Option Access
@@ -170,29 +171,7 @@ abbrev pub exit_written : List Word → Option (Command Word)
 exit_written [] = Some command.Exit
 exit_written words = None
 
--- the word of each call
-abbrev pub verb_text : Verb → List ℕ
-verb_text verb.Open = codes "open"
-verb_text verb.Close = codes "close"
-verb_text verb.Unlink = codes "unlink"
-verb_text verb.Send = codes "send"
-verb_text verb.Receive = codes "recv"
-verb_text verb.TimedSend = codes "tsend"
-verb_text verb.TimedReceive = codes "trecv"
-verb_text verb.Getattr = codes "getattr"
-verb_text verb.Setattr = codes "setattr"
-verb_text verb.Notify = codes "notify"
-verb_text verb.Notice = codes "notice"
-verb_text verb.Exit = codes "exit"
-
-abbrev pub verbs : List Verb
-verbs = verb.Open ∷ verb.Close ∷ verb.Unlink ∷ verb.Send ∷ verb.Receive ∷ verb.TimedSend ∷ verb.TimedReceive ∷ verb.Getattr ∷ verb.Setattr ∷ verb.Notify ∷ verb.Notice ∷ verb.Exit ∷ []
-
--- the verb that a word is
-abbrev pub verb_written : Word → Option Verb
-verb_written word = find (λ verb. bytes_eq word (verb_text verb)) verbs
-
--- the call that a verb and the words after it write
+-- the call that a verb and the words after it write. Who waits collects by itself, so no line of a script does
 abbrev pub call_written : Verb → List Word → Option (Command Word)
 call_written verb.Open = open_written
 call_written verb.Close = close_written
@@ -206,6 +185,8 @@ call_written verb.Setattr = setattr_written
 call_written verb.Notify = notify_written
 call_written verb.Notice = notice_written
 call_written verb.Exit = exit_written
+call_written verb.Collect = λ words. None
+call_written verb.Withdraw = λ words. None
 
 -- the call that the words after the process write
 abbrev pub command_written : List Word → Option (Command Word)

@@ -4,3 +4,4 @@ pub mod Replies
 pub mod ReplyLines
 pub mod Script
 pub mod ScriptFault
+pub mod Verbs

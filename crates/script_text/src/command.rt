@@ -2,8 +2,9 @@
 ghost use Rattle.std.specs.Prelude.{◌≡◌, map};
 ghost use Rattle.std.specs.List.{list_all};
 ghost use Rattle.std.specs.Option.{option_map};
-ghost use Rattle.script_text.specs.Grammar.{said, command_written, open_written, attr_written, close_written, unlink_written, send_written, receive_written, deadline_written, text_written, timed_send_written, until_written, timed_receive_written, getattr_written, setattr_written, notify_written, notice_written, exit_written, value_written, verb_written, access_written, are_options, flags_written, flag_written, is_at_most_once, is_option_letter, option_letters, room_written};
+ghost use Rattle.script_text.specs.Grammar.{said, command_written, open_written, attr_written, close_written, unlink_written, send_written, receive_written, deadline_written, text_written, timed_send_written, until_written, timed_receive_written, getattr_written, setattr_written, notify_written, notice_written, exit_written, value_written, access_written, are_options, flags_written, flag_written, is_at_most_once, is_option_letter, option_letters, room_written};
 
+use crate::verb::{Verb, verb_of};
 use mq_model::entries::{Access, Attr, Deadline, OpenFlags};
 use mq_model::limits::MESSAGE_BYTES;
 use text_io::words::{integer, number, small_number};
@@ -55,69 +56,6 @@ pub enum Command<T> {
     },
     Notice,
     Exit,
-}
-
-/// The word that says which call a line makes.
-#[derive(Clone, Copy, Debug, PartialEq, Eq)]
-pub enum Verb {
-    Open,
-    Close,
-    Unlink,
-    Send,
-    Receive,
-    TimedSend,
-    TimedReceive,
-    Getattr,
-    Setattr,
-    Notify,
-    Notice,
-    Exit,
-}
-
-const VERBS: [Verb; 12] = [
-    Verb::Open,
-    Verb::Close,
-    Verb::Unlink,
-    Verb::Send,
-    Verb::Receive,
-    Verb::TimedSend,
-    Verb::TimedReceive,
-    Verb::Getattr,
-    Verb::Setattr,
-    Verb::Notify,
-    Verb::Notice,
-    Verb::Exit,
-];
-
-impl Verb {
-    ghost use Rattle.script_text.specs.Grammar.{verb_text};
-
-    /// The word of the verb.
-    pub fn text(self) -> &'static [u8]
-        ensures { result.now ≡ verb_text self }
-    {
-        match self {
-            Verb::Open => b"open",
-            Verb::Close => b"close",
-            Verb::Unlink => b"unlink",
-            Verb::Send => b"send",
-            Verb::Receive => b"recv",
-            Verb::TimedSend => b"tsend",
-            Verb::TimedReceive => b"trecv",
-            Verb::Getattr => b"getattr",
-            Verb::Setattr => b"setattr",
-            Verb::Notify => b"notify",
-            Verb::Notice => b"notice",
-            Verb::Exit => b"exit",
-        }
-    }
-}
-
-/// The verb that a word is.
-pub fn verb_of(word: &[u8]) -> Option<Verb>
-    ensures { result ≡ verb_written word.now }
-{
-    VERBS.iter().copied().find(|verb| word == verb.text())
 }
 
 /// The access that a letter gives.
@@ -225,6 +163,7 @@ pub fn command_of<'s>(words: &[&'s [u8]]) -> Option<Command<&'s [u8]>>
             Verb::Notify => notify_of(arguments),
             Verb::Notice => notice_of(arguments),
             Verb::Exit => exit_of(arguments),
+            Verb::Collect | Verb::Withdraw => None,
         },
         [] => None,
     }

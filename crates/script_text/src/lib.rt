@@ -8,3 +8,4 @@ pub mod line;
 pub mod reply;
 pub mod script;
 pub mod text;
+pub mod verb;
