@@ -3,3 +3,5 @@ pub mod Changes
 pub mod Effects
 pub mod Alike
 pub mod Stays
+pub mod Codes
+pub mod Keys

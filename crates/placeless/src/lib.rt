@@ -3,8 +3,10 @@
 //! time: its contract is the law.
 ghost use Rattle.std.specs.Prelude.{◌≡◌, ℕ, List, true};
 ghost use Rattle.mq_model.specs.Record.{Past};
+ghost use Rattle.mq_model.specs.Legality.{Legal};
 ghost use Rattle.mq_model.specs.declared.entries.Call.{Call};
-ghost use Rattle.placeless.specs.Likeness.{AreAlike, is_plain};
+ghost use Rattle.placeless.specs.Key.{key_of};
+ghost use Rattle.placeless.specs.Likeness.{AreAlike, IsUnregistered, is_plain};
 ghost use Rattle.placeless.specs.Steps.{StepsAlike};
 
 /// After two journals that are alike a plain call may be made by the same processes, is replied to alike and gives the same message, and
@@ -12,4 +14,10 @@ ghost use Rattle.placeless.specs.Steps.{StepsAlike};
 pub fn stays_alike()
     ensures { (x y : Past) (p : ℕ) (call : Call) (given : List ℕ) →
         AreAlike x y → is_plain call ≡ true → StepsAlike x y p call given }
+{}
+
+/// Two legal journals with the same key, after which nobody is registered, are alike.
+pub fn keys_tell()
+    ensures { (x y : Past) →
+        Legal x → Legal y → IsUnregistered x → IsUnregistered y → key_of x ≡ key_of y → AreAlike x y }
 {}
