@@ -46,17 +46,15 @@ pub trait Keyed: Telling {
     fn key(&self, alloc: Global) -> Result<Option<Vec<u64>>, AllocError>
         ensures { IfOk result (HasKey IsKey self.now) };
 
-    /// States that are reached from one start and have one key are alike.
-    ghost by_key: { (from x y : Self) (k : List ℕ) → IsReached Self.next (Self.start from) x →
-        IsReached Self.next (Self.start from) y → IsKey x k → IsKey y k → IsAlike x y };
-
-    ghost same_goal: { (x y : Self) → IsAlike x y → Self.is_goal x ≡ Self.is_goal y };
-
-    ghost same_outcome: { (x y : Self) → IsAlike x y → Self.outcome x ≡ Self.outcome y };
-
-    /// A choice can be taken at both or at neither, and leads to states that are alike.
-    ghost same_next: { (x y : Self) (choice : ℕ) → IsAlike x y →
-        AreBothAlike IsAlike (Self.next x choice) (Self.next y choice) };
+    /// What keys and likeness promise. The method does nothing: its contract is the law. States that are reached from the start and
+    /// have one key are alike. By each choice states that are alike lead to such again, unless it can be taken at neither.
+    fn keeps_alike(&self)
+        ensures by_key { (x y : Self) (k : List ℕ) → IsReached Self.next (Self.start self.now) x →
+            IsReached Self.next (Self.start self.now) y → IsKey x k → IsKey y k → IsAlike x y }
+        ensures same_goal { (x y : Self) → IsAlike x y → Self.is_goal x ≡ Self.is_goal y }
+        ensures same_outcome { (x y : Self) → IsAlike x y → Self.outcome x ≡ Self.outcome y }
+        ensures same_next { (x y : Self) (choice : ℕ) → IsAlike x y →
+            AreBothAlike IsAlike (Self.next x choice) (Self.next y choice) };
 }
 
 /// An outcome, and a schedule that has it.
@@ -177,6 +175,7 @@ pub fn collect<M: Keyed>(
         AreAll M.next M.is_goal M.outcome (M.start machine.old) c.found.items) }
     ensures start { OnOk result (M.start machine.new ≡ M.start machine.old) }
 {
+    machine.keeps_alike();
     machine.restart()?;
     let mut path: Vec<u32> = Vec::new(alloc);
     let mut levels: Vec<Level> = Vec::new(alloc);

@@ -9,7 +9,7 @@ use crate::turn::{Seat, can_turn, turn};
 use mq_model::journals::Journal;
 use mq_state::trail::Trail;
 use schedules::machine::Machine;
-use schedules::outcomes::{Outcome, Telling};
+use schedules::outcomes::{Keyed, Outcome, Telling};
 use std::alloc::{AllocError, Global};
 use std::marker::Model;
 
@@ -310,5 +310,21 @@ impl Telling for Play {
         } else {
             index == self.programs.len() && self.is_phase_over()
         }
+    }
+}
+
+impl Keyed for Play {
+    ghost use Rattle.script_orders.specs.Likeness.{AreStagesAlike, IsStageKey};
+
+    ghost IsAlike = { AreStagesAlike };
+
+    ghost IsKey = { IsStageKey };
+
+    fn key(&self, alloc: Global) -> Result<Option<Vec<u64>>, AllocError> {
+        Ok(None)
+    }
+
+    fn keeps_alike(&self) {
+        let _processes = self.programs.len();
     }
 }

@@ -121,8 +121,8 @@ loop-preserved g c =
           record {
             stands = rw (last.0, last.1) (back.back w.run_again.new.machine (λ some. runs));
             done =
-                done-more next is_new g.M.Keyed.IsAlike IsKey start (g.met.M.Keyed.by_key c.args.machine.now)
-                (new-alike is_goal outcome g.M.Keyed.IsAlike g.met.M.Keyed.same_goal g.met.M.Keyed.same_outcome found) g.met.M.Keyed.same_next
+                done-more next is_new g.M.Keyed.IsAlike IsKey start c.keeps_alike.ensures.by_key
+                (new-alike is_goal outcome g.M.Keyed.IsAlike c.keeps_alike.ensures.same_goal c.keeps_alike.ensures.same_outcome found) c.keeps_alike.ensures.same_next
                 seen w.leave.new.seen back.level.key stands.node last.2 back.key (path, stands.runs) stands.ahead c.loop.invariant.done;
             start = w.in_ok-run_again-in-None.ensures.start ∙ c.loop.invariant.start;
             distinct = c.loop.invariant.distinct;
@@ -138,8 +138,8 @@ loop-preserved g c =
           record {
             stands = rw (last.0, last.1) (back.back now machine);
             done =
-                done-more next is_new g.M.Keyed.IsAlike IsKey start (g.met.M.Keyed.by_key c.args.machine.now)
-                (new-alike is_goal outcome g.M.Keyed.IsAlike g.met.M.Keyed.same_goal g.met.M.Keyed.same_outcome found) g.met.M.Keyed.same_next
+                done-more next is_new g.M.Keyed.IsAlike IsKey start c.keeps_alike.ensures.by_key
+                (new-alike is_goal outcome g.M.Keyed.IsAlike c.keeps_alike.ensures.same_goal c.keeps_alike.ensures.same_outcome found) c.keeps_alike.ensures.same_next
                 seen w.leave.new.seen back.level.key stands.node last.2 back.key (path, stands.runs) stands.ahead c.loop.invariant.done;
             start = c.loop.invariant.start;
             distinct = c.loop.invariant.distinct;
