@@ -9,6 +9,9 @@ ghost use Rattle.placeless.specs.Key.{key_of};
 ghost use Rattle.placeless.specs.Likeness.{AreAlike, IsUnregistered, is_plain};
 ghost use Rattle.placeless.specs.Steps.{StepsAlike};
 
+mod scans;
+mod standing;
+
 /// After two journals that are alike a plain call may be made by the same processes, is replied to alike and gives the same message, and
 /// leaves journals that are alike. So, whatever plain calls follow in whatever order, they come to the same after both.
 pub fn stays_alike()
