@@ -1,13 +1,11 @@
 -- What a record brings to a queue and takes away, kind by kind.
-use Rattle.std.proofs.Common.{◌≡◌, ℕ, ◌+◌, ◌<◌, ◌≤◌, ◌==◌, Bool, true, false, ◌&&◌, not, List, [], ◌∷◌, ◌++◌, length, Option, Some, None, if◌then◌else◌, refl, sym, ◌∙◌, ap, subst, arith, append_assoc, get_or, get_or-set_other, set, replicate}
+use Rattle.std.proofs.Common.{◌≡◌, ℕ, ◌<◌, ◌≤◌, Bool, true, false, ◌&&◌, not, List, [], ◌∷◌, ◌++◌, length, Option, Some, None, if◌then◌else◌, refl, sym, ◌∙◌, ap, subst, arith, append_assoc, get_or}
 use Rattle.std.specs.List.{filter}
 use Rattle.std.specs.Option.{option_to_list}
-use Rattle.std.proofs.lemmas.List.{append-nil, get_or-set_same, get_or-replicate, length-replicate, length-set}
-use Rattle.std.proofs.lemmas.Bool.{eqb-false, eqb-true}
-use Rattle.mq_model.specs.Record.{Record, Past, first}
+use Rattle.std.proofs.lemmas.List.{append-nil}
+use Rattle.mq_model.specs.Record.{Record, Past}
 use Rattle.mq_model.specs.Descriptors.{created, is_on}
 use Rattle.mq_model.specs.Messages.{admits, blocked_sends, blocks_receive, blocks_send, if_in, is_in, queues, with_place}
-use Rattle.mq_model.specs.Names.{creates}
 use Rattle.mq_model.specs.declared.entries.Call.{Call}
 use Rattle.mq_model.specs.declared.entries.Entry.{Entry}
 use Rattle.mq_model.specs.declared.entries.Reply.{Reply}
@@ -17,52 +15,7 @@ use Rattle.mq_model.proofs.NamedWaits.{blocked-below}
 use Rattle.mq_model.proofs.Places.{split}
 use Rattle.placeless.specs.declared.standing.Kind.{Kind}
 use Rattle.placeless.specs.declared.standing.Kind.TheVariants.{Messages, Senders, Receivers}
-use Rattle.placeless.specs.Kinds.{AreMarked, begins, begun, ended, ends, marked, may_begin, unless_in}
-
--- what is gone -----------------------------------------------------------------------------------------------------------
-
-ended-step : (kind : Kind) (past : Past) (r : Record) → ended kind (r ∷ past) ≡ with_place (ends kind (length past) r.entry.reply) (ended kind past)
-ended-step Messages past r = refl
-ended-step Senders past r = refl
-ended-step Receivers past r = refl
-
-pub ended-none : (kind : Kind) → ended kind [] ≡ []
-ended-none Messages = refl
-ended-none Senders = refl
-ended-none Receivers = refl
-
-marked-place : (n : ℕ) (gone : List ℕ) (marks : List Bool) (o : Option ℕ) → AreMarked n gone marks → AreMarked n (with_place o gone) (marked marks o)
-marked-place n gone marks None m = m
-marked-place n gone marks (Some k) m = record {
-  count = length-set marks k true ∙ m.count;
-  bits = λ j lt. split (k == j)
-      (λ t.
-      let same : k ≡ j = eqb-true k j t in
-      let here : j < length marks = omega (arith, m.count) in
-      let is : get_or (set marks j true) j false ≡ true = get_or-set_same marks j true false here in
-      rw t (subst (λ (x : ℕ). get_or (set marks x true) j false ≡ true) (sym same) is))
-      (λ f. let ne = eqb-false k j f in
-      let is : get_or (set marks k true) j false ≡ get_or marks j false = get_or-set_other marks k j true false (λ e. ne (sym e)) in
-      rw (f, is) (m.bits j lt));
-}
-
-pub marked-more : (past now : Past) (kind : Kind) (r : Record) (n k : ℕ) (marks new : List Bool) → AreMarked n (ended kind past) marks → now ≡ r ∷ past → length past ≡ k → new ≡ marked marks (ends kind k r.entry.reply) → AreMarked n (ended kind now) new
-marked-more past now kind r n k marks new m is long more =
-    let step : ended kind now ≡ with_place (ends kind k r.entry.reply) (ended kind past) =
-    ap (λ (p : Past). ended kind p) is ∙ ended-step kind past r ∙ ap (λ (j : ℕ). with_place (ends kind j r.entry.reply) (ended kind past)) long
-    in
-    subst (λ (ms : List Bool). AreMarked n (ended kind now) ms) (sym more) (subst (λ (gone : List ℕ). AreMarked n gone (marked marks (ends kind k r.entry.reply))) (sym step) (marked-place n (ended kind past) marks (ends kind k r.entry.reply) m))
-
-pub unmarked : (past : Past) (kind : Kind) (n : ℕ) → past ≡ [] → AreMarked n (ended kind past) (replicate n false)
-unmarked past kind n is =
-    let none : ended kind past ≡ [] = ap (λ (p : Past). ended kind p) is ∙ ended-none kind in
-    record {
-      count = length-replicate n false;
-      bits = λ m lt. rw none (get_or-replicate n m false false lt);
-    }
-
-pub marked-all : (past now : Past) (kind : Kind) (n k : ℕ) (marks : List Bool) → AreMarked k (ended kind now) marks → now ≡ past → k ≡ n → AreMarked n (ended kind past) marks
-marked-all past now kind n k marks m is long = subst (λ (j : ℕ). AreMarked j (ended kind past) marks) long (subst (λ (p : Past). AreMarked k (ended kind p) marks) is m)
+use Rattle.placeless.specs.Kinds.{AreMarked, begins, begun, may_begin, unless_in}
 
 -- what comes -------------------------------------------------------------------------------------------------------------
 
@@ -129,19 +82,6 @@ comes Senders past e q m is = let c = if-here (blocks_send e.call e.reply) (is_o
 comes Receivers past e q m is = let c = if-here (blocks_receive e.call e.reply) (is_on past e q) (length past) m is in record { may = c.0; within = c.1 }
 
 -- what comes and stays
-pub none-stays : (kind : Kind) (past : Past) (e : Entry) (q k : ℕ) (gone : List ℕ) → length past ≡ k → may_begin kind k e ≡ None → unless_in gone (begins kind past e q) ≡ None
-none-stays kind past e q k gone long none =
-    let goes : (o : Option ℕ) → begins kind past e q ≡ o → unless_in gone o ≡ None =
-    λ (o : Option ℕ). elim o as (λ o. begins kind past e q ≡ o → unless_in gone o ≡ None) [
-      | None ↦ (λ is. refl)
-      | Some m ↦ (λ is.
-          let may : may_begin kind (length past) e ≡ Some m = (comes kind past e q m is).may in
-          let here : may_begin kind k e ≡ Some m = subst (λ (j : ℕ). may_begin kind j e ≡ Some m) long may in
-          let bad : None ≡ Some m = sym none ∙ here in absurd (cc))
-    ]
-    in
-    goes (begins kind past e q) refl
-
 both-none : (b : Bool) → (let none : Option ℕ = None in none ≡ (if b then none else none))
 both-none true = refl
 both-none false = refl
@@ -182,17 +122,6 @@ standing-more past now kind r q gone ks all o new before is found more =
     ∙ ap (λ (x : Option ℕ). option_to_list x ++ rest) (sym found)
     in
     ap (λ (js : List ℕ). js ++ rest) more ∙ append_assoc ks (option_to_list o) rest ∙ ap (λ (js : List ℕ). ks ++ js) (sym step) ∙ before
-
-pub created-more : (past now : Past) (r : Record) (k : ℕ) (ks all : List ℕ) (o : Option ℕ) (new : List ℕ) →
-    ks ++ created now ≡ all → now ≡ r ∷ past → length past ≡ k → o ≡ (if creates r.entry.call r.entry.reply then Some k else None) → new ≡ ks ++ option_to_list o → new ++ created past ≡ all
-created-more past now r k ks all o new before is long found more =
-    let step : (b : Bool) → (if b then length past ∷ created past else created past) ≡ option_to_list (if b then Some k else None) ++ created past =
-    λ (b : Bool). elim b as (λ b. (if b then length past ∷ created past else created past) ≡ option_to_list (if b then Some k else None) ++ created past) [ true ↦ ap (λ (j : ℕ). j ∷ created past) long | false ↦ refl ]
-    in
-    let here : created now ≡ option_to_list o ++ created past =
-    ap (λ (p : Past). created p) is ∙ step (creates r.entry.call r.entry.reply) ∙ ap (λ (x : Option ℕ). option_to_list x ++ created past) (sym found)
-    in
-    ap (λ (js : List ℕ). js ++ created past) more ∙ append_assoc ks (option_to_list o) (created past) ∙ ap (λ (js : List ℕ). ks ++ js) (sym here) ∙ before
 
 pub standing-all : (now : Past) (kind : Kind) (q : ℕ) (gone ks all : List ℕ) → ks ++ filter (λ m. not (is_in gone m)) (begun kind now q) ≡ all → now ≡ [] → ks ≡ all
 standing-all now kind q gone ks all before is =

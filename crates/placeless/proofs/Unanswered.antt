@@ -1,7 +1,7 @@
 -- A process that waits in no call has no answer.
-use Rattle.std.proofs.Common.{◌≡◌, ℕ, ◌==◌, List, [], ◌∷◌, Option, None, refl}
+use Rattle.std.proofs.Common.{◌≡◌, ℕ, ◌==◌, [], ◌∷◌, None, refl}
 use Rattle.mq_model.specs.Record.{Past}
-use Rattle.mq_model.specs.Waits.{answered_by, is_wait, open_wait}
+use Rattle.mq_model.specs.Waits.{answered_by, open_wait}
 use Rattle.mq_model.proofs.Places.{split}
 
 pub unanswered : (past : Past) (p : ℕ) → open_wait past p ≡ None → answered_by past p ≡ None

@@ -26,7 +26,8 @@ pub fn stays_alike()
 /// Two legal journals with the same key, after which nobody is registered, are alike.
 pub fn keys_tell()
     ensures { (x y : Past) →
-        Legal x → Legal y → IsUnregistered x → IsUnregistered y → key_of x ≡ key_of y → AreAlike x y }
+        Legal x → Legal y → IsUnregistered x → IsUnregistered y →
+        key_of x ≡ key_of y → AreAlike x y }
 {}
 
 /// The key of a journal, which takes time about linear in its length for each queue. It says nothing of names, registrations and notices.

@@ -92,7 +92,8 @@ fn push_bytes(key: &mut Vec<u64>, bytes: &[u8]) -> Result<(), AllocError>
 }
 
 fn push_message(key: &mut Vec<u64>, entry: Entry, payload: &[u8]) -> Result<(), AllocError>
-    ensures { IfOk result (λ _. key.new.items ≡ key.old.items ++ message_code (sent (record { entry = entry; payload = payload.now }))) }
+    ensures { IfOk result (λ _. key.new.items ≡ key.old.items
+        ++ message_code (sent (record { entry = entry; payload = payload.now }))) }
 {
     push_number(key, u64::from(entry.call.priority()))?;
     push_number(key, payload.len() as u64)?;
@@ -101,7 +102,8 @@ fn push_message(key: &mut Vec<u64>, entry: Entry, payload: &[u8]) -> Result<(), 
 
 // The message that was sent at a place.
 fn push_sent(key: &mut Vec<u64>, journal: &Journal, place: u64) -> Result<(), AllocError>
-    ensures { IfOk result (λ _. key.new.items ≡ key.old.items ++ optional message_code (at sent journal.now.records place)) }
+    ensures { IfOk result (λ _. key.new.items ≡ key.old.items
+        ++ optional message_code (at sent journal.now.records place)) }
 {
     if place >= journal.len() {
         return push_number(key, 0);
@@ -113,7 +115,8 @@ fn push_sent(key: &mut Vec<u64>, journal: &Journal, place: u64) -> Result<(), Al
 
 // The send that waits since a place.
 fn push_sender(key: &mut Vec<u64>, journal: &Journal, place: u64) -> Result<(), AllocError>
-    ensures { IfOk result (λ _. key.new.items ≡ key.old.items ++ optional sender_code (at sender journal.now.records place)) }
+    ensures { IfOk result (λ _. key.new.items ≡ key.old.items
+        ++ optional sender_code (at sender journal.now.records place)) }
 {
     if place >= journal.len() {
         return push_number(key, 0);
@@ -126,7 +129,8 @@ fn push_sender(key: &mut Vec<u64>, journal: &Journal, place: u64) -> Result<(), 
 
 // The receive that waits since a place.
 fn push_receiver(key: &mut Vec<u64>, journal: &Journal, place: u64) -> Result<(), AllocError>
-    ensures { IfOk result (λ _. key.new.items ≡ key.old.items ++ optional number (at author journal.now.records place)) }
+    ensures { IfOk result (λ _. key.new.items ≡ key.old.items
+        ++ optional number (at author journal.now.records place)) }
 {
     if place >= journal.len() {
         return push_number(key, 0);
@@ -142,7 +146,8 @@ fn push_place(
     kind: Kind,
     place: u64,
 ) -> Result<(), AllocError>
-    ensures { IfOk result (λ _. key.new.items ≡ key.old.items ++ place_code kind journal.now.records place) }
+    ensures { IfOk result (λ _. key.new.items ≡ key.old.items
+        ++ place_code kind journal.now.records place) }
 {
     match kind {
         Kind::Messages => push_sent(key, journal, place),
@@ -159,7 +164,8 @@ fn push_kind(
     kind: Kind,
     q: u64,
 ) -> Result<(), AllocError>
-    ensures { IfOk result (λ _. key.new.items ≡ key.old.items ++ kind_code kind journal.now.records q) }
+    ensures { IfOk result (λ _. key.new.items ≡ key.old.items
+        ++ kind_code kind journal.now.records q) }
 {
     let places = standing(alloc, journal, kind, q)?;
     push_number(key, places.len() as u64)?;
@@ -196,7 +202,8 @@ pub(crate) fn push_queue(
 
 // What the entry at a place tells the process whose wait it answers.
 fn push_told(key: &mut Vec<u64>, journal: &Journal, place: u64) -> Result<(), AllocError>
-    ensures { IfOk result (λ _. key.new.items ≡ key.old.items ++ optional (optional message_code) (at told journal.now.records place)) }
+    ensures { IfOk result (λ _. key.new.items ≡ key.old.items
+        ++ optional (optional message_code) (at told journal.now.records place)) }
 {
     if place >= journal.len() {
         return push_number(key, 0);
@@ -213,7 +220,9 @@ fn push_message_if(
     entry: Entry,
     payload: &[u8],
 ) -> Result<(), AllocError>
-    ensures { IfOk result (λ _. key.new.items ≡ key.old.items ++ optional message_code (if sends then Some (sent (record { entry = entry; payload = payload.now })) else None)) }
+    ensures { IfOk result (λ _. key.new.items ≡ key.old.items
+        ++ optional message_code
+        (if sends then Some (sent (record { entry = entry; payload = payload.now })) else None)) }
 {
     if sends {
         push_number(key, 1)?;
@@ -224,7 +233,8 @@ fn push_message_if(
 }
 
 fn push_answer(key: &mut Vec<u64>, journal: &Journal, p: u32) -> Result<(), AllocError>
-    ensures { IfOk result (λ _. key.new.items ≡ key.old.items ++ optional (optional (optional message_code)) (answer journal.now.records p)) }
+    ensures { IfOk result (λ _. key.new.items ≡ key.old.items
+        ++ optional (optional (optional message_code)) (answer journal.now.records p)) }
 {
     match answered_by(journal, journal.len(), p) {
         None => push_number(key, 0),
@@ -243,7 +253,9 @@ fn push_holdings(
     p: u32,
 ) -> Result<(), AllocError>
     requires { width ≤ 2 ^ 32 }
-    ensures { IfOk result (λ _. key.new.items ≡ key.old.items ++ listed (optional description_code) (map (held journal.now.records p) (numbers_from 0 width))) }
+    ensures { IfOk result (λ _. key.new.items ≡ key.old.items
+        ++ listed (optional description_code)
+        (map (held journal.now.records p) (numbers_from 0 width))) }
 {
     push_number(key, width)?;
     for d in 0..width {
@@ -261,7 +273,8 @@ pub(crate) fn push_process(
 ) -> Result<(), AllocError>
     requires bound { width ≤ 2 ^ 32 }
     requires width { width ≡ number_bound journal.now.records }
-    ensures { IfOk result (λ _. key.new.items ≡ key.old.items ++ process_code journal.now.records p) }
+    ensures { IfOk result (λ _. key.new.items ≡ key.old.items
+        ++ process_code journal.now.records p) }
 {
     push_test(key, open_wait(journal, journal.len(), p).is_some())?;
     push_answer(key, journal, p)?;
@@ -274,7 +287,8 @@ pub(crate) fn push_queues(
     key: &mut Vec<u64>,
     journal: &Journal,
 ) -> Result<(), AllocError>
-    ensures { IfOk result (λ _. key.new.items ≡ key.old.items ++ listed (queue_code journal.now.records) (created journal.now.records)) }
+    ensures { IfOk result (λ _. key.new.items ≡ key.old.items
+        ++ listed (queue_code journal.now.records) (created journal.now.records)) }
 {
     let queues = created(alloc, journal)?;
     push_number(key, queues.len() as u64)?;
@@ -322,7 +336,9 @@ fn number_bound(journal: &Journal) -> u64
 
 /// The processes, from 0 to the greatest that called.
 pub(crate) fn push_processes(key: &mut Vec<u64>, journal: &Journal) -> Result<(), AllocError>
-    ensures { IfOk result (λ _. key.new.items ≡ key.old.items ++ listed (process_code journal.now.records) (numbers_from 0 (process_bound journal.now.records))) }
+    ensures { IfOk result (λ _. key.new.items ≡ key.old.items
+        ++ listed (process_code journal.now.records)
+        (numbers_from 0 (process_bound journal.now.records))) }
 {
     let width = number_bound(journal);
     let count = process_bound(journal);

@@ -126,7 +126,8 @@ fn mark(marks: &mut [bool], place: Option<u64>)
 
 // Which places of a kind are gone.
 fn gone(alloc: Global, journal: &Journal, kind: Kind) -> Result<Vec<bool>, AllocError>
-    ensures { IfOk result (λ marks. AreMarked (length journal.now.records) (ended kind journal.now.records) marks.items) }
+    ensures { IfOk result (λ marks.
+        AreMarked (length journal.now.records) (ended kind journal.now.records) marks.items) }
 {
     let n = journal.len();
     let mut marks = vec![in alloc; false; n as usize]?;
@@ -242,8 +243,10 @@ fn is_marked(marks: &[bool], m: u64) -> bool
 // The place of a kind that the entry at place `i` brings to queue `q`, unless it is marked as gone.
 fn stays(journal: &Journal, marks: &[bool], kind: Kind, i: u64, entry: Entry, q: u64) -> Option<u64>
     requires place { i < length journal.now.records }
-    requires marks { AreMarked (length journal.now.records) (ended kind journal.now.records) marks.now }
-    ensures { result ≡ unless_in (ended kind journal.now.records) (begins kind (first i journal.now.records) entry q) }
+    requires marks { AreMarked (length journal.now.records)
+        (ended kind journal.now.records) marks.now }
+    ensures { result ≡ unless_in (ended kind journal.now.records)
+        (begins kind (first i journal.now.records) entry q) }
 {
     let Some(m) = may_begin(kind, i, entry) else {
         return None;

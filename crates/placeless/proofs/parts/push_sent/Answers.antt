@@ -1,4 +1,4 @@
-use Rattle.std.proofs.Common.{◌≡◌, Some, None, arith}
+use Rattle.std.proofs.Common.{◌≡◌, None, arith}
 use Rattle.placeless.specs.Views.{at, sent}
 use Rattle.placeless.proofs.Appends.{appends, at-beyond, at-here}
 use Rattle.placeless.proofs.parts.push_sent.Goals as goal

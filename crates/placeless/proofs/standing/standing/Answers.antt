@@ -1,4 +1,4 @@
-use Rattle.std.proofs.Common.{◌≡◌, ◌+◌, ◌-◌, arith, ap, sym, ◌∙◌}
+use Rattle.std.proofs.Common.{◌≡◌, ◌+◌, ◌-◌, arith, ap, ◌∙◌}
 use Rattle.mq_model.specs.Record.{first}
 use Rattle.mq_model.proofs.Prefixes.{first-none}
 use Rattle.placeless.proofs.KindSteps.{standing-all, standing-more}
