@@ -1,3 +1,5 @@
+pub mod Flagged
+pub mod Unanswered
 pub mod Falling
 pub mod Changes
 pub mod Effects
@@ -5,3 +7,5 @@ pub mod Alike
 pub mod Stays
 pub mod Codes
 pub mod Keys
+pub mod KindSteps
+pub mod Appends
