@@ -1,13 +1,16 @@
 //! The processes of a script as a machine: a choice is the process that goes on, and the last one begins the next phase.
+ghost use Rattle.script_orders.specs.Likeness.{ArePlain, stage_code};
 ghost use Rattle.script_orders.specs.Orders.{AreLegal};
 ghost use Rattle.script_orders.specs.Stage.{first_stage, fresh, is_phase_over, next_stage, none_can_turn, one_waits, replies, seats_cleared, turn_of, wait_line_of, wait_of, waiting_lines, with_turn};
 ghost use Rattle.std.specs.Option.{option_map};
 ghost use Rattle.std.specs.Prelude.{◌≡◌, ◌≤◌, ◌<◌, ◌+◌, ◌^◌, [], ◌++◌, IfOk, OnOk, IsTrue, IsFalse, Some, None, is_some, length, replicate, vec_len, map};
 
+use crate::keys::{are_plain_from, push_seats};
 use crate::plan::Planned;
 use crate::turn::{Seat, can_turn, turn};
 use mq_model::journals::Journal;
 use mq_state::trail::Trail;
+use placeless::{is_unregistered, key_of};
 use schedules::machine::Machine;
 use schedules::outcomes::{Keyed, Outcome, Telling};
 use std::alloc::{AllocError, Global};
@@ -237,6 +240,33 @@ impl Play {
     }
 }
 
+impl Play {
+    // All lines that the processes have not begun are plain.
+    fn are_plain(&self) -> bool
+        ensures { IsTrue result → ArePlain self.now }
+    {
+        for index in 0..self.programs.len() {
+            if !are_plain_from(&self.programs[index], self.seats[index].begun()) {
+                return false;
+            }
+        }
+        true
+    }
+
+    // The key of the stage, where it has one.
+    fn stage_key(&self, alloc: Global) -> Result<Vec<u64>, AllocError>
+        ensures { IfOk result (λ key. key.items ≡ stage_code self.now) }
+    {
+        let mut key = Vec::new(alloc);
+        key.push(self.phase)?;
+        key.push(self.seats.len() as u64)?;
+        push_seats(&mut key, &self.seats)?;
+        let past = key_of(alloc, self.trail.journal())?;
+        key.extend_from_slice(&past)?;
+        Ok(key)
+    }
+}
+
 impl Machine for Play {
     ghost use Rattle.script_orders.specs.Stage.{choice_count, first_stage, next_stage, stands_still};
     ghost use Rattle.script_orders.specs.StageLaws.{next-first, next-others};
@@ -321,7 +351,10 @@ impl Keyed for Play {
     ghost IsKey = { IsStageKey };
 
     fn key(&self, alloc: Global) -> Result<Option<Vec<u64>>, AllocError> {
-        Ok(None)
+        if !self.are_plain() || !is_unregistered(self.trail.journal()) {
+            return Ok(None);
+        }
+        Ok(Some(self.stage_key(alloc)?))
     }
 
     fn keeps_alike(&self) {
