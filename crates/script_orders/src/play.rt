@@ -240,7 +240,20 @@ impl Play {
     }
 }
 
+// Where fewer lines are left, all their orders take less time than a key.
+const WORTH_A_KEY: usize = 4;
+
 impl Play {
+    // How many lines the processes have not begun.
+    fn lines_left(&self) -> usize {
+        let mut left: usize = 0;
+        for index in 0..self.programs.len() {
+            let lines = self.programs[index].len();
+            left = left.saturating_add(lines.saturating_sub(self.seats[index].begun()));
+        }
+        left
+    }
+
     // All lines that the processes have not begun are plain.
     fn are_plain(&self) -> bool
         ensures { IsTrue result → ArePlain self.now }
@@ -351,7 +364,10 @@ impl Keyed for Play {
     ghost IsKey = { IsStageKey };
 
     fn key(&self, alloc: Global) -> Result<Option<Vec<u64>>, AllocError> {
-        if !self.are_plain() || !is_unregistered(self.trail.journal()) {
+        if self.lines_left() < WORTH_A_KEY
+            || !self.are_plain()
+            || !is_unregistered(self.trail.journal())
+        {
             return Ok(None);
         }
         Ok(Some(self.stage_key(alloc)?))
