@@ -46,7 +46,7 @@ pub fn is_unregistered(journal: &Journal) -> bool
 {
     let end = journal.len();
     for q in 0..end {
-        let (entry, _) = journal.record(q);
+        let entry = scans::entry_at(journal, q);
         if scans::creates(entry.call, entry.reply) && scans::registered(journal, end, q).is_some() {
             return false;
         }
