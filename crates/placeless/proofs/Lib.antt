@@ -1,3 +1,4 @@
+pub mod Entries
 pub mod Flagged
 pub mod Unanswered
 pub mod Falling

@@ -23,14 +23,16 @@ pub fn stays_alike()
         AreAlike x y → is_plain call ≡ true → StepsAlike x y p call given }
 {}
 
-/// Two legal journals with the same key, after which nobody is registered, are alike.
+/// Two legal journals with the same key, after which nobody is registered, are alike. The key has the greatest process that called and the
+/// greatest descriptor that was given, so that journals may be alike and have two keys where these differ.
 pub fn keys_tell()
     ensures { (x y : Past) →
         Legal x → Legal y → IsUnregistered x → IsUnregistered y →
         key_of x ≡ key_of y → AreAlike x y }
 {}
 
-/// The key of a journal, which takes time about linear in its length for each queue. It says nothing of names, registrations and notices.
+/// The key of a journal. It says nothing of names, registrations and notices. For each queue it reads the journal a few times, and once
+/// more for each message and wait that is left, back to the open of its descriptor.
 pub fn key_of(alloc: Global, journal: &Journal) -> Result<Vec<u64>, AllocError>
     ensures { IfOk result (λ k. k.items ≡ key_of journal.now.records) }
 {
@@ -40,13 +42,13 @@ pub fn key_of(alloc: Global, journal: &Journal) -> Result<Vec<u64>, AllocError>
     Ok(key)
 }
 
-/// Whether nobody is registered on any queue.
+/// Whether nobody is registered on any queue. It takes no memory.
 pub fn is_unregistered(journal: &Journal) -> bool
     ensures { IsTrue result → IsUnregistered journal.now.records }
 {
     let end = journal.len();
     for q in 0..end {
-        let (entry, _) = journal.record(q);
+        let entry = scans::entry_at(journal, q);
         if scans::creates(entry.call, entry.reply) && scans::registered(journal, end, q).is_some() {
             return false;
         }

@@ -8,7 +8,7 @@ ghost use Rattle.placeless.specs.Views.{answer, at, author, sender, sent, told};
 ghost use Rattle.placeless.specs.Key.{above_number, access_number, description_code, limits_code, listed, message_code, number, number_bound, optional, process_bound, process_code, queue_code, sender_code, signed, test};
 ghost use Rattle.placeless.specs.Kinds.{kind_code, place_code};
 
-use crate::scans::{answered_by, held, open_wait};
+use crate::scans::{answered_by, entry_at, held, open_wait};
 use crate::standing::{Kind, created, standing};
 use mq_model::entries::{Access, Attr, Description, Entry, Reply};
 use mq_model::journals::Journal;
@@ -305,7 +305,7 @@ fn process_bound(journal: &Journal) -> u64
 {
     let mut bound = 0;
     for i in 0..journal.len() {
-        let (entry, _) = journal.record(i);
+        let entry = entry_at(journal, i);
         bound = cmp::max(bound, u64::from(entry.process) + 1);
     }
     bound
@@ -328,7 +328,7 @@ fn number_bound(journal: &Journal) -> u64
 {
     let mut bound = 0;
     for i in 0..journal.len() {
-        let (entry, _) = journal.record(i);
+        let entry = entry_at(journal, i);
         bound = cmp::max(bound, above_number(entry.reply));
     }
     bound

@@ -1,9 +1,9 @@
 //! Descriptors, waits and registrations, read off the entries before a place.
 #![tactic(auto, using(mq_model::proofs::Prefixes::prefixes))]
 
-ghost use Rattle.std.specs.Prelude.{◌≡◌, ◌≤◌, Some, length};
+ghost use Rattle.std.specs.Prelude.{◌≡◌, ◌+◌, ◌<◌, ◌≤◌, ◌∷◌, Some, length};
 ghost use Rattle.mq_model.specs.Record.{first};
-ghost use Rattle.mq_model.specs.Names.{is_open, is_unlink, creates, unlinks, bound_queue};
+ghost use Rattle.mq_model.specs.Names.{is_open, is_unlink, creates, unlinks, bound_queue, name_of};
 ghost use Rattle.mq_model.specs.Descriptors.{opened_queue, held, descriptor_of, called_queue, is_place};
 ghost use Rattle.mq_model.specs.Notices.{registered};
 ghost use Rattle.mq_model.specs.Waits.{is_wait, open_wait, named_wait, names_wait, answered_by};
@@ -11,6 +11,20 @@ ghost use Rattle.mq_model.specs.Waits.{is_wait, open_wait, named_wait, names_wai
 use mq_model::entries::{Call, Description, Entry, Registration, Reply};
 use mq_model::journals::Journal;
 use mq_model::registrations::{registration_after, touches_registrations};
+
+/// The entry at a place, of which only what the caller reads is made.
+#[inline(always)]
+pub(crate) fn entry_at(journal: &Journal, place: u64) -> Entry
+    requires { place < length journal.now.records }
+    ensures { first (place + 1) journal.now.records
+        ≡ record { entry = result; payload = name_of journal.now.records place }
+        ∷ first place journal.now.records }
+{
+    match journal.entry(place) {
+        Some(entry) => entry,
+        None => unreachable!(),
+    }
+}
 
 fn is_open(call: Call) -> bool
     ensures { result ≡ is_open call }
@@ -84,13 +98,14 @@ pub(crate) fn held(journal: &Journal, k: u64, p: u32, d: u32) -> Option<Descript
 {
     let mut flag = None;
     for i in (0..k).rev() {
-        let (entry, payload) = journal.record(i);
+        let entry = entry_at(journal, i);
         if entry.process == p {
             match entry.call {
                 Call::MqOpen { flags, attr: _ } => {
                     if let Reply::Opened { d: e, created } = entry.reply {
                         if e == d {
-                            let queue = opened_queue(journal, i, payload, created);
+                            let (_, name) = journal.record(i);
+                            let queue = opened_queue(journal, i, name, created);
                             let nonblock = flag.unwrap_or(flags.nonblock);
                             return Some(Description {
                                 queue,
@@ -173,7 +188,7 @@ pub(crate) fn registered(journal: &Journal, k: u64, q: u64) -> Option<Registrati
 {
     let mut registration = None;
     for i in 0..k {
-        let (entry, _) = journal.record(i);
+        let entry = entry_at(journal, i);
         if touches_registrations(entry) {
             let on = is_on(journal, i, entry.process, entry.call, q);
             registration = registration_after(on, i, entry, registration);
@@ -197,7 +212,7 @@ pub(crate) fn open_wait(journal: &Journal, k: u64, p: u32) -> Option<u64>
     ensures { result ≡ open_wait (first k journal.now.records) p }
 {
     for i in (0..k).rev() {
-        let (entry, _) = journal.record(i);
+        let entry = entry_at(journal, i);
         if entry.process == p {
             return if is_wait(entry.reply) { Some(i) } else { None };
         }
@@ -235,7 +250,7 @@ fn answer_to(journal: &Journal, k: u64, p: u32, wait: u64) -> Option<u64>
     ensures { result ≡ answered_by (first k journal.now.records) p }
 {
     for i in (0..k).rev() {
-        let (entry, _) = journal.record(i);
+        let entry = entry_at(journal, i);
         if entry.process == p {
             return None;
         }

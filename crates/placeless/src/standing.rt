@@ -8,7 +8,7 @@ ghost use Rattle.mq_model.specs.Descriptors.{created};
 ghost use Rattle.mq_model.specs.Messages.{is_in, queues, blocks_send, blocks_receive, admits, blocked_sends, entered, taken_by, ends_send, ends_receive};
 ghost use Rattle.placeless.specs.Kinds.{AreMarked, begins, ended, ends, marked, may_begin, standing, unless_in};
 
-use crate::scans::{creates, is_on};
+use crate::scans::{creates, entry_at, is_on};
 use mq_model::entries::{Call, Entry, Reply};
 use mq_model::journals::Journal;
 use std::alloc::{AllocError, Global};
@@ -132,7 +132,7 @@ fn gone(alloc: Global, journal: &Journal, kind: Kind) -> Result<Vec<bool>, Alloc
     let n = journal.len();
     let mut marks = vec![in alloc; false; n as usize]?;
     for i in 0..n {
-        let (entry, _) = journal.record(i);
+        let entry = entry_at(journal, i);
         mark(&mut marks, ends(kind, i, entry.reply));
     }
     Ok(marks)
@@ -145,7 +145,7 @@ fn is_blocked_send(journal: &Journal, k: u64, q: u64, w: u64) -> bool
 {
     let mut found = false;
     for i in 0..k {
-        let (entry, _) = journal.record(i);
+        let entry = entry_at(journal, i);
         if i == w
             && blocks_send(entry.call, entry.reply)
             && is_on(journal, i, entry.process, entry.call, q)
@@ -279,7 +279,7 @@ pub(crate) fn standing(
     let marks = gone(alloc, journal, kind)?;
     let mut places = Vec::new(alloc);
     for i in (0..journal.len()).rev() {
-        let (entry, _) = journal.record(i);
+        let entry = entry_at(journal, i);
         let found = stays(journal, &marks, kind, i, entry, q);
         add(&mut places, found)?;
     }
@@ -292,7 +292,7 @@ pub(crate) fn created(alloc: Global, journal: &Journal) -> Result<Vec<u64>, Allo
 {
     let mut queues = Vec::new(alloc);
     for i in (0..journal.len()).rev() {
-        let (entry, _) = journal.record(i);
+        let entry = entry_at(journal, i);
         let found = if creates(entry.call, entry.reply) {
             Some(i)
         } else {
