@@ -331,7 +331,7 @@ answered-below (r ∷ past) k b e = split (r.entry.process == k)
     (λ n. let is : Some (length past) ≡ Some b = rw (f, n) at e in let same : length past ≡ b = cc in omega (arith, same))
     (λ n. let is : answered_by past k ≡ Some b = rw (f, n) at e in let lt = answered-below past k b is in omega (arith, lt)))
 
-answer-older : (past : Past) (r : Record) (k : ℕ) → option_map (at told (r ∷ past)) (answered_by past k) ≡ answer past k
+pub answer-older : (past : Past) (r : Record) (k : ℕ) → option_map (at told (r ∷ past)) (answered_by past k) ≡ answer past k
 answer-older past r k =
     let goes : (o : Option ℕ) → answered_by past k ≡ o → option_map (at told (r ∷ past)) o ≡ option_map (at told past) o =
     λ (o : Option ℕ). elim o as (λ o. answered_by past k ≡ o → option_map (at told (r ∷ past)) o ≡ option_map (at told past) o)

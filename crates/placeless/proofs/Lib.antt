@@ -1,5 +1,12 @@
+pub mod Entries
+pub mod Flagged
+pub mod Unanswered
 pub mod Falling
 pub mod Changes
 pub mod Effects
 pub mod Alike
 pub mod Stays
+pub mod Codes
+pub mod Keys
+pub mod KindSteps
+pub mod Appends

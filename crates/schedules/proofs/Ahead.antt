@@ -1,76 +1,91 @@
 -- What a search has ahead of it: the choices that are left at the nodes of its path.
-use Rattle.std.proofs.Common.{◌≡◌, ℕ, ◌+◌, ◌<◌, ◌≤◌, inl, inr, Bool, true, false, List, [], ◌∷◌, ◌++◌, Option, Some, None, IsSome, refl, arith, subst, sym, ap, ◌∙◌}
+use Rattle.std.proofs.Common.{◌≡◌, ℕ, ◌+◌, ◌<◌, ◌≤◌, inl, inr, Bool, true, false, List, [], ◌∷◌, ◌++◌, Option, Some, None, IsSome, refl, subst, sym, ap, ◌∙◌}
 use Rattle.std.proofs.lemmas.Bool.{cases_lt}
 use Rattle.std.specs.Option.{option_and_then}
 use Rattle.schedules.specs.Schedules.{after, HasNoGoal}
 use Rattle.schedules.specs.Choices.{IsFirstFrom}
-use Rattle.schedules.proofs.Covering.{Covered, after-push, covered-front, covered-next, covered-push, front_runs, no_goal_here}
+use Rattle.schedules.specs.Likeness.{HasKey}
+use Rattle.schedules.specs.declared.outcomes.Level.{Level}
+use Rattle.schedules.proofs.Covering.{Covered, after-append, after-push, covered-front, covered-next, covered-push, front_runs, no_goal_here}
 use Rattle.schedules.proofs.Collecting.{covered-fewer}
 
--- at each node of the path the choice that is taken after the one of the path is the first that can be
-abbrev pub Skips : {S : Type 0} → (S → ℕ → Option S) → List ℕ → List (Option ℕ) → S → Type 0
-Skips next [] [] s = Unit {0}
-Skips next [] (other ∷ later) s = ⊥
-Skips next (choice ∷ path) [] s = ⊥
-Skips {S} next (choice ∷ path) (other ∷ later) s =
-    IsFirstFrom next s (choice + 1) other × ((t : S) → next s choice ≡ Some t → Skips next path later t)
+-- what a search knows of a choice at a state
+pub record IsLevel {S : Type 0} (next : S → ℕ → Option S) (IsKey : S → List ℕ → Type 0) (s : S) (choice : ℕ) (level : Level) : Type 0 where
+  pub first : IsFirstFrom next s (choice + 1) level.other
+  pub key : (t : S) → next s choice ≡ Some t → HasKey IsKey t level.key
+
+-- the same of each choice of the path, at its node
+abbrev pub AreLevels : {S : Type 0} → (S → ℕ → Option S) → (S → List ℕ → Type 0) → List ℕ → List Level → S → Type 0
+AreLevels next IsKey [] [] s = Unit {0}
+AreLevels next IsKey [] (level ∷ levels) s = ⊥
+AreLevels next IsKey (choice ∷ path) [] s = ⊥
+AreLevels {S} next IsKey (choice ∷ path) (level ∷ levels) s =
+    IsLevel next IsKey s choice level × ((t : S) → next s choice ≡ Some t → AreLevels next IsKey path levels t)
 
 -- a choice more
-pub skips-push : {S : Type 0} (next : S → ℕ → Option S) (path : List ℕ) (later : List (Option ℕ)) (choice : ℕ) (other : Option ℕ) (s now : S) →
-    after next path s ≡ Some now → IsFirstFrom next now (choice + 1) other →
-    Skips next path later s → Skips next (path ++ choice ∷ []) (later ++ other ∷ []) s
-skips-push {S} next [] [] choice other s now runs first skips =
+pub levels-push : {S : Type 0} (next : S → ℕ → Option S) (IsKey : S → List ℕ → Type 0) (path : List ℕ) (levels : List Level) (choice : ℕ) (level : Level) (s now : S) →
+    after next path s ≡ Some now → IsLevel next IsKey now choice level →
+    AreLevels next IsKey path levels s → AreLevels next IsKey (path ++ choice ∷ []) (levels ++ level ∷ []) s
+levels-push {S} next IsKey [] [] choice level s now runs is are =
     let same : now ≡ s = cc in
-    let P : S → Type 0 = λ x. IsFirstFrom next x (choice + 1) other in
-    (subst P same first, (λ t step. tt))
-skips-push next [] (l ∷ later) choice other s now runs first skips = absurd skips
-skips-push next (c ∷ path) [] choice other s now runs first skips = absurd skips
-skips-push {S} next (c ∷ path) (l ∷ later) choice other s now runs first skips = (
-  skips.0,
-  (λ t step. skips-push next path later choice other t now (let e : option_and_then (after next path) (next s c) ≡ Some now = runs in rw step at e) first (skips.1 t step)),
+    let P : S → Type 0 = λ x. IsLevel next IsKey x choice level in
+    (subst P same is, (λ t step. tt))
+levels-push next IsKey [] (l ∷ levels) choice level s now runs is are = absurd are
+levels-push next IsKey (c ∷ path) [] choice level s now runs is are = absurd are
+levels-push {S} next IsKey (c ∷ path) (l ∷ levels) choice level s now runs is are = (
+  are.0,
+  (λ t step. levels-push next IsKey path levels choice level t now (let e : option_and_then (after next path) (next s c) ≡ Some now = runs in rw step at e) is (are.1 t step)),
 )
 
 -- the last choice of a path
-pub record IsLast {S : Type 0} (next : S → ℕ → Option S) (front : List ℕ) (last : ℕ) (later : List (Option ℕ)) (s : S) : Type 0 where
-  pub others : List (Option ℕ)
-  pub other : Option ℕ
-  pub are : later ≡ others ++ other ∷ []
-  pub skips : Skips next front others s
-  pub first : (node : S) → after next front s ≡ Some node → IsFirstFrom next node (last + 1) other
+pub record IsLast {S : Type 0} (next : S → ℕ → Option S) (IsKey : S → List ℕ → Type 0) (front : List ℕ) (last : ℕ) (levels : List Level) (s : S) : Type 0 where
+  pub others : List Level
+  pub level : Level
+  pub are : levels ≡ others ++ level ∷ []
+  pub front_are : AreLevels next IsKey front others s
+  pub here : (node : S) → after next front s ≡ Some node → IsLevel next IsKey node last level
 
-pub skips-last : {S : Type 0} (next : S → ℕ → Option S) (front : List ℕ) (last : ℕ) (later : List (Option ℕ)) (s now : S) →
-    after next (front ++ last ∷ []) s ≡ Some now → Skips next (front ++ last ∷ []) later s → IsLast next front last later s
-skips-last next [] last [] s now runs skips = absurd skips
-skips-last {S} next [] last (l ∷ []) s now runs skips = record {
+pub levels-last : {S : Type 0} (next : S → ℕ → Option S) (IsKey : S → List ℕ → Type 0) (front : List ℕ) (last : ℕ) (levels : List Level) (s now : S) →
+    after next (front ++ last ∷ []) s ≡ Some now → AreLevels next IsKey (front ++ last ∷ []) levels s → IsLast next IsKey front last levels s
+levels-last next IsKey [] last [] s now runs are = absurd are
+levels-last {S} next IsKey [] last (l ∷ []) s now runs are = record {
   others = [];
-  other = l;
+  level = l;
   are = refl;
-  skips = tt;
-  first = λ node is. let same : s ≡ node = cc in let P : S → Type 0 = λ x. IsFirstFrom next x (last + 1) l in subst P same skips.0;
+  front_are = tt;
+  here = λ node is. let same : s ≡ node = cc in let P : S → Type 0 = λ x. IsLevel next IsKey x last l in subst P same are.0;
 }
-skips-last {S} next [] last (l ∷ m ∷ later) s now runs skips =
-    let goes : (o : Option S) → next s last ≡ o → option_and_then (after next []) o ≡ Some now → IsLast next [] last (l ∷ m ∷ later) s =
-    λ (o : Option S). elim o as (λ o. next s last ≡ o → option_and_then (after next []) o ≡ Some now → IsLast next [] last (l ∷ m ∷ later) s)
-    [ None ↦ (λ e h. cc) | Some t ↦ (λ e h. absurd (skips.1 t e)) ]
+levels-last {S} next IsKey [] last (l ∷ m ∷ levels) s now runs are =
+    let goes : (o : Option S) → next s last ≡ o → option_and_then (after next []) o ≡ Some now → IsLast next IsKey [] last (l ∷ m ∷ levels) s =
+    λ (o : Option S). elim o as (λ o. next s last ≡ o → option_and_then (after next []) o ≡ Some now → IsLast next IsKey [] last (l ∷ m ∷ levels) s)
+    [ None ↦ (λ e h. cc) | Some t ↦ (λ e h. absurd (are.1 t e)) ]
     in
     goes (next s last) refl runs
-skips-last next (c ∷ front) last [] s now runs skips = absurd skips
-skips-last {S} next (c ∷ front) last (l ∷ later) s now runs skips =
-    let goes : (o : Option S) → next s c ≡ o → option_and_then (after next (front ++ last ∷ [])) o ≡ Some now → IsLast next (c ∷ front) last (l ∷ later) s =
-    λ (o : Option S). elim o as (λ o. next s c ≡ o → option_and_then (after next (front ++ last ∷ [])) o ≡ Some now → IsLast next (c ∷ front) last (l ∷ later) s) [
+levels-last next IsKey (c ∷ front) last [] s now runs are = absurd are
+levels-last {S} next IsKey (c ∷ front) last (l ∷ levels) s now runs are =
+    let goes : (o : Option S) → next s c ≡ o → option_and_then (after next (front ++ last ∷ [])) o ≡ Some now → IsLast next IsKey (c ∷ front) last (l ∷ levels) s =
+    λ (o : Option S). elim o as (λ o. next s c ≡ o → option_and_then (after next (front ++ last ∷ [])) o ≡ Some now → IsLast next IsKey (c ∷ front) last (l ∷ levels) s) [
       | None ↦ (λ e h. cc)
       | Some t ↦ (λ e h.
-          let rest = skips-last next front last later t now h (skips.1 t e) in
+          let rest = levels-last next IsKey front last levels t now h (are.1 t e) in
           record {
             others = l ∷ rest.others;
-            other = rest.other;
-            are = ap (λ (xs : List (Option ℕ)). l ∷ xs) rest.are;
-            skips = (skips.0, (λ u step. let same : t ≡ u = cc in let P : S → Type 0 = λ x. Skips next front rest.others x in subst P same rest.skips));
-            first = λ node is. rest.first node (let f : option_and_then (after next front) (next s c) ≡ Some node = is in rw e at f);
+            level = rest.level;
+            are = ap (λ (xs : List Level). l ∷ xs) rest.are;
+            front_are = (are.0, (λ u step. let same : t ≡ u = cc in let P : S → Type 0 = λ x. AreLevels next IsKey front rest.others x in subst P same rest.front_are));
+            here = λ node is. rest.here node (let f : option_and_then (after next front) (next s c) ≡ Some node = is in rw e at f);
           })
     ]
     in
     goes (next s c) refl runs
+
+-- a schedule of one choice
+taken : {S : Type 0} (next : S → ℕ → Option S) (s t : S) (choice : ℕ) → after next (choice ∷ []) s ≡ Some t → next s choice ≡ Some t
+taken {S} next s t choice runs =
+    let goes : (o : Option S) → option_and_then (after next []) o ≡ Some t → o ≡ Some t =
+    λ (o : Option S). elim o as (λ o. option_and_then (after next []) o ≡ Some t → o ≡ Some t) [ None ↦ (λ h. h) | Some u ↦ (λ h. h) ]
+    in
+    goes (next s choice) runs
 
 -- choices that can't be taken are passed over
 pub covered-skips : {S : Type 0} (next : S → ℕ → Option S) (is_goal : S → Bool) (path : List ℕ) (low high : ℕ) (s now : S) →
@@ -107,24 +122,35 @@ pub ahead-from : {S : Type 0} (next : S → ℕ → Option S) (is_goal : S → B
 ahead-from next is_goal path from None s now runs first covered = no_goal_here next is_goal path from s now runs first covered
 ahead-from next is_goal path from (Some choice) s now runs first covered = (covered-skips next is_goal path from choice s now runs first.2 covered, first.1)
 
+-- a node that is entered: its choices come next, unless it leads to no goal
+pub ahead-entered : {S : Type 0} (next : S → ℕ → Option S) (is_goal : S → Bool) (path : List ℕ) (first : Option ℕ) (s t : S) (done : Bool) →
+    after next path s ≡ Some t → is_goal t ≡ false → Covered next is_goal path s →
+    (done ≡ false → IsFirstFrom next t 0 first) → (done ≡ true → first ≡ None) → (done ≡ true → HasNoGoal next is_goal t) →
+    IsAhead next is_goal path s t first
+ahead-entered next is_goal path first s t false runs no_goal covered new nothing none =
+    ahead-from next is_goal path 0 first s t runs (new refl) (covered-push next is_goal path s t runs no_goal covered)
+ahead-entered {S} next is_goal path first s t true runs no_goal covered new nothing none =
+    let P : Option ℕ → Type 0 = λ o. IsAhead next is_goal path s t o in
+    subst P (sym (nothing refl)) (none refl)
+
 -- where a search stands: its path leads to a node, at which the machine is where a choice is to be taken there
-pub record Stands {S : Type 0} (next : S → ℕ → Option S) (is_goal : S → Bool) (path : List ℕ) (later : List (Option ℕ)) (start machine : S) (choice : Option ℕ) : Type 0 where
+pub record Stands {S : Type 0} (next : S → ℕ → Option S) (is_goal : S → Bool) (IsKey : S → List ℕ → Type 0) (path : List ℕ) (levels : List Level) (start machine : S) (choice : Option ℕ) : Type 0 where
   pub node : S
   pub runs : after next path start ≡ Some node
   pub here : IsSome choice → machine ≡ node
   pub covered : Covered next is_goal path start
-  pub skips : Skips next path later start
+  pub known : AreLevels next IsKey path levels start
   pub ahead : IsAhead next is_goal path start node choice
 
 -- at the beginning
-pub stands-first : {S : Type 0} (next : S → ℕ → Option S) (is_goal : S → Bool) (start : S) (first : Option ℕ) →
-    is_goal start ≡ false → IsFirstFrom next start 0 first → Stands next is_goal [] [] start start first
-stands-first next is_goal start first no_goal is = record {
+pub stands-first : {S : Type 0} (next : S → ℕ → Option S) (is_goal : S → Bool) (IsKey : S → List ℕ → Type 0) (start : S) (first : Option ℕ) →
+    is_goal start ≡ false → IsFirstFrom next start 0 first → Stands next is_goal IsKey [] [] start start first
+stands-first next is_goal IsKey start first no_goal is = record {
   node = start;
   runs = refl;
   here = λ some. refl;
   covered = tt;
-  skips = tt;
+  known = tt;
   ahead = ahead-from next is_goal [] 0 first start start refl is (covered-push next is_goal [] start start refl no_goal tt);
 }
 
@@ -134,24 +160,24 @@ ahead-fewer next is_goal fewer less path s now None ahead = λ schedule to reach
 ahead-fewer next is_goal fewer less path s now (Some choice) ahead = (covered-fewer next is_goal fewer less (path ++ choice ∷ []) s ahead.0, ahead.1)
 
 -- where there are fewer goals
-pub stands-fewer : {S : Type 0} (next : S → ℕ → Option S) (is_goal fewer : S → Bool) → ((s : S) → is_goal s ≡ false → fewer s ≡ false) →
-    (path : List ℕ) (later : List (Option ℕ)) (start machine : S) (choice : Option ℕ) →
-    Stands next is_goal path later start machine choice → Stands next fewer path later start machine choice
-stands-fewer next is_goal fewer less path later start machine choice stands = record {
+pub stands-fewer : {S : Type 0} (next : S → ℕ → Option S) (is_goal fewer : S → Bool) (IsKey : S → List ℕ → Type 0) → ((s : S) → is_goal s ≡ false → fewer s ≡ false) →
+    (path : List ℕ) (levels : List Level) (start machine : S) (choice : Option ℕ) →
+    Stands next is_goal IsKey path levels start machine choice → Stands next fewer IsKey path levels start machine choice
+stands-fewer next is_goal fewer IsKey less path levels start machine choice stands = record {
   node = stands.node;
   runs = stands.runs;
   here = stands.here;
   covered = covered-fewer next is_goal fewer less path start stands.covered;
-  skips = stands.skips;
+  known = stands.known;
   ahead = ahead-fewer next is_goal fewer less path start stands.node choice stands.ahead;
 }
 
 -- a choice was taken
-pub stands-push : {S : Type 0} (next : S → ℕ → Option S) (is_goal : S → Bool) (path : List ℕ) (later : List (Option ℕ)) (start machine t : S) (choice : ℕ) (other first : Option ℕ) →
-    Stands next is_goal path later start machine (Some choice) → IsFirstFrom next machine (choice + 1) other → next machine choice ≡ Some t →
-    is_goal t ≡ false → IsFirstFrom next t 0 first →
-    Stands next is_goal (path ++ choice ∷ []) (later ++ other ∷ []) start t first
-stands-push {S} next is_goal path later start machine t choice other first stands others step no_goal is =
+pub stands-push : {S : Type 0} (next : S → ℕ → Option S) (is_goal : S → Bool) (IsKey : S → List ℕ → Type 0) (path : List ℕ) (levels : List Level) (start machine t : S) (choice : ℕ) (level : Level) (first : Option ℕ) (done : Bool) →
+    Stands next is_goal IsKey path levels start machine (Some choice) → IsLevel next IsKey machine choice level → next machine choice ≡ Some t → is_goal t ≡ false →
+    (done ≡ false → IsFirstFrom next t 0 first) → (done ≡ true → first ≡ None) → (done ≡ true → HasNoGoal next is_goal t) →
+    Stands next is_goal IsKey (path ++ choice ∷ []) (levels ++ level ∷ []) start t first
+stands-push {S} next is_goal IsKey path levels start machine t choice level first done stands is step no_goal new nothing none =
     let same : stands.node ≡ machine = sym (stands.here refl) in
     let runs : after next path start ≡ Some machine = stands.runs ∙ ap (λ (x : S). Some x) same in
     let further = after-push next path choice start machine t runs step in
@@ -160,38 +186,53 @@ stands-push {S} next is_goal path later start machine t choice other first stand
       runs = further;
       here = λ some. refl;
       covered = stands.ahead.0;
-      skips = skips-push next path later choice other start machine runs others stands.skips;
-      ahead = ahead-from next is_goal (path ++ choice ∷ []) 0 first start t further is (covered-push next is_goal (path ++ choice ∷ []) start t further no_goal stands.ahead.0);
+      known = levels-push next IsKey path levels choice level start machine runs is stands.known;
+      ahead = ahead-entered next is_goal (path ++ choice ∷ []) first start t done further no_goal stands.ahead.0 new nothing none;
     }
 
 -- a choice was taken back
-pub stands-back : {S : Type 0} (next : S → ℕ → Option S) (is_goal : S → Bool) (path front : List ℕ) (last : ℕ) (later : List (Option ℕ)) (start machine : S) →
-    Stands next is_goal path later start machine None → path ≡ front ++ last ∷ [] →
-    (others : List (Option ℕ)) × (other : Option ℕ) × (later ≡ others ++ other ∷ [])
-    × ((back : S) → (IsSome other → after next front start ≡ Some back) → Stands next is_goal front others start back other)
-stands-back {S} next is_goal path front last later start machine stands are =
+pub record Leaves {S : Type 0} (next : S → ℕ → Option S) (is_goal : S → Bool) (IsKey : S → List ℕ → Type 0) (front : List ℕ) (levels : List Level) (start left : S) : Type 0 where
+  pub others : List Level
+  pub level : Level
+  pub are : levels ≡ others ++ level ∷ []
+  pub key : HasKey IsKey left level.key
+  pub back : (machine : S) → (IsSome level.other → after next front start ≡ Some machine) → Stands next is_goal IsKey front others start machine level.other
+
+pub stands-back : {S : Type 0} (next : S → ℕ → Option S) (is_goal : S → Bool) (IsKey : S → List ℕ → Type 0) (path front : List ℕ) (last : ℕ) (levels : List Level) (start machine : S) →
+    (stands : Stands next is_goal IsKey path levels start machine None) → path ≡ front ++ last ∷ [] → Leaves next is_goal IsKey front levels start stands.node
+stands-back {S} next is_goal IsKey path front last levels start machine stands are =
     let runs : after next (front ++ last ∷ []) start ≡ Some stands.node = (let P : List ℕ → Type 0 = λ xs. after next xs start ≡ Some stands.node in subst P are stands.runs) in
-    let skips : Skips next (front ++ last ∷ []) later start = (let P : List ℕ → Type 0 = λ xs. Skips next xs later start in subst P are stands.skips) in
+    let known : AreLevels next IsKey (front ++ last ∷ []) levels start = (let P : List ℕ → Type 0 = λ xs. AreLevels next IsKey xs levels start in subst P are stands.known) in
     let covered : Covered next is_goal (front ++ last ∷ []) start = (let P : List ℕ → Type 0 = λ xs. Covered next is_goal xs start in subst P are stands.covered) in
-    let split = skips-last next front last later start stands.node runs skips in
+    let split = levels-last next IsKey front last levels start stands.node runs known in
     let none : (t : S) → after next (front ++ last ∷ []) start ≡ Some t → HasNoGoal next is_goal t =
     λ t there. let same : stands.node ≡ t = cc in let P : S → Type 0 = λ x. HasNoGoal next is_goal x in subst P same stands.ahead
     in
     let further : Covered next is_goal (front ++ (last + 1) ∷ []) start = covered-next next is_goal front last start none covered in
-    let goes : (o : Option S) → after next front start ≡ o → IsSome o → (back : S) → (IsSome split.other → after next front start ≡ Some back) → Stands next is_goal front split.others start back split.other =
-    λ (o : Option S). elim o as (λ o. after next front start ≡ o → IsSome o → (back : S) → (IsSome split.other → after next front start ≡ Some back) → Stands next is_goal front split.others start back split.other) [
-      | None ↦ (λ e h back at. cc)
-      | Some node ↦ (λ e h back at. record {
-        node = node;
-        runs = e;
-        here = λ some. let f = at some in cc;
-        covered = covered-front next is_goal front (last ∷ []) start covered;
-        skips = split.skips;
-        ahead = ahead-from next is_goal front (last + 1) split.other start node e (split.first node e) further;
-      })
+    let last_step : option_and_then (after next (last ∷ [])) (after next front start) ≡ Some stands.node = sym (after-append next front (last ∷ []) start) ∙ runs in
+    let goes : (o : Option S) → after next front start ≡ o → IsSome o → Leaves next is_goal IsKey front levels start stands.node =
+    λ (o : Option S). elim o as (λ o. after next front start ≡ o → IsSome o → Leaves next is_goal IsKey front levels start stands.node) [
+      | None ↦ (λ e h. cc)
+      | Some node ↦ (λ e h.
+          let level = split.here node e in
+          let step : next node last ≡ Some stands.node = taken next node stands.node last (rw e at last_step) in
+          record {
+            others = split.others;
+            level = split.level;
+            are = split.are;
+            key = level.key stands.node step;
+            back = λ machine at. record {
+              node = node;
+              runs = e;
+              here = λ some. let f = at some in cc;
+              covered = covered-front next is_goal front (last ∷ []) start covered;
+              known = split.front_are;
+              ahead = ahead-from next is_goal front (last + 1) split.level.other start node e level.first further;
+            };
+          })
     ]
     in
-    (split.others, split.other, split.are, goes (after next front start) refl (front_runs next front (last ∷ []) start stands.node runs))
+    goes (after next front start) refl (front_runs next front (last ∷ []) start stands.node runs)
 
 -- a choice that can be taken was
 pub step-goes : {S : Type 0} (next : S → ℕ → Option S) (s t : S) (choice : ℕ) (went : Bool) →

@@ -141,3 +141,12 @@ or-true false = refl
 pub among-push : (found : List Witnessed) (w : Witnessed) (told : Told) → told_by w.outcome ≡ told → is_among (found ++ w ∷ []) told ≡ true
 among-push [] w told is = let same : are_same (told_by w.outcome) told ≡ true = (let P : Told → Type 0 = λ t. are_same (told_by w.outcome) t ≡ true in subst P is (same-self (told_by w.outcome))) in rw same refl
 among-push (x ∷ found) w told is = rw (among-push found w told is) (or-true (are_same (told_by x.outcome) told))
+
+-- of two states that tell the same neither or both are new goals
+pub new-alike : {S : Type 0} (is_goal : S → Bool) (outcome : S → Told) (IsAlike : S → S → Type 0) →
+    ((x y : S) → IsAlike x y → is_goal x ≡ is_goal y) → ((x y : S) → IsAlike x y → outcome x ≡ outcome y) →
+    (found : List Witnessed) (x y : S) → IsAlike x y → is_new_goal is_goal outcome found x ≡ is_new_goal is_goal outcome found y
+new-alike is_goal outcome IsAlike same_goal same_outcome found x y alike =
+    let e : is_goal x ≡ is_goal y = same_goal x y alike in
+    let f : outcome x ≡ outcome y = same_outcome x y alike in
+    ap (λ (b : Bool). b && not (is_among found (outcome x))) e ∙ ap (λ (t : Told). is_goal y && not (is_among found t)) f

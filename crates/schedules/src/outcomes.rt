@@ -1,12 +1,16 @@
 //! What all schedules of a machine come to.
-ghost use Rattle.std.specs.Prelude.{◌≡◌, ◌++◌, ◌∷◌, [], ℕ, All, IfOk, List, OnOk, Option, Some, false, is_some, true};
+ghost use Rattle.std.specs.Prelude.{◌≡◌, ◌++◌, ◌∷◌, [], ℕ, All, IfOk, List, None, OnOk, Some, false, is_some, true};
 ghost use Rattle.schedules.specs.Choices.{IsFirstFrom};
-ghost use Rattle.schedules.specs.Schedules.{after};
+ghost use Rattle.schedules.specs.Schedules.{IsReached, after};
+ghost use Rattle.schedules.specs.Likeness.{AreBothAlike, HasKey};
+ghost use Rattle.schedules.specs.Seen.{Noted, is_done};
 ghost use Rattle.schedules.specs.Told.{Told};
 ghost use Rattle.schedules.specs.Outcomes.{AreAll, AreDistinct, IsWitness, are_same, is_among, told_by};
+ghost use Rattle.schedules.specs.declared.outcomes.Level.{Level};
 
 use crate::machine::Machine;
 use crate::search::run_again;
+use crate::seen::Seen;
 use std::alloc::{AllocError, Global};
 
 /// What is told of a goal: how far the machine has come there, whether it is stuck, and a text.
@@ -28,6 +32,29 @@ pub trait Telling: Machine {
     /// A choice can be taken. It is not taken.
     fn can_step(&self, choice: u32) -> bool
         ensures { result ≡ is_some (Self.next self.now choice) };
+}
+
+/// A machine that can say of some of its states that they are alike: what follows comes to the same. It says so by a key of each.
+pub trait Keyed: Telling {
+    /// The same schedules lead to goals from both, and the same is told of these.
+    ghost IsAlike: { Self → Self → Type 0 };
+
+    /// The list is a key of the state.
+    ghost IsKey: { Self → List ℕ → Type 0 };
+
+    /// A key, where the state has one. A state that has none is like no other.
+    fn key(&self, alloc: Global) -> Result<Option<Vec<u64>>, AllocError>
+        ensures { IfOk result (HasKey IsKey self.now) };
+
+    /// What keys and likeness promise. The method does nothing: its contract is the law. States that are reached from the start and
+    /// have one key are alike. By each choice states that are alike lead to such again, unless it can be taken at neither.
+    fn keeps_alike(&self)
+        ensures by_key { (x y : Self) (k : List ℕ) → IsReached Self.next (Self.start self.now) x →
+            IsReached Self.next (Self.start self.now) y → IsKey x k → IsKey y k → IsAlike x y }
+        ensures same_goal { (x y : Self) → IsAlike x y → Self.is_goal x ≡ Self.is_goal y }
+        ensures same_outcome { (x y : Self) → IsAlike x y → Self.outcome x ≡ Self.outcome y }
+        ensures same_next { (x y : Self) (choice : ℕ) → IsAlike x y →
+            AreBothAlike IsAlike (Self.next x choice) (Self.next y choice) };
 }
 
 /// An outcome, and a schedule that has it.
@@ -100,20 +127,43 @@ fn first_from<M: Telling>(machine: &M, from: u64) -> Option<u32>
     None
 }
 
-// Takes off the last one.
-fn last_of(later: &mut Vec<Option<u32>>) -> Option<u32>
-    ensures { (front : List (Option ℕ)) (last : Option ℕ) → later.old.items ≡ front ++ last ∷ [] →
-        (result ≡ last) × (later.new.items ≡ front) }
+// What a search knows of a choice of its path: the one that is taken next in its place, and the key of the node to which it leads.
+#[derive(Drop)]
+struct Level {
+    other: Option<u32>,
+    key: Option<Vec<u64>>,
+}
+
+// The first choice at a node that was entered, unless the search is done with a node of its key.
+fn first_at<M: Telling>(machine: &M, seen: &Seen, key: &Option<Vec<u64>>) -> Option<u32>
+    ensures new { is_done seen.now key.now ≡ false → IsFirstFrom M.next machine.now 0 result }
+    ensures done { is_done seen.now key.now ≡ true → result ≡ None }
 {
-    match later.pop() {
-        Some(last) => last,
-        None => None,
+    if seen.is_done(key) {
+        None
+    } else {
+        first_from(machine, 0)
     }
 }
 
+// Takes off the last level, and notes the key of its node.
+fn leave(levels: &mut Vec<Level>, seen: &mut Seen) -> Result<Option<u32>, AllocError>
+    ensures { (front : List Level) (last : Level) → levels.old.items ≡ front ++ last ∷ [] →
+        IfOk result (λ other. (other ≡ last.other) × (levels.new.items ≡ front) × Noted seen.old seen.new last.key) }
+{
+    let Some(Level { other, key }) = levels.pop() else {
+        return Ok(None);
+    };
+    if let Some(key) = key {
+        seen.note(key)?;
+    }
+    Ok(other)
+}
+
 /// Tries every schedule of a machine, in so many steps at most, and collects what is told of the goals that they lead to. A step takes a
-/// choice, or takes one back; the choices before it are taken again only where another one is left to be taken after them.
-pub fn collect<M: Telling>(
+/// choice, or takes one back; the choices before it are taken again only where another one is left to be taken after them. From
+/// states with one key it goes on only once.
+pub fn collect<M: Keyed>(
     alloc: Global,
     machine: &mut M,
     budget: u64,
@@ -125,21 +175,24 @@ pub fn collect<M: Telling>(
         AreAll M.next M.is_goal M.outcome (M.start machine.old) c.found.items) }
     ensures start { OnOk result (M.start machine.new ≡ M.start machine.old) }
 {
+    machine.keeps_alike();
     machine.restart()?;
     let mut path: Vec<u32> = Vec::new(alloc);
-    // after each choice of the path, the one that is taken next in its place
-    let mut later: Vec<Option<u32>> = Vec::new(alloc);
+    let mut levels: Vec<Level> = Vec::new(alloc);
+    let mut seen = Seen::new(alloc);
     let mut found = Vec::new(alloc);
     note(alloc, machine, &path, &mut found)?;
     let mut next = first_from(machine, 0);
     for _ in 0..budget {
         match next {
             Some(choice) => {
-                later.push(first_from(machine, u64::from(choice) + 1))?;
+                let other = first_from(machine, u64::from(choice) + 1);
                 let _went = machine.step(choice)?;
                 path.push(choice)?;
                 note(alloc, machine, &path, &mut found)?;
-                next = first_from(machine, 0);
+                let key = machine.key(alloc)?;
+                next = first_at(machine, &seen, &key);
+                levels.push(Level { other, key })?;
             }
             None => {
                 let Some(_taken) = path.pop() else {
@@ -148,7 +201,7 @@ pub fn collect<M: Telling>(
                         complete: true,
                     });
                 };
-                next = last_of(&mut later);
+                next = leave(&mut levels, &mut seen)?;
                 if next.is_some() {
                     run_again(machine, &path)?;
                 }

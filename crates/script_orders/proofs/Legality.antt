@@ -65,7 +65,7 @@ reply-by-payload past p Collect reply given = refl
 reply-by-payload past p (Withdraw now) reply given = refl
 
 -- a call that can be made leaves a legal record
-legal-of : (past : Past) (p : Process) (call : Call) (given : List ℕ) → can_call past p call given ≡ true → IsLegalNext past (record_of_call past p call given)
+pub legal-of : (past : Past) (p : Process) (call : Call) (given : List ℕ) → can_call past p call given ≡ true → IsLegalNext past (record_of_call past p call given)
 legal-of past p call given can =
     let one = and-parts _ _ can in
     let two = and-parts _ _ one.0 in
@@ -92,19 +92,24 @@ call-scene-legal scene new p call given legal h =
 
 -- an exit ---------------------------------------------------------------------------------------------------------------
 
-record Free (past : Past) (p : Process) : Type 0 where
-  legal : Legal past
-  free : open_wait past p ≡ None
+pub record Free (past : Past) (p : Process) : Type 0 where
+  pub legal : Legal past
+  pub free : open_wait past p ≡ None
 
 no-wait : (o : Option Description) → is_wait (close_reply o) ≡ false
 no-wait None = refl
 no-wait (Some d) = refl
 
-close-free : (past : Past) (p d : ℕ) → (1 ≤ p) × (p ≤ 32) → Free past p → Free (close_held past p d) p
-close-free past p d bounds f =
+-- a process that does not wait may close
+pub close-can : (past : Past) (p d : ℕ) → (1 ≤ p) × (p ≤ 32) → Free past p → can_call past p (MqClose d) [] ≡ true
+close-can past p d bounds f =
     let process : (nat_le 1 p && nat_le p most_processes) ≡ true = grind (arith, nat_tests) in
     let turn : may_call past p (MqClose d) ≡ true = rw f.free refl in
-    let can : can_call past p (MqClose d) [] ≡ true = both_true (both_true process turn) refl in
+    both_true (both_true process turn) refl
+
+close-free : (past : Past) (p d : ℕ) → (1 ≤ p) × (p ≤ 32) → Free past p → Free (close_held past p d) p
+close-free past p d bounds f =
+    let can = close-can past p d bounds f in
     let own : (p == p) ≡ true = eq-eqb p p refl in
     let none : open_wait (record_of_call past p (MqClose d) [] ∷ past) p ≡ None = rw (own, no-wait (held past p d)) refl in
     let goes : (b : Bool) → Free (if b then record_of_call past p (MqClose d) [] ∷ past else past) p =
@@ -115,7 +120,7 @@ close-free past p d bounds f =
     in
     goes (is_held past p d)
 
-all-free : (past : Past) (p n : ℕ) → (1 ≤ p) × (p ≤ 32) → Free past p → Free (close_first past p n) p
+pub all-free : (past : Past) (p n : ℕ) → (1 ≤ p) × (p ≤ 32) → Free past p → Free (close_first past p n) p
 all-free past p zero bounds f = f
 all-free past p (suc n) bounds f = close-free (close_first past p n) p n bounds (all-free past p n bounds f)
 
@@ -152,7 +157,7 @@ line-legal past phase p progress new (Some next) bounds f h =
     in
     goes (next.phase == phase) h
 
-none-of : {A : Type 0} (o : Option A) → is_some o ≡ false → o ≡ None
+pub none-of : {A : Type 0} (o : Option A) → is_some o ≡ false → o ≡ None
 none-of None h = refl
 none-of (Some x) h = cc
 

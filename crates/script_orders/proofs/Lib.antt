@@ -2,3 +2,5 @@ pub mod Counting
 pub mod Turning
 pub mod Legality
 pub mod Making
+pub mod Printing
+pub mod Likewise

@@ -9,3 +9,4 @@ pub mod StageLaws
 pub mod PlayModel
 pub mod Report
 pub mod Orders
+pub mod Likeness

@@ -1,6 +1,7 @@
 //! Every order in which the calls of a script can come.
 #![tactic(auto)]
 
+pub mod keys;
 pub mod orders;
 pub mod plan;
 pub mod play;

@@ -1,15 +1,18 @@
 //! The processes of a script as a machine: a choice is the process that goes on, and the last one begins the next phase.
+ghost use Rattle.script_orders.specs.Likeness.{ArePlain, stage_code};
 ghost use Rattle.script_orders.specs.Orders.{AreLegal};
 ghost use Rattle.script_orders.specs.Stage.{first_stage, fresh, is_phase_over, next_stage, none_can_turn, one_waits, replies, seats_cleared, turn_of, wait_line_of, wait_of, waiting_lines, with_turn};
 ghost use Rattle.std.specs.Option.{option_map};
 ghost use Rattle.std.specs.Prelude.{◌≡◌, ◌≤◌, ◌<◌, ◌+◌, ◌^◌, [], ◌++◌, IfOk, OnOk, IsTrue, IsFalse, Some, None, is_some, length, replicate, vec_len, map};
 
+use crate::keys::{are_plain_from, push_seats};
 use crate::plan::Planned;
 use crate::turn::{Seat, can_turn, turn};
 use mq_model::journals::Journal;
 use mq_state::trail::Trail;
+use placeless::{is_unregistered, key_of};
 use schedules::machine::Machine;
-use schedules::outcomes::{Outcome, Telling};
+use schedules::outcomes::{Keyed, Outcome, Telling};
 use std::alloc::{AllocError, Global};
 use std::marker::Model;
 
@@ -237,6 +240,46 @@ impl Play {
     }
 }
 
+// Where fewer lines are left, all their orders take less time than a key.
+const WORTH_A_KEY: usize = 4;
+
+impl Play {
+    // How many lines the processes have not begun.
+    fn lines_left(&self) -> usize {
+        let mut left: usize = 0;
+        for index in 0..self.programs.len() {
+            let lines = self.programs[index].len();
+            left = left.saturating_add(lines.saturating_sub(self.seats[index].begun()));
+        }
+        left
+    }
+
+    // All lines that the processes have not begun are plain.
+    fn are_plain(&self) -> bool
+        ensures { IsTrue result → ArePlain self.now }
+    {
+        for index in 0..self.programs.len() {
+            if !are_plain_from(&self.programs[index], self.seats[index].begun()) {
+                return false;
+            }
+        }
+        true
+    }
+
+    // The key of the stage, where it has one.
+    fn stage_key(&self, alloc: Global) -> Result<Vec<u64>, AllocError>
+        ensures { IfOk result (λ key. key.items ≡ stage_code self.now) }
+    {
+        let mut key = Vec::new(alloc);
+        key.push(self.phase)?;
+        key.push(self.seats.len() as u64)?;
+        push_seats(&mut key, &self.seats)?;
+        let past = key_of(alloc, self.trail.journal())?;
+        key.extend_from_slice(&past)?;
+        Ok(key)
+    }
+}
+
 impl Machine for Play {
     ghost use Rattle.script_orders.specs.Stage.{choice_count, first_stage, next_stage, stands_still};
     ghost use Rattle.script_orders.specs.StageLaws.{next-first, next-others};
@@ -310,5 +353,27 @@ impl Telling for Play {
         } else {
             index == self.programs.len() && self.is_phase_over()
         }
+    }
+}
+
+impl Keyed for Play {
+    ghost use Rattle.script_orders.specs.Likeness.{AreStagesAlike, IsStageKey};
+
+    ghost IsAlike = { AreStagesAlike };
+
+    ghost IsKey = { IsStageKey };
+
+    fn key(&self, alloc: Global) -> Result<Option<Vec<u64>>, AllocError> {
+        if self.lines_left() < WORTH_A_KEY
+            || !self.are_plain()
+            || !is_unregistered(self.trail.journal())
+        {
+            return Ok(None);
+        }
+        Ok(Some(self.stage_key(alloc)?))
+    }
+
+    fn keeps_alike(&self) {
+        let _processes = self.programs.len();
     }
 }

@@ -1,12 +1,15 @@
 use Rattle.std.proofs.lemmas.List.{nil_from_length}
-use Rattle.std.proofs.Common.{arith, ◌≡◌, Some, None, IsSome, ℕ, Option, false, List, [], ◌∷◌, ◌++◌, ◌∙◌, ◌+◌, ap, is_some, refl, subst, sym, true}
-use Rattle.schedules.specs.Choices.{IsFirstFrom}
-use Rattle.schedules.specs.Schedules.{after, HasNoGoal}
+use Rattle.std.proofs.Common.{arith, ◌≡◌, Some, IsSome, ℕ, false, List, [], ◌∷◌, ◌++◌, ◌∙◌, ap, is_some, refl, subst, sym, true}
+use Rattle.schedules.specs.Schedules.{IsReached, after, HasNoGoal}
+use Rattle.schedules.specs.Likeness.{HasKey}
+use Rattle.schedules.specs.Seen.{is_done}
+use Rattle.schedules.specs.declared.outcomes.Level.{Level}
 use Rattle.schedules.proofs.Covering.{after-push, front_runs}
-use Rattle.schedules.proofs.Collecting.{all-found, is_new_goal, new-fewer, noted-is_old}
-use Rattle.schedules.proofs.Ahead.{Stands, stands-back, stands-fewer, stands-first, stands-push, step-goes}
+use Rattle.schedules.proofs.Collecting.{all-found, is_new_goal, new-alike, new-fewer, noted-is_old}
+use Rattle.schedules.proofs.Alike.{AreDone, done-fewer, done-leads, done-more}
+use Rattle.schedules.proofs.Ahead.{IsLevel, Leaves, Stands, stands-back, stands-fewer, stands-first, stands-push, step-goes}
 use Rattle.schedules.proofs.outcomes.collect.Goals as goal
-use Rattle.schedules.proofs.outcomes.collect.Goals.{in-Some+in_ok-push-in-Some+in_ok-_went-in-Some+in_ok-push-in-Some-2+in_ok-note-in-Some, in-None+in-Some-pop+then-is_some+in_ok-run_again-in-None, in-None+in-Some-pop+else-is_some}
+use Rattle.schedules.proofs.outcomes.collect.Goals.{in-Some+in_ok-_went-in-Some+in_ok-push-in-Some+in_ok-note-in-Some+in_ok-key-in-Some+in_ok-push-in-Some-2, in-None+in-Some-pop+in_ok-next-in-None+then-is_some+in_ok-run_again-in-None, in-None+in-Some-pop+in_ok-next-in-None+else-is_some}
 
 pub loop-init : goal.loop-init
 loop-init g c =
@@ -19,11 +22,12 @@ loop-init g c =
     let at : now ≡ start = c.in_ok-restart.ensures in
     let old : is_new now ≡ false = noted-is_old g.M.Machine.is_goal g.M.Telling.outcome found now c.in_ok-note.ensures.noted in
     let same : g.M.Machine.start now ≡ start = ap g.M.Machine.start at ∙ g.met.M.Machine.start_is_first c.args.machine.now in
-    let begins : Stands next is_new [] [] start now first =
-    rw at (stands-first next is_new start first (rw (← at) old) (rw (← at) c.first_from-next.ensures))
+    let begins : Stands next is_new g.M.Keyed.IsKey [] [] start now first =
+    rw at (stands-first next is_new g.M.Keyed.IsKey start first (rw (← at) old) (rw (← at) c.first_from-next.ensures))
     in
     record {
-      stands = rw (c.new-path.ensures.items, c.new-later.ensures.items) begins;
+      stands = rw (c.new-path.ensures.items, c.new-levels.ensures.items) begins;
+      done = λ k noted. let none = c.new-seen.ensures k in let h : true ≡ false = sym noted ∙ none in cc;
       start = same;
       distinct = c.in_ok-note.ensures.distinct;
       witnessed = (rw same at c.in_ok-note.ensures.witnessed);
@@ -38,7 +42,7 @@ note-requires-in-Some-clause-runs g c =
     let step = step-goes next c.loop.machine c.step.new.self c.in-Some.choice _ c.in_ok-_went-in-Some.ensures.went c.in_ok-_went-in-Some.ensures.none some in
     let start = g.met.M.Machine.same_start c.loop.machine c.step.new.self c.in-Some.choice step ∙ c.loop.invariant.start in
     let runs : after next c.loop.path.items (g.M.Machine.start c.args.machine.now) ≡ Some c.loop.machine = rw at stands.runs in
-    rw (c.deref-in-Some.ensures.value, start, c.in_ok-push-in-Some-2.ensures.items)
+    rw (c.deref-in-Some.ensures.value, start, c.in_ok-push-in-Some.ensures.items)
     (after-push next c.loop.path.items c.in-Some.choice _ c.loop.machine c.step.new.self runs step)
 
 pub returns-in_default-clause-all : goal.returns-in_default-clause-all
@@ -63,54 +67,80 @@ loop-preserved g c =
     let next = g.M.Machine.next in
     let is_goal = g.M.Machine.is_goal in
     let outcome = g.M.Telling.outcome in
+    let IsKey = g.M.Keyed.IsKey in
     let start = g.M.Machine.start c.args.machine.now in
     let path = c.loop.path.items in
-    let later = c.loop.later.items in
+    let levels = c.loop.levels.items in
     let now = c.loop.machine in
+    let seen = c.loop.seen in
     let found = c.loop.found.items in
     let is_new = is_new_goal is_goal outcome found in
     elim c.match-next.branch [
-      | in-Some+in_ok-push-in-Some+in_ok-_went-in-Some+in_ok-push-in-Some-2+in_ok-note-in-Some w ↦
+      | in-Some+in_ok-_went-in-Some+in_ok-push-in-Some+in_ok-note-in-Some+in_ok-key-in-Some+in_ok-push-in-Some-2 w ↦
           let choice = w.in-Some.choice in
           let t = w.step.new.self in
           let more = w.note-in-Some.new.found.items in
+          let key = w.in_ok-key-in-Some.key in
+          let level : Level = record { other = w.first_from-other.result; key = key } in
           let stands = (rw w.in-Some.is at c.loop.invariant.stands) in
           let at : now ≡ stands.node = stands.here refl in
           let some : IsSome (next now choice) = rw at stands.ahead.1 in
           let step = step-goes next now t choice _ w.in_ok-_went-in-Some.ensures.went w.in_ok-_went-in-Some.ensures.none some in
           let same : g.M.Machine.start t ≡ start = g.met.M.Machine.same_start now t choice step ∙ c.loop.invariant.start in
+          let runs : after next path start ≡ Some now = rw at stands.runs in
+          let reached : IsReached next start t = (path ++ choice ∷ [], after-push next path choice start now t runs step) in
           let old_goal : is_new_goal is_goal outcome more t ≡ false = noted-is_old is_goal outcome more t w.in_ok-note-in-Some.ensures.noted in
-          let fewer = stands-fewer next is_new (is_new_goal is_goal outcome more) (new-fewer is_goal outcome found more w.in_ok-note-in-Some.ensures.kept) path later start now (Some choice) stands in
-          let others : IsFirstFrom next now (choice + 1) w.first_from.result = (rw w.from.ensures at w.first_from.ensures) in
-          let further = stands-push next (is_new_goal is_goal outcome more) path later start now t choice _ _ fewer others step old_goal w.first_from-next-in-Some.ensures in
-          rw (w.path-is, w.later-is, w.machine-is, w.found-is, w.next-is)
+          let less = new-fewer is_goal outcome found more w.in_ok-note-in-Some.ensures.kept in
+          let fewer = stands-fewer next is_new (is_new_goal is_goal outcome more) IsKey less path levels start now (Some choice) stands in
+          let done : AreDone next (is_new_goal is_goal outcome more) IsKey start seen =
+          done-fewer next is_new (is_new_goal is_goal outcome more) IsKey start seen less c.loop.invariant.done
+          in
+          let is : IsLevel next IsKey now choice level = record {
+            first = (rw w.from.ensures at w.first_from-other.ensures);
+            key = λ u there. let e : t ≡ u = cc in subst (λ (x : g.row.M.Denot). HasKey IsKey x key) e w.in_ok-key-in-Some.ensures;
+          }
+          in
+          let further = stands-push next (is_new_goal is_goal outcome more) IsKey path levels start now t choice level w.first_at-next.result (is_done seen key) fewer is step old_goal
+          w.first_at-next.ensures.new w.first_at-next.ensures.done
+          (λ seen_before. done-leads next (is_new_goal is_goal outcome more) IsKey start seen key t done reached w.in_ok-key-in-Some.ensures seen_before)
+          in
+          rw (w.path-is, w.levels-is, w.machine-is, w.found-is, w.seen-is, w.next-is)
           record {
-            stands = rw (w.in_ok-push-in-Some-2.ensures.items, w.in_ok-push-in-Some.ensures.items) further;
+            stands = rw (w.in_ok-push-in-Some.ensures.items, w.in_ok-push-in-Some-2.ensures.items) further;
+            done = done;
             start = same;
             distinct = w.in_ok-note-in-Some.ensures.distinct;
             witnessed = (rw same at w.in_ok-note-in-Some.ensures.witnessed);
           }
-      | in-None+in-Some-pop+then-is_some+in_ok-run_again-in-None w ↦
+      | in-None+in-Some-pop+in_ok-next-in-None+then-is_some+in_ok-run_again-in-None w ↦
           let stands = (rw w.in-None.is at c.loop.invariant.stands) in
-          let back = stands-back next is_new path w.pop.new.self.items w.in-Some-pop._taken later start now stands w.in-Some-pop.ensures.items in
-          let last = w.last_of-next.ensures back.0 back.1 back.2 in
+          let back : Leaves next is_new IsKey w.pop.new.self.items levels start stands.node = stands-back next is_new IsKey path w.pop.new.self.items w.in-Some-pop._taken levels start now stands w.in-Some-pop.ensures.items in
+          let last = w.in_ok-next-in-None.ensures back.others back.level back.are in
           let runs : after next w.pop.new.self.items start ≡ Some w.run_again.new.machine = (rw (w.deref-then-is_some.ensures.value, c.loop.invariant.start) at w.in_ok-run_again-in-None.ensures.runs) in
-          rw (w.path-is, w.later-is, w.machine-is, w.found-is, w.next-is)
+          rw (w.path-is, w.levels-is, w.machine-is, w.found-is, w.seen-is, w.next-is)
           record {
-            stands = rw (last.0, last.1) (back.3 w.run_again.new.machine (λ some. runs));
+            stands = rw (last.0, last.1) (back.back w.run_again.new.machine (λ some. runs));
+            done =
+                done-more next is_new g.M.Keyed.IsAlike IsKey start c.keeps_alike.ensures.by_key
+                (new-alike is_goal outcome g.M.Keyed.IsAlike c.keeps_alike.ensures.same_goal c.keeps_alike.ensures.same_outcome found) c.keeps_alike.ensures.same_next
+                seen w.leave.new.seen back.level.key stands.node last.2 back.key (path, stands.runs) stands.ahead c.loop.invariant.done;
             start = w.in_ok-run_again-in-None.ensures.start ∙ c.loop.invariant.start;
             distinct = c.loop.invariant.distinct;
             witnessed = c.loop.invariant.witnessed;
           }
-      | in-None+in-Some-pop+else-is_some w ↦
+      | in-None+in-Some-pop+in_ok-next-in-None+else-is_some w ↦
           let stands = (rw w.in-None.is at c.loop.invariant.stands) in
-          let back = stands-back next is_new path w.pop.new.self.items w.in-Some-pop._taken later start now stands w.in-Some-pop.ensures.items in
-          let last = w.last_of-next.ensures back.0 back.1 back.2 in
-          let none : is_some back.1 ≡ false = rw (← last.0) cc in
-          let machine : IsSome back.1 → after next w.pop.new.self.items start ≡ Some now = λ some. let k : true ≡ false = sym some ∙ none in cc in
-          rw (w.path-is, w.later-is, w.machine-is, w.found-is, w.next-is)
+          let back : Leaves next is_new IsKey w.pop.new.self.items levels start stands.node = stands-back next is_new IsKey path w.pop.new.self.items w.in-Some-pop._taken levels start now stands w.in-Some-pop.ensures.items in
+          let last = w.in_ok-next-in-None.ensures back.others back.level back.are in
+          let none : is_some back.level.other ≡ false = rw (← last.0) cc in
+          let machine : IsSome back.level.other → after next w.pop.new.self.items start ≡ Some now = λ some. let k : true ≡ false = sym some ∙ none in cc in
+          rw (w.path-is, w.levels-is, w.machine-is, w.found-is, w.seen-is, w.next-is)
           record {
-            stands = rw (last.0, last.1) (back.3 now machine);
+            stands = rw (last.0, last.1) (back.back now machine);
+            done =
+                done-more next is_new g.M.Keyed.IsAlike IsKey start c.keeps_alike.ensures.by_key
+                (new-alike is_goal outcome g.M.Keyed.IsAlike c.keeps_alike.ensures.same_goal c.keeps_alike.ensures.same_outcome found) c.keeps_alike.ensures.same_next
+                seen w.leave.new.seen back.level.key stands.node last.2 back.key (path, stands.runs) stands.ahead c.loop.invariant.done;
             start = c.loop.invariant.start;
             distinct = c.loop.invariant.distinct;
             witnessed = c.loop.invariant.witnessed;

@@ -1,15 +1,20 @@
 use Rattle.std.proofs.Common.{◌≡◌, All}
 use Rattle.schedules.specs.Outcomes.{AreDistinct, IsWitness}
 use Rattle.schedules.proofs.Ahead.{Stands}
+use Rattle.schedules.proofs.Alike.{AreDone}
 use Rattle.schedules.proofs.Collecting.{is_new_goal}
 use Rattle.schedules.proofs.outcomes.collect.Given as goal
 
--- where the search stands, what is told of each goal behind it was found
+-- where the search stands, what is told of each goal behind it was found, and so was what is told of each goal ahead of a state with a
+-- key that was noted
 abbrev pub invariant-loop : goal.invariant-loop
 invariant-loop g l = record {
   stands :
-      Stands g.M.Machine.next (is_new_goal g.M.Machine.is_goal g.M.Telling.outcome l.found.items) l.path.items l.later.items
+      Stands g.M.Machine.next (is_new_goal g.M.Machine.is_goal g.M.Telling.outcome l.found.items) g.M.Keyed.IsKey l.path.items l.levels.items
       (g.M.Machine.start l.fn.machine) l.machine l.next;
+  done :
+      AreDone g.M.Machine.next (is_new_goal g.M.Machine.is_goal g.M.Telling.outcome l.found.items) g.M.Keyed.IsKey
+      (g.M.Machine.start l.fn.machine) l.seen;
   start : g.M.Machine.start l.machine ≡ g.M.Machine.start l.fn.machine;
   distinct : AreDistinct l.found.items;
   witnessed : All (IsWitness g.M.Machine.next g.M.Machine.is_goal g.M.Telling.outcome (g.M.Machine.start l.fn.machine)) l.found.items;

@@ -1,0 +1,166 @@
+-- What is printed of replies that differ in their places alone is the same.
+use Rattle.std.proofs.Common.{◌≡◌, ℕ, Bool, true, false, ◌&&◌, List, [], ◌∷◌, length, Option, Some, None, is_some, if◌then◌else◌, refl, sym, ◌∙◌, ap, subst}
+use Rattle.std.specs.Option.{option_map, unwrap_or}
+use Rattle.mq_model.specs.Record.{Record, Past, Place, Process, record_at}
+use Rattle.mq_model.specs.Messages.{is_send, priority_given}
+use Rattle.mq_model.specs.Waits.{answered_by}
+use Rattle.mq_model.specs.Legality.{may_call, reply_to}
+use Rattle.mq_model.specs.declared.entries.Call.{Call}
+use Rattle.mq_model.specs.declared.entries.Call.TheVariants.{MqOpen, MqClose, MqUnlink, MqSend, MqReceive, MqTimedSend, MqTimedReceive, MqGetattr, MqSetattr, MqNotify, NextNotice, Collect, Withdraw}
+use Rattle.mq_model.specs.declared.entries.Reply.{Reply}
+use Rattle.mq_model.specs.declared.entries.Reply.TheVariants.{Opened, Queued, Handed, Waits, Got, Collected, Attrs, Notice, Done, Refused, Withdrawn}
+use Rattle.mq_model.proofs.Cases.{Says, reply_says}
+use Rattle.placeless.specs.Views.{Message, answer, at, sent, told}
+use Rattle.placeless.specs.Likeness.{AreAlike, is_plain}
+use Rattle.placeless.specs.Steps.{StepsAlike, message_given, record_of, shape}
+use Rattle.placeless.proofs.Effects.{answer-older, is_collected}
+use Rattle.script_text.specs.Replies.{reply_line}
+use Rattle.script_text.specs.declared.reply.Outcome.TheVariants as outcomes
+use Rattle.script_orders.specs.Said.{said, said_of_collect, said_of_message}
+
+-- a message ---------------------------------------------------------------------------------------------------------------
+
+abbrev said_by : Process → Option Message → List ℕ
+said_by p None = reply_line p (outcomes.Got (record { len = 0; prio = 0 })) []
+said_by p (Some m) = reply_line p (outcomes.Got (record { len = length m.bytes; prio = m.prio })) m.bytes
+
+-- a message is printed by its priority and its bytes
+said-message : (past : Past) (p : Process) (place : Place) → said_of_message past p place ≡ said_by p (at sent past place)
+said-message past p place =
+    let bytes : Option Record → List ℕ = λ o. unwrap_or (option_map (λ (r : Record). r.payload) o) [] in
+    let prio : Option Record → ℕ = λ o. unwrap_or (option_map (λ (r : Record). priority_given r.entry.call) o) 0 in
+    let goes : (o : Option Record) → reply_line p (outcomes.Got (record { len = length (bytes o); prio = prio o })) (bytes o) ≡ said_by p (option_map sent o) =
+    λ (o : Option Record). elim o as (λ o. reply_line p (outcomes.Got (record { len = length (bytes o); prio = prio o })) (bytes o) ≡ said_by p (option_map sent o))
+    [ None ↦ refl | Some r ↦ refl ]
+    in
+    goes (record_at past place)
+
+abbrev collect_by : Process → Option (Option Message) → List ℕ
+collect_by p None = reply_line p outcomes.Done []
+collect_by p (Some None) = reply_line p outcomes.Done []
+collect_by p (Some (Some m)) = said_by p (Some m)
+
+-- what a wait came to is printed by what the entry that answered it sends
+said-collect : (past : Past) (p : Process) (by : Place) → said_of_collect past p by ≡ collect_by p (at told past by)
+said-collect past p by =
+    let sends : Option Record → Bool = λ o. unwrap_or (option_map (λ (r : Record). is_send r.entry.call) o) false in
+    let inner : (r : Record) (b : Bool) → (if b then said_by p (Some (sent r)) else reply_line p outcomes.Done []) ≡ collect_by p (Some (if b then Some (sent r) else None)) =
+    λ (r : Record) (b : Bool). elim b as (λ b. (if b then said_by p (Some (sent r)) else reply_line p outcomes.Done []) ≡ collect_by p (Some (if b then Some (sent r) else None))) [ true ↦ refl | false ↦ refl ]
+    in
+    let goes : (o : Option Record) → (if sends o then said_by p (option_map sent o) else reply_line p outcomes.Done []) ≡ collect_by p (option_map told o) =
+    λ (o : Option Record). elim o as (λ o. (if sends o then said_by p (option_map sent o) else reply_line p outcomes.Done []) ≡ collect_by p (option_map told o))
+    [ None ↦ refl | Some r ↦ inner r (is_send r.entry.call) ]
+    in
+    ap (λ (line : List ℕ). if sends (record_at past by) then line else reply_line p outcomes.Done []) (said-message past p by) ∙ goes (record_at past by)
+
+-- a reply -----------------------------------------------------------------------------------------------------------------
+
+abbrev said_of : Process → Reply → Option Message → List ℕ
+said_of p (Opened d created) m = reply_line p (outcomes.Opened d) []
+said_of p (Queued n) m = reply_line p outcomes.Done []
+said_of p (Handed w) m = reply_line p outcomes.Done []
+said_of p (Got k a n) m = said_by p m
+said_of p (Attrs status) m = reply_line p (outcomes.Attrs status) []
+said_of p (Notice value) m = reply_line p (outcomes.Notice value) []
+said_of p Done m = reply_line p outcomes.Done []
+said_of p (Refused fault) m = reply_line p (outcomes.Refused fault) []
+said_of p _ m = []
+
+-- a reply is printed by its shape and the message that it gives
+said-shape : (past : Past) (p : Process) (reply : Reply) → is_collected reply ≡ false → said past p reply ≡ said_of p (shape reply) (message_given past reply)
+said-shape past p (Opened d created) not = refl
+said-shape past p (Queued n) not = refl
+said-shape past p (Handed w) not = refl
+said-shape past p (Got m a n) not = said-message past p m
+said-shape past p Waits not = refl
+said-shape past p (Collected b) not = absurd (cc)
+said-shape past p (Withdrawn w) not = refl
+said-shape past p (Attrs s) not = refl
+said-shape past p (Notice v) not = refl
+said-shape past p Done not = refl
+said-shape past p (Refused f) not = refl
+
+said-alike : (x y : Past) (p : Process) (a b : Reply) → is_collected a ≡ false → is_collected b ≡ false → shape b ≡ shape a → message_given y b ≡ message_given x a → said y p b ≡ said x p a
+said-alike x y p a b not_a not_b e f =
+    said-shape y p b not_b ∙ ap (λ (r : Reply). said_of p r (message_given y b)) e ∙ ap (λ (m : Option Message). said_of p (shape a) m) f ∙ sym (said-shape x p a not_a)
+
+-- what a wait was answered with is at the place that its collect names
+collected-at : (past : Past) (r : Record) (p : Process) → is_some (answered_by past p) ≡ true → Some (at told (r ∷ past) (unwrap_or (answered_by past p) 0)) ≡ answer past p
+collected-at past r p some =
+    let goes : (o : Option ℕ) → is_some o ≡ true → Some (at told (r ∷ past) (unwrap_or o 0)) ≡ option_map (at told (r ∷ past)) o =
+    λ (o : Option ℕ). elim o as (λ o. is_some o ≡ true → Some (at told (r ∷ past) (unwrap_or o 0)) ≡ option_map (at told (r ∷ past)) o) [ None ↦ (λ h. absurd (cc)) | Some b ↦ (λ h. refl) ]
+    in
+    goes (answered_by past p) some ∙ answer-older past r p
+
+collect-said : (x y : Past) (r s : Record) (p : Process) → AreAlike x y → is_some (answered_by x p) ≡ true → is_some (answered_by y p) ≡ true →
+    said_of_collect (s ∷ y) p (unwrap_or (answered_by y p) 0) ≡ said_of_collect (r ∷ x) p (unwrap_or (answered_by x p) 0)
+collect-said x y r s p alike some_x some_y =
+    let e = collected-at y s p some_y in
+    let f = collected-at x r p some_x in
+    let same = alike.answered p in
+    let all : Some (at told (s ∷ y) (unwrap_or (answered_by y p) 0)) ≡ Some (at told (r ∷ x) (unwrap_or (answered_by x p) 0)) = e ∙ same ∙ sym f in
+    let is : at told (s ∷ y) (unwrap_or (answered_by y p) 0) ≡ at told (r ∷ x) (unwrap_or (answered_by x p) 0) = cc in
+    said-collect (s ∷ y) p (unwrap_or (answered_by y p) 0) ∙ ap (λ (o : Option (Option Message)). collect_by p o) is ∙ sym (said-collect (r ∷ x) p (unwrap_or (answered_by x p) 0))
+
+-- a call ------------------------------------------------------------------------------------------------------------------
+
+not-collected : (reply : Reply) → ((b : ℕ) → reply ≡ Collected b → ⊥) → is_collected reply ≡ false
+not-collected (Collected b) never = absurd (never b refl)
+not-collected (Opened d created) never = refl
+not-collected (Queued n) never = refl
+not-collected (Handed w) never = refl
+not-collected (Got m a n) never = refl
+not-collected Waits never = refl
+not-collected (Withdrawn w) never = refl
+not-collected (Attrs s) never = refl
+not-collected (Notice v) never = refl
+not-collected Done never = refl
+not-collected (Refused f) never = refl
+
+-- of a plain call that is no collect
+abbrev is_other : Call → Bool
+is_other Collect = false
+is_other call = is_plain call
+
+says-collected : (past : Past) (p : ℕ) (call : Call) (b : ℕ) → is_other call ≡ true → Says past p call (Collected b) → ⊥
+says-collected past p (MqClose d) b other says = says.0
+says-collected past p (MqSend d prio len) b other says = says.3
+says-collected past p (MqReceive d room) b other says = says.3
+says-collected past p (MqTimedSend d prio len until now) b other says = says.3
+says-collected past p (MqTimedReceive d room until now) b other says = says.3
+says-collected past p (MqGetattr d) b other says = says
+says-collected past p (MqSetattr d nonblock) b other says = says
+says-collected past p Collect b other says = cc
+says-collected past p (MqOpen flags attr) b other says = cc
+says-collected past p MqUnlink b other says = cc
+says-collected past p (MqNotify d value) b other says = cc
+says-collected past p NextNotice b other says = cc
+says-collected past p (Withdraw now) b other says = cc
+
+never-collected : (past : Past) (p : ℕ) (call : Call) (given : List ℕ) → is_other call ≡ true → is_collected (reply_to past p call given) ≡ false
+never-collected past p call given other =
+    not-collected (reply_to past p call given)
+    (λ b e. let P : Reply → Type 0 = λ r. Says past p call r in says-collected past p call b other (subst P e (reply_says past p call given)))
+
+other-said : (x y : Past) (p : Process) (call : Call) (given : List ℕ) → is_other call ≡ true → StepsAlike x y p call given →
+    said (record_of y p call given ∷ y) p (reply_to y p call given) ≡ said (record_of x p call given ∷ x) p (reply_to x p call given)
+other-said x y p call given other steps =
+    said-alike (record_of x p call given ∷ x) (record_of y p call given ∷ y) p (reply_to x p call given) (reply_to y p call given)
+    (never-collected x p call given other) (never-collected y p call given other) steps.reply steps.message
+
+-- what is printed of a plain call after two journals that are alike
+pub call-said : (x y : Past) (p : Process) (call : Call) (given : List ℕ) → AreAlike x y → is_plain call ≡ true → may_call x p call ≡ true → may_call y p call ≡ true → StepsAlike x y p call given →
+    said (record_of y p call given ∷ y) p (reply_to y p call given) ≡ said (record_of x p call given ∷ x) p (reply_to x p call given)
+call-said x y p Collect given alike plain can_x can_y steps = collect-said x y (record_of x p Collect given) (record_of y p Collect given) p alike can_x can_y
+call-said x y p (MqClose d) given alike plain can_x can_y steps = other-said x y p (MqClose d) given plain steps
+call-said x y p (MqSend d prio len) given alike plain can_x can_y steps = other-said x y p (MqSend d prio len) given plain steps
+call-said x y p (MqReceive d room) given alike plain can_x can_y steps = other-said x y p (MqReceive d room) given plain steps
+call-said x y p (MqTimedSend d prio len until now) given alike plain can_x can_y steps = other-said x y p (MqTimedSend d prio len until now) given plain steps
+call-said x y p (MqTimedReceive d room until now) given alike plain can_x can_y steps = other-said x y p (MqTimedReceive d room until now) given plain steps
+call-said x y p (MqGetattr d) given alike plain can_x can_y steps = other-said x y p (MqGetattr d) given plain steps
+call-said x y p (MqSetattr d nonblock) given alike plain can_x can_y steps = other-said x y p (MqSetattr d nonblock) given plain steps
+call-said x y p (MqOpen flags attr) given alike plain can_x can_y steps = absurd (cc)
+call-said x y p MqUnlink given alike plain can_x can_y steps = absurd (cc)
+call-said x y p (MqNotify d value) given alike plain can_x can_y steps = absurd (cc)
+call-said x y p NextNotice given alike plain can_x can_y steps = absurd (cc)
+call-said x y p (Withdraw now) given alike plain can_x can_y steps = absurd (cc)

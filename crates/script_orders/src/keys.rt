@@ -1,0 +1,90 @@
+//! The numbers by which stages that are alike are found.
+ghost use Rattle.std.specs.Prelude.{◌≡◌, ◌++◌, OnOk, IsTrue};
+ghost use Rattle.placeless.specs.Key.{codes};
+ghost use Rattle.script_orders.specs.Likeness.{ArePlainFrom, is_plain_step, seat_code};
+
+use crate::plan::{Planned, Step};
+use crate::turn::Seat;
+use mq_model::entries::Call;
+use std::alloc::AllocError;
+
+// A step that makes plain calls alone.
+fn is_plain(step: Step) -> bool
+    ensures { result ≡ is_plain_step step }
+{
+    match step {
+        Step::Call(call) => match call {
+            Call::MqClose { d: _ }
+            | Call::MqSend {
+                d: _,
+                prio: _,
+                len: _,
+            }
+            | Call::MqReceive { d: _, room: _ }
+            | Call::MqTimedSend {
+                d: _,
+                prio: _,
+                len: _,
+                until: _,
+                now: _,
+            }
+            | Call::MqTimedReceive {
+                d: _,
+                room: _,
+                until: _,
+                now: _,
+            }
+            | Call::MqGetattr { d: _ }
+            | Call::MqSetattr { d: _, nonblock: _ }
+            | Call::Collect => true,
+            Call::MqOpen { flags: _, attr: _ }
+            | Call::MqUnlink
+            | Call::MqNotify { d: _, value: _ }
+            | Call::NextNotice
+            | Call::Withdraw { now: _ } => false,
+        },
+        Step::Refusal(_) => true,
+        Step::Exit => true,
+    }
+}
+
+/// All lines of a program from this one on are plain.
+pub fn are_plain_from(program: &[Planned], from: usize) -> bool
+    ensures { IsTrue result → ArePlainFrom program.now from }
+{
+    for at in from..program.len() {
+        if !is_plain(program[at].step) {
+            return false;
+        }
+    }
+    true
+}
+
+fn push_bytes(key: &mut Vec<u64>, bytes: &[u8]) -> Result<(), AllocError>
+    ensures { OnOk result (key.new.items ≡ key.old.items ++ bytes.now) }
+{
+    for byte in bytes {
+        key.push(u64::from(*byte))?;
+    }
+    Ok(())
+}
+
+// How far a process has come, and what is printed of it.
+fn push_seat(key: &mut Vec<u64>, seat: &Seat) -> Result<(), AllocError>
+    ensures { OnOk result (key.new.items ≡ key.old.items ++ seat_code seat.now) }
+{
+    let text = seat.text();
+    key.push(seat.begun() as u64)?;
+    key.push(text.len() as u64)?;
+    push_bytes(key, text)
+}
+
+/// Adds the numbers of each process.
+pub fn push_seats(key: &mut Vec<u64>, seats: &[Seat]) -> Result<(), AllocError>
+    ensures { OnOk result (key.new.items ≡ key.old.items ++ codes seat_code seats.now) }
+{
+    for seat in seats {
+        push_seat(key, seat)?;
+    }
+    Ok(())
+}
