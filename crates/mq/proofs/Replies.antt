@@ -1,5 +1,5 @@
 -- What a call on the books leaves, and which replies it is given.
-use Rattle.std.proofs.Common.{◌≡◌, ℕ, Bool, true, false, List, ◌++◌, Option, refl}
+use Rattle.std.proofs.Common.{◌≡◌, ℕ, true, false, List, ◌++◌, Option, refl}
 use Rattle.mq_model.specs.Record.{Past}
 use Rattle.mq_model.specs.Legality.{Appends, reply_to}
 use Rattle.mq_model.specs.Bounds.{has_entry}
@@ -13,7 +13,7 @@ use Rattle.mq_model.specs.declared.entries.Reply.TheVariants.{Opened, Queued, Ha
 use Rattle.mq_model.specs.declared.faults.Fault.{Fault}
 use Rattle.mq_state.specs.Requests.{Brings}
 use Rattle.mq.specs.Calls.{made}
-use Rattle.mq.specs.Asked.{may_reply, is_opened, is_done, is_attributes, is_notice, is_sent, is_received}
+use Rattle.mq.specs.Asked.{may_reply, is_opened, is_done, is_attributes, is_sent, is_received}
 
 opened : (reply : Reply) → OpenReply reply → is_opened reply ≡ true
 opened (Opened d c) says = refl

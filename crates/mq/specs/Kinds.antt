@@ -1,5 +1,5 @@
 -- The kinds of calls, by what they return: a call of a kind is one of `Calls`.
-use Rattle.std.specs.Prelude.{ℕ, ◌≡◌, ◌≢◌, Bool, true, false, List, [], Option, Some, None, Result, Ok, Err}
+use Rattle.std.specs.Prelude.{ℕ, ◌≡◌, ◌≢◌, Bool, true, false, List, [], Option, Some, None, Result, Ok}
 use Rattle.fast_mutex.specs.Items.{Ticket}
 use Rattle.mq_model.specs.Record.{Record, Past}
 use Rattle.mq_model.specs.declared.entries.Received.{Received}

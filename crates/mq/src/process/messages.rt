@@ -40,7 +40,10 @@ impl<L: Look<Guarded>> Process<L> {
         ensures free { result ≢ Ok false → IsFree self.new }
     {
         let len = bytes.len() as u64;
-        self.make(rt, mq, Call::MqSend { d, prio, len }, bytes, &mut [])
+        let arrived = arrive(rt, mq, &mut self.seat, self.waits);
+        let (process, sent) = arrived.make(mq, Call::MqSend { d, prio, len }, bytes, &mut []);
+        *self = process.settled(mq);
+        sent
     }
 
     /// Receives the oldest message of the highest priority into the front of the buffer, or begins to wait for one: `None`, and
@@ -60,7 +63,10 @@ impl<L: Look<Guarded>> Process<L> {
         ensures free { result ≢ Ok None → IsFree self.new }
     {
         let room = buf.len() as u64;
-        self.make(rt, mq, Call::MqReceive { d, room }, &[], buf)
+        let arrived = arrive(rt, mq, &mut self.seat, self.waits);
+        let (process, got) = arrived.make(mq, Call::MqReceive { d, room }, &[], buf);
+        *self = process.settled(mq);
+        got
     }
 
     /// Ends the open wait, if it is answered, and gives what it came to: a message that was received lies in the front of the
@@ -158,7 +164,11 @@ impl<L: Look<Guarded>> Process<L> {
         ensures call { SendCall self.old self.new d bytes.now prio result }
         ensures free { IsFree self.new }
     {
-        match self.start_send(rt, mq, d, bytes, prio) {
+        let len = bytes.len() as u64;
+        let arrived = arrive(rt, mq, &mut self.seat, self.waits);
+        let (process, sent) = arrived.make(mq, Call::MqSend { d, prio, len }, bytes, &mut []);
+        *self = process.settled(mq);
+        match sent {
             Ok(true) => Ok(()),
             Ok(false) => {
                 self.await_outcome(rt, mq, &mut []);
@@ -183,7 +193,11 @@ impl<L: Look<Guarded>> Process<L> {
         ensures fits { IfOk result (λ received. received.len ≤ length buf.old) }
         ensures free { IsFree self.new }
     {
-        match self.start_receive(rt, mq, d, buf) {
+        let room = buf.len() as u64;
+        let arrived = arrive(rt, mq, &mut self.seat, self.waits);
+        let (process, got) = arrived.make(mq, Call::MqReceive { d, room }, &[], buf);
+        *self = process.settled(mq);
+        match got {
             Ok(Some(received)) => Ok(received),
             Ok(None) => match self.await_outcome(rt, mq, buf) {
                 Collected::Got(received) => Ok(received),
