@@ -28,8 +28,13 @@ pub extern "C" fn yak_open(
     opening: &Opening,
     d: &mut u32,
 ) -> u32
-    ensures bad { IfSome (open_fault name.now opening.now) (λ fault. (result ≡ number_of fault) × (process.new ≡ process.old) × (d.new ≡ d.old)) }
-    ensures good { IfNone (open_fault name.now opening.now) (Gives (λ old new result. OneCall open_says old new (Call.MqOpen (flags_of opening.now) (attr_of opening.now)) name.now result) (λ t. told (code_of given_code t) (written (given d.old) d.old t)) (process_in process.old) (process_in process.new) (told result d.new)) }
+    ensures bad { IfSome (open_fault name.now opening.now) (λ fault. (result ≡ number_of fault) ×
+        (process.new ≡ process.old) × (d.new ≡ d.old)) }
+    ensures good { IfNone (open_fault name.now opening.now) (Gives (λ old new result.
+        OneCall open_says old new (Call.MqOpen (flags_of opening.now)
+        (attr_of opening.now)) name.now result) (λ t.
+        told (code_of given_code t) (written (given d.old) d.old t)) (process_in process.old)
+        (process_in process.new) (told result d.new)) }
 {
     let (name, flags) = match read_open(name, opening) {
         Ok(read) => read,
@@ -43,8 +48,11 @@ pub extern "C" fn yak_open(
 /// Unbinds a name (`mq_unlink`). A name that is none is refused before all else.
 #[unsafe(no_mangle)]
 pub extern "C" fn yak_unlink(alloc: Global, process: &mut Handle, name: &[u8]) -> u32
-    ensures bad { IfSome (name_fault name.now) (λ fault. (result ≡ number_of fault) × (process.new ≡ process.old)) }
-    ensures good { IfNone (name_fault name.now) (Gives (λ old new result. OneCall done_says old new Call.MqUnlink name.now result) (code_of given_code) (process_in process.old) (process_in process.new) result) }
+    ensures bad { IfSome (name_fault name.now) (λ fault. (result ≡ number_of fault) ×
+        (process.new ≡ process.old)) }
+    ensures good { IfNone (name_fault name.now) (Gives (λ old new result.
+        OneCall done_says old new Call.MqUnlink name.now result) (code_of given_code)
+        (process_in process.old) (process_in process.new) result) }
 {
     let name = match read_name(name) {
         Ok(name) => name,
@@ -57,7 +65,8 @@ pub extern "C" fn yak_unlink(alloc: Global, process: &mut Handle, name: &[u8]) -
 /// Closes a descriptor (`mq_close`).
 #[unsafe(no_mangle)]
 pub extern "C" fn yak_close(alloc: Global, process: &mut Handle, d: u32) -> u32
-    ensures { Gives (λ old new result. OneCall done_says old new (Call.MqClose d) [] result) (code_of given_code) (process_in process.old) (process_in process.new) result }
+    ensures { Gives (λ old new result. OneCall done_says old new (Call.MqClose d) [] result)
+        (code_of given_code) (process_in process.old) (process_in process.new) result }
 {
     let tried = process.make(alloc, Call::MqClose { d }, &[], &mut []);
     numbers::done(tried)
@@ -72,7 +81,9 @@ pub extern "C" fn yak_notify(
     registers: bool,
     value: u64,
 ) -> u32
-    ensures { Gives (λ old new result. OneCall done_says old new (Call.MqNotify d (if registers then Some value else None)) [] result) (code_of given_code) (process_in process.old) (process_in process.new) result }
+    ensures { Gives (λ old new result.
+        OneCall done_says old new (Call.MqNotify d (if registers then Some value else None)) []
+        result) (code_of given_code) (process_in process.old) (process_in process.new) result }
 {
     let value = registration(registers, value);
     let tried = process.make(alloc, Call::MqNotify { d, value }, &[], &mut []);
@@ -87,7 +98,10 @@ pub extern "C" fn yak_getattr(
     d: u32,
     attributes: &mut Attributes,
 ) -> u32
-    ensures { Gives (λ old new result. OneCall attributes_says old new (Call.MqGetattr d) [] result) (λ t. told (code_of given_code t) (written (attributes_got attributes.old) attributes.old t)) (process_in process.old) (process_in process.new) (told result attributes.new) }
+    ensures { Gives (λ old new result. OneCall attributes_says old new (Call.MqGetattr d) [] result)
+        (λ t. told (code_of given_code t)
+        (written (attributes_got attributes.old) attributes.old t)) (process_in process.old)
+        (process_in process.new) (told result attributes.new) }
 {
     let tried = process.make(alloc, Call::MqGetattr { d }, &[], &mut []);
     numbers::attributes(tried, attributes)
@@ -102,7 +116,10 @@ pub extern "C" fn yak_setattr(
     nonblock: bool,
     before: &mut Attributes,
 ) -> u32
-    ensures { Gives (λ old new result. OneCall attributes_says old new (Call.MqSetattr d nonblock) [] result) (λ t. told (code_of given_code t) (written (attributes_got before.old) before.old t)) (process_in process.old) (process_in process.new) (told result before.new) }
+    ensures { Gives (λ old new result.
+        OneCall attributes_says old new (Call.MqSetattr d nonblock) [] result) (λ t.
+        told (code_of given_code t) (written (attributes_got before.old) before.old t))
+        (process_in process.old) (process_in process.new) (told result before.new) }
 {
     let tried = process.make(alloc, Call::MqSetattr { d, nonblock }, &[], &mut []);
     numbers::attributes(tried, before)
@@ -111,7 +128,9 @@ pub extern "C" fn yak_setattr(
 /// Writes the value of the oldest notice that the process has not taken.
 #[unsafe(no_mangle)]
 pub extern "C" fn yak_next_notice(alloc: Global, process: &mut Handle, value: &mut u64) -> u32
-    ensures { Gives (λ old new result. OneCall notice_says old new Call.NextNotice [] result) (λ t. told (code_of notice_code t) (written (notice_given value.old) value.old t)) (process_in process.old) (process_in process.new) (told result value.new) }
+    ensures { Gives (λ old new result. OneCall notice_says old new Call.NextNotice [] result) (λ t.
+        told (code_of notice_code t) (written (notice_given value.old) value.old t))
+        (process_in process.old) (process_in process.new) (told result value.new) }
 {
     let tried = process.make(alloc, Call::NextNotice, &[], &mut []);
     numbers::notice(tried, value)
@@ -120,7 +139,8 @@ pub extern "C" fn yak_next_notice(alloc: Global, process: &mut Handle, value: &m
 /// Closes all descriptors of the process, as the end of a process does.
 #[unsafe(no_mangle)]
 pub extern "C" fn yak_exit(alloc: Global, process: &mut Handle) -> u32
-    ensures { Gives (λ old new result. Exits old new result) (code_of given_code) (process_in process.old) (process_in process.new) result }
+    ensures { Gives (λ old new result. Exits old new result) (code_of given_code)
+        (process_in process.old) (process_in process.new) result }
 {
     numbers::done(process.exit(alloc))
 }
@@ -134,7 +154,9 @@ pub extern "C" fn yak_start_send(
     bytes: &[u8],
     prio: u32,
 ) -> u32
-    ensures { Gives (λ old new result. OneCall start_send_says old new (Call.MqSend d prio (length bytes.now)) bytes.now result) (code_of sent_code) (process_in process.old) (process_in process.new) result }
+    ensures { Gives (λ old new result.
+        OneCall start_send_says old new (Call.MqSend d prio (length bytes.now)) bytes.now result)
+        (code_of sent_code) (process_in process.old) (process_in process.new) result }
 {
     let len = bytes.len() as u64;
     let tried = process.make(alloc, Call::MqSend { d, prio, len }, bytes, &mut []);
@@ -152,7 +174,10 @@ pub extern "C" fn yak_start_timed_send(
     until: &Moment,
     now: &Moment,
 ) -> u32
-    ensures { Gives (λ old new result. OneCall start_send_says old new (Call.MqTimedSend d prio (length bytes.now) (deadline_of until.now) (deadline_of now.now)) bytes.now result) (code_of sent_code) (process_in process.old) (process_in process.new) result }
+    ensures { Gives (λ old new result.
+        OneCall start_send_says old new (Call.MqTimedSend d prio (length bytes.now)
+        (deadline_of until.now) (deadline_of now.now)) bytes.now result) (code_of sent_code)
+        (process_in process.old) (process_in process.new) result }
 {
     let call = Call::MqTimedSend {
         d,
@@ -174,7 +199,10 @@ pub extern "C" fn yak_start_receive(
     buf: &mut [u8],
     message: &mut Message,
 ) -> u32
-    ensures { GivesWith (buf.new ≡ buf.old) (λ old new result. ReceiveCall start_receive_says old new (Call.MqReceive d (length buf.old)) buf.old buf.new result) (λ t. told (code_of got_code t) (written (message_got message.old) message.old t)) (process_in process.old) (process_in process.new) (told result message.new) }
+    ensures { GivesWith (buf.new ≡ buf.old) (λ old new result.
+        ReceiveCall start_receive_says old new (Call.MqReceive d (length buf.old)) buf.old buf.new
+        result) (λ t. told (code_of got_code t) (written (message_got message.old) message.old t))
+        (process_in process.old) (process_in process.new) (told result message.new) }
 {
     let room = buf.len() as u64;
     let tried = process.make(alloc, Call::MqReceive { d, room }, &[], buf);
@@ -192,7 +220,11 @@ pub extern "C" fn yak_start_timed_receive(
     until: &Moment,
     now: &Moment,
 ) -> u32
-    ensures { GivesWith (buf.new ≡ buf.old) (λ old new result. ReceiveCall start_receive_says old new (Call.MqTimedReceive d (length buf.old) (deadline_of until.now) (deadline_of now.now)) buf.old buf.new result) (λ t. told (code_of got_code t) (written (message_got message.old) message.old t)) (process_in process.old) (process_in process.new) (told result message.new) }
+    ensures { GivesWith (buf.new ≡ buf.old) (λ old new result.
+        ReceiveCall start_receive_says old new (Call.MqTimedReceive d (length buf.old)
+        (deadline_of until.now) (deadline_of now.now)) buf.old buf.new result) (λ t.
+        told (code_of got_code t) (written (message_got message.old) message.old t))
+        (process_in process.old) (process_in process.new) (told result message.new) }
 {
     let call = Call::MqTimedReceive {
         d,
@@ -212,7 +244,9 @@ pub extern "C" fn yak_collect(
     buf: &mut [u8],
     message: &mut Message,
 ) -> u32
-    ensures { GivesEnd None (λ e. told (end_code e) (end_message message.old e)) (process_in process.old) (process_in process.new) buf.old buf.new (told result message.new) }
+    ensures { GivesEnd None (λ e. told (end_code e) (end_message message.old e))
+        (process_in process.old) (process_in process.new) buf.old buf.new
+        (told result message.new) }
 {
     numbers::ended(process.collect(alloc, buf), message)
 }
@@ -226,7 +260,9 @@ pub extern "C" fn yak_end_wait(
     message: &mut Message,
     now: &Moment,
 ) -> u32
-    ensures { GivesEnd (Some (deadline_of now.now)) (λ e. told (end_code e) (end_message message.old e)) (process_in process.old) (process_in process.new) buf.old buf.new (told result message.new) }
+    ensures { GivesEnd (Some (deadline_of now.now)) (λ e.
+        told (end_code e) (end_message message.old e)) (process_in process.old)
+        (process_in process.new) buf.old buf.new (told result message.new) }
 {
     numbers::ended(process.end_wait(alloc, buf, now.deadline()), message)
 }
@@ -234,7 +270,8 @@ pub extern "C" fn yak_end_wait(
 /// Looks from outside the lock whether the open wait is answered, which takes one load.
 #[unsafe(no_mangle)]
 pub extern "C" fn yak_answered(alloc: Global, process: &mut Handle) -> u32
-    ensures look { GivesLook (under_way_in process.old) (process_in process.old) (process_in process.new) result }
+    ensures look { GivesLook (under_way_in process.old) (process_in process.old)
+        (process_in process.new) result }
     ensures under_way { under_way_in process.new ≡ under_way_in process.old }
 {
     numbers::looked(process.answered(alloc))

@@ -27,7 +27,14 @@ pub extern "C" fn yak_entry(
     text: &mut [u8],
     len: &mut usize,
 ) -> u32
-    ensures { ReadsAt place (process_in process.old) (process_in process.new) (record { before = text.old; after = text.new; len_before = len.old; len = len.new; code = result }) }
+    ensures { ReadsAt place (process_in process.old) (process_in process.new)
+        (record {
+          before = text.old;
+          after = text.new;
+          len_before = len.old;
+          len = len.new;
+          code = result;
+        }) }
 {
     reading::entry(alloc, process, place, text, len)
 }

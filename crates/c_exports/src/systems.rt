@@ -27,7 +27,8 @@ pub extern "C" fn yak_bounded(
     entries: u64,
     bytes: u64,
 ) -> u32
-    ensures { Makes (Some (record { entries = entries; bytes = bytes })) processes.old processes.new result }
+    ensures { Makes (Some (record { entries = entries; bytes = bytes })) processes.old
+        processes.new result }
 {
     system::bounded(alloc, processes, entries, bytes)
 }

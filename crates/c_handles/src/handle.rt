@@ -107,35 +107,41 @@ impl Handle {
     ) -> Option<Tried<A>>
         requires brings { Brings call given.now (length buf.old) }
         requires kind { IsOf A.kind call }
-        ensures { let kind = A.kind in GivesWith (buf.new ≡ buf.old) (λ old new result. IsCall kind.fills kind.says old new call given.now buf.old buf.new result) (λ tried. tried) (process_in self.old) (process_in self.new) result }
+        ensures { let kind = A.kind in GivesWith (buf.new ≡ buf.old) (λ old new result.
+            IsCall kind.fills kind.says old new call given.now buf.old buf.new result)
+            (λ tried. tried) (process_in self.old) (process_in self.new) result }
     {
         with_member!(self, alloc, |member| member.make(call, given, buf))
     }
 
     /// As [`Member::exit`].
     pub fn exit(&mut self, alloc: Global) -> Option<Tried<Result<(), Fault>>>
-        ensures { Gives (λ old new result. Exits old new result) (λ tried. tried) (process_in self.old) (process_in self.new) result }
+        ensures { Gives (λ old new result. Exits old new result) (λ tried. tried)
+            (process_in self.old) (process_in self.new) result }
     {
         with_member!(self, alloc, |member| member.exit())
     }
 
     /// As [`Member::collect`].
     pub fn collect(&mut self, alloc: Global, buf: &mut [u8]) -> Option<Ending>
-        ensures { GivesEnd None (λ ending. ending) (process_in self.old) (process_in self.new) buf.old buf.new result }
+        ensures { GivesEnd None (λ ending. ending) (process_in self.old)
+            (process_in self.new) buf.old buf.new result }
     {
         with_member!(self, alloc, |member| member.collect(buf))
     }
 
     /// As [`Member::end_wait`].
     pub fn end_wait(&mut self, alloc: Global, buf: &mut [u8], now: Deadline) -> Option<Ending>
-        ensures { GivesEnd (Some now) (λ ending. ending) (process_in self.old) (process_in self.new) buf.old buf.new result }
+        ensures { GivesEnd (Some now) (λ ending. ending) (process_in self.old)
+            (process_in self.new) buf.old buf.new result }
     {
         with_member!(self, alloc, |member| member.end_wait(buf, now))
     }
 
     /// As [`Member::answered`].
     pub fn answered(&mut self, alloc: Global) -> Option<Looked>
-        ensures look { LooksIn (under_way_in self.old) (process_in self.old) (process_in self.new) result }
+        ensures look { LooksIn (under_way_in self.old) (process_in self.old)
+            (process_in self.new) result }
         ensures under_way { under_way_in self.new ≡ under_way_in self.old }
     {
         with_member!(self, alloc, |member| member.answered())

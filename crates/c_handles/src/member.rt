@@ -73,7 +73,9 @@ impl Member {
     pub fn make<A: Returned>(&mut self, call: Call, given: &[u8], buf: &mut [u8]) -> Tried<A>
         requires brings { Brings call given.now (length buf.old) }
         requires kind { IsOf A.kind call }
-        ensures { let kind = A.kind in TriesWith (buf.new ≡ buf.old) (λ old new result. IsCall kind.fills kind.says old new call given.now buf.old buf.new result) (ticket_of self.old.standing) (ticket_of self.new.standing) result }
+        ensures { let kind = A.kind in TriesWith (buf.new ≡ buf.old) (λ old new result.
+            IsCall kind.fills kind.says old new call given.now buf.old buf.new result)
+            (ticket_of self.old.standing) (ticket_of self.new.standing) result }
     {
         if waiting(&self.standing).is_some() {
             return Tried::Waiting;
@@ -90,7 +92,8 @@ impl Member {
     /// Tries to close all descriptors.
     #[tactic(auto, using(crate::proofs::Members::no_deadline))]
     pub fn exit(&mut self) -> Tried<Result<(), Fault>>
-        ensures { Tries (λ old new result. Exits old new result) (ticket_of self.old.standing) (ticket_of self.new.standing) result }
+        ensures { Tries (λ old new result. Exits old new result) (ticket_of self.old.standing)
+            (ticket_of self.new.standing) result }
     {
         if waiting(&self.standing).is_some() {
             return Tried::Waiting;
@@ -118,7 +121,8 @@ impl Member {
     /// Tries to check the journal: `None` where the process has not come inside yet.
     pub fn check(&mut self, alloc: Global) -> Option<Result<(), u64>>
         ensures none { IfNone result (ticket_of self.new.standing ≡ ticket_of self.old.standing) }
-        ensures legal { IfSome result (λ checked. IsOk checked × Calls (ticket_of self.old.standing) (ticket_of self.new.standing) []) }
+        ensures legal { IfSome result (λ checked. IsOk checked ×
+            Calls (ticket_of self.old.standing) (ticket_of self.new.standing) []) }
     {
         let arrived = arrive(&self.mq, &mut self.standing)?;
         let (process, checked) = arrived.check(alloc, &self.mq);
@@ -133,8 +137,10 @@ impl Member {
         place: u64,
     ) -> Option<Result<Option<(Entry, Vec<u8>)>, AllocError>>
         ensures none { IfNone result (ticket_of self.new.standing ≡ ticket_of self.old.standing) }
-        ensures record { IfSome result (λ read. IfOk read (λ found. option_map record_of found ≡ record_at (ticket_of self.new.standing).left place)) }
-        ensures calls { OnSome result (Calls (ticket_of self.old.standing) (ticket_of self.new.standing) []) }
+        ensures record { IfSome result (λ read. IfOk read (λ found. option_map record_of found ≡
+            record_at (ticket_of self.new.standing).left place)) }
+        ensures calls { OnSome result (Calls (ticket_of self.old.standing)
+            (ticket_of self.new.standing) []) }
     {
         let arrived = arrive(&self.mq, &mut self.standing)?;
         let (process, read) = arrived.record(alloc, &self.mq, place);
@@ -145,8 +151,11 @@ impl Member {
     /// Tries to ask for how much more the journal has room: `None` where the process has not come inside yet.
     pub fn room(&mut self) -> Option<Option<Bounds>>
         ensures none { IfNone result (ticket_of self.new.standing ≡ ticket_of self.old.standing) }
-        ensures room { IfSome result (λ room. room ≡ room_left (bounds_of (ticket_of self.old.standing)) (ticket_of self.new.standing).left) }
-        ensures calls { OnSome result (Calls (ticket_of self.old.standing) (ticket_of self.new.standing) []) }
+        ensures room { IfSome result (λ room.
+            room ≡ room_left (bounds_of (ticket_of self.old.standing))
+            (ticket_of self.new.standing).left) }
+        ensures calls { OnSome result (Calls (ticket_of self.old.standing)
+            (ticket_of self.new.standing) []) }
     {
         let arrived = arrive(&self.mq, &mut self.standing)?;
         let (process, room) = arrived.room(&self.mq);
@@ -157,8 +166,11 @@ impl Member {
     /// Tries to ask whether nobody can make a call any more: `None` where the process has not come inside yet.
     pub fn nobody_can_call(&mut self) -> Option<bool>
         ensures none { IfNone result (ticket_of self.new.standing ≡ ticket_of self.old.standing) }
-        ensures nobody { IfSome result (λ nobody. IsTrue nobody ↔ NobodyCanCall (bounds_of (ticket_of self.old.standing)) (ticket_of self.new.standing).left (ticket_of self.old.standing).lock.count) }
-        ensures calls { OnSome result (Calls (ticket_of self.old.standing) (ticket_of self.new.standing) []) }
+        ensures nobody { IfSome result (λ nobody.
+            IsTrue nobody ↔ NobodyCanCall (bounds_of (ticket_of self.old.standing))
+            (ticket_of self.new.standing).left (ticket_of self.old.standing).lock.count) }
+        ensures calls { OnSome result (Calls (ticket_of self.old.standing)
+            (ticket_of self.new.standing) []) }
     {
         let arrived = arrive(&self.mq, &mut self.standing)?;
         let (process, nobody) = arrived.nobody_can_call(&self.mq);
@@ -168,7 +180,8 @@ impl Member {
 
     /// Looks from outside whether the open wait is answered.
     pub fn answered(&mut self) -> Looked
-        ensures look { Looks (is_under_way self.old.standing) (ticket_of self.old.standing) (ticket_of self.new.standing) result }
+        ensures look { Looks (is_under_way self.old.standing) (ticket_of self.old.standing)
+            (ticket_of self.new.standing) result }
         ensures under_way { is_under_way self.new.standing ≡ is_under_way self.old.standing }
     {
         if waiting(&self.standing).is_none() {
@@ -183,7 +196,8 @@ impl Member {
 
     /// Tries to end the open wait, if it is answered.
     pub fn collect(&mut self, buf: &mut [u8]) -> Ending
-        ensures { Ends None (ticket_of self.old.standing) (ticket_of self.new.standing) buf.old buf.new result }
+        ensures { Ends None (ticket_of self.old.standing)
+            (ticket_of self.new.standing) buf.old buf.new result }
     {
         let Some(room) = waiting(&self.standing) else {
             return Ending::NotWaiting;
@@ -208,7 +222,8 @@ impl Member {
     /// Tries to end the open wait, whose deadline has passed at the moment `now`.
     #[tactic(auto, using(crate::proofs::Members::no_deadline))]
     pub fn end_wait(&mut self, buf: &mut [u8], now: Deadline) -> Ending
-        ensures { Ends (Some now) (ticket_of self.old.standing) (ticket_of self.new.standing) buf.old buf.new result }
+        ensures { Ends (Some now) (ticket_of self.old.standing)
+            (ticket_of self.new.standing) buf.old buf.new result }
     {
         let Some(room) = waiting(&self.standing) else {
             return Ending::NotWaiting;
@@ -235,7 +250,8 @@ impl Member {
 // Until when a process waits that has made this call, where it does.
 #[tactic(auto, using(crate::proofs::Members::no_deadline))]
 fn until_of(process: &FastProcess, call: Call) -> Option<Deadline>
-    requires { IsSome (waiting_room process.now.left process.now.number) → WaitsIn process.now call }
+    requires { IsSome (waiting_room process.now.left process.now.number) →
+        WaitsIn process.now call }
     ensures { result ≡ wait_deadline process.now.left process.now.number }
 {
     match process.waiting() {

@@ -76,7 +76,8 @@ pub fn opened(tried: Option<Tried<Result<u32, Fault>>>, d: &mut u32) -> u32
 /// That of a call that writes attributes.
 pub fn attributes(tried: Option<Tried<Result<Status, Fault>>>, attributes: &mut Attributes) -> u32
     ensures code { result ≡ code_of given_code tried }
-    ensures attributes { attributes.new ≡ written (attributes_got attributes.old) attributes.old tried }
+    ensures attributes { attributes.new ≡
+        written (attributes_got attributes.old) attributes.old tried }
 {
     match tried {
         None => EMPTY,

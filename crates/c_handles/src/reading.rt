@@ -36,7 +36,14 @@ pub fn entry(
     text: &mut [u8],
     len: &mut usize,
 ) -> u32
-    ensures { ReadsAt place (process_in process.old) (process_in process.new) (record { before = text.old; after = text.new; len_before = len.old; len = len.new; code = result }) }
+    ensures { ReadsAt place (process_in process.old) (process_in process.new)
+        (record {
+          before = text.old;
+          after = text.new;
+          len_before = len.old;
+          len = len.new;
+          code = result;
+        }) }
 {
     let Some(mut member) = process.take(alloc) else {
         return EMPTY;
@@ -58,7 +65,13 @@ pub fn entry(
 
 // Writes as much of a line as the buffer has room for, and how long the line is.
 fn write_line(line: &[u8], text: &mut [u8], len: &mut usize) -> u32
-    ensures { WritesLine line.now (record { before = text.old; after = text.new; len_before = len.old; len = len.new; code = result }) }
+    ensures { WritesLine line.now (record {
+      before = text.old;
+      after = text.new;
+      len_before = len.old;
+      len = len.new;
+      code = result;
+    }) }
 {
     let count = line.len().min(text.len());
     text[..count].copy_from_slice(&line[..count]);

@@ -109,7 +109,8 @@ pub fn read_name(bytes: &[u8]) -> Result<Name, Fault>
 
 /// The name and the flags of an open.
 pub fn read_open(name: &[u8], opening: &Opening) -> Result<(Name, OpenFlags), Fault>
-    ensures ok { IfOk result (λ read. (read.0 ≡ name.now) × (read.1 ≡ flags_of opening.now) × (open_fault name.now opening.now ≡ None)) }
+    ensures ok { IfOk result (λ read. (read.0 ≡ name.now) × (read.1 ≡ flags_of opening.now) ×
+        (open_fault name.now opening.now ≡ None)) }
     ensures err { IfErr result (λ fault. open_fault name.now opening.now ≡ Some fault) }
 {
     let Some(access) = access_of(opening.access) else {

@@ -62,7 +62,8 @@ pub fn settle(standing: &mut Option<Standing>, process: FastProcess)
 pub fn look(mq: &FastMq, standing: &mut Option<Standing>) -> Option<bool>
     requires some { is_some standing.old ≡ true }
     requires made { (ticket_of standing.old).lock ≡ mq.now }
-    ensures look { LooksAt (is_under_way standing.old) (ticket_of standing.old) (ticket_of standing.new) result }
+    ensures look { LooksAt (is_under_way standing.old) (ticket_of standing.old)
+        (ticket_of standing.new) result }
     ensures under_way { is_under_way standing.new ≡ is_under_way standing.old }
     ensures some { is_some standing.new ≡ true }
 {

@@ -40,7 +40,8 @@ pub fn new(alloc: Global, processes: &mut [Handle]) -> u32
 /// The same, with a journal that may hold so many entries and so many payload bytes: all the memory that later calls could need is taken
 /// here.
 pub fn bounded(alloc: Global, processes: &mut [Handle], entries: u64, bytes: u64) -> u32
-    ensures { Makes (Some (record { entries = entries; bytes = bytes })) processes.old processes.new result }
+    ensures { Makes (Some (record { entries = entries; bytes = bytes })) processes.old
+        processes.new result }
 {
     if !are_empty(processes) {
         return FULL;
@@ -109,7 +110,8 @@ fn members_of(
 ) -> Result<Vec<Box<Member>>, Fault>
     requires made { All (λ p. p.lock ≡ arc_value mq.now) made.items }
     requires new { All (λ p. p.left ≡ []) made.items }
-    ensures ok { IfOk result (λ members. map (λ b. ticket_of b.value.standing) members.items ≡ made.items) }
+    ensures ok { IfOk result (λ members. map (λ b. ticket_of b.value.standing) members.items ≡
+        made.items) }
 {
     let Ok(mut members) = Vec::with_capacity(alloc, made.len()) else {
         return Err(Fault::NoMemory);
@@ -130,7 +132,8 @@ fn members_of(
 fn fill(processes: &mut [Handle], members: Vec<Box<Member>>)
     requires empty { list_all is_empty processes.old ≡ true }
     requires count { vec_len members ≡ length processes.old }
-    ensures { map process_in processes.new ≡ map (λ b. Some (ticket_of b.value.standing)) members.items }
+    ensures { map process_in processes.new ≡
+        map (λ b. Some (ticket_of b.value.standing)) members.items }
 {
     let mut place = 0;
     'members: for member in members {

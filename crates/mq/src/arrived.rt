@@ -38,7 +38,8 @@ impl<L: Look<Guarded>> Model for Arrived<L> {
 
     ghost view = { λ a. L.walking a.walk };
 
-    ghost invariant = { λ a. UnderWay (L.walking a.walk) a.number a.waits × (L.is_in a.walk ≡ true) };
+    ghost invariant = { λ a. UnderWay (L.walking a.walk) a.number a.waits ×
+        (L.is_in a.walk ≡ true) };
 }
 
 impl<L: Look<Guarded>> Arrived<L> {
@@ -63,10 +64,13 @@ impl<L: Look<Guarded>> Arrived<L> {
         requires free { IsFree self }
         requires brings { Brings call given.now (length buf.old) }
         requires kind { IsOf A.kind call }
-        ensures call { let kind = A.kind in IsCall kind.fills kind.says self result.0 call given.now buf.old buf.new result.1 }
-        ensures waits { let kind = A.kind in IsWaiting kind.waiting result.1 → WaitsIn result.0 call }
+        ensures call { let kind = A.kind in
+            IsCall kind.fills kind.says self result.0 call given.now buf.old buf.new result.1 }
+        ensures waits { let kind = A.kind in IsWaiting kind.waiting result.1 →
+            WaitsIn result.0 call }
         ensures free { let kind = A.kind in IsOver kind.waiting result.1 → IsFree result.0 }
-        ensures begun { IsSome (waiting_room result.0.left result.0.number) → WaitsIn result.0 call }
+        ensures begun { IsSome (waiting_room result.0.left result.0.number) →
+            WaitsIn result.0 call }
     {
         let room = buf.len();
         let (inside, mut state) = begin::<L>(self.walk, self.number);
@@ -81,7 +85,8 @@ impl<L: Look<Guarded>> Arrived<L> {
         requires made { self.lock ≡ mq.now }
         ensures blocked { result.1 ≡ list_all (is_blocked result.0.left) processes.now }
         ensures calls { Calls self result.0 [] }
-        ensures wait { waiting_room result.0.left result.0.number ≡ waiting_room self.left self.number }
+        ensures wait { waiting_room result.0.left result.0.number ≡
+            waiting_room self.left self.number }
     {
         let (inside, state) = begin::<L>(self.walk, self.number);
         let blocked = all_blocked(&state.books, processes);

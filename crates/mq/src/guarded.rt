@@ -129,7 +129,8 @@ impl Visit {
     /// The state to give back after one call, which got this reply. The answers are counted anew only where it names a wait.
     #[inline(always)]
     pub(crate) fn end_after(self, reply: Reply) -> Guarded
-        requires quiet { is_some (named_wait reply) ≡ false → self.answered ≡ answered_bits self.books.records }
+        requires quiet { is_some (named_wait reply) ≡ false →
+            self.answered ≡ answered_bits self.books.records }
         ensures { result.books ≡ self.books }
     {
         let Visit {

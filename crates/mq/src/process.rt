@@ -42,7 +42,9 @@ impl<L: Look<Guarded>> Model for Process<L> {
 
     ghost view = { λ p. ticket_of L.ticket p.seat };
 
-    ghost invariant = { λ p. IsSome p.seat × (p.waits ≡ waiting_room (ticket_of L.ticket p.seat).left (ticket_of L.ticket p.seat).number) };
+    ghost invariant = { λ p. IsSome p.seat ×
+        (p.waits ≡ waiting_room (ticket_of L.ticket p.seat).left
+        (ticket_of L.ticket p.seat).number) };
 }
 
 /// The process of a seat, with the room that its open wait needs.
@@ -142,10 +144,12 @@ impl<L: Look<Guarded>> Process<L> {
         requires free { IsFree self.old }
         requires brings { Brings call given.now (length buf.old) }
         requires kind { IsOf A.kind call }
-        ensures call { let kind = A.kind in IsCall kind.fills kind.says self.old self.new call given.now buf.old buf.new result }
+        ensures call { let kind = A.kind in
+            IsCall kind.fills kind.says self.old self.new call given.now buf.old buf.new result }
         ensures waits { let kind = A.kind in IsWaiting kind.waiting result → WaitsIn self.new call }
         ensures free { let kind = A.kind in IsOver kind.waiting result → IsFree self.new }
-        ensures begun { IsSome (waiting_room self.new.left self.new.number) → WaitsIn self.new call }
+        ensures begun { IsSome (waiting_room self.new.left self.new.number) →
+            WaitsIn self.new call }
     {
         let arrived = arrive(rt, mq, &mut self.seat, self.waits);
         let (process, returned) = arrived.make(mq, call, given, buf);
@@ -165,7 +169,8 @@ impl<L: Look<Guarded>> Process<L> {
     ) -> Result<u32, Fault>
         requires made { self.old.lock ≡ mq.now }
         requires free { IsFree self.old }
-        ensures call { OneCall open_says self.old self.new (Call.MqOpen flags attr) name.now result }
+        ensures call { OneCall open_says self.old self.new
+            (Call.MqOpen flags attr) name.now result }
         ensures free { IsFree self.new }
     {
         self.make(rt, mq, Call::MqOpen { flags, attr }, name.bytes(), &mut [])
@@ -229,7 +234,8 @@ impl<L: Look<Guarded>> Process<L> {
     ) -> Result<Status, Fault>
         requires made { self.old.lock ≡ mq.now }
         requires free { IsFree self.old }
-        ensures call { OneCall attributes_says self.old self.new (Call.MqSetattr d new.nonblock) [] result }
+        ensures call { OneCall attributes_says self.old self.new
+            (Call.MqSetattr d new.nonblock) [] result }
         ensures free { IsFree self.new }
     {
         let nonblock = new.nonblock;
@@ -257,7 +263,8 @@ fn arrive<L: Look<Guarded>, R: Wait>(
 ) -> Arrived<L>
     requires some { IsSome seat.old }
     requires made { (ticket_of L.ticket seat.old).lock ≡ mq.now }
-    requires waits { waits ≡ waiting_room (ticket_of L.ticket seat.old).left (ticket_of L.ticket seat.old).number }
+    requires waits { waits ≡ waiting_room (ticket_of L.ticket seat.old).left
+        (ticket_of L.ticket seat.old).number }
     ensures { result ≡ ticket_of L.ticket seat.old }
 {
     let process = process_of(seat.take().unwrap(), waits);

@@ -30,7 +30,8 @@ pub trait Returned: Drop {
         requires no_wait { open_wait books.old.records p ≡ None }
         requires brings { Brings call given.now (length buf.old) }
         ensures made { IsMade books.old books.new p call given.now result }
-        ensures buffer { is_receive call ≡ true → buf.new ≡ filled books.old.records result buf.old }
+        ensures buffer { is_receive call ≡ true →
+            buf.new ≡ filled books.old.records result buf.old }
     {
         books.make(p, call, given, buf)
     }

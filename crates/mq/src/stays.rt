@@ -15,9 +15,12 @@ use mq_model::entries::Reply;
 pub(crate) fn begin<L: Look<Guarded>>(walk: L::Walk, process: u32) -> (L::Inside, Visit)
     requires inside { L.is_in walk ≡ true }
     requires process { process ≡ (L.walking walk).number }
-    requires fixed { (L.walking walk).lock.fixed ≡ fixed_of (L.walking walk).lock.count (bounds_in (L.walking walk).lock.fixed) }
-    ensures came { Came (L.walking walk) (L.walking walk).lock (L.stay result.0) result.1.books process }
-    ensures knows { Knows (L.stay result.0) result.1.process result.1.answered result.1.places result.1.own }
+    requires fixed { (L.walking walk).lock.fixed ≡ fixed_of (L.walking walk).lock.count
+        (bounds_in (L.walking walk).lock.fixed) }
+    ensures came { Came (L.walking walk) (L.walking walk).lock
+        (L.stay result.0) result.1.books process }
+    ensures knows { Knows (L.stay result.0) result.1.process result.1.answered result.1.places
+        result.1.own }
 {
     let (inside, state) = L::admitted(walk);
     (inside, Visit::begin(state, process))
@@ -30,8 +33,15 @@ pub(crate) fn depart<L: Look<Guarded>>(mq: &Mq<L>, inside: L::Inside, visit: Vis
     requires n { visit.books.n ≡ mq.now.count }
     requires bounds { visit.books.bounds ≡ bounds_in mq.now.fixed }
     requires knows { Knows (L.stay inside) visit.process visit.answered visit.places visit.own }
-    requires grows { GrowsBy author (L.stay inside).number (L.stay inside).left visit.books.records }
-    ensures left { L.ticket result ≡ record { lock = mq.now; number = (L.stay inside).number; left = visit.books.records; told = false } }
+    requires grows { GrowsBy author (L.stay inside).number
+        (L.stay inside).left visit.books.records }
+    ensures left { L.ticket result ≡
+        record {
+          lock = mq.now;
+          number = (L.stay inside).number;
+          left = visit.books.records;
+          told = false;
+        } }
     ensures legal { Legal visit.books.records }
 {
     let _ = visit.books.journal();
@@ -49,9 +59,17 @@ pub(crate) fn depart_after<L: Look<Guarded>>(
     requires lock { (L.stay inside).lock ≡ mq.now }
     requires n { visit.books.n ≡ mq.now.count }
     requires bounds { visit.books.bounds ≡ bounds_in mq.now.fixed }
-    requires quiet { is_some (named_wait reply) ≡ false → visit.answered ≡ answered_bits visit.books.records }
-    requires grows { GrowsBy author (L.stay inside).number (L.stay inside).left visit.books.records }
-    ensures left { L.ticket result ≡ record { lock = mq.now; number = (L.stay inside).number; left = visit.books.records; told = false } }
+    requires quiet { is_some (named_wait reply) ≡ false →
+        visit.answered ≡ answered_bits visit.books.records }
+    requires grows { GrowsBy author (L.stay inside).number
+        (L.stay inside).left visit.books.records }
+    ensures left { L.ticket result ≡
+        record {
+          lock = mq.now;
+          number = (L.stay inside).number;
+          left = visit.books.records;
+          told = false;
+        } }
     ensures legal { Legal visit.books.records }
 {
     let _ = visit.books.journal();

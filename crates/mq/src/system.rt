@@ -41,7 +41,8 @@ impl<L: Look<Guarded>> Model for Mq<L> {
 
     ghost view = { λ q. L.id q.lock };
 
-    ghost invariant = { λ q. ((L.id q.lock).fixed ≡ fixed_of (L.id q.lock).count (bounds_in (L.id q.lock).fixed)) × (q.n ≡ (L.id q.lock).count) × (q.n ≤ 32) };
+    ghost invariant = { λ q. ((L.id q.lock).fixed ≡ fixed_of (L.id q.lock).count
+        (bounds_in (L.id q.lock).fixed)) × (q.n ≡ (L.id q.lock).count) × (q.n ≤ 32) };
 }
 
 impl<L: Look<Guarded>> Mq<L> {
@@ -80,7 +81,8 @@ impl<L: Look<Guarded>> Mq<L> {
     /// `Invalid` where n is not from 1 to 32, else `NoMemory` where a growth was refused.
     pub fn new(alloc: Global, n: u32) -> Result<(Mq<L>, Vec<Process<L>>), Fault>
         ensures invalid { ((1 ≤ n) × (n ≤ 32)) ⊎ (result ≡ Err Invalid) }
-        ensures faults { IfErr result (λ e. (e ≡ NoMemory) ⊎ ((e ≡ Invalid) × ((n ≡ 0) ⊎ (32 < n)))) }
+        ensures faults { IfErr result (λ e. (e ≡ NoMemory) ⊎
+            ((e ≡ Invalid) × ((n ≡ 0) ⊎ (32 < n)))) }
         ensures count { IfOk result (λ r. r.0.count ≡ n) }
         ensures bounds { IfOk result (λ r. bounds_in r.0.fixed ≡ None) }
         ensures processes { IfOk result (λ r. r.1.items ≡ tickets_from r.0 1 n) }
@@ -104,9 +106,11 @@ impl<L: Look<Guarded>> Mq<L> {
         bytes: u64,
     ) -> Result<(Mq<L>, Vec<Process<L>>), Fault>
         ensures invalid { ((1 ≤ n) × (n ≤ 32)) ⊎ (result ≡ Err Invalid) }
-        ensures faults { IfErr result (λ e. (e ≡ NoMemory) ⊎ ((e ≡ Invalid) × ((n ≡ 0) ⊎ (32 < n)))) }
+        ensures faults { IfErr result (λ e. (e ≡ NoMemory) ⊎
+            ((e ≡ Invalid) × ((n ≡ 0) ⊎ (32 < n)))) }
         ensures count { IfOk result (λ r. r.0.count ≡ n) }
-        ensures bounds { IfOk result (λ r. bounds_in r.0.fixed ≡ Some (record { entries = entries; bytes = bytes })) }
+        ensures bounds { IfOk result (λ r.
+            bounds_in r.0.fixed ≡ Some (record { entries = entries; bytes = bytes })) }
         ensures processes { IfOk result (λ r. r.1.items ≡ tickets_from r.0 1 n) }
     {
         if n == 0 || n > 32 {
@@ -124,8 +128,10 @@ impl<L: Look<Guarded>> Mq<L> {
         requires { All (λ p. p.lock ≡ self) processes.items }
         ensures all { (vec_len processes ≡ self.count) ↔ IsOk result }
         ensures legal { IfOk result (λ journal. Legal journal.records) }
-        ensures processes { IfOk result (λ journal. All (λ r. r.entry.process ≤ self.count) journal.records) }
-        ensures grows { IfOk result (λ journal. All (λ p. Grows author p.number p.left journal.records []) processes.items) }
+        ensures processes { IfOk result (λ journal.
+            All (λ r. r.entry.process ≤ self.count) journal.records) }
+        ensures grows { IfOk result (λ journal.
+            All (λ p. Grows author p.number p.left journal.records []) processes.items) }
         ensures back { IfErr result (λ m. (m.whole ≡ self) × (m.parts ≡ processes)) }
     {
         if processes.len() != self.n as usize {

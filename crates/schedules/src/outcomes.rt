@@ -97,11 +97,15 @@ fn note<M: Telling>(
 ) -> Result<(), AllocError>
     requires runs { after M.next path.now (M.start machine.now) ≡ Some machine.now }
     requires distinct { AreDistinct found.old.items }
-    requires witnessed { All (IsWitness M.next M.is_goal M.outcome (M.start machine.now)) found.old.items }
+    requires witnessed { All (IsWitness M.next M.is_goal M.outcome
+        (M.start machine.now)) found.old.items }
     ensures distinct { OnOk result (AreDistinct found.new.items) }
-    ensures witnessed { OnOk result (All (IsWitness M.next M.is_goal M.outcome (M.start machine.now)) found.new.items) }
-    ensures kept { OnOk result ((told : Told) → is_among found.new.items told ≡ false → is_among found.old.items told ≡ false) }
-    ensures noted { OnOk result (M.is_goal machine.now ≡ true → is_among found.new.items (M.outcome machine.now) ≡ true) }
+    ensures witnessed { OnOk result
+        (All (IsWitness M.next M.is_goal M.outcome (M.start machine.now)) found.new.items) }
+    ensures kept { OnOk result ((told : Told) → is_among found.new.items told ≡ false →
+        is_among found.old.items told ≡ false) }
+    ensures noted { OnOk result (M.is_goal machine.now ≡ true →
+        is_among found.new.items (M.outcome machine.now) ≡ true) }
 {
     if !machine.is_goal() {
         return Ok(());
@@ -149,7 +153,8 @@ fn first_at<M: Telling>(machine: &M, seen: &Seen, key: &Option<Vec<u64>>) -> Opt
 // Takes off the last level, and notes the key of its node.
 fn leave(levels: &mut Vec<Level>, seen: &mut Seen) -> Result<Option<u32>, AllocError>
     ensures { (front : List Level) (last : Level) → levels.old.items ≡ front ++ last ∷ [] →
-        IfOk result (λ other. (other ≡ last.other) × (levels.new.items ≡ front) × Noted seen.old seen.new last.key) }
+        IfOk result (λ other. (other ≡ last.other) × (levels.new.items ≡ front) ×
+        Noted seen.old seen.new last.key) }
 {
     let Some(Level { other, key }) = levels.pop() else {
         return Ok(None);

@@ -150,7 +150,8 @@ fn program_of(
     phases: &[Vec<ScriptCall<&[u8]>>],
     p: u32,
 ) -> Result<Vec<Planned>, AllocError>
-    ensures { IfOk result (λ program. map plan_of program.items ≡ program_of 0 (said_phases phases.now) p) }
+    ensures { IfOk result (λ program. map plan_of program.items ≡
+        program_of 0 (said_phases phases.now) p) }
 {
     let mut program = Vec::new(alloc);
     for phase in 0..phases.len() {

@@ -230,7 +230,8 @@ impl Play {
 
     // What is printed of the calls that wait.
     fn waiting_lines(&self, alloc: Global) -> Result<Vec<u8>, AllocError>
-        ensures { IfOk result (λ text. text.items ≡ waiting_lines self.now (length self.now.programs)) }
+        ensures { IfOk result (λ text.
+            text.items ≡ waiting_lines self.now (length self.now.programs)) }
     {
         let mut text = Vec::new(alloc);
         for index in 0..self.programs.len() {

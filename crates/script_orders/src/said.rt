@@ -44,7 +44,8 @@ fn push_message(
     p: u32,
     place: u64,
 ) -> Result<(), AllocError>
-    ensures { OnOk result (text.new.items ≡ text.old.items ++ said_of_message journal.now.records p place) }
+    ensures { OnOk result (text.new.items ≡ text.old.items ++
+        said_of_message journal.now.records p place) }
 {
     let message = match journal.payload(place) {
         Some(message) => message,
@@ -67,7 +68,8 @@ fn push_collected(
     p: u32,
     by: u64,
 ) -> Result<(), AllocError>
-    ensures { OnOk result (text.new.items ≡ text.old.items ++ said_of_collect journal.now.records p by) }
+    ensures { OnOk result (text.new.items ≡ text.old.items ++
+        said_of_collect journal.now.records p by) }
 {
     let is_sent = match journal.entry(by) {
         Some(entry) => entry.call.is_send(),

@@ -127,10 +127,12 @@ fn begin(
     requires process { (1 ≤ p) × (p ≤ 32) }
     requires free { open_wait trail.old p ≡ None }
     ensures went { IfOk result (λ went. IsTrue went →
-        after_step (record { past = trail.old; text = text.old.items }) p planned.now.given.items planned.now.step ≡
+        after_step (record { past = trail.old; text = text.old.items }) p planned.now.given.items
+        planned.now.step ≡
         Some (record { past = trail.new; text = text.new.items })) }
     ensures none { IfOk result (λ went. IsFalse went →
-        after_step (record { past = trail.old; text = text.old.items }) p planned.now.given.items planned.now.step ≡ None) }
+        after_step (record { past = trail.old; text = text.old.items }) p planned.now.given.items
+        planned.now.step ≡ None) }
     ensures stays { IfOk result (λ went. IsFalse went → trail.new ≡ trail.old) }
     ensures text_stays { IfOk result (λ went. IsFalse went → text.new.items ≡ text.old.items) }
 {

@@ -29,7 +29,8 @@ impl<L: Look<Guarded>> Arrived<L> {
     pub fn collect(self, mq: &Mq<L>, buf: &mut [u8]) -> (Process<L>, Option<Collected>)
         requires made { self.lock ≡ mq.now }
         requires wait { IsSome (waiting_room self.left self.number) }
-        requires room { IfSome (waiting_room self.left self.number) (λ room. room ≤ length buf.old) }
+        requires room { IfSome (waiting_room self.left self.number)
+            (λ room. room ≤ length buf.old) }
         ensures none { IfNone result.1 (StillWaits self result.0) }
         ensures same { IfNone result.1 (buf.new ≡ buf.old) }
         ensures some { IfSome result.1 (λ outcome. Collects self result.0 outcome buf.old buf.new) }
@@ -56,7 +57,8 @@ impl<L: Look<Guarded>> Arrived<L> {
     ) -> (Process<L>, Option<Collected>)
         requires made { self.lock ≡ mq.now }
         requires wait { IsSome (waiting_room self.left self.number) }
-        requires room { IfSome (waiting_room self.left self.number) (λ room. room ≤ length buf.old) }
+        requires room { IfSome (waiting_room self.left self.number)
+            (λ room. room ≤ length buf.old) }
         requires over { is_over (wait_deadline self.left self.number) now ≡ true }
         ensures some { IfSome result.1 (λ outcome. Collects self result.0 outcome buf.old buf.new) }
         ensures none { IfNone result.1 (WithdrawsAt now self result.0) }
@@ -79,8 +81,12 @@ fn end_wait(books: &mut Books, p: u32, buf: &mut [u8], now: Deadline) -> Option<
     requires over { is_over (wait_deadline books.old.records p) now ≡ true }
     ensures some { IsSome result ↔ IsSome (answered_by books.old.records p) }
     ensures value { result ≡ collected books.old.records p }
-    ensures entry { IfSome (answered_by books.old.records p) (λ by. Appends books.old.records books.new.records p Call.Collect [] (Reply.Collected by)) }
-    ensures withdraws { result ≡ None → IfSome (open_wait books.old.records p) (λ wait. Appends books.old.records books.new.records p (Call.Withdraw now) [] (Reply.Withdrawn wait)) }
+    ensures entry { IfSome (answered_by books.old.records p) (λ by.
+        Appends books.old.records books.new.records p Call.Collect [] (Reply.Collected by)) }
+    ensures withdraws { result ≡ None →
+        IfSome (open_wait books.old.records p) (λ wait.
+        Appends books.old.records books.new.records p (Call.Withdraw now) []
+        (Reply.Withdrawn wait)) }
     ensures buffer { buf.new ≡ collected_into books.old.records p buf.old }
     ensures processes { books.new.n ≡ books.old.n }
     ensures bounds { books.new.bounds ≡ books.old.bounds }

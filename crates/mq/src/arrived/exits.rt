@@ -25,9 +25,12 @@ fn close_lowest(books: &mut Books, p: u32, d: u32) -> Result<(), Fault>
     requires process { (1 ≤ p) × (p ≤ books.old.n) }
     requires no_wait { open_wait books.old.records p ≡ None }
     requires lowest { lowest_held books.old.records p ≡ Some d }
-    ensures ok { IfOk result (λ _. books.new.records ≡ recorded p (Call.MqClose d) [] Reply.Done ∷ books.old.records) }
-    ensures room { OnOk result (finds_full books.old.bounds books.old.records p (Call.MqClose d) [] ≡ false) }
-    ensures err { IfErr result (λ e. Stops books.old.bounds books.old.records p e × (books.new.records ≡ books.old.records)) }
+    ensures ok { IfOk result (λ _. books.new.records ≡ recorded p (Call.MqClose d) [] Reply.Done ∷
+        books.old.records) }
+    ensures room { OnOk result (finds_full books.old.bounds books.old.records p
+        (Call.MqClose d) [] ≡ false) }
+    ensures err { IfErr result (λ e. Stops books.old.bounds books.old.records p e ×
+        (books.new.records ≡ books.old.records)) }
     ensures processes { books.new.n ≡ books.old.n }
     ensures bounds { books.new.bounds ≡ books.old.bounds }
 {

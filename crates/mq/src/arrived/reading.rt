@@ -30,7 +30,8 @@ impl<L: Look<Guarded>> Arrived<L> {
         requires made { self.lock ≡ mq.now }
         ensures legal { IsOk result.1 }
         ensures calls { Calls self result.0 [] }
-        ensures wait { waiting_room result.0.left result.0.number ≡ waiting_room self.left self.number }
+        ensures wait { waiting_room result.0.left result.0.number ≡
+            waiting_room self.left self.number }
     {
         let (inside, state) = begin::<L>(self.walk, self.number);
         let checked = verdict(alloc, state.books.journal());
@@ -42,7 +43,8 @@ impl<L: Look<Guarded>> Arrived<L> {
         requires made { self.lock ≡ mq.now }
         ensures entry { result.1 ≡ option_map (λ r. r.entry) (record_at result.0.left place) }
         ensures calls { Calls self result.0 [] }
-        ensures wait { waiting_room result.0.left result.0.number ≡ waiting_room self.left self.number }
+        ensures wait { waiting_room result.0.left result.0.number ≡
+            waiting_room self.left self.number }
     {
         let (inside, state) = begin::<L>(self.walk, self.number);
         let entry = state.books.journal().entry(place);
@@ -58,9 +60,11 @@ impl<L: Look<Guarded>> Arrived<L> {
         place: u64,
     ) -> (Process<L>, Result<Option<(Entry, Vec<u8>)>, AllocError>)
         requires made { self.lock ≡ mq.now }
-        ensures record { IfOk result.1 (λ read. option_map record_of read ≡ record_at result.0.left place) }
+        ensures record { IfOk result.1 (λ read. option_map record_of read ≡
+            record_at result.0.left place) }
         ensures calls { Calls self result.0 [] }
-        ensures wait { waiting_room result.0.left result.0.number ≡ waiting_room self.left self.number }
+        ensures wait { waiting_room result.0.left result.0.number ≡
+            waiting_room self.left self.number }
     {
         let (inside, state) = begin::<L>(self.walk, self.number);
         let read = record_at(alloc, state.books.journal(), place);
@@ -72,7 +76,8 @@ impl<L: Look<Guarded>> Arrived<L> {
         requires made { self.lock ≡ mq.now }
         ensures room { result.1 ≡ room_left (bounds_of self) result.0.left }
         ensures calls { Calls self result.0 [] }
-        ensures wait { waiting_room result.0.left result.0.number ≡ waiting_room self.left self.number }
+        ensures wait { waiting_room result.0.left result.0.number ≡
+            waiting_room self.left self.number }
     {
         let (inside, state) = begin::<L>(self.walk, self.number);
         let room = state.books.room();
@@ -82,9 +87,11 @@ impl<L: Look<Guarded>> Arrived<L> {
     /// Whether nobody can make a call any more, as [`Process::nobody_can_call`].
     pub fn nobody_can_call(self, mq: &Mq<L>) -> (Process<L>, bool)
         requires made { self.lock ≡ mq.now }
-        ensures nobody { IsTrue result.1 ↔ NobodyCanCall (bounds_of self) result.0.left self.lock.count }
+        ensures nobody { IsTrue result.1 ↔ NobodyCanCall
+            (bounds_of self) result.0.left self.lock.count }
         ensures calls { Calls self result.0 [] }
-        ensures wait { waiting_room result.0.left result.0.number ≡ waiting_room self.left self.number }
+        ensures wait { waiting_room result.0.left result.0.number ≡
+            waiting_room self.left self.number }
     {
         let (inside, state) = begin::<L>(self.walk, self.number);
         let nobody = state.books.nobody_can_call();
@@ -98,7 +105,8 @@ fn record_at(
     journal: &Journal,
     place: u64,
 ) -> Result<Option<(Entry, Vec<u8>)>, AllocError>
-    ensures { IfOk result (λ read. option_map record_of read ≡ record_at journal.now.records place) }
+    ensures { IfOk result (λ read. option_map record_of read ≡
+        record_at journal.now.records place) }
 {
     let (Some(entry), Some(payload)) = (journal.entry(place), journal.payload(place)) else {
         return Ok(None);

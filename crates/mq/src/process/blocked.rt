@@ -29,7 +29,8 @@ impl<L: Look<Guarded>> Process<L> {
         requires made { self.old.lock ≡ mq.now }
         ensures blocked { result ≡ list_all (is_blocked self.new.left) processes.now }
         ensures calls { Calls self.old self.new [] }
-        ensures wait { waiting_room self.new.left self.new.number ≡ waiting_room self.old.left self.old.number }
+        ensures wait { waiting_room self.new.left self.new.number ≡
+            waiting_room self.old.left self.old.number }
     {
         let arrived = arrive(rt, mq, &mut self.seat, self.waits);
         let (process, blocked) = arrived.are_blocked(mq, processes);
@@ -42,9 +43,11 @@ impl<L: Look<Guarded>> Process<L> {
     /// returns.
     pub fn nobody_can_call<R: Wait>(&mut self, rt: &R, mq: &Mq<L>) -> bool
         requires made { self.old.lock ≡ mq.now }
-        ensures nobody { IsTrue result ↔ NobodyCanCall (bounds_of self.old) self.new.left self.old.lock.count }
+        ensures nobody { IsTrue result ↔ NobodyCanCall
+            (bounds_of self.old) self.new.left self.old.lock.count }
         ensures calls { Calls self.old self.new [] }
-        ensures wait { waiting_room self.new.left self.new.number ≡ waiting_room self.old.left self.old.number }
+        ensures wait { waiting_room self.new.left self.new.number ≡
+            waiting_room self.old.left self.old.number }
     {
         let arrived = arrive(rt, mq, &mut self.seat, self.waits);
         let (process, nobody) = arrived.nobody_can_call(mq);
@@ -58,7 +61,8 @@ impl<L: Look<Guarded>> Process<L> {
         requires made { self.old.lock ≡ mq.now }
         ensures room { result ≡ room_left (bounds_of self.old) self.new.left }
         ensures calls { Calls self.old self.new [] }
-        ensures wait { waiting_room self.new.left self.new.number ≡ waiting_room self.old.left self.old.number }
+        ensures wait { waiting_room self.new.left self.new.number ≡
+            waiting_room self.old.left self.old.number }
     {
         let arrived = arrive(rt, mq, &mut self.seat, self.waits);
         let (process, room) = arrived.room(mq);
@@ -80,8 +84,10 @@ impl<L: Look<Guarded>> Process<L> {
     ) -> Result<bool, Fault>
         requires made { self.old.lock ≡ mq.now }
         requires free { IsFree self.old }
-        ensures call { OneCall start_send_says self.old self.new (Call.MqTimedSend d prio (length bytes.now) until now) bytes.now result }
-        ensures waits { result ≡ Ok false → WaitsIn self.new (Call.MqTimedSend d prio (length bytes.now) until now) }
+        ensures call { OneCall start_send_says self.old self.new (Call.MqTimedSend d prio
+            (length bytes.now) until now) bytes.now result }
+        ensures waits { result ≡ Ok false →
+            WaitsIn self.new (Call.MqTimedSend d prio (length bytes.now) until now) }
         ensures free { result ≢ Ok false → IsFree self.new }
     {
         let call = Call::MqTimedSend {
@@ -107,9 +113,11 @@ impl<L: Look<Guarded>> Process<L> {
     ) -> Result<Option<Received>, Fault>
         requires made { self.old.lock ≡ mq.now }
         requires free { IsFree self.old }
-        ensures call { ReceiveCall start_receive_says self.old self.new (Call.MqTimedReceive d (length buf.old) until now) buf.old buf.new result }
+        ensures call { ReceiveCall start_receive_says self.old self.new (Call.MqTimedReceive d
+            (length buf.old) until now) buf.old buf.new result }
         ensures fits { IfOk result (λ got. IfSome got (λ received. received.len ≤ length buf.old)) }
-        ensures waits { result ≡ Ok None → WaitsIn self.new (Call.MqTimedReceive d (length buf.old) until now) }
+        ensures waits { result ≡ Ok None →
+            WaitsIn self.new (Call.MqTimedReceive d (length buf.old) until now) }
         ensures free { result ≢ Ok None → IsFree self.new }
     {
         let call = Call::MqTimedReceive {

@@ -35,8 +35,10 @@ impl<L: Look<Guarded>> Process<L> {
     ) -> Result<bool, Fault>
         requires made { self.old.lock ≡ mq.now }
         requires free { IsFree self.old }
-        ensures call { OneCall start_send_says self.old self.new (Call.MqSend d prio (length bytes.now)) bytes.now result }
-        ensures waits { result ≡ Ok false → WaitsIn self.new (Call.MqSend d prio (length bytes.now)) }
+        ensures call { OneCall start_send_says self.old self.new
+            (Call.MqSend d prio (length bytes.now)) bytes.now result }
+        ensures waits { result ≡ Ok false →
+            WaitsIn self.new (Call.MqSend d prio (length bytes.now)) }
         ensures free { result ≢ Ok false → IsFree self.new }
     {
         let len = bytes.len() as u64;
@@ -57,7 +59,8 @@ impl<L: Look<Guarded>> Process<L> {
     ) -> Result<Option<Received>, Fault>
         requires made { self.old.lock ≡ mq.now }
         requires free { IsFree self.old }
-        ensures call { ReceiveCall start_receive_says self.old self.new (Call.MqReceive d (length buf.old)) buf.old buf.new result }
+        ensures call { ReceiveCall start_receive_says self.old self.new
+            (Call.MqReceive d (length buf.old)) buf.old buf.new result }
         ensures fits { IfOk result (λ got. IfSome got (λ received. received.len ≤ length buf.old)) }
         ensures waits { result ≡ Ok None → WaitsIn self.new (Call.MqReceive d (length buf.old)) }
         ensures free { result ≢ Ok None → IsFree self.new }
@@ -74,10 +77,12 @@ impl<L: Look<Guarded>> Process<L> {
     pub fn collect<R: Wait>(&mut self, rt: &R, mq: &Mq<L>, buf: &mut [u8]) -> Option<Collected>
         requires made { self.old.lock ≡ mq.now }
         requires wait { IsSome (waiting_room self.old.left self.old.number) }
-        requires room { IfSome (waiting_room self.old.left self.old.number) (λ room. room ≤ length buf.old) }
+        requires room { IfSome (waiting_room self.old.left self.old.number)
+            (λ room. room ≤ length buf.old) }
         ensures none { IfNone result (StillWaits self.old self.new) }
         ensures same { IfNone result (buf.new ≡ buf.old) }
-        ensures some { IfSome result (λ outcome. Collects self.old self.new outcome buf.old buf.new) }
+        ensures some { IfSome result (λ outcome.
+            Collects self.old self.new outcome buf.old buf.new) }
         ensures free { IfSome result (λ outcome. IsFree self.new) }
         ensures fits { IfSome result (λ outcome. FitsIn outcome (length buf.old)) }
         ensures told { self.old.told ≡ true → IsSome result }
@@ -97,7 +102,8 @@ impl<L: Look<Guarded>> Process<L> {
         ensures ticket { self.new ≡ record self.old { told = self.old.told || result } }
         ensures free { waiting_room self.old.left self.old.number ≡ None → result ≡ false }
         ensures left { is_answered self.old.left self.old.number ≡ true → result ≡ true }
-        ensures again { self.old.told ≡ true → IsSome (waiting_room self.old.left self.old.number) → result ≡ true }
+        ensures again { self.old.told ≡ true → IsSome (waiting_room self.old.left self.old.number) →
+            result ≡ true }
     {
         if self.waits.is_none() {
             return false;
@@ -116,7 +122,8 @@ impl<L: Look<Guarded>> Process<L> {
         ensures ticket { self.new ≡ record self.old { told = self.old.told || result } }
         ensures free { waiting_room self.old.left self.old.number ≡ None → result ≡ false }
         ensures left { is_answered self.old.left self.old.number ≡ true → result ≡ true }
-        ensures again { self.old.told ≡ true → IsSome (waiting_room self.old.left self.old.number) → result ≡ true }
+        ensures again { self.old.told ≡ true → IsSome (waiting_room self.old.left self.old.number) →
+            result ≡ true }
     {
         if self.waiting().is_none() {
             return false;
@@ -131,7 +138,8 @@ impl<L: Look<Guarded>> Process<L> {
     fn await_outcome<R: Wait>(&mut self, rt: &R, mq: &Mq<L>, buf: &mut [u8]) -> Collected
         requires made { self.old.lock ≡ mq.now }
         requires wait { IsSome (waiting_room self.old.left self.old.number) }
-        requires room { IfSome (waiting_room self.old.left self.old.number) (λ room. room ≤ length buf.old) }
+        requires room { IfSome (waiting_room self.old.left self.old.number)
+            (λ room. room ≤ length buf.old) }
         requires legal { Legal self.old.left }
         ensures some { Collects self.old self.new result buf.old buf.new }
         ensures fits { FitsIn result (length buf.old) }

@@ -36,9 +36,11 @@ impl<L: Look<Guarded>> Process<L> {
     ) -> Option<Collected>
         requires made { self.old.lock ≡ mq.now }
         requires wait { IsSome (waiting_room self.old.left self.old.number) }
-        requires room { IfSome (waiting_room self.old.left self.old.number) (λ room. room ≤ length buf.old) }
+        requires room { IfSome (waiting_room self.old.left self.old.number)
+            (λ room. room ≤ length buf.old) }
         requires over { is_over (wait_deadline self.old.left self.old.number) now ≡ true }
-        ensures some { IfSome result (λ outcome. Collects self.old self.new outcome buf.old buf.new) }
+        ensures some { IfSome result (λ outcome.
+            Collects self.old self.new outcome buf.old buf.new) }
         ensures none { IfNone result (WithdrawsAt now self.old self.new) }
         ensures same { IfNone result (buf.new ≡ buf.old) }
         ensures fits { IfSome result (λ outcome. FitsIn outcome (length buf.old)) }
@@ -95,9 +97,11 @@ impl<L: Look<Guarded>> Process<L> {
     ) -> Option<Collected>
         requires made { self.old.lock ≡ mq.now }
         requires wait { IsSome (waiting_room self.old.left self.old.number) }
-        requires room { IfSome (waiting_room self.old.left self.old.number) (λ room. room ≤ length buf.old) }
+        requires room { IfSome (waiting_room self.old.left self.old.number)
+            (λ room. room ≤ length buf.old) }
         requires deadline { wait_deadline self.old.left self.old.number ≡ Some until }
-        ensures some { IfSome result (λ outcome. Collects self.old self.new outcome buf.old buf.new) }
+        ensures some { IfSome result (λ outcome.
+            Collects self.old self.new outcome buf.old buf.new) }
         ensures none { IfNone result (Withdraws (C.gives clock.now) self.old self.new) }
         ensures same { IfNone result (buf.new ≡ buf.old) }
         ensures fits { IfSome result (λ outcome. FitsIn outcome (length buf.old)) }
@@ -125,7 +129,8 @@ impl<L: Look<Guarded>> Process<L> {
     ) -> Result<(), Fault>
         requires made { self.old.lock ≡ mq.now }
         requires free { IsFree self.old }
-        ensures call { TimedSend (C.gives clock.now) self.old self.new d bytes.now prio until result }
+        ensures call { TimedSend (C.gives clock.now) self.old self.new d bytes.now prio
+            until result }
         ensures free { IsFree self.new }
     {
         match self.start_timed_send(rt, mq, d, bytes, prio, until, clock.now()) {
@@ -153,7 +158,8 @@ impl<L: Look<Guarded>> Process<L> {
     ) -> Result<Received, Fault>
         requires made { self.old.lock ≡ mq.now }
         requires free { IsFree self.old }
-        ensures call { TimedReceive (C.gives clock.now) self.old self.new d buf.old buf.new until result }
+        ensures call { TimedReceive (C.gives clock.now) self.old self.new d buf.old buf.new
+            until result }
         ensures fits { IfOk result (λ received. received.len ≤ length buf.old) }
         ensures free { IsFree self.new }
     {
