@@ -7,6 +7,7 @@ ghost use Rattle.mq.specs.Calls.{answered_bits};
 
 use fast_mutex::Logged;
 use mq_model::entries::{Entry, Reply};
+use mq_model::limits::PROCESSES;
 use mq_state::books::Books;
 use std::marker::Model;
 
@@ -187,7 +188,7 @@ fn all_answered(books: &Books) -> u32
     ensures { result ≡ answered_bits books.now.records }
 {
     let mut bits = 0;
-    let mut process = 32;
+    let mut process = PROCESSES;
     while process > 0 {
         bits = 2 * bits + bit(books.answered(process));
         process -= 1;

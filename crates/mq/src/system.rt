@@ -11,6 +11,7 @@ use crate::process::{Process, process_of, seat_of};
 use fast_mutex::{Look, Missing};
 use mq_model::faults::Fault;
 use mq_model::journals::Journal;
+use mq_model::limits::PROCESSES;
 use mq_state::books::Books;
 use std::alloc::Global;
 use std::marker::Model;
@@ -64,7 +65,7 @@ impl<L: Look<Guarded>> Mq<L> {
         ensures bounds { IfOk result (λ r. bounds_in r.0.fixed ≡ books.bounds) }
         ensures processes { IfOk result (λ r. r.1.items ≡ tickets_from r.0 1 n) }
     {
-        let Ok(seats) = Vec::with_capacity(alloc, 32) else {
+        let Ok(seats) = Vec::with_capacity(alloc, PROCESSES as usize) else {
             return Err(Fault::NoMemory);
         };
         let room = Mutex::new(Room { seats });
@@ -87,7 +88,7 @@ impl<L: Look<Guarded>> Mq<L> {
         ensures bounds { IfOk result (λ r. bounds_in r.0.fixed ≡ None) }
         ensures processes { IfOk result (λ r. r.1.items ≡ tickets_from r.0 1 n) }
     {
-        if n == 0 || n > 32 {
+        if n == 0 || n > PROCESSES {
             return Err(Fault::Invalid);
         }
         let Ok(books) = Books::new(alloc, n) else {
@@ -113,7 +114,7 @@ impl<L: Look<Guarded>> Mq<L> {
             bounds_in r.0.fixed ≡ Some (record { entries = entries; bytes = bytes })) }
         ensures processes { IfOk result (λ r. r.1.items ≡ tickets_from r.0 1 n) }
     {
-        if n == 0 || n > 32 {
+        if n == 0 || n > PROCESSES {
             return Err(Fault::Invalid);
         }
         let Ok(books) = Books::bounded(alloc, n, entries, bytes) else {

@@ -15,10 +15,11 @@ use crate::system::Mq;
 use fast_mutex::Look;
 use mq_model::entries::Reply;
 use mq_model::faults::Fault;
+use mq_model::limits;
 use mq_state::books::Books;
 
 // The number of descriptors that a process may hold.
-const DESCRIPTORS: u32 = 16;
+const DESCRIPTORS: u32 = limits::DESCRIPTORS as u32;
 
 // Closes the lowest descriptor of process p.
 fn close_lowest(books: &mut Books, p: u32, d: u32) -> Result<(), Fault>
