@@ -7,6 +7,4 @@ pub mod plan;
 pub mod play;
 pub mod report;
 pub mod said;
-#[cfg(test)]
-mod tests;
 pub mod turn;

@@ -1,6 +1,6 @@
 // Scripts whose orders are known.
-use crate::orders::{outcomes_of, play_of};
-use crate::report::report_text;
+use script_orders::orders::{outcomes_of, play_of};
+use script_orders::report::report_text;
 use script_text::script::read_script;
 use std::alloc::Global;
 use std::process::Abort;

@@ -1,0 +1,97 @@
+// Scripts with many orders that come to few states. How much they come to was counted by a search of its own over lists.
+use schedules::outcomes::Collected;
+use script_orders::orders::{outcomes_of, play_of};
+use script_text::script::read_script;
+use std::alloc::Global;
+use std::process::Abort;
+use std::test::Fail;
+
+// All that a script comes to, within so many steps.
+fn collected_of(alloc: Global, script: &str, budget: u64) -> Result<Collected, Fail> {
+    let script = read_script(alloc, script.as_bytes())?;
+    let mut play = play_of(alloc, &script)?;
+    Ok(outcomes_of(alloc, &mut play, budget)?)
+}
+
+// How many outcomes and deadlocks its third phase has.
+fn counts(collected: &Collected) -> (usize, usize) {
+    let last = collected.found.iter().filter(|w| w.outcome.stage == 2);
+    let stuck = collected
+        .found
+        .iter()
+        .filter(|w| w.outcome.stage == 2 && w.outcome.stuck)
+        .count();
+    (last.count().saturating_sub(stuck), stuck)
+}
+
+fn has(
+    rt: &impl Abort,
+    alloc: Global,
+    script: &str,
+    budget: u64,
+    wanted: (usize, usize),
+) -> Result<(), Fail> {
+    let collected = collected_of(alloc, script, budget)?;
+    assert!(rt; collected.complete);
+    let (outcomes, deadlocks) = counts(&collected);
+    assert_eq!(rt; outcomes, wanted.0);
+    assert_eq!(rt; deadlocks, wanted.1);
+    Ok(())
+}
+
+// Sixteen sends to a queue with room for ten: 63,063,000 orders, in each of which all processes wait at the end.
+static SENDS: &str = "processes 4
+1 open /q bc 10 8
+--
+2 open /q b
+3 open /q b
+4 open /q b
+--
+1 send 0 0 a
+1 send 0 0 a
+1 send 0 0 a
+1 send 0 0 a
+2 send 0 0 a
+2 send 0 0 a
+2 send 0 0 a
+2 send 0 0 a
+3 send 0 0 a
+3 send 0 0 a
+3 send 0 0 a
+3 send 0 0 a
+4 send 0 0 a
+4 send 0 0 a
+4 send 0 0 a
+4 send 0 0 a
+";
+
+#[test]
+fn sends_of_four_that_all_wait(rt: HostRuntime) -> Result<(), Fail> {
+    has(&rt, rt.alloc(), SENDS, 100_000, (0, 68))
+}
+
+// Three processes that each send and receive by turns.
+static TURNS: &str = "processes 3
+1 open /q bc 10 8
+--
+2 open /q b
+3 open /q b
+--
+1 send 0 0 m1
+1 recv 0 8
+1 send 0 0 m1
+1 recv 0 8
+2 send 0 0 m2
+2 recv 0 8
+2 send 0 0 m2
+2 recv 0 8
+3 send 0 0 m3
+3 recv 0 8
+3 send 0 0 m3
+3 recv 0 8
+";
+
+#[test]
+fn sends_and_receives_by_turns(rt: HostRuntime) -> Result<(), Fail> {
+    has(&rt, rt.alloc(), TURNS, 100_000, (90, 0))
+}
