@@ -1,25 +1,25 @@
 -- Stages that are alike stay so by each choice.
-use Rattle.std.proofs.Common.{◌≡◌, ◌≢◌, ℕ, zero, suc, ◌+◌, ◌≤◌, ◌<◌, ◌==◌, Bool, true, false, ◌&&◌, ◌||◌, List, [], ◌∷◌, ◌++◌, length, get_or, Option, Some, None, is_some, is_none, slice_get, slice_set, refl, ap, sym, ◌∙◌, subst, arith, if◌then◌else◌, Vec, nat_le, nat_lt, not, map, replicate}
-use Rattle.std.specs.Option.{option_and_then, option_map, unwrap_or}
+use Rattle.std.proofs.Common.{◌≡◌, ℕ, zero, suc, ◌+◌, ◌≤◌, ◌<◌, ◌==◌, Bool, true, false, ◌&&◌, ◌||◌, List, [], ◌∷◌, ◌++◌, length, Option, Some, None, is_some, is_none, slice_get, slice_set, refl, ap, sym, ◌∙◌, subst, arith, if◌then◌else◌, Vec, nat_le, nat_lt, not}
+use Rattle.std.specs.Option.{option_and_then, option_map}
 use Rattle.std.specs.declared.alloc.Global.{Global}
 use Rattle.std.proofs.lemmas.Bool.{eqb-false, eqb-true}
 use Rattle.std.proofs.lemmas.Option.{slice_get_within, slice_get-map}
 use Rattle.mq_model.specs.Record.{Past, Process}
 use Rattle.mq_model.specs.Limits.{most_processes}
 use Rattle.mq_model.specs.Waits.{open_wait}
-use Rattle.mq_model.specs.Legality.{Legal, is_payload, is_refused, may_call, payload_of, reply_to}
+use Rattle.mq_model.specs.Legality.{is_payload, may_call, payload_of, reply_to}
 use Rattle.mq_model.specs.declared.entries.Call.{Call}
 use Rattle.mq_model.specs.declared.entries.Call.TheVariants.{MqOpen, MqClose, MqUnlink, MqSend, MqReceive, MqTimedSend, MqTimedReceive, MqGetattr, MqSetattr, MqNotify, NextNotice, Collect, Withdraw}
 use Rattle.mq_model.specs.declared.entries.Reply.{Reply}
 use Rattle.mq_model.proofs.Places.{split}
-use Rattle.mq_state.specs.Trails.{can_call, record_of_call, with_call}
+use Rattle.mq_state.specs.Trails.{can_call, record_of_call}
 use Rattle.placeless.specs.Key.{key_of, listed}
 use Rattle.placeless.specs.Likeness.{AreAlike, is_plain}
 use Rattle.placeless.specs.Views.{Message}
 use Rattle.placeless.proofs.Codes.{IsTold, told-listed, told-message}
 use Rattle.placeless.proofs.Keys.{same-key}
 use Rattle.placeless.specs.Steps.{StepsAlike, shape}
-use Rattle.placeless.proofs.Alike.{payload-alike, refused-alike, reply-alike}
+use Rattle.placeless.proofs.Alike.{payload-alike, refused-alike}
 use Rattle.placeless.proofs.Stays.{steps-alike}
 use Rattle.schedules.specs.Likeness.{AreBothAlike}
 use Rattle.schedules.specs.Schedules.{IsReached, after}
@@ -28,7 +28,7 @@ use Rattle.script_orders.specs.Progress.{Progress}
 use Rattle.script_orders.specs.Said.{said}
 use Rattle.script_orders.specs.Scenes.{Scene, after_call, after_step, close_first, close_held, is_held}
 use Rattle.script_orders.specs.Turns.{Turned, after_line, after_turn, scene_of, turned}
-use Rattle.script_orders.specs.Stage.{Stage, after_phase, first_stage, in_next_phase, is_phase_over, next_stage, none_can_turn, one_waits, replies, seats_cleared, stands_still, told, turn_of, wait_line_of, wait_of, wait_text, waiting_lines, waits, with_turn}
+use Rattle.script_orders.specs.Stage.{Stage, after_phase, first_stage, in_next_phase, is_phase_over, next_stage, none_can_turn, one_waits, replies, stands_still, told, turn_of, wait_line_of, wait_of, wait_text, waiting_lines, waits, with_turn}
 use Rattle.script_orders.specs.StageLaws.{next-first}
 use Rattle.script_orders.specs.Likeness.{ArePlain, ArePlainFrom, AreStagesAlike, IsStageKey, is_plain_step, seat_code, stage_code, with_past}
 use Rattle.script_orders.specs.declared.plan.Planned.{Planned}

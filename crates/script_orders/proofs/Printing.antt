@@ -1,5 +1,5 @@
 -- What is printed of replies that differ in their places alone is the same.
-use Rattle.std.proofs.Common.{◌≡◌, ℕ, Bool, true, false, ◌&&◌, List, [], ◌∷◌, length, Option, Some, None, is_some, if◌then◌else◌, refl, sym, ◌∙◌, ap, subst}
+use Rattle.std.proofs.Common.{◌≡◌, ℕ, Bool, true, false, List, [], ◌∷◌, length, Option, Some, None, is_some, if◌then◌else◌, refl, sym, ◌∙◌, ap, subst}
 use Rattle.std.specs.Option.{option_map, unwrap_or}
 use Rattle.mq_model.specs.Record.{Record, Past, Place, Process, record_at}
 use Rattle.mq_model.specs.Messages.{is_send, priority_given}
