@@ -12,6 +12,8 @@ use mq_state::collected::Collected;
 use std::sync::Wait;
 use std::time::Duration;
 
+// The four calls here have the body of `Process::make` in place: it is too long to be inlined with them, and would tell the kind of call
+// apart only when it runs.
 impl<L: Look<Guarded>> Process<L> {
     ghost use Rattle.std.specs.Prelude.{◌≡◌, ◌≢◌, ◌≤◌, ◌||◌, Bool, true, false, Some, None, IsSome, IfSome, IfNone, IfOk, Ok, length, []};
     ghost use Rattle.mq_model.specs.Legality.{Legal};
