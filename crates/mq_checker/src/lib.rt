@@ -3,8 +3,8 @@
 
 pub mod checker;
 mod expected;
-mod scan_messages;
-mod scan_names;
-mod scan_notices;
+pub mod scan_messages;
+pub mod scan_names;
+pub mod scan_notices;
 mod tables;
-mod taken;
+pub mod taken;

@@ -12,7 +12,8 @@ use crate::taken::is_taken;
 use mq_model::entries::{Call, Entry, Reply};
 use mq_model::journals::Journal;
 
-pub(crate) fn queues(call: Call, reply: Reply) -> bool
+/// Whether a reply to this call says that its message was queued.
+pub fn queues(call: Call, reply: Reply) -> bool
     ensures { result ≡ queues call reply }
 {
     match reply {
@@ -21,7 +22,8 @@ pub(crate) fn queues(call: Call, reply: Reply) -> bool
     }
 }
 
-pub(crate) fn blocks_send(call: Call, reply: Reply) -> bool
+/// Whether a reply to this call says that a send waits.
+pub fn blocks_send(call: Call, reply: Reply) -> bool
     ensures { result ≡ blocks_send call reply }
 {
     match reply {
@@ -30,7 +32,8 @@ pub(crate) fn blocks_send(call: Call, reply: Reply) -> bool
     }
 }
 
-pub(crate) fn admits(reply: Reply) -> Option<u64>
+/// The place of the blocked send that a receive with this reply lets into the queue.
+pub fn admits(reply: Reply) -> Option<u64>
     ensures { result ≡ admits reply }
 {
     match reply {
@@ -61,8 +64,8 @@ pub(crate) fn is_blocked_send(journal: &Journal, k: u64, q: u64, w: u64) -> bool
     found
 }
 
-// The message that the entry at place `k` lets into queue `q`.
-pub(crate) fn entered(journal: &Journal, k: u64, entry: Entry, q: u64) -> Option<u64>
+/// The message that the entry at place `k` lets into queue `q`.
+pub fn entered(journal: &Journal, k: u64, entry: Entry, q: u64) -> Option<u64>
     requires { k ≤ length journal.now.records }
     ensures { result ≡ entered (first k journal.now.records) entry q }
 {
@@ -81,8 +84,8 @@ pub(crate) fn entered(journal: &Journal, k: u64, entry: Entry, q: u64) -> Option
     }
 }
 
-// The message that an entry at place `i` lets into some queue.
-fn enters(i: u64, entry: Entry) -> Option<u64>
+/// The message that an entry at place `i` lets into some queue.
+pub fn enters(i: u64, entry: Entry) -> Option<u64>
     ensures { result ≡ enters i entry }
 {
     if queues(entry.call, entry.reply) {

@@ -31,7 +31,8 @@ pub(crate) fn is_unlink(call: Call) -> bool
     }
 }
 
-pub(crate) fn creates(call: Call, reply: Reply) -> bool
+/// Whether a reply to this call says that a queue was created.
+pub fn creates(call: Call, reply: Reply) -> bool
     ensures { result ≡ creates call reply }
 {
     match reply {
@@ -77,9 +78,9 @@ pub(crate) fn opened_queue(journal: &Journal, k: u64, name: &[u8], created: bool
     }
 }
 
-// What process `p` holds under `d` before place `k`.
+/// What process `p` holds under `d` before place `k`.
 #[tactic(auto, using(mq_model::proofs::Prefixes::prefixes, crate::proofs::Flagged::flagged_twice))]
-pub(crate) fn held(journal: &Journal, k: u64, p: u32, d: u32) -> Option<Description>
+pub fn held(journal: &Journal, k: u64, p: u32, d: u32) -> Option<Description>
     requires { k ≤ length journal.now.records }
     ensures { result ≡ held (first k journal.now.records) p d }
 {
@@ -153,8 +154,8 @@ pub(crate) fn descriptor_of(call: Call) -> Option<u32>
     }
 }
 
-// Whether a call of process `p` at place `k` is made on queue `q`.
-pub(crate) fn is_on(journal: &Journal, k: u64, p: u32, call: Call, q: u64) -> bool
+/// Whether a call of process `p` at place `k` is made on queue `q`.
+pub fn is_on(journal: &Journal, k: u64, p: u32, call: Call, q: u64) -> bool
     requires { k ≤ length journal.now.records }
     ensures { result ≡ is_place q (called_queue (first k journal.now.records) p call) }
 {

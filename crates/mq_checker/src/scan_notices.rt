@@ -10,8 +10,8 @@ use mq_model::entries::{Call, Registration, Reply};
 use mq_model::journals::Journal;
 use mq_model::registrations::{notified, registration_after, touches_registrations};
 
-// The registration that stands on queue `q` before place `k`.
-pub(crate) fn registered(journal: &Journal, k: u64, q: u64) -> Option<Registration>
+/// The registration that stands on queue `q` before place `k`.
+pub fn registered(journal: &Journal, k: u64, q: u64) -> Option<Registration>
     requires { k ≤ length journal.now.records }
     ensures { result ≡ registered (first k journal.now.records) q }
 {

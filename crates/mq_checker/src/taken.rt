@@ -12,7 +12,8 @@ use mq_model::journals::Journal;
 // How many places the table has.
 pub(crate) const PLACES: usize = 16384;
 
-pub(crate) fn taken_by(here: u64, reply: Reply) -> Option<u64>
+/// The message that a reply at place `here` takes.
+pub fn taken_by(here: u64, reply: Reply) -> Option<u64>
     ensures { result ≡ taken_by here reply }
 {
     match reply {
