@@ -1,4 +1,5 @@
 pub mod Checked
+pub mod Entries
 pub mod Flagged
 pub mod TakenBits
 pub mod TablesKeep

@@ -7,7 +7,7 @@ ghost use Rattle.mq_model.specs.Messages.{is_in, queues, blocks_send, admits, bl
 ghost use Rattle.mq_model.specs.OnePass.{better};
 ghost use Rattle.mq_checker.specs.TakenTable.{TakenMirror, enters, unless_in, with_best};
 
-use crate::scan_names::{entry_before, is_on};
+use crate::scan_names::{entry_at, entry_before, is_on};
 use crate::taken::is_taken;
 use mq_model::entries::{Call, Entry, Reply};
 use mq_model::journals::Journal;
@@ -53,7 +53,7 @@ pub(crate) fn is_blocked_send(journal: &Journal, k: u64, q: u64, w: u64) -> bool
 {
     let mut found = false;
     for i in 0..k {
-        let (entry, _) = journal.record(i);
+        let entry = entry_at(journal, i);
         if i == w
             && blocks_send(entry.call, entry.reply)
             && is_on(journal, i, entry.process, entry.call, q)

@@ -1,10 +1,10 @@
 //! Names, descriptors and queues, read off the entries before a place.
 #![tactic(auto, using(mq_model::proofs::Prefixes::prefixes))]
 
-ghost use Rattle.std.specs.Prelude.{◌≡◌, ◌<◌, ◌≤◌, length};
+ghost use Rattle.std.specs.Prelude.{◌≡◌, ◌+◌, ◌<◌, ◌≤◌, ◌∷◌, length};
 ghost use Rattle.mq_model.specs.Record.{first, record_at};
 ghost use Rattle.std.specs.Option.{option_map};
-ghost use Rattle.mq_model.specs.Names.{is_open, is_unlink, creates, unlinks, bound_queue, attributes};
+ghost use Rattle.mq_model.specs.Names.{is_open, is_unlink, creates, unlinks, bound_queue, name_of, attributes};
 ghost use Rattle.mq_model.specs.Descriptors.{opened_queue, held, descriptor_of, called_queue, is_place, is_named, alive};
 ghost use Rattle.mq_checker.specs.CheckerTables.{TablesMirror};
 
@@ -12,6 +12,20 @@ use crate::tables::{Tables, is_held};
 use mq_model::entries::{Attr, Call, Description, Entry, Reply};
 use mq_model::journals::Journal;
 use mq_model::ladder::{DEFAULT_ATTRIBUTES, attributes_given};
+
+/// The entry at a place, of which only what the caller reads is made.
+#[inline(always)]
+pub fn entry_at(journal: &Journal, place: u64) -> Entry
+    requires { place < length journal.now.records }
+    ensures { first (place + 1) journal.now.records
+        ≡ record { entry = result; payload = name_of journal.now.records place }
+        ∷ first place journal.now.records }
+{
+    match journal.entry(place) {
+        Some(entry) => entry,
+        None => unreachable!(),
+    }
+}
 
 pub(crate) fn is_open(call: Call) -> bool
     ensures { result ≡ is_open call }
@@ -86,13 +100,14 @@ pub fn held(journal: &Journal, k: u64, p: u32, d: u32) -> Option<Description>
 {
     let mut flag = None;
     for i in (0..k).rev() {
-        let (entry, payload) = journal.record(i);
+        let entry = entry_at(journal, i);
         if entry.process == p {
             match entry.call {
                 Call::MqOpen { flags, attr: _ } => {
                     if let Reply::Opened { d: e, created } = entry.reply {
                         if e == d {
-                            let queue = opened_queue(journal, i, payload, created);
+                            let (_, name) = journal.record(i);
+                            let queue = opened_queue(journal, i, name, created);
                             let nonblock = flag.unwrap_or(flags.nonblock);
                             return Some(Description {
                                 queue,

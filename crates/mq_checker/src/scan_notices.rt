@@ -5,7 +5,7 @@ ghost use Rattle.std.specs.Prelude.{◌≡◌, ◌≤◌, length, slice_get};
 ghost use Rattle.mq_model.specs.Record.{first, record_at};
 ghost use Rattle.mq_model.specs.Notices.{registered, value_of_notify, value_given, gives_notice, notices_given, notices};
 
-use crate::scan_names::is_on;
+use crate::scan_names::{entry_at, is_on};
 use mq_model::entries::{Call, Registration, Reply};
 use mq_model::journals::Journal;
 use mq_model::registrations::{notified, registration_after, touches_registrations};
@@ -17,7 +17,7 @@ pub fn registered(journal: &Journal, k: u64, q: u64) -> Option<Registration>
 {
     let mut registration = None;
     for i in 0..k {
-        let (entry, _) = journal.record(i);
+        let entry = entry_at(journal, i);
         if touches_registrations(entry) {
             let on = is_on(journal, i, entry.process, entry.call, q);
             registration = registration_after(on, i, entry, registration);

@@ -15,7 +15,8 @@ use Rattle.mq_model.proofs.NamedWaits.{blocked-below}
 use Rattle.mq_model.proofs.Places.{split}
 use Rattle.placeless.specs.declared.standing.Kind.{Kind}
 use Rattle.placeless.specs.declared.standing.Kind.TheVariants.{Messages, Senders, Receivers}
-use Rattle.placeless.specs.Kinds.{AreMarked, begins, begun, may_begin, unless_in}
+use Rattle.mq_checker.specs.TakenTable.{unless_in}
+use Rattle.placeless.specs.Kinds.{AreMarked, begins, begun, may_begin}
 
 -- what comes -------------------------------------------------------------------------------------------------------------
 

@@ -1,5 +1,3 @@
-pub mod Entries
-pub mod Flagged
 pub mod Unanswered
 pub mod Falling
 pub mod Changes

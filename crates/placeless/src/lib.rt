@@ -9,10 +9,12 @@ ghost use Rattle.placeless.specs.Key.{key_of};
 ghost use Rattle.placeless.specs.Likeness.{AreAlike, IsUnregistered, is_plain};
 ghost use Rattle.placeless.specs.Steps.{StepsAlike};
 
-mod parts;
+pub mod parts;
 mod scans;
 mod standing;
 
+use mq_checker::scan_names::{creates, entry_at};
+use mq_checker::scan_notices::registered;
 use mq_model::journals::Journal;
 use std::alloc::{AllocError, Global};
 
@@ -48,8 +50,8 @@ pub fn is_unregistered(journal: &Journal) -> bool
 {
     let end = journal.len();
     for q in 0..end {
-        let entry = scans::entry_at(journal, q);
-        if scans::creates(entry.call, entry.reply) && scans::registered(journal, end, q).is_some() {
+        let entry = entry_at(journal, q);
+        if creates(entry.call, entry.reply) && registered(journal, end, q).is_some() {
             return false;
         }
     }

@@ -8,8 +8,9 @@ ghost use Rattle.placeless.specs.Views.{answer, at, author, sender, sent, told};
 ghost use Rattle.placeless.specs.Key.{above_number, access_number, description_code, limits_code, listed, message_code, number, number_bound, optional, process_bound, process_code, queue_code, sender_code, signed, test};
 ghost use Rattle.placeless.specs.Kinds.{kind_code, place_code};
 
-use crate::scans::{answered_by, entry_at, held, open_wait};
+use crate::scans::{answered_by, open_wait};
 use crate::standing::{Kind, created, standing};
+use mq_checker::scan_names::{entry_at, held};
 use mq_model::entries::{Access, Attr, Description, Entry, Reply};
 use mq_model::journals::Journal;
 use mq_model::ladder::{DEFAULT_ATTRIBUTES, attributes_given};
@@ -82,7 +83,8 @@ fn push_held(key: &mut Vec<u64>, held: Option<Description>) -> Result<(), AllocE
     }
 }
 
-fn push_bytes(key: &mut Vec<u64>, bytes: &[u8]) -> Result<(), AllocError>
+/// Adds each byte as a number.
+pub fn push_bytes(key: &mut Vec<u64>, bytes: &[u8]) -> Result<(), AllocError>
     ensures { IfOk result (λ _. key.new.items ≡ key.old.items ++ bytes.now) }
 {
     for b in bytes {

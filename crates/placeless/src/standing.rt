@@ -5,10 +5,13 @@ ghost use Rattle.std.specs.Prelude.{◌≡◌, ◌<◌, ◌≤◌, ◌++◌, fal
 ghost use Rattle.std.specs.Option.{option_to_list};
 ghost use Rattle.mq_model.specs.Record.{first};
 ghost use Rattle.mq_model.specs.Descriptors.{created};
-ghost use Rattle.mq_model.specs.Messages.{is_in, queues, blocks_send, blocks_receive, admits, blocked_sends, entered, taken_by, ends_send, ends_receive};
-ghost use Rattle.placeless.specs.Kinds.{AreMarked, begins, ended, ends, marked, may_begin, standing, unless_in};
+ghost use Rattle.mq_model.specs.Messages.{blocks_receive, ends_send, ends_receive};
+ghost use Rattle.mq_checker.specs.TakenTable.{marked, unless_in};
+ghost use Rattle.placeless.specs.Kinds.{AreMarked, begins, ended, ends, may_begin, standing};
 
-use crate::scans::{creates, entry_at, is_on};
+use mq_checker::scan_messages::{blocks_send, entered, enters};
+use mq_checker::scan_names::{creates, entry_at, is_on};
+use mq_checker::taken::taken_by;
 use mq_model::entries::{Call, Entry, Reply};
 use mq_model::journals::Journal;
 use std::alloc::{AllocError, Global};
@@ -24,57 +27,12 @@ pub(crate) enum Kind {
     Receivers,
 }
 
-fn queues(call: Call, reply: Reply) -> bool
-    ensures { result ≡ queues call reply }
-{
-    match reply {
-        Reply::Queued { notified: _ } => call.is_send(),
-        _ => false,
-    }
-}
-
-fn blocks_send(call: Call, reply: Reply) -> bool
-    ensures { result ≡ blocks_send call reply }
-{
-    match reply {
-        Reply::Waits => call.is_send(),
-        _ => false,
-    }
-}
-
 fn blocks_receive(call: Call, reply: Reply) -> bool
     ensures { result ≡ blocks_receive call reply }
 {
     match reply {
         Reply::Waits => call.is_receive(),
         _ => false,
-    }
-}
-
-fn admits(reply: Reply) -> Option<u64>
-    ensures { result ≡ admits reply }
-{
-    match reply {
-        Reply::Got {
-            place: _,
-            admitted,
-            notified: _,
-        } => admitted,
-        _ => None,
-    }
-}
-
-fn taken_by(here: u64, reply: Reply) -> Option<u64>
-    ensures { result ≡ taken_by here reply }
-{
-    match reply {
-        Reply::Got {
-            place,
-            admitted: _,
-            notified: _,
-        } => Some(place),
-        Reply::Handed { wait: _ } => Some(here),
-        _ => None,
     }
 }
 
@@ -138,44 +96,6 @@ fn gone(alloc: Global, journal: &Journal, kind: Kind) -> Result<Vec<bool>, Alloc
     Ok(marks)
 }
 
-// Whether a send to queue `q` blocked at place `w`, before place `k`.
-fn is_blocked_send(journal: &Journal, k: u64, q: u64, w: u64) -> bool
-    requires { k ≤ length journal.now.records }
-    ensures { result ≡ is_in (blocked_sends (first k journal.now.records) q) w }
-{
-    let mut found = false;
-    for i in 0..k {
-        let entry = entry_at(journal, i);
-        if i == w
-            && blocks_send(entry.call, entry.reply)
-            && is_on(journal, i, entry.process, entry.call, q)
-        {
-            found = true;
-        }
-    }
-    found
-}
-
-// The message that the entry at place `k` lets into queue `q`.
-fn entered(journal: &Journal, k: u64, entry: Entry, q: u64) -> Option<u64>
-    requires { k ≤ length journal.now.records }
-    ensures { result ≡ entered (first k journal.now.records) entry q }
-{
-    if queues(entry.call, entry.reply) && is_on(journal, k, entry.process, entry.call, q) {
-        return Some(k);
-    }
-    match admits(entry.reply) {
-        Some(w) => {
-            if is_blocked_send(journal, k, q, w) {
-                Some(w)
-            } else {
-                None
-            }
-        }
-        None => None,
-    }
-}
-
 // The place of a kind that the entry at place `k` brings to queue `q`.
 fn begins(journal: &Journal, kind: Kind, k: u64, entry: Entry, q: u64) -> Option<u64>
     requires { k ≤ length journal.now.records }
@@ -209,13 +129,7 @@ fn may_begin(kind: Kind, here: u64, entry: Entry) -> Option<u64>
     ensures { result ≡ may_begin kind here entry }
 {
     match kind {
-        Kind::Messages => {
-            if queues(entry.call, entry.reply) {
-                Some(here)
-            } else {
-                admits(entry.reply)
-            }
-        }
+        Kind::Messages => enters(here, entry),
         Kind::Senders => {
             if blocks_send(entry.call, entry.reply) {
                 Some(here)

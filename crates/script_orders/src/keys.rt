@@ -6,6 +6,7 @@ ghost use Rattle.script_orders.specs.Likeness.{ArePlainFrom, is_plain_step, seat
 use crate::plan::{Planned, Step};
 use crate::turn::Seat;
 use mq_model::entries::Call;
+use placeless::parts::push_bytes;
 use std::alloc::AllocError;
 
 // A step that makes plain calls alone.
@@ -58,15 +59,6 @@ pub fn are_plain_from(program: &[Planned], from: usize) -> bool
         }
     }
     true
-}
-
-fn push_bytes(key: &mut Vec<u64>, bytes: &[u8]) -> Result<(), AllocError>
-    ensures { OnOk result (key.new.items ≡ key.old.items ++ bytes.now) }
-{
-    for byte in bytes {
-        key.push(u64::from(*byte))?;
-    }
-    Ok(())
 }
 
 // How far a process has come, and what is printed of it.

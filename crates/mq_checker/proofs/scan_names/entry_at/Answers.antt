@@ -1,6 +1,6 @@
 use Rattle.std.proofs.Common.{sym, ◌∙◌}
-use Rattle.placeless.proofs.Entries.{entry-here, entry-there}
-use Rattle.placeless.proofs.scans.entry_at.Goals as goal
+use Rattle.mq_checker.proofs.Entries.{entry-here, entry-there}
+use Rattle.mq_checker.proofs.scan_names.entry_at.Goals as goal
 
 pub returns : goal.returns
 returns c = entry-here c.args.journal.now.records c.args.place c.in-Some.entry (sym c.in-Some.is ∙ c.entry.ensures)
