@@ -1,6 +1,6 @@
 -- The message that an entry takes out of a queue is the one that is received next, and what it lets in was sent after those that
 -- are there.
-use Rattle.std.proofs.Common.{◌≡◌, ℕ, ◌<◌, ◌==◌, true, false, ◌&&◌, ◌||◌, not, inl, inr, List, [], ◌∷◌, length, map, Option, Some, None, refl, sym, ◌∙◌, ap, subst, arith, eqb-true, eq-eqb}
+use Rattle.std.proofs.Common.{◌≡◌, ℕ, ◌<◌, ◌==◌, true, false, ◌&&◌, ◌||◌, not, inl, inr, List, [], ◌∷◌, length, Option, Some, None, refl, sym, ◌∙◌, ap, subst, arith, eqb-true, eq-eqb}
 use Rattle.std.specs.Prelude.{nat_le}
 use Rattle.std.specs.List.{Contains}
 use Rattle.std.specs.Option.{option_map}
@@ -10,7 +10,6 @@ use Rattle.mq_model.specs.Record.{Past}
 use Rattle.mq_model.specs.Descriptors.{is_on}
 use Rattle.mq_model.specs.Messages.{is_in, is_accepted, blocks_send, blocked_sends, ended_sends, waiting_sends, present, best, priority, priority_given}
 use Rattle.mq_model.specs.Legality.{Legal}
-use Rattle.mq_model.specs.declared.entries.Entry.{Entry}
 use Rattle.mq_model.specs.declared.entries.Call.{Call}
 use Rattle.mq_model.specs.declared.entries.Call.TheVariants.{MqSend, MqTimedSend}
 use Rattle.mq_model.specs.declared.entries.Reply.{Reply}
@@ -25,7 +24,7 @@ use Rattle.mq_laws.proofs.SendingOrder.{accepted-older}
 use Rattle.mq_slots.proofs.Placing.{contains-cons}
 use Rattle.mq_state.specs.Order.{best_slot}
 use Rattle.mq_state.specs.QueueShown.{QueueShown}
-use Rattle.mq_state.specs.Queues.{queue_in, slot_of, slots_of, reregistered, IsNewest, IsNewestOf, IsNextAt, IsInOrder, QueuesMirror}
+use Rattle.mq_state.specs.Queues.{queue_in, slot_of, slots_of, reregistered, IsNewest, IsNewestOf, IsNextAt, IsInOrder, QueuesMirror, IsInOrderIn}
 use Rattle.mq_state.proofs.QueueLines.{queue_in-place}
 use Rattle.mq_state.proofs.QueuesKeep.{GotOn, EntryOn}
 use Rattle.mq_state.proofs.QueuesNoted.{line-of}
@@ -81,9 +80,6 @@ waiting-newest past legal q w m waits there =
     accepted-older past legal q m w accepted waits
 
 -- the line of the entry's queue ------------------------------------------------------------------------------------------
-
-abbrev pub IsInOrderIn : List QueueShown → ℕ → ℕ → Entry → ℕ → Type 0
-IsInOrderIn queues q here e prio = (x : QueueShown) → queue_in (map (reregistered q here e) queues) q ≡ Some x → IsInOrder here e.call e.reply prio x
 
 line-slots : (past : Past) (queues : List QueueShown) → QueuesMirror past queues → (q : ℕ) (y : QueueShown) → queue_in queues q ≡ Some y → y.slots ≡ slots_of past (present past q)
 line-slots past queues m q y found = (m.lines q y found).slots ∙ ap (λ k. slots_of past (present past k)) (queue_in-place queues q y found)

@@ -34,7 +34,7 @@ use Rattle.mq_state.specs.declared.tables.Tables.{Tables}
 
 -- the tables count the open waits
 pub waits-open : (j : Shown) (t : Tables) → IsKeptBy j t → waits_count t.owners.items ≡ open_waits j.records
-waits-open j t kept = open_waits-counted j.records t.owners.items t.n kept.legal kept.mirror.lines kept.mirror.owner_count kept.few kept.processes
+waits-open j t kept = open_waits-counted j.records t.owners.items t.n kept.tables.legal kept.tables.mirror.lines kept.tables.mirror.owner_count kept.tables.few kept.processes
 
 both-false : (a b : Bool) → (a || b) ≡ false → (a ≡ false) × (b ≡ false)
 both-false true b e = absurd (let bad : true ≡ false = e in cc)

@@ -34,7 +34,7 @@ use Rattle.mq_model.proofs.Steps.{without}
 use Rattle.mq_model.proofs.Frames.{attributes-older}
 use Rattle.mq_slots.specs.Messages.{without as without_place}
 use Rattle.mq_state.specs.QueueShown.{QueueShown}
-use Rattle.mq_state.specs.Queues.{queue_in, is_named_in, changed, without_queue, renewed, HasRoom, reregistered, may_free, noted_queues, fresh, slots_of, LineMirror, QueuesMirror}
+use Rattle.mq_state.specs.Queues.{queue_in, is_named_in, changed, without_queue, renewed, HasRoom, reregistered, may_free, noted_queues, fresh, slots_of, LineMirror, QueuesMirror, HasRoomIn}
 use Rattle.mq_state.proofs.QueueLines.{queue_in-changed, places-changed, queue_in-map, places-map, queue_in-place, inside-queue_in, queue_in-without, places-without, queue_in-push, places-push}
 use Rattle.mq_state.proofs.QueuesKeep.{rec, alive-below, in-reverse, line-alive, EntryOn, registration-on, renewed-registration, renewed-place, int-room, renewed-cap, renewed-attributes, renewed-few, line_after, presence, same-slots, slots_of-without, length-slots_of}
 
@@ -194,9 +194,6 @@ line-from q here e prio queues k y found = by (queue_in queues k) refl (sym at �
         )
 
 -- the entry's queue has room for the message that it lets in
-abbrev pub HasRoomIn : List QueueShown → ℕ → ℕ → Entry → Type 0
-HasRoomIn queues q here e = (x : QueueShown) → queue_in (map (reregistered q here e) queues) q ≡ Some x → HasRoom e.reply x
-
 -- all lines of the table, before a queue is given back
 lines-keep : (past : Past) → Legal past → (queues : List QueueShown) → QueuesMirror past queues → (p : ℕ) (call : Call) (reply : Reply) (payload : List ℕ) (q prio : ℕ) → IsLegalNext past (rec p call reply payload) → EntryOn past p call payload reply q prio →
     HasRoomIn queues q (length past) (record { process = p; call = call; reply = reply }) →

@@ -30,10 +30,10 @@ use Rattle.mq_slots.specs.Held.{Held}
 use Rattle.mq_state.specs.QueueShown.{QueueShown}
 use Rattle.mq_state.specs.InboxShown.{InboxShown}
 use Rattle.mq_state.specs.Inboxes.{notices_in}
-use Rattle.mq_state.specs.Queues.{registration_in, noted_queues, fresh, QueuesMirror}
+use Rattle.mq_state.specs.Queues.{registration_in, noted_queues, fresh, QueuesMirror, HasRoomIn}
 use Rattle.mq_state.specs.Tables.{TablesMirror, entry_queue, admitted_priority, IsFresh, BringsOrder, notified_values, noted_values, with_fresh}
 use Rattle.mq_state.proofs.QueuesKeep.{rec, DoneOn, GotOn, EntryOn}
-use Rattle.mq_state.proofs.QueuesNoted.{HasRoomIn, noted-queues-keeps, noted-queues-creates}
+use Rattle.mq_state.proofs.QueuesNoted.{noted-queues-keeps, noted-queues-creates}
 use Rattle.mq_state.proofs.Reading.{registration-read}
 
 -- the entry's queue ------------------------------------------------------------------------------------------------------

@@ -6,11 +6,8 @@ use Rattle.mq_model.proofs.Records.{record_at-past}
 use Rattle.mq_state.specs.Kept.{AreThoseOf, IsKeptBy}
 use Rattle.mq_state.specs.declared.tables.Tables.{Tables}
 
-pub those-of : (j : Shown) (t : Tables) → IsKeptBy j t → AreThoseOf j.records t
-those-of j t kept = record { legal = kept.legal; few = kept.few; mirror = kept.mirror; waits = kept.waits; known = kept.known; notice_room = kept.notice_room }
-
 pub those-of_whole : (j whole : Shown) (t : Tables) → whole ≡ j → IsKeptBy j t → AreThoseOf whole.records t
-those-of_whole j whole t is kept = subst (λ (x : Shown). AreThoseOf x.records t) (sym is) (those-of j t kept)
+those-of_whole j whole t is kept = subst (λ (x : Shown). AreThoseOf x.records t) (sym is) kept.tables
 
 -- what stands at a place of the first records
 pub none-beyond : (past : Past) (k q : ℕ) → k ≤ length past → k ≤ q → record_at (first k past) q ≡ None

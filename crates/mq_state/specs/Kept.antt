@@ -64,17 +64,12 @@ abbrev pub HasRoomWithin : Option Bounds → Shown → Type 0
 HasRoomWithin None j = Unit {0}
 HasRoomWithin (Some b) j = (b.entries ≤ length j.records + j.entry_room) × (b.bytes ≤ payload_bytes j.records + j.byte_room)
 
--- the journal is legal and has entries of the first n processes alone, the tables are those of the journal, the lines of the queues know
--- who waits, and there is room for the entry that ends each open wait, for the notice of each registration, and for all that the bounds allow
+-- the tables are those of the journal, which has entries of the first n processes alone, and there is room for the entry that ends each
+-- open wait and for all that the bounds allow
 pub record IsKeptBy (j : Shown) (t : Tables) : Type 0 where
-  pub legal : Legal j.records
-  pub few : t.n ≤ 32
+  pub tables : AreThoseOf j.records t
   pub processes : AreAtMost t.n j.records
-  pub mirror : Mirrors j t
-  pub waits : t.waits ≡ waits_count t.owners.items
-  pub known : KnowWaits t.owners.items t.queues.items
   pub room : waits_count t.owners.items ≤ j.entry_room
-  pub notice_room : HasNoticeRoom t.queues.items t.inboxes.items
   pub bounded : HasRoomWithin t.bounds j
   pub notices : HasNotices t.bounds (length j.records) t.n t.inboxes.items
 

@@ -135,6 +135,14 @@ IsInOrder here call _ prio x = Unit {0}
 abbrev pub reregistered : ℕ → ℕ → Entry → QueueShown → QueueShown
 reregistered q here e x = record { place = x.place; named = x.named; registration = registration_after (q == x.place) here e x.registration; slots = x.slots; cap = x.cap; attributes = x.attributes; waiting = x.waiting }
 
+-- there is room in the line of queue q for the message that an entry made on it lets in
+abbrev pub HasRoomIn : List QueueShown → ℕ → ℕ → Entry → Type 0
+HasRoomIn queues q here e = (x : QueueShown) → queue_in (map (reregistered q here e) queues) q ≡ Some x → HasRoom e.reply x
+
+-- in the line of queue q the entry takes the message that is received next, and lets in the newest
+abbrev pub IsInOrderIn : List QueueShown → ℕ → ℕ → Entry → ℕ → Type 0
+IsInOrderIn queues q here e prio = (x : QueueShown) → queue_in (map (reregistered q here e) queues) q ≡ Some x → IsInOrder here e.call e.reply prio x
+
 abbrev pub frees : Call → Bool
 frees (MqClose d) = true
 frees MqUnlink = true

@@ -1,7 +1,5 @@
-use Rattle.std.specs.Prelude.{◌≡◌, Option, Some, None}
+use Rattle.std.specs.Prelude.{◌≡◌, None}
 use Rattle.mq_model.specs.Record.{Past}
-use Rattle.mq_model.specs.declared.bounds.Bounds.{Bounds}
-use Rattle.mq_model.specs.Legality.{Legal}
 use Rattle.mq_state.specs.Kept.{AreThoseOf}
 use Rattle.mq_state.specs.declared.tables.Tables.{Tables}
 use Rattle.mq_state.specs.declared.trail.Trail.TheInside.{Inside}

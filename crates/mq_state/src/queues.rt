@@ -3,7 +3,7 @@ ghost use Rattle.std.specs.Prelude.{◌≡◌, ◌<◌, ◌^◌, ◌==◌, ◌++
 ghost use Rattle.std.specs.Option.{option_map};
 ghost use Rattle.std.specs.Str.{bytes_eq};
 ghost use Rattle.mq_model.specs.Names.{name_of, are_within_limits};
-ghost use Rattle.mq_state.specs.Queues.{queue_in, slots_in, registration_in, attributes_in, is_named_in, bound_in, changed, renewed, renewed_done, HasRoom, IsInOrder, reregistered, without_queue, fresh, frees, may_free, released, noted_queues, touches_line, waiting_in, with_waiting, HaveRisingPlaces};
+ghost use Rattle.mq_state.specs.Queues.{queue_in, slots_in, registration_in, attributes_in, is_named_in, bound_in, changed, renewed, renewed_done, HasRoom, HasRoomIn, IsInOrder, IsInOrderIn, reregistered, without_queue, fresh, frees, may_free, released, noted_queues, touches_line, waiting_in, with_waiting, HaveRisingPlaces};
 ghost use Rattle.mq_state.specs.QueueShown.{QueueShown};
 ghost use Rattle.mq_state.specs.Order.{best_slot, slots_for};
 ghost use Rattle.mq_state.specs.Pool.{Pool, IsSpare, emptied};
@@ -469,12 +469,8 @@ fn note_lines(
     hint: usize,
 ) -> Option<usize>
     requires rising { HaveRisingPlaces queues.old.items }
-    requires room { (x : QueueShown) →
-        queue_in (map (reregistered q here entry) queues.old.items) q ≡ Some x →
-        HasRoom entry.reply x }
-    requires order { (x : QueueShown) →
-        queue_in (map (reregistered q here entry) queues.old.items) q ≡ Some x →
-        IsInOrder here entry.call entry.reply prio x }
+    requires room { HasRoomIn queues.old.items q here entry }
+    requires order { IsInOrderIn queues.old.items q here entry prio }
     ensures items { queues.new.items ≡ changed (renewed here entry.call entry.reply prio)
         (map (reregistered q here entry) queues.old.items) q }
     ensures room { (vec_len queues.new ≡ vec_len queues.old) ×
@@ -499,12 +495,8 @@ pub fn note(
     hint: usize,
 ) -> Option<usize>
     requires rising { HaveRisingPlaces queues.old.items }
-    requires room { (x : QueueShown) →
-        queue_in (map (reregistered q here entry) queues.old.items) q ≡ Some x →
-        HasRoom entry.reply x }
-    requires order { (x : QueueShown) →
-        queue_in (map (reregistered q here entry) queues.old.items) q ≡ Some x →
-        IsInOrder here entry.call entry.reply prio x }
+    requires room { HasRoomIn queues.old.items q here entry }
+    requires order { IsInOrderIn queues.old.items q here entry prio }
     ensures items { queues.new.items ≡ noted_queues owners.now here entry q prio queues.old.items }
     ensures room { vec_len queues.old < vec_capacity queues.old →
         vec_len queues.new < vec_capacity queues.new }

@@ -141,9 +141,8 @@ impl Tables {
 impl Tables {
     ghost use Rattle.std.specs.Prelude.{vec_len, vec_capacity};
     ghost use Rattle.mq_model.specs.OwnersNoted.{noted, FitsSlots};
-    ghost use Rattle.mq_state.specs.Queues.{queue_in, reregistered, noted_queues, registration_in, HasRoom, IsInOrder, HaveRisingPlaces};
+    ghost use Rattle.mq_state.specs.Queues.{noted_queues, registration_in, HasRoomIn, IsInOrderIn, HaveRisingPlaces};
     ghost use Rattle.mq_state.specs.Inboxes.{notices_in, room_in};
-    ghost use Rattle.mq_state.specs.QueueShown.{QueueShown};
     ghost use Rattle.mq_state.specs.Pool.{IsPooled};
     ghost use Rattle.mq_state.specs.Tables.{BringsOrder, notices_brought, noted_values, notified_values, with_fresh};
 
@@ -178,51 +177,43 @@ impl Tables {
         }
     }
 
-    // Notes an entry made on queue q, which brings the order of a queue that it creates.
+    // Notes in the table of processes an entry made on queue q, and how many wait after it.
     #[inline(always)]
-    fn note(&mut self, journal: &Prefix<'_>, entry: Entry, q: u64, fresh: Option<Slots>)
-        requires process { (entry.process < length self.old.owners.items) ×
-            (entry.process < length self.old.inboxes.items) }
+    fn note_process(&mut self, here: u64, entry: Entry, q: u64)
+        requires process { entry.process < length self.old.owners.items }
         requires numbers { FitsSlots entry.call entry.reply }
-        requires room { (x : QueueShown) →
-            queue_in (map (reregistered q (length journal.now.records) entry) self.old.queues.items)
-            q ≡ Some x → HasRoom entry.reply x }
-        requires order { (x : QueueShown) →
-            queue_in (map (reregistered q (length journal.now.records) entry) self.old.queues.items)
-            q ≡ Some x → IsInOrder (length journal.now.records) entry.call entry.reply
-            (admitted_priority journal.now.records entry.reply) x }
-        requires notice_room { (n : Registration) →
-            registration_in self.old.queues.items q ≡ Some n →
-            0 < room_in self.old.inboxes.items n.process }
-        requires brings { BringsOrder entry.call entry.reply (vec_len self.old.queues)
-            (vec_capacity self.old.queues) fresh }
         requires few { length self.old.owners.items ≤ 33 }
         requires waits { self.old.waits ≡ waits_count self.old.owners.items }
         requires own { MovesOwnWait entry.reply (wait_in self.old.owners.items entry.process) }
-        requires rising { HaveRisingPlaces self.old.queues.items }
+        ensures same { self.new ≡ record self.old {
+          owners = self.new.owners;
+          waits = self.new.waits;
+        } }
+        ensures owners { self.new.owners.items ≡
+            noted self.old.owners.items here entry.process entry.call entry.reply q }
         ensures waits { self.new.waits ≡ waits_count self.new.owners.items }
-        ensures n { self.new.n ≡ self.old.n }
-        ensures bounds { self.new.bounds ≡ self.old.bounds }
-        ensures pool { IsPooled fresh self.old → IsPooled None self.new }
-        ensures owners { self.new.owners.items ≡ noted self.old.owners.items
-            (length journal.now.records) entry.process entry.call entry.reply q }
-        ensures queues { self.new.queues.items ≡ with_fresh fresh (attributes_given entry.call)
-            (length journal.now.records) (noted_queues self.new.owners.items
-            (length journal.now.records) entry q (admitted_priority journal.now.records entry.reply)
-            self.old.queues.items) }
-        ensures count { length self.new.inboxes.items ≡ length self.old.inboxes.items }
-        ensures inboxes { (k : ℕ) →
-            notices_in self.new.inboxes.items k ≡ noted_values entry.process
-            (registration_in self.old.queues.items q) entry.reply k
-            (notices_in self.old.inboxes.items k) }
-        ensures notice_room { (k : ℕ) →
-            room_in self.old.inboxes.items k ≤ room_in self.new.inboxes.items k + notices_brought
-            (registration_in self.old.queues.items q) entry.reply k }
     {
-        let here = journal.len();
-        let prio = admitted_priority(journal, entry.reply);
-        self.note_notices(entry, q);
         self.waits = note_owners(&mut self.owners, self.waits, here, entry, q);
+    }
+
+    // Notes an entry made on queue q in the lines of the queues, where the table of processes has noted it, and adds the queue that it
+    // creates, whose order it brings. A message that it admits has priority `prio`.
+    #[inline(always)]
+    fn note_queues(&mut self, here: u64, entry: Entry, q: u64, prio: u32, fresh: Option<Slots>)
+        requires rising { HaveRisingPlaces self.old.queues.items }
+        requires room { HasRoomIn self.old.queues.items q here entry }
+        requires order { IsInOrderIn self.old.queues.items q here entry prio }
+        requires brings { BringsOrder entry.call entry.reply (vec_len self.old.queues)
+            (vec_capacity self.old.queues) fresh }
+        ensures same { self.new ≡ record self.old {
+          queues = self.new.queues;
+          spares = self.new.spares;
+          hints = self.new.hints;
+        } }
+        ensures queues { self.new.queues.items ≡ with_fresh fresh (attributes_given entry.call) here
+            (noted_queues self.old.owners.items here entry q prio self.old.queues.items) }
+        ensures pool { IsPooled fresh self.old → IsPooled None self.new }
+    {
         let hint = self.hint(q);
         let found = queues::note(
             &mut self.queues,

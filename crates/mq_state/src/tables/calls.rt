@@ -18,7 +18,7 @@ ghost use Rattle.mq_state.specs.Kept.{AreThoseOf, SaysSame, IsKeptBy, HasEntryRo
 ghost use Rattle.mq_state.specs.Requests.{Brings, IsGiven, is_settled};
 
 use crate::prefixes::Prefix;
-use crate::tables::{Tables, queue_of, waiting};
+use crate::tables::{Tables, admitted_priority, queue_of, waiting};
 use crate::{buffers, notices, queues};
 use mq_model::entries::{Call, Deadline, Entry, Reply};
 use mq_model::faults::Fault;
@@ -145,8 +145,12 @@ impl Tables {
         ensures n { self.new.n ≡ self.old.n }
         ensures bounds { self.new.bounds ≡ self.old.bounds }
     {
+        let here = journal.len();
+        let prio = admitted_priority(journal, entry.reply);
         let moved = waiting::moved_queue(&self.owners, entry, q);
-        self.note(journal, entry, q, fresh);
+        self.note_notices(entry, q);
+        self.note_process(here, entry, q);
+        self.note_queues(here, entry, q, prio, fresh);
         self.note_waiting(moved);
     }
 
@@ -210,46 +214,44 @@ impl Tables {
         journal.push(entry, payload);
     }
 
-    // Appends the entry of a call on queue q that was given these bytes, with its reply.
+    // Appends the entry of a call on queue q that was given these bytes.
     #[inline(always)]
     fn record(
         &mut self,
         journal: &mut Journal,
-        p: u32,
-        call: Call,
-        reply: Reply,
+        entry: Entry,
         given: &[u8],
         q: u64,
         fresh: Option<Slots>,
     )
-        requires queue { q ≡ entry_queue journal.old.records p call given.now }
+        requires queue { q ≡ entry_queue journal.old.records entry.process entry.call given.now }
         requires kept { IsKeptBy journal.old self.old }
-        requires process { (1 ≤ p) × (p ≤ self.old.n) }
-        requires turn { IsTrue (may_call journal.old.records p call) }
-        requires replies { reply ≡ reply_to journal.old.records p call given.now }
-        requires payload { IsTrue (is_payload call reply (payload_of call reply given.now)) }
-        requires registration { HasRoomToRegister self.old.queues.items self.old.inboxes.items p
-            call reply }
-        requires brings { BringsOrder call reply (vec_len self.old.queues)
+        requires process { (1 ≤ entry.process) × (entry.process ≤ self.old.n) }
+        requires turn { IsTrue (may_call journal.old.records entry.process entry.call) }
+        requires replies { entry.reply ≡
+            reply_to journal.old.records entry.process entry.call given.now }
+        requires payload { IsTrue (is_payload entry.call entry.reply
+            (payload_of entry.call entry.reply given.now)) }
+        requires registration { HasRoomToRegister self.old.queues.items self.old.inboxes.items
+            entry.process entry.call entry.reply }
+        requires brings { BringsOrder entry.call entry.reply (vec_len self.old.queues)
             (vec_capacity self.old.queues) fresh }
-        requires bytes { length (payload_of call reply given.now) ≤ journal.old.byte_room }
-        requires entries { HasEntryRoom reply
+        requires bytes { length (payload_of entry.call entry.reply given.now) ≤
+            journal.old.byte_room }
+        requires entries { HasEntryRoom entry.reply
             (waits_count self.old.owners.items) journal.old.entry_room }
         requires pool { IsPooled fresh self.old }
-        ensures appends { Appends journal.old.records journal.new.records p call given.now reply }
-        ensures no_bytes { payload_of call reply given.now ≡ [] →
+        ensures appends { Appends journal.old.records journal.new.records entry.process
+            entry.call given.now entry.reply }
+        ensures no_bytes { payload_of entry.call entry.reply given.now ≡ [] →
             journal.new.byte_room ≡ journal.old.byte_room }
         ensures kept { IsKeptBy journal.new self.new }
         ensures pool { IsPooled None self.new }
         ensures n { self.new.n ≡ self.old.n }
         ensures bounds { self.new.bounds ≡ self.old.bounds }
     {
-        let entry = Entry {
-            process: p,
-            call,
-            reply,
-        };
-        self.append(journal, entry, payload_of(call, reply, given), q, fresh);
+        let payload = payload_of(entry.call, entry.reply, given);
+        self.append(journal, entry, payload, q, fresh);
     }
 
     /// Makes a call of process p, which is given a name, the bytes of its message or none, and the buffer that a receive fills.
@@ -307,7 +309,12 @@ impl Tables {
             return Reply::Refused(Fault::NoMemory);
         };
         let q = self.entry_queue(&Prefix::whole(journal), p, call, given);
-        self.record(journal, p, call, reply, given, q, fresh);
+        let entry = Entry {
+            process: p,
+            call,
+            reply,
+        };
+        self.record(journal, entry, given, q, fresh);
         reply
     }
 
@@ -420,7 +427,12 @@ impl Tables {
         if let Err(fault) = self.make_room(journal, 2, most, kept.len()) {
             return Reply::Refused(fault);
         }
-        self.record(journal, p, call, reply, bytes, q, None);
+        let entry = Entry {
+            process: p,
+            call,
+            reply,
+        };
+        self.record(journal, entry, bytes, q, None);
         reply
     }
 
@@ -518,7 +530,12 @@ impl Tables {
             return Reply::Refused(fault);
         }
         buffers::fill(journal, reply, buf);
-        self.record(journal, p, call, reply, &[], q, None);
+        let entry = Entry {
+            process: p,
+            call,
+            reply,
+        };
+        self.record(journal, entry, &[], q, None);
         reply
     }
 
@@ -634,15 +651,12 @@ impl Tables {
         ensures bounds { self.new.bounds ≡ self.old.bounds }
     {
         let q = journal.len();
-        self.record(
-            journal,
-            p,
-            Call::Collect,
-            Reply::Collected { by },
-            &[],
-            q,
-            None,
-        );
+        let entry = Entry {
+            process: p,
+            call: Call::Collect,
+            reply: Reply::Collected { by },
+        };
+        self.record(journal, entry, &[], q, None);
     }
 
     /// Ends the open wait of process p without an answer, where a timed call began it, no entry answers it, and its deadline has passed
@@ -668,9 +682,13 @@ impl Tables {
         if self.answer(p).is_some() || !ladder::is_over(wait.until, now) {
             return false;
         }
-        let reply = Reply::Withdrawn { wait: wait.place };
+        let entry = Entry {
+            process: p,
+            call: Call::Withdraw { now },
+            reply: Reply::Withdrawn { wait: wait.place },
+        };
         let q = journal.len();
-        self.record(journal, p, Call::Withdraw { now }, reply, &[], q, None);
+        self.record(journal, entry, &[], q, None);
         true
     }
 }

@@ -11,8 +11,8 @@ outcome-outcome-requires c =
     let shelf = c.deref_mut.result.now in
     let same : c.self.inside.shelf.value ≡ shelf = sym c.deref_mut.ensures.value in
     let kept : IsKeptBy shelf.journal shelf.tables = subst (λ (s : Shelf). IsKeptBy s.journal s.tables) same c.self.invariant.kept in
-    let answered : answered_by shelf.journal.records c.args.p ≡ Some c.in_ok-by.by = sym (kept.mirror.lines.answers c.args.p) ∙ sym c.answer.ensures ∙ c.in_ok-by.was in
+    let answered : answered_by shelf.journal.records c.args.p ≡ Some c.in_ok-by.by = sym (kept.tables.mirror.lines.answers c.args.p) ∙ sym c.answer.ensures ∙ c.in_ok-by.was in
     let inside = subst (λ v. room_of (waiting_call v.records c.args.p) ≤ length c.args.buf.now) (sym c.self.view_is) c.requires.room in
     let room = subst (λ (s : Shelf). room_of (waiting_call s.journal.records c.args.p) ≤ length c.args.buf.now) same inside in
-    let fits = collect-fits shelf.journal.records kept.legal c.args.p c.in_ok-by.by (length c.args.buf.now) answered room in
+    let fits = collect-fits shelf.journal.records kept.tables.legal c.args.p c.in_ok-by.by (length c.args.buf.now) answered room in
     subst (λ call. FitsOutcome shelf.journal.records call c.in_ok-by.by (length c.args.buf.now)) (sym c.waiting_call-call.ensures) fits

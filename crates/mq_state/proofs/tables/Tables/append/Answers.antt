@@ -19,8 +19,8 @@ pub push-requires-clause-entry_room : goal.push-requires-clause-entry_room
 push-requires-clause-entry_room c =
     let past = c.args.journal.now.records in
     let e = c.args.entry in
-    let count = c.requires.kept.mirror.owner_count in
-    let room = waits-noted past c.args.self.now.owners.items c.requires.kept.mirror.lines e.process e.call e.reply (entry_queue past e.process e.call c.args.payload.now) c.args.journal.now.entry_room (legal_says past (record { entry = e; payload = c.args.payload.now }) c.requires.next) c.requires.next.turn (let le = c.requires.at_most in omega (arith, le, count)) c.requires.entries in
+    let count = c.requires.kept.tables.mirror.owner_count in
+    let room = waits-noted past c.args.self.now.owners.items c.requires.kept.tables.mirror.lines e.process e.call e.reply (entry_queue past e.process e.call c.args.payload.now) c.args.journal.now.entry_room (legal_says past (record { entry = e; payload = c.args.payload.now }) c.requires.next) c.requires.next.turn (let le = c.requires.at_most in omega (arith, le, count)) c.requires.entries in
     omega (arith, room)
 
 pub returns-clause-kept : goal.returns-clause-kept
@@ -31,24 +31,19 @@ returns-clause-kept c =
     let before = c.args.self.now in
     let after = c.note_next.new.self in
     let r : Record = record { entry = e; payload = payload } in
-    let count = c.requires.kept.mirror.owner_count in
+    let count = c.requires.kept.tables.mirror.owner_count in
     let same : c.whole.result.records ≡ past = ap (λ (j : Shown). j.records) c.whole.ensures in
     let records : c.push.new.self.records ≡ r ∷ past = c.push.ensures.records in
     let noted_owners : after.owners.items ≡ noted before.owners.items (length past) e.process e.call e.reply (entry_queue past e.process e.call payload) =
     c.note_next.ensures.owners ∙ ap (λ (xs : Past). noted before.owners.items (length xs) e.process e.call e.reply (entry_queue xs e.process e.call payload)) same in
     let waits : waits_count after.owners.items ≡ waits_count (noted before.owners.items (length past) e.process e.call e.reply (entry_queue past e.process e.call payload)) = ap waits_count noted_owners in
-    let room = waits-noted past before.owners.items c.requires.kept.mirror.lines e.process e.call e.reply (entry_queue past e.process e.call payload) c.args.journal.now.entry_room (legal_says past r c.requires.next) c.requires.next.turn (let le = c.requires.at_most in omega (arith, le, count)) c.requires.entries in
+    let room = waits-noted past before.owners.items c.requires.kept.tables.mirror.lines e.process e.call e.reply (entry_queue past e.process e.call payload) c.args.journal.now.entry_room (legal_says past r c.requires.next) c.requires.next.turn (let le = c.requires.at_most in omega (arith, le, count)) c.requires.entries in
     let pushed = c.push.ensures.entry_room in
     let those : AreThoseOf c.push.new.self.records after = subst (λ (xs : Past). AreThoseOf xs after) (ap (λ (xs : Past). r ∷ xs) same ∙ sym records) c.note_next.ensures.tables in
     record {
-      legal = those.legal;
-      few = those.few;
+      tables = those;
       processes = subst (λ (xs : Past). AreAtMost after.n xs) (sym records) (subst (λ (n : ℕ). AreAtMost n (r ∷ past)) (sym c.note_next.ensures.n) (All-cons (λ (x : Record). x.entry.process ≤ before.n) r past c.requires.at_most c.requires.kept.processes));
-      mirror = those.mirror;
-      waits = those.waits;
-      known = those.known;
       room = omega (arith, waits, room, pushed);
-      notice_room = those.notice_room;
       bounded = subst (λ (o : Option Bounds). HasRoomWithin o c.push.new.self) (sym c.note_next.ensures.bounds)
           (room-keeps before.bounds c.args.journal.now c.push.new.self r c.requires.kept.bounded c.push.ensures.records c.push.ensures.entry_room c.push.ensures.byte_room);
       notices = λ k le.

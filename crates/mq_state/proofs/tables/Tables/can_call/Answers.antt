@@ -11,7 +11,7 @@ use Rattle.mq_state.proofs.tables.Tables.can_call.Goals as goal
 pub returns-in-None : goal.returns-in-None
 returns-in-None c =
     let past = c.args.journal.now.records in
-    let lines = c.requires.kept.mirror.lines in
+    let lines = c.requires.kept.tables.mirror.lines in
     let p = c.args.p in
     let none : wait_in c.args.self.now.owners.items p ≡ None = ap (λ xs. wait_in xs p) (sym c.deref.ensures.value) ∙ sym c.wait.ensures ∙ c.in-None.is in
     let free : open_wait past p ≡ None = sym (lines.waits p) ∙ ap (λ (o : Option OpenWait). option_map (λ (w : OpenWait). w.place) o) none in

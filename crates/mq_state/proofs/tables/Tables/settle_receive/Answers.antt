@@ -8,7 +8,7 @@ pub fill-requires : goal.fill-requires
 fill-requires c =
     let records = c.make_room.new.journal.records in
     let same = sym c.make_room.ensures.records in
-    let fits = reply-fits c.args.journal.now.records c.requires.may_call.kept.legal c.args.p c.args.call c.args.reply c.requires.replies c.requires.receives in
+    let fits = reply-fits c.args.journal.now.records c.requires.may_call.kept.tables.legal c.args.p c.args.call c.args.reply c.requires.replies c.requires.receives in
     subst (λ n. Fits records c.args.reply n) c.requires.room (subst (λ past. Fits past c.args.reply (room_of c.args.call)) same fits)
 
 pub returns-in-Err-clause-called : goal.returns-in-Err-clause-called
