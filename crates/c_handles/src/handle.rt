@@ -35,6 +35,7 @@ impl Handle {
     }
 
     /// Takes the member out, where there is one.
+    #[inline(always)]
     pub fn take(&mut self, alloc: Global) -> Option<Box<Member>>
         ensures some { IfSome result (λ member. self.old.seal.member ≡ Some member.value) }
         ensures none { IfNone result (self.old.seal.member ≡ None) }
@@ -58,6 +59,7 @@ impl Handle {
     }
 
     /// Puts a member in.
+    #[inline(always)]
     pub fn put(&mut self, member: Box<Member>)
         requires { self.old.seal.member ≡ None }
         ensures { self.new.seal.member ≡ Some member.value }
@@ -98,6 +100,7 @@ impl Handle {
     ghost use Rattle.c_handles.specs.Tries.{Gives, GivesWith};
 
     /// As [`Member::make`], where there is a member.
+    #[inline(always)]
     pub fn make<A: Returned>(
         &mut self,
         alloc: Global,

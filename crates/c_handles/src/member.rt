@@ -70,6 +70,7 @@ impl Member {
 
     /// Tries to make a call of whichever kind, with its name, the bytes of its message or none, and the buffer that a receive fills. A send
     /// or a receive may begin to wait.
+    #[inline(always)]
     pub fn make<A: Returned>(&mut self, call: Call, given: &[u8], buf: &mut [u8]) -> Tried<A>
         requires brings { Brings call given.now (length buf.old) }
         requires kind { IsOf A.kind call }

@@ -16,6 +16,7 @@ pub enum Standing {
 }
 
 /// Takes the process inside, or leaves it on its way there.
+#[inline(always)]
 pub fn arrive(mq: &FastMq, standing: &mut Option<Standing>) -> Option<FastArrived>
     requires some { is_some standing.old ≡ true }
     requires made { (ticket_of standing.old).lock ≡ mq.now }
@@ -38,6 +39,7 @@ pub fn arrive(mq: &FastMq, standing: &mut Option<Standing>) -> Option<FastArrive
 }
 
 /// The room that the open wait of the process needs, where it has one.
+#[inline(always)]
 pub fn waiting(standing: &Option<Standing>) -> Option<usize>
     requires some { is_some standing.now ≡ true }
     ensures { result ≡ waiting_room (ticket_of standing.now).left (ticket_of standing.now).number }
@@ -50,6 +52,7 @@ pub fn waiting(standing: &Option<Standing>) -> Option<usize>
 }
 
 /// Puts a process down at rest.
+#[inline(always)]
 pub fn settle(standing: &mut Option<Standing>, process: FastProcess)
     ensures process { ticket_of standing.new ≡ process }
     ensures some { is_some standing.new ≡ true }

@@ -7,11 +7,19 @@ use crate::logged::Logged;
 use crate::pauses::Pauses;
 use std::sync::Wait;
 
+/// How many steps an entry takes that meets nobody.
+pub const HASTE: u32 = 5;
+
 // How often a walk that can't go on pauses before it sleeps.
 const MOST_PAUSES: u32 = 12;
 
 /// The entry that waits, which each lock has. It stands apart from `Lock`, so that code that never waits can use a lock.
 pub trait Enter<S: Logged>: Lock<S> {
+    /// Takes at most [`HASTE`] steps, and none once the walk has come in. It never waits.
+    fn hasten(&self, walk: Self::Walk) -> Self::Walk
+        requires { (Self.walking walk).lock ≡ Self.id self.now }
+        ensures { Self.walking result ≡ Self.walking walk };
+
     /// Takes the walk on until it has come in, which waits until nobody else is inside.
     fn come_in<R: Wait>(&self, rt: &R, walk: Self::Walk) -> Self::Walk
         requires { (Self.walking walk).lock ≡ Self.id self.now }
@@ -36,9 +44,19 @@ pub trait Enter<S: Logged>: Lock<S> {
 }
 
 impl<S: Logged, L: Lock<S>> Enter<S> for L {
+    // In straight line the compiler knows where the walk stands at each step.
+    #[inline(always)]
+    fn hasten(&self, walk: L::Walk) -> L::Walk {
+        let walk = next(self, walk);
+        let walk = next(self, walk);
+        let walk = next(self, walk);
+        let walk = next(self, walk);
+        next(self, walk)
+    }
+
     #[inline(always)]
     fn come_in<R: Wait>(&self, rt: &R, walk: L::Walk) -> L::Walk {
-        let hastened = hasten(self, walk);
+        let hastened = self.hasten(walk);
         if L::is_admitted(&hastened) {
             return hastened;
         }
@@ -116,19 +134,6 @@ fn nap<S: Logged, L: Lock<S>, R: Wait>(lock: &L, rt: &R, walk: L::Walk) -> (L::W
     }
     bells.end_walk(bell);
     (walk, has_moved)
-}
-
-// Five steps, as many as an entry takes that meets nobody. In straight line the compiler knows where the walk stands at each.
-#[inline(always)]
-fn hasten<S: Logged, L: Lock<S>>(lock: &L, walk: L::Walk) -> L::Walk
-    requires { (L.walking walk).lock ≡ L.id lock.now }
-    ensures { L.walking result ≡ L.walking walk }
-{
-    let walk = next(lock, walk);
-    let walk = next(lock, walk);
-    let walk = next(lock, walk);
-    let walk = next(lock, walk);
-    next(lock, walk)
 }
 
 // The next step, where the walk has not come in.

@@ -5,7 +5,7 @@ use crate::arrived::Arrived;
 use crate::guarded::Guarded;
 use crate::process::Process;
 use crate::system::Mq;
-use fast_mutex::{Enter, Look};
+use fast_mutex::{Enter, HASTE, Look};
 use std::marker::Model;
 use std::sync::Wait;
 
@@ -59,7 +59,39 @@ impl<L: Look<Guarded>> Approach<L> {
 
     /// Takes at most so many atomic steps, none of which waits, and stops once it is inside. No call promises that steps lead
     /// inside; where nobody else is under way five do, and with others it is worth letting them run before the next try.
+    #[inline(always)]
     pub fn advance(self, mq: &Mq<L>, steps: u32) -> Result<Arrived<L>, Approach<L>>
+        requires made { self.lock ≡ mq.now }
+        ensures arrived { IfOk result (λ arrived. arrived ≡ self) }
+        ensures under_way { IfErr result (λ approach. approach ≡ self) }
+    {
+        if steps < HASTE {
+            return self.go_on(mq, steps);
+        }
+        let Approach {
+            number,
+            walk,
+            waits,
+        } = self;
+        let hastened = mq.lock().hasten(walk);
+        if L::is_admitted(&hastened) {
+            return Ok(Arrived {
+                number,
+                walk: hastened,
+                waits,
+            });
+        }
+        let on_its_way = Approach {
+            number,
+            walk: hastened,
+            waits,
+        };
+        on_its_way.go_on(mq, steps - HASTE)
+    }
+
+    // The same, step by step. It stands apart, so that the way of an entry that meets nobody has no more than that needs.
+    #[inline(never)]
+    fn go_on(self, mq: &Mq<L>, steps: u32) -> Result<Arrived<L>, Approach<L>>
         requires made { self.lock ≡ mq.now }
         ensures arrived { IfOk result (λ arrived. arrived ≡ self) }
         ensures under_way { IfErr result (λ approach. approach ≡ self) }

@@ -1,5 +1,5 @@
 use Rattle.std.proofs.Common.{◌≡◌}
-use Rattle.mq.proofs.approach.Approach.advance.Given as goal
+use Rattle.mq.proofs.approach.Approach.go_on.Given as goal
 
 -- the walk is that of the process that set out
 abbrev pub invariant-steps : goal.invariant-steps
