@@ -4,3 +4,4 @@ pub mod Processes
 pub mod Descriptors
 pub mod Fronts
 pub mod Verdicts
+pub mod Said
