@@ -1,51 +1,67 @@
 //! Descriptors by this project's own numbers. An implementation may give any number to a descriptor: an open names the one that the
 //! later calls of its process use.
-ghost use Rattle.std.specs.Prelude.{◌≡◌, ◌≤◌, ◌<◌, length};
+ghost use Rattle.std.specs.Prelude.{◌≡◌, ◌<◌, IfOk, IfSome, is_none, position};
+ghost use Rattle.history_judge.specs.Descriptors.{held_at, lowest_free, no_numbers, numbers_after, own_call, own_number, own_outcome, renamed, after_opened, after_closed};
 
 use histories::operation::{Operation, Outcome};
 use mq_model::entries::Call;
 use mq_model::limits::DESCRIPTORS;
+use std::alloc::{AllocError, Global};
 
 // The number of the implementation at each number that a process holds.
-type Held = [Option<u32>; 16];
+type Numbers = [Option<u32>; 16];
 
-// The number of a descriptor, or 16, which no process holds.
-fn number_of(held: &Held, d: u32) -> u32
-    ensures { result ≤ 16 }
+// The first number at which a descriptor is held.
+fn held_at(numbers: &Numbers, d: u32) -> Option<usize>
+    ensures first { result ≡ held_at numbers.now d }
+    ensures few { IfSome result (λ number. number < 16) }
 {
-    for number in 0..DESCRIPTORS {
-        if held[number] == Some(d) {
-            return number as u32;
-        }
+    numbers.iter().position(|number| *number == Some(d))
+}
+
+// The own number of a descriptor, or 16, which no process holds.
+fn own_number(numbers: &Numbers, d: u32) -> u32
+    ensures { result ≡ own_number numbers.now d }
+{
+    match held_at(numbers, d) {
+        None => DESCRIPTORS as u32,
+        Some(number) => number as u32,
     }
-    DESCRIPTORS as u32
+}
+
+// The first number that is free.
+fn free_at(numbers: &Numbers) -> Option<usize>
+    ensures first { result ≡ position is_none numbers.now }
+    ensures few { IfSome result (λ number. number < 16) }
+{
+    numbers.iter().position(|number| number.is_none())
 }
 
 // The lowest number that is free, or 16.
-fn lowest_free(held: &Held) -> u32
-    ensures { result ≤ 16 }
+fn lowest_free(numbers: &Numbers) -> u32
+    ensures { result ≡ lowest_free numbers.now }
 {
-    for number in 0..DESCRIPTORS {
-        if held[number].is_none() {
-            return number as u32;
-        }
+    match free_at(numbers) {
+        None => DESCRIPTORS as u32,
+        Some(number) => number as u32,
     }
-    DESCRIPTORS as u32
 }
 
-// A call by the number of its descriptor.
-fn renamed(held: &Held, call: Call) -> Call {
+// A call by the own number of its descriptor.
+fn own_call(numbers: &Numbers, call: Call) -> Call
+    ensures { result ≡ own_call numbers.now call }
+{
     match call {
         Call::MqClose { d } => Call::MqClose {
-            d: number_of(held, d),
+            d: own_number(numbers, d),
         },
         Call::MqSend { d, prio, len } => Call::MqSend {
-            d: number_of(held, d),
+            d: own_number(numbers, d),
             prio,
             len,
         },
         Call::MqReceive { d, room } => Call::MqReceive {
-            d: number_of(held, d),
+            d: own_number(numbers, d),
             room,
         },
         Call::MqTimedSend {
@@ -55,7 +71,7 @@ fn renamed(held: &Held, call: Call) -> Call {
             until,
             now,
         } => Call::MqTimedSend {
-            d: number_of(held, d),
+            d: own_number(numbers, d),
             prio,
             len,
             until,
@@ -67,56 +83,96 @@ fn renamed(held: &Held, call: Call) -> Call {
             until,
             now,
         } => Call::MqTimedReceive {
-            d: number_of(held, d),
+            d: own_number(numbers, d),
             room,
             until,
             now,
         },
         Call::MqGetattr { d } => Call::MqGetattr {
-            d: number_of(held, d),
+            d: own_number(numbers, d),
         },
         Call::MqSetattr { d, nonblock } => Call::MqSetattr {
-            d: number_of(held, d),
+            d: own_number(numbers, d),
             nonblock,
         },
         Call::MqNotify { d, value } => Call::MqNotify {
-            d: number_of(held, d),
+            d: own_number(numbers, d),
             value,
         },
         _ => call,
     }
 }
 
-// What a process holds after an operation, whose call has the number already. An open that returned gets the lowest number.
-fn follow(held: &mut Held, operation: &mut Operation) {
-    match operation.outcome {
-        Outcome::Opened(d) => {
-            let number = lowest_free(held);
-            if number < DESCRIPTORS as u32 {
-                held[number as usize] = Some(d);
+// What a call returned, where an open gives the lowest number that is free.
+fn own_outcome(numbers: &Numbers, outcome: Outcome) -> Outcome
+    ensures { result ≡ own_outcome numbers.now outcome }
+{
+    match outcome {
+        Outcome::Opened(_) => Outcome::Opened(lowest_free(numbers)),
+        _ => outcome,
+    }
+}
+
+// What a process holds after a call by its own number.
+fn numbers_after(numbers: Numbers, call: Call, outcome: &Outcome) -> Numbers
+    ensures { result ≡ numbers_after numbers call outcome.now }
+{
+    match outcome {
+        Outcome::Opened(d) => after_opened(numbers, lowest_free(&numbers), *d),
+        Outcome::Done => after_closed(numbers, call),
+        _ => numbers,
+    }
+}
+
+fn after_opened(mut numbers: Numbers, number: u32, d: u32) -> Numbers
+    ensures { result ≡ after_opened numbers number d }
+{
+    if number < DESCRIPTORS as u32 {
+        numbers[number as usize] = Some(d);
+    }
+    numbers
+}
+
+fn after_closed(mut numbers: Numbers, call: Call) -> Numbers
+    ensures { result ≡ after_closed numbers call }
+{
+    match call {
+        Call::MqClose { d } => {
+            if d < DESCRIPTORS as u32 {
+                numbers[d as usize] = None;
             }
-            operation.outcome = Outcome::Opened(number);
+            numbers
         }
-        Outcome::Done => {
-            if let Call::MqClose { d } = operation.call
-                && d < DESCRIPTORS as u32
-            {
-                held[d as usize] = None;
-            }
-        }
-        _ => {}
+        _ => numbers,
     }
 }
 
 /// Gives the descriptors of a process this project's own numbers, as its opens would: the lowest that is free. A call by a
 /// descriptor that the process does not hold gets the number 16, which is refused.
-pub fn rename(operations: &mut Vec<Operation>)
-    ensures { length operations.new.items ≡ length operations.old.items }
+pub fn rename(alloc: Global, operations: Vec<Operation>) -> Result<Vec<Operation>, AllocError>
+    ensures { IfOk result (λ own. own.items ≡ renamed no_numbers operations.items) }
 {
-    let mut held: Held = [None; 16];
-    for index in 0..operations.len() {
-        let operation = &mut operations[index];
-        operation.call = renamed(&held, operation.call);
-        follow(&mut held, operation);
+    let mut numbers: Numbers = [None; 16];
+    let mut own = Vec::new(alloc);
+    for operation in operations {
+        let Operation {
+            call,
+            given,
+            begin,
+            end,
+            outcome,
+        } = operation;
+        let call = own_call(&numbers, call);
+        let after = numbers_after(numbers, call, &outcome);
+        let outcome = own_outcome(&numbers, outcome);
+        numbers = after;
+        own.push(Operation {
+            call,
+            given,
+            begin,
+            end,
+            outcome,
+        })?;
     }
+    Ok(own)
 }

@@ -1,56 +1,104 @@
 //! Front parts of a history.
+ghost use Rattle.std.specs.Prelude.{◌≡◌, ◌++◌, ◌∷◌, ◌+◌, [], nat_le, nat_lt, ◌==◌, ◌||◌, IfOk, OnOk, map};
+ghost use Rattle.histories.specs.Histories.{is_pending};
+ghost use Rattle.history_judge.specs.Text.{message_of, written_reply};
+ghost use Rattle.history_judge.specs.Seen.{AreSameCalls, seen_call};
+ghost use Rattle.history_judge.specs.Fronts.{AreReturnsOf, front_until, had_returned, under_way};
+
 use crate::line::Called;
 use histories::operation::{Operation, Outcome};
 use std::alloc::{AllocError, Global};
 
 /// The returns of a history in their order, each with its moment and the index of its call. Of two at one moment the one whose line
 /// comes first is the earlier.
-pub fn returns_of(alloc: Global, calls: &[Called]) -> Result<Vec<(u64, usize)>, AllocError> {
+pub fn returns_of(alloc: Global, calls: &[Called]) -> Result<Vec<(u64, usize)>, AllocError>
+    ensures { IfOk result (λ returns. AreReturnsOf calls.now returns.items) }
+{
     let mut returns = Vec::new(alloc);
     for (index, called) in calls.iter().enumerate() {
-        match called.operation.outcome {
-            Outcome::Pending => {}
-            _ => returns.push((called.operation.end, index))?,
+        if !is_pending(&called.operation) {
+            returns.push((called.operation.end, index))?;
         }
     }
     returns.sort()?;
     Ok(returns)
 }
 
-fn outcome_again(alloc: Global, outcome: &Outcome) -> Result<Outcome, AllocError> {
-    Ok(match outcome {
-        Outcome::Pending => Outcome::Pending,
-        Outcome::Done => Outcome::Done,
-        Outcome::Opened(d) => Outcome::Opened(*d),
-        Outcome::Got { prio, message } => Outcome::Got {
-            prio: *prio,
-            message: message.as_slice().to_vec(alloc)?,
-        },
-        Outcome::Attributes(status) => Outcome::Attributes(*status),
-        Outcome::Notice(value) => Outcome::Notice(*value),
-        Outcome::Refused(fault) => Outcome::Refused(*fault),
-    })
+// An operation had not returned when the history ended.
+fn is_pending(operation: &Operation) -> bool
+    ensures { result ≡ is_pending operation.now.outcome }
+{
+    match operation.outcome {
+        Outcome::Pending => true,
+        _ => false,
+    }
 }
 
-// The same call, which has returned, or which has not.
-fn again(alloc: Global, called: &Called, returned: bool) -> Result<Called, AllocError> {
+// What was returned again, which is seen alike.
+fn outcome_again(alloc: Global, outcome: &Outcome) -> Result<Outcome, AllocError>
+    ensures reply { IfOk result (λ again. written_reply again ≡ written_reply outcome.now) }
+    ensures message { IfOk result (λ again. message_of again ≡ message_of outcome.now) }
+{
+    match outcome {
+        Outcome::Pending => Ok(Outcome::Pending),
+        Outcome::Done => Ok(Outcome::Done),
+        Outcome::Opened(d) => Ok(Outcome::Opened(*d)),
+        Outcome::Got { prio, message } => {
+            let message = message.as_slice().to_vec(alloc)?;
+            Ok(Outcome::Got {
+                prio: *prio,
+                message,
+            })
+        }
+        Outcome::Attributes(status) => Ok(Outcome::Attributes(*status)),
+        Outcome::Notice(value) => Ok(Outcome::Notice(*value)),
+        Outcome::Refused(fault) => Ok(Outcome::Refused(*fault)),
+    }
+}
+
+// The same call again.
+fn again(alloc: Global, called: &Called) -> Result<Called, AllocError>
+    ensures { IfOk result (λ again. seen_call again ≡ seen_call called.now) }
+{
     let operation = &called.operation;
     let given = operation.given.as_slice().to_vec(alloc)?;
-    let (end, outcome) = if returned {
-        (operation.end, outcome_again(alloc, &operation.outcome)?)
-    } else {
-        (u64::MAX, Outcome::Pending)
-    };
+    let outcome = outcome_again(alloc, &operation.outcome)?;
     Ok(Called {
         process: called.process,
         operation: Operation {
             call: operation.call,
             given,
             begin: operation.begin,
-            end,
+            end: operation.end,
             outcome,
         },
     })
+}
+
+// The same call, which has not returned.
+fn under_way(alloc: Global, called: &Called) -> Result<Called, AllocError>
+    ensures { IfOk result (λ again. seen_call again ≡ seen_call (under_way called.now)) }
+{
+    let operation = &called.operation;
+    let given = operation.given.as_slice().to_vec(alloc)?;
+    Ok(Called {
+        process: called.process,
+        operation: Operation {
+            call: operation.call,
+            given,
+            begin: operation.begin,
+            end: u64::MAX,
+            outcome: Outcome::Pending,
+        },
+    })
+}
+
+// The call at an index had returned when the last one did.
+fn had_returned(last: (u64, usize), index: usize, operation: &Operation) -> bool
+    ensures { result ≡ had_returned last index operation.now }
+{
+    !is_pending(operation)
+        && (operation.end < last.0 || (operation.end == last.0 && index <= last.1))
 }
 
 /// The history as it was seen until the return of one of its calls: it, and those that returned before it, have returned. Of the
@@ -59,22 +107,45 @@ pub fn front_of(
     alloc: Global,
     calls: &[Called],
     last: (u64, usize),
-) -> Result<Vec<Called>, AllocError> {
+) -> Result<Vec<Called>, AllocError>
+    ensures { IfOk result (λ front. AreSameCalls front.items (front_until last calls.now)) }
+{
     let mut front = Vec::new(alloc);
     for (index, called) in calls.iter().enumerate() {
-        let operation = &called.operation;
-        let returned = match operation.outcome {
-            Outcome::Pending => false,
-            _ => (operation.end, index) <= last,
-        };
-        if returned || operation.begin <= last.0 {
-            front.push(again(alloc, called, returned)?)?;
+        if had_returned(last, index, &called.operation) {
+            add(alloc, &mut front, called)?;
+        } else if called.operation.begin <= last.0 {
+            add_under_way(alloc, &mut front, called)?;
         }
     }
     Ok(front)
 }
 
+fn add(alloc: Global, calls: &mut Vec<Called>, called: &Called) -> Result<(), AllocError>
+    ensures { OnOk result (map seen_call calls.new.items ≡
+        map seen_call calls.old.items ++ seen_call called.now ∷ []) }
+{
+    let again = again(alloc, called)?;
+    calls.push(again)?;
+    Ok(())
+}
+
+fn add_under_way(alloc: Global, calls: &mut Vec<Called>, called: &Called) -> Result<(), AllocError>
+    ensures { OnOk result (map seen_call calls.new.items ≡
+        map seen_call calls.old.items ++ seen_call (under_way called.now) ∷ []) }
+{
+    let again = under_way(alloc, called)?;
+    calls.push(again)?;
+    Ok(())
+}
+
 /// The whole history again.
-pub fn whole_of(alloc: Global, calls: &[Called]) -> Result<Vec<Called>, AllocError> {
-    front_of(alloc, calls, (u64::MAX, usize::MAX))
+pub fn whole_of(alloc: Global, calls: &[Called]) -> Result<Vec<Called>, AllocError>
+    ensures { IfOk result (λ whole. AreSameCalls whole.items calls.now) }
+{
+    let mut whole = Vec::new(alloc);
+    for called in calls {
+        add(alloc, &mut whole, called)?;
+    }
+    Ok(whole)
 }

@@ -1,5 +1,8 @@
 //! Whether a history is possible.
 ghost use Rattle.std.specs.Prelude.{◌≡◌, ◌≤◌, ◌<◌, IfOk, length, vec_len};
+ghost use Rattle.history_judge.specs.Seen.{AreSameCalls};
+ghost use Rattle.history_judge.specs.Fronts.{front_part};
+ghost use Rattle.history_judge.specs.Verdicts.{AreHistoriesOf, IsAnswer, IsImpossible, IsJudgement};
 
 use crate::descriptors::rename;
 use crate::front::{front_of, returns_of, whole_of};
@@ -8,6 +11,7 @@ use crate::line::Called;
 use crate::processes::{by_process, process_count};
 use histories::judge::judge;
 use histories::linearizer::Linearizer;
+use histories::operation::Operation;
 use journal_format::text::write_journal;
 use schedules::search::Finding;
 use std::alloc::{AllocError, Global};
@@ -24,20 +28,35 @@ pub enum Answer {
 }
 
 /// Whether these calls have a legal order, within so many steps.
-pub fn find_order(alloc: Global, calls: Vec<Called>, budget: u64) -> Result<Answer, AllocError> {
-    let count = process_count(&calls);
-    let mut histories = by_process(alloc, calls, count)?;
-    for index in 0..histories.len() {
-        rename(&mut histories[index]);
-    }
+pub fn find_order(alloc: Global, calls: Vec<Called>, budget: u64) -> Result<Answer, AllocError>
+    ensures { IfOk result (IsAnswer calls.items) }
+{
+    let histories = histories_of(alloc, calls)?;
     let hints = hints_of(alloc, &histories)?;
     let mut linearizer = Linearizer::new(alloc, histories, hints)?;
-    let answer = match judge(alloc, &mut linearizer, budget)? {
-        Finding::Found(_) => Answer::Possible(write_journal(alloc, linearizer.journal())?),
-        Finding::Nothing => Answer::Impossible,
-        Finding::OutOfBudget => Answer::OutOfBudget,
-    };
-    Ok(answer)
+    match judge(alloc, &mut linearizer, budget)? {
+        Finding::Found(_) => {
+            let journal = write_journal(alloc, linearizer.journal())?;
+            Ok(Answer::Possible(journal))
+        }
+        Finding::Nothing => Ok(Answer::Impossible),
+        Finding::OutOfBudget => Ok(Answer::OutOfBudget),
+    }
+}
+
+// The operations of the processes of these calls, by own numbers of descriptors.
+fn histories_of(alloc: Global, calls: Vec<Called>) -> Result<Vec<Vec<Operation>>, AllocError>
+    ensures are { IfOk result (λ histories. AreHistoriesOf calls.items histories.items) }
+    ensures few { IfOk result (λ histories. length histories.items ≤ 32) }
+{
+    let count = process_count(&calls);
+    let by_process = by_process(alloc, calls, count)?;
+    let mut histories: Vec<Vec<Operation>> = Vec::new(alloc);
+    for operations in by_process {
+        let own = rename(alloc, operations)?;
+        histories.push(own)?;
+    }
+    Ok(histories)
 }
 
 /// What a history comes to.
@@ -61,8 +80,12 @@ pub enum Judgement {
 }
 
 /// Judges a history, each of its front parts within so many steps.
-pub fn judge_calls(alloc: Global, calls: &[Called], budget: u64) -> Result<Judgement, AllocError> {
-    match find_order(alloc, whole_of(alloc, calls)?, budget)? {
+pub fn judge_calls(alloc: Global, calls: &[Called], budget: u64) -> Result<Judgement, AllocError>
+    ensures { IfOk result (IsJudgement calls.now) }
+{
+    let whole = whole_of(alloc, calls)?;
+    let answer = find_order(alloc, whole, budget)?;
+    match answer {
         Answer::Possible(journal) => Ok(Judgement::Possible { journal }),
         Answer::OutOfBudget => Ok(Judgement::OutOfBudget),
         Answer::Impossible => shortest(alloc, calls, budget),
@@ -70,15 +93,19 @@ pub fn judge_calls(alloc: Global, calls: &[Called], budget: u64) -> Result<Judge
 }
 
 // The shortest front part that is impossible, of a history that is.
-fn shortest(alloc: Global, calls: &[Called], budget: u64) -> Result<Judgement, AllocError> {
+fn shortest(alloc: Global, calls: &[Called], budget: u64) -> Result<Judgement, AllocError>
+    requires { IsImpossible calls.now }
+    ensures { IfOk result (IsJudgement calls.now) }
+{
     let returns = returns_of(alloc, calls)?;
-    // the front part until the return at `bad` is impossible, and those that end before `good` returns are not known to be
+    // the front part `bad` is impossible, and those before `good` are not known to be. Behind the last return it is the whole history
     let mut good = 0;
-    let mut bad = returns.len().saturating_sub(1);
+    let mut bad = returns.len();
     let mut is_shortest = true;
     while good < bad {
         let middle = good + (bad - good) / 2;
-        match find_order(alloc, front_of(alloc, calls, returns[middle])?, budget)? {
+        let answer = judge_front(alloc, calls, &returns, middle, budget)?;
+        match answer {
             Answer::Impossible => bad = middle,
             Answer::Possible(_) => good = middle + 1,
             Answer::OutOfBudget => {
@@ -87,13 +114,46 @@ fn shortest(alloc: Global, calls: &[Called], budget: u64) -> Result<Judgement, A
             }
         }
     }
-    if bad >= returns.len() {
+    let front = front_part(alloc, calls, &returns, bad)?;
+    let at = bad.min(returns.len().saturating_sub(1));
+    if at >= returns.len() {
         return Ok(Judgement::OutOfBudget);
     }
-    let front = front_of(alloc, calls, returns[bad])?;
+    let last = returns[at];
     Ok(Judgement::Impossible {
-        call: returns[bad].1,
+        call: last.1,
         front,
         is_shortest,
     })
+}
+
+// The front part with a number: that until a return, or the whole history.
+fn front_part(
+    alloc: Global,
+    calls: &[Called],
+    returns: &Vec<(u64, usize)>,
+    number: usize,
+) -> Result<Vec<Called>, AllocError>
+    ensures { IfOk result (λ front.
+        AreSameCalls front.items (front_part calls.now returns.now.items number)) }
+{
+    if number >= returns.len() {
+        return whole_of(alloc, calls);
+    }
+    front_of(alloc, calls, returns[number])
+}
+
+// Whether the front part with a number has a legal order.
+fn judge_front(
+    alloc: Global,
+    calls: &[Called],
+    returns: &Vec<(u64, usize)>,
+    number: usize,
+    budget: u64,
+) -> Result<Answer, AllocError>
+    ensures { IfOk result (IsAnswer (front_part calls.now returns.now.items number)) }
+{
+    let front = front_part(alloc, calls, returns, number)?;
+    let answer = find_order(alloc, front, budget)?;
+    Ok(answer)
 }

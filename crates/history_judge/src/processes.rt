@@ -1,5 +1,7 @@
 //! The calls of a history by the processes that made them.
-ghost use Rattle.std.specs.Prelude.{◌≡◌, ◌≤◌, IfOk, length};
+ghost use Rattle.std.specs.Prelude.{◌≡◌, ◌≤◌, ◌++◌, ◌∷◌, [], List, IfOk, OnOk, length, not, position};
+ghost use Rattle.history_judge.specs.declared.line.Called.{Called};
+ghost use Rattle.history_judge.specs.Processes.{AreByProcess, is_process, process_count};
 
 use crate::line::Called;
 use histories::operation::Operation;
@@ -7,13 +9,16 @@ use mq_model::forms::is_process;
 use std::alloc::{AllocError, Global};
 
 /// The index of the first call of a process that is none of 1 to 32.
-pub fn first_stranger(calls: &[Called]) -> Option<usize> {
+pub fn first_stranger(calls: &[Called]) -> Option<usize>
+    ensures { result ≡ position (λ called. not (is_process called.process)) calls.now }
+{
     calls.iter().position(|called| !is_process(called.process))
 }
 
 /// How many processes there are: the greatest number of one.
 pub fn process_count(calls: &[Called]) -> u32
-    ensures { result ≤ 32 }
+    ensures count { result ≡ process_count calls.now }
+    ensures few { result ≤ 32 }
 {
     let mut count = 0;
     for called in calls {
@@ -30,19 +35,41 @@ pub fn by_process(
     calls: Vec<Called>,
     count: u32,
 ) -> Result<Vec<Vec<Operation>>, AllocError>
-    ensures { IfOk result (λ histories. length histories.items ≡ count) }
+    ensures count { IfOk result (λ histories. length histories.items ≡ count) }
+    ensures each { IfOk result (λ histories. AreByProcess calls.items histories.items) }
+{
+    let mut histories = without_operations(alloc, count)?;
+    for called in calls {
+        add(&mut histories, called)?;
+    }
+    Ok(histories)
+}
+
+// So many processes without operations.
+fn without_operations(alloc: Global, count: u32) -> Result<Vec<Vec<Operation>>, AllocError>
+    ensures count { IfOk result (λ histories. length histories.items ≡ count) }
+    ensures each { IfOk result (λ histories. AreByProcess [] histories.items) }
 {
     let mut histories: Vec<Vec<Operation>> = Vec::new(alloc);
     for n in 0..count {
         let _n = n;
         histories.push(Vec::new(alloc))?;
     }
-    for called in calls {
-        let Called { process, operation } = called;
-        let index = process.saturating_sub(1) as usize;
-        if let Some(operations) = histories.get_mut(index) {
-            operations.push(operation)?;
-        }
-    }
     Ok(histories)
+}
+
+// Adds a call to the operations of its process, if that is one of them.
+fn add(histories: &mut Vec<Vec<Operation>>, called: Called) -> Result<(), AllocError>
+    ensures count { length histories.new.items ≡ length histories.old.items }
+    ensures each { OnOk result ((before : List Called) →
+        AreByProcess before histories.old.items →
+        AreByProcess (before ++ called ∷ []) histories.new.items) }
+{
+    let Called { process, operation } = called;
+    if process == 0 || process as usize > histories.len() {
+        return Ok(());
+    }
+    let operations = &mut histories[process as usize - 1];
+    operations.push(operation)?;
+    Ok(())
 }

@@ -1,9 +1,43 @@
 //! What is said of a history.
+ghost use Rattle.std.specs.Prelude.{◌≡◌, IfOk, string_bytes};
+ghost use Rattle.history_judge.specs.Said.{impossible_line, judgement_text, possible_line, shortness, status_of};
+
 use crate::judgement::Judgement;
 use crate::line::Called;
 use crate::processes::process_count;
 use crate::text::write_history;
 use std::alloc::{AllocError, Global};
+
+// The line of a history that is possible.
+fn possible_line(alloc: Global, calls: usize, processes: u32) -> Result<String, AllocError>
+    ensures { IfOk result (λ line. string_bytes line ≡ possible_line calls processes) }
+{
+    format!(in alloc; "possible: {calls} calls, {processes} processes\n")
+}
+
+// What is said of a front part that may not be the shortest.
+fn shortness(is_shortest: bool) -> &'static str
+    ensures { result.now ≡ shortness is_shortest }
+{
+    if is_shortest {
+        ""
+    } else {
+        ", perhaps not the shortest"
+    }
+}
+
+// The line of a history that is not.
+fn impossible_line(
+    alloc: Global,
+    line: u64,
+    calls: usize,
+    is_shortest: bool,
+) -> Result<String, AllocError>
+    ensures { IfOk result (λ text. string_bytes text ≡ impossible_line line calls is_shortest) }
+{
+    let known = shortness(is_shortest);
+    format!(in alloc; "impossible: line {line}, front part of {calls} calls{known}\n")
+}
 
 /// What is written of the judgement of a history: a line, and behind it the journal that explains it, where it is asked for, or the
 /// front part that is impossible, as a history.
@@ -12,13 +46,14 @@ pub fn judgement_text(
     calls: &[Called],
     judgement: &Judgement,
     with_journal: bool,
-) -> Result<Vec<u8>, AllocError> {
+) -> Result<Vec<u8>, AllocError>
+    ensures { IfOk result (λ text.
+        text.items ≡ judgement_text calls.now with_journal judgement.now) }
+{
     let mut text = Vec::new(alloc);
     match judgement {
         Judgement::Possible { journal } => {
-            let count = calls.len();
-            let processes = process_count(calls);
-            let line = format!(in alloc; "possible: {count} calls, {processes} processes\n")?;
+            let line = possible_line(alloc, calls.len(), process_count(calls))?;
             text.extend_from_slice(line.as_bytes())?;
             if with_journal {
                 text.extend_from_slice(journal)?;
@@ -29,16 +64,8 @@ pub fn judgement_text(
             front,
             is_shortest,
         } => {
-            let line = (*call as u64).saturating_add(1);
-            let count = front.len();
-            let known = if *is_shortest {
-                ""
-            } else {
-                ", perhaps not the shortest"
-            };
-            let line = format!(in alloc;
-                "impossible: line {line}, front part of {count} calls{known}\n"
-            )?;
+            let number = (*call as u64).saturating_add(1);
+            let line = impossible_line(alloc, number, front.len(), *is_shortest)?;
             text.extend_from_slice(line.as_bytes())?;
             let history = write_history(alloc, front)?;
             text.extend_from_slice(&history)?;
@@ -51,7 +78,9 @@ pub fn judgement_text(
 }
 
 /// The exit status of a judgement: 0 for possible, 1 for impossible, 5 where the budget was used up.
-pub fn status_of(judgement: &Judgement) -> u8 {
+pub fn status_of(judgement: &Judgement) -> u8
+    ensures { result ≡ status_of judgement.now }
+{
     match judgement {
         Judgement::Possible { .. } => 0,
         Judgement::Impossible { .. } => 1,

@@ -1,0 +1,85 @@
+use Rattle.std.proofs.Common.{rules, arith, ◌≡◌, ◌≤◌, ◌<◌, ℕ, ◌+◌, ◌-◌, ◌/◌, true, false, Some, length, min, refl, sym, ◌∙◌, subst, slice_get}
+use Rattle.std.proofs.lemmas.Grind.{common_steps}
+use Rattle.std.proofs.lemmas.Option.{slice_get_read}
+use Rattle.history_judge.specs.Fronts.{Return, front_part}
+use Rattle.history_judge.specs.Verdicts.{IsImpossible}
+use Rattle.history_judge.proofs.Narrowing.{impossible-part, impossible-whole, possible-before}
+use Rattle.history_judge.proofs.judgement.shortest.Goals.{in-Impossible, in-Possible, in-OutOfBudget}
+use Rattle.history_judge.proofs.judgement.shortest.Goals as goal
+
+pub loop-good-init : goal.loop-good-init
+loop-good-init c =
+    let all : length c.in_ok-returns.returns.items ≤ c.len-bad.result = search rules in
+    record {
+      order = omega arith;
+      within = search rules;
+      impossible = impossible-whole c.args.calls.now c.in_ok-returns.returns.items c.len-bad.result all c.requires;
+      shortest = λ t before next. absurd (omega (arith, next));
+    }
+
+pub loop-good-preserved-after-answer : goal.loop-good-preserved-after-answer
+loop-good-preserved-after-answer c =
+    let was = c.loop-good.invariant in let calls = c.args.calls.now in let returns = c.in_ok-returns.returns.items in
+    let middle : ℕ = c.loop-good.good + (c.loop-good.bad - c.loop-good.good) / 2 in
+    elim c.match-answer.branch [
+      | in-Impossible w ↦ record {
+        order = omega (arith, w.good-is, w.bad-is, was.order);
+        within = omega (arith, w.bad-is, was.order, was.within);
+        impossible = impossible-part calls returns middle c.match-answer.bad c.in_ok-answer.answer w.in-Impossible.is c.in_ok-answer.ensures w.bad-is;
+        shortest = λ t before next. was.shortest (sym w.is_shortest-is ∙ t) before (next ∙ w.good-is);
+      }
+      | in-Possible w ↦ record {
+        order = omega (arith, w.good-is, w.bad-is, was.order);
+        within = omega (arith, w.bad-is, was.within);
+        impossible = subst (λ n. IsImpossible (front_part calls returns n)) (sym w.bad-is) was.impossible;
+        shortest = λ t before next. possible-before calls returns middle c.in_ok-answer.answer _ w.in-Possible.is c.in_ok-answer.ensures before (next ∙ w.good-is);
+      }
+      | in-OutOfBudget w ↦ record {
+        order = omega (arith, w.good-is, w.bad-is, was.order);
+        within = omega (arith, w.bad-is, was.within);
+        impossible = subst (λ n. IsImpossible (front_part calls returns n)) (sym w.bad-is) was.impossible;
+        shortest = λ t before next. absurd (let e : false ≡ true = sym w.is_shortest-is ∙ t in let no : ⊥ = cc in no);
+      }
+    ]
+
+pub loop-good-preserved : goal.loop-good-preserved
+loop-good-preserved c =
+    let was = c.loop-good.invariant in let calls = c.args.calls.now in let returns = c.in_ok-returns.returns.items in
+    let middle : ℕ = c.loop-good.good + (c.loop-good.bad - c.loop-good.good) / 2 in
+    elim c.match-answer.branch [
+      | in-Impossible w ↦ record {
+        order = omega (arith, w.good-is, w.bad-is, was.order);
+        within = omega (arith, w.bad-is, was.order, was.within);
+        impossible = impossible-part calls returns middle c.match-answer.bad c.in_ok-answer.answer w.in-Impossible.is c.in_ok-answer.ensures w.bad-is;
+        shortest = λ t before next. was.shortest (sym w.is_shortest-is ∙ t) before (next ∙ w.good-is);
+      }
+      | in-Possible w ↦ record {
+        order = omega (arith, w.good-is, w.bad-is, was.order);
+        within = omega (arith, w.bad-is, was.within);
+        impossible = subst (λ n. IsImpossible (front_part calls returns n)) (sym w.bad-is) was.impossible;
+        shortest = λ t before next. possible-before calls returns middle c.in_ok-answer.answer _ w.in-Possible.is c.in_ok-answer.ensures before (next ∙ w.good-is);
+      }
+      | in-OutOfBudget w ↦ record {
+        order = omega (arith, w.good-is, w.bad-is, was.order);
+        within = omega (arith, w.bad-is, was.within);
+        impossible = subst (λ n. IsImpossible (front_part calls returns n)) (sym w.bad-is) was.impossible;
+        shortest = λ t before next. absurd (let e : false ≡ true = sym w.is_shortest-is ∙ t in let no : ⊥ = cc in no);
+      }
+    ]
+
+pub returns : goal.returns
+returns c =
+    let was = c.loop-good.invariant in let returns = c.in_ok-returns.returns.items in let last : Return = c.index-last.result.now in
+    let same : c.min-at.result ≡ min c.loop-good.bad (length returns - 1) = grind (arith, common_steps) in
+    let within : c.min-at.result < length returns = grind (arith, common_steps) in
+    record {
+      returns = returns;
+      are = c.in_ok-returns.ensures;
+      number = c.loop-good.bad;
+      last = last;
+      at = subst (λ i. slice_get returns i ≡ Some last) same (slice_get_read returns (length returns) c.min-at.result last refl within c.index-last.ensures);
+      of = refl;
+      part = c.in_ok-front.ensures;
+      impossible = was.impossible;
+      shortest = λ t before next. was.shortest t before (let e : before + 1 ≡ c.loop-good.good = omega (arith, next, was.order) in e);
+    }

@@ -1,0 +1,35 @@
+-- What is said of a history.
+use Rattle.std.specs.Prelude.{ℕ, ◌+◌, ◌-◌, ◌^◌, Bool, min, List, [], ◌++◌, length, codes, if◌then◌else◌}
+use Rattle.std.specs.Fmt.{decimal}
+use Rattle.history_judge.specs.Text.{history_text}
+use Rattle.history_judge.specs.Processes.{process_count}
+use Rattle.history_judge.specs.declared.line.Called.{Called}
+use Rattle.history_judge.specs.declared.judgement.Judgement.{Judgement}
+use Rattle.history_judge.specs.declared.judgement.Judgement.TheVariants.{Possible, Impossible, OutOfBudget}
+
+-- the exit status
+abbrev pub status_of : Judgement → ℕ
+status_of (Possible journal) = 0
+status_of (Impossible call front is_shortest) = 1
+status_of OutOfBudget = 5
+
+abbrev pub possible_line : ℕ → ℕ → List ℕ
+possible_line calls processes =
+    codes "possible: " ++ (decimal calls ++ (codes " calls, " ++ (decimal processes ++ codes " processes\n")))
+
+abbrev pub shortness : Bool → List ℕ
+shortness is_shortest = if is_shortest then [] else codes ", perhaps not the shortest"
+
+abbrev pub impossible_line : ℕ → ℕ → Bool → List ℕ
+impossible_line line calls is_shortest =
+    codes "impossible: line " ++ (decimal line ++ (codes ", front part of " ++ (decimal calls ++
+    (codes " calls" ++ (shortness is_shortest ++ codes "\n")))))
+
+-- a line, and behind it the journal that explains the history, where it is asked for, or the front part that is impossible. The
+-- line of a call is counted from 1
+abbrev pub judgement_text : List Called → Bool → Judgement → List ℕ
+judgement_text calls with_journal (Possible journal) =
+    possible_line (length calls) (process_count calls) ++ (if with_journal then journal.items else [])
+judgement_text calls with_journal (Impossible call front is_shortest) =
+    impossible_line (min (call + 1) (2 ^ 64 - 1)) (length front.items) is_shortest ++ history_text front.items
+judgement_text calls with_journal OutOfBudget = codes "undecided: the budget was used up\n"

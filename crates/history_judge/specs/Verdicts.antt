@@ -1,0 +1,67 @@
+-- What it is for a history to be possible, and what a judgement says of it.
+use Rattle.std.specs.Prelude.{◌≡◌, ℕ, ◌+◌, ◌-◌, Bool, true, min, List, length, Some, Vec, slice_get}
+use Rattle.std.specs.declared.alloc.Global.{Global}
+use Rattle.mq_model.specs.Record.{Past}
+use Rattle.journal_format.specs.Text.{journal_text}
+use Rattle.histories.specs.declared.operation.Operation.{Operation}
+use Rattle.histories.specs.Histories.{Histories, is_complete}
+use Rattle.histories.specs.Linearizations.{IsLinearization}
+use Rattle.histories.specs.RealTime.{AgreesWithRealTime, EndInOrder}
+use Rattle.history_judge.specs.Seen.{AreSameCalls, AreSameOperations}
+use Rattle.history_judge.specs.Processes.{operations_of, process_count}
+use Rattle.history_judge.specs.Descriptors.{no_numbers, renamed}
+use Rattle.history_judge.specs.Fronts.{AreReturnsOf, Return, front_part}
+use Rattle.history_judge.specs.declared.line.Called.{Called}
+use Rattle.history_judge.specs.declared.judgement.Answer.{Answer}
+use Rattle.history_judge.specs.declared.judgement.Answer.TheVariants as answer
+use Rattle.history_judge.specs.declared.judgement.Judgement.{Judgement}
+use Rattle.history_judge.specs.declared.judgement.Judgement.TheVariants.{Possible, Impossible, OutOfBudget}
+
+-- the operations of the processes of these calls, each in the order of its calls and by own numbers of descriptors
+pub record AreHistoriesOf (calls : List Called) (histories : Histories) : Type 0 where
+  pub count : length histories ≡ process_count calls
+  pub each : (index : ℕ) (operations : Vec Operation Global) → slice_get histories index ≡ Some operations →
+      AreSameOperations operations.items (renamed no_numbers (operations_of (index + 1) calls))
+
+-- the journal is a linearization of these calls in which each that returned is completed
+pub record Explains (calls : List Called) (past : Past) : Type 0 where
+  pub histories : Histories
+  pub are : AreHistoriesOf calls histories
+  pub linear : IsLinearization histories past
+  pub complete : is_complete histories past ≡ true
+
+abbrev pub IsPossible : List Called → Type 0
+IsPossible calls = (past : Past) × Explains calls past
+
+abbrev pub IsImpossible : List Called → Type 0
+IsImpossible calls = (past : Past) → Explains calls past → ⊥
+
+-- the text is of a journal that explains these calls. It agrees with real time where those of each process end in their order
+pub record IsExplainedBy (calls : List Called) (text : List ℕ) : Type 0 where
+  pub past : Past
+  pub explains : Explains calls past
+  pub real_time : EndInOrder explains.histories → AgreesWithRealTime explains.histories past
+  pub written : text ≡ journal_text past
+
+abbrev pub IsAnswer : List Called → Answer → Type 0
+IsAnswer calls (answer.Possible journal) = IsExplainedBy calls journal.items
+IsAnswer calls answer.Impossible = IsImpossible calls
+IsAnswer calls answer.OutOfBudget = Unit {0}
+
+-- the front is an impossible front part. It ends with the return of the call, and the whole history with the last return. Where it is
+-- the shortest the front part before it is possible
+pub record IsImpossibleFront (calls : List Called) (call : ℕ) (front : List Called) (is_shortest : Bool) : Type 0 where
+  pub returns : List Return
+  pub are : AreReturnsOf calls returns
+  pub number : ℕ
+  pub last : Return
+  pub at : slice_get returns (min number (length returns - 1)) ≡ Some last
+  pub of : call ≡ last.1
+  pub part : AreSameCalls front (front_part calls returns number)
+  pub impossible : IsImpossible (front_part calls returns number)
+  pub shortest : is_shortest ≡ true → (before : ℕ) → before + 1 ≡ number → IsPossible (front_part calls returns before)
+
+abbrev pub IsJudgement : List Called → Judgement → Type 0
+IsJudgement calls (Possible journal) = IsExplainedBy calls journal.items
+IsJudgement calls (Impossible call front is_shortest) = IsImpossibleFront calls call front.items is_shortest
+IsJudgement calls OutOfBudget = Unit {0}
