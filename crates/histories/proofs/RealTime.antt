@@ -34,7 +34,7 @@ count-above : (waits : Bool) (n : ℕ) → n ≤ (if waits then n + 1 - 1 else n
 count-above true n = omega arith
 count-above false n = omega arith
 
-completed-grows : (past : Past) (r : Record) (p : Process) → IsLegalNext past r → completed past p ≤ completed (r ∷ past) p
+pub completed-grows : (past : Past) (r : Record) (p : Process) → IsLegalNext past r → completed past p ≤ completed (r ∷ past) p
 completed-grows past r p legal =
     let W : Bool = is_some (open_wait past p) in
     let M : ℕ = made past p in

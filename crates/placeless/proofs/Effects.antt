@@ -323,7 +323,7 @@ after_answer p call payload reply ss rs k before = if is_place k (answers reply 
 abbrev pub called : Past → ℕ → Call → ℕ
 called past p call = unwrap_or (called_queue past p call) 0
 
-answered-below : (past : Past) (k b : ℕ) → answered_by past k ≡ Some b → b < length past
+pub answered-below : (past : Past) (k b : ℕ) → answered_by past k ≡ Some b → b < length past
 answered-below [] k b e = absurd (cc)
 answered-below (r ∷ past) k b e = split (r.entry.process == k)
     (λ t. let bad : None ≡ Some b = rw t at e in absurd (cc))

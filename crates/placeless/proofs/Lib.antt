@@ -8,3 +8,4 @@ pub mod Codes
 pub mod Keys
 pub mod KindSteps
 pub mod Appends
+pub mod Calls

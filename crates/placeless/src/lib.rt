@@ -15,6 +15,7 @@ mod standing;
 
 use mq_checker::scan_names::{creates, entry_at};
 use mq_checker::scan_notices::registered;
+use mq_model::entries::Call;
 use mq_model::journals::Journal;
 use std::alloc::{AllocError, Global};
 
@@ -32,6 +33,42 @@ pub fn keys_tell()
         Legal x → Legal y → IsUnregistered x → IsUnregistered y →
         key_of x ≡ key_of y → AreAlike x y }
 {}
+
+/// Whether a call makes no queue, no name and no notice.
+pub fn is_plain(call: Call) -> bool
+    ensures { result ≡ is_plain call }
+{
+    match call {
+        Call::MqClose { d: _ }
+        | Call::MqSend {
+            d: _,
+            prio: _,
+            len: _,
+        }
+        | Call::MqReceive { d: _, room: _ }
+        | Call::MqTimedSend {
+            d: _,
+            prio: _,
+            len: _,
+            until: _,
+            now: _,
+        }
+        | Call::MqTimedReceive {
+            d: _,
+            room: _,
+            until: _,
+            now: _,
+        }
+        | Call::MqGetattr { d: _ }
+        | Call::MqSetattr { d: _, nonblock: _ }
+        | Call::Collect => true,
+        Call::MqOpen { flags: _, attr: _ }
+        | Call::MqUnlink
+        | Call::MqNotify { d: _, value: _ }
+        | Call::NextNotice
+        | Call::Withdraw { now: _ } => false,
+    }
+}
 
 /// The key of a journal. It says nothing of names, registrations and notices. For each queue it reads the journal a few times, and once
 /// more for each message and wait that is left, back to the open of its descriptor.

@@ -7,6 +7,7 @@ use Rattle.schedules.specs.Choices.{IsFirstFrom}
 use Rattle.schedules.specs.Likeness.{HasKey}
 use Rattle.schedules.specs.declared.outcomes.Level.{Level}
 use Rattle.schedules.proofs.Covering.{Covered, after-append, after-push, covered-front, covered-next, covered-push, front_runs, no_goal_here}
+use Rattle.schedules.proofs.Along.{AreAlong, along-last, along-push, taken}
 use Rattle.schedules.proofs.Collecting.{covered-fewer}
 
 -- what a search knows of a choice at a state
@@ -16,76 +17,7 @@ pub record IsLevel {S : Type 0} (next : S → ℕ → Option S) (IsKey : S → L
 
 -- the same of each choice of the path, at its node
 abbrev pub AreLevels : {S : Type 0} → (S → ℕ → Option S) → (S → List ℕ → Type 0) → List ℕ → List Level → S → Type 0
-AreLevels next IsKey [] [] s = Unit {0}
-AreLevels next IsKey [] (level ∷ levels) s = ⊥
-AreLevels next IsKey (choice ∷ path) [] s = ⊥
-AreLevels {S} next IsKey (choice ∷ path) (level ∷ levels) s =
-    IsLevel next IsKey s choice level × ((t : S) → next s choice ≡ Some t → AreLevels next IsKey path levels t)
-
--- a choice more
-pub levels-push : {S : Type 0} (next : S → ℕ → Option S) (IsKey : S → List ℕ → Type 0) (path : List ℕ) (levels : List Level) (choice : ℕ) (level : Level) (s now : S) →
-    after next path s ≡ Some now → IsLevel next IsKey now choice level →
-    AreLevels next IsKey path levels s → AreLevels next IsKey (path ++ choice ∷ []) (levels ++ level ∷ []) s
-levels-push {S} next IsKey [] [] choice level s now runs is are =
-    let same : now ≡ s = cc in
-    let P : S → Type 0 = λ x. IsLevel next IsKey x choice level in
-    (subst P same is, (λ t step. tt))
-levels-push next IsKey [] (l ∷ levels) choice level s now runs is are = absurd are
-levels-push next IsKey (c ∷ path) [] choice level s now runs is are = absurd are
-levels-push {S} next IsKey (c ∷ path) (l ∷ levels) choice level s now runs is are = (
-  are.0,
-  (λ t step. levels-push next IsKey path levels choice level t now (let e : option_and_then (after next path) (next s c) ≡ Some now = runs in rw step at e) is (are.1 t step)),
-)
-
--- the last choice of a path
-pub record IsLast {S : Type 0} (next : S → ℕ → Option S) (IsKey : S → List ℕ → Type 0) (front : List ℕ) (last : ℕ) (levels : List Level) (s : S) : Type 0 where
-  pub others : List Level
-  pub level : Level
-  pub are : levels ≡ others ++ level ∷ []
-  pub front_are : AreLevels next IsKey front others s
-  pub here : (node : S) → after next front s ≡ Some node → IsLevel next IsKey node last level
-
-pub levels-last : {S : Type 0} (next : S → ℕ → Option S) (IsKey : S → List ℕ → Type 0) (front : List ℕ) (last : ℕ) (levels : List Level) (s now : S) →
-    after next (front ++ last ∷ []) s ≡ Some now → AreLevels next IsKey (front ++ last ∷ []) levels s → IsLast next IsKey front last levels s
-levels-last next IsKey [] last [] s now runs are = absurd are
-levels-last {S} next IsKey [] last (l ∷ []) s now runs are = record {
-  others = [];
-  level = l;
-  are = refl;
-  front_are = tt;
-  here = λ node is. let same : s ≡ node = cc in let P : S → Type 0 = λ x. IsLevel next IsKey x last l in subst P same are.0;
-}
-levels-last {S} next IsKey [] last (l ∷ m ∷ levels) s now runs are =
-    let goes : (o : Option S) → next s last ≡ o → option_and_then (after next []) o ≡ Some now → IsLast next IsKey [] last (l ∷ m ∷ levels) s =
-    λ (o : Option S). elim o as (λ o. next s last ≡ o → option_and_then (after next []) o ≡ Some now → IsLast next IsKey [] last (l ∷ m ∷ levels) s)
-    [ None ↦ (λ e h. cc) | Some t ↦ (λ e h. absurd (are.1 t e)) ]
-    in
-    goes (next s last) refl runs
-levels-last next IsKey (c ∷ front) last [] s now runs are = absurd are
-levels-last {S} next IsKey (c ∷ front) last (l ∷ levels) s now runs are =
-    let goes : (o : Option S) → next s c ≡ o → option_and_then (after next (front ++ last ∷ [])) o ≡ Some now → IsLast next IsKey (c ∷ front) last (l ∷ levels) s =
-    λ (o : Option S). elim o as (λ o. next s c ≡ o → option_and_then (after next (front ++ last ∷ [])) o ≡ Some now → IsLast next IsKey (c ∷ front) last (l ∷ levels) s) [
-      | None ↦ (λ e h. cc)
-      | Some t ↦ (λ e h.
-          let rest = levels-last next IsKey front last levels t now h (are.1 t e) in
-          record {
-            others = l ∷ rest.others;
-            level = rest.level;
-            are = ap (λ (xs : List Level). l ∷ xs) rest.are;
-            front_are = (are.0, (λ u step. let same : t ≡ u = cc in let P : S → Type 0 = λ x. AreLevels next IsKey front rest.others x in subst P same rest.front_are));
-            here = λ node is. rest.here node (let f : option_and_then (after next front) (next s c) ≡ Some node = is in rw e at f);
-          })
-    ]
-    in
-    goes (next s c) refl runs
-
--- a schedule of one choice
-taken : {S : Type 0} (next : S → ℕ → Option S) (s t : S) (choice : ℕ) → after next (choice ∷ []) s ≡ Some t → next s choice ≡ Some t
-taken {S} next s t choice runs =
-    let goes : (o : Option S) → option_and_then (after next []) o ≡ Some t → o ≡ Some t =
-    λ (o : Option S). elim o as (λ o. option_and_then (after next []) o ≡ Some t → o ≡ Some t) [ None ↦ (λ h. h) | Some u ↦ (λ h. h) ]
-    in
-    goes (next s choice) runs
+AreLevels next IsKey path levels s = AreAlong next (IsLevel next IsKey) path levels s
 
 -- choices that can't be taken are passed over
 pub covered-skips : {S : Type 0} (next : S → ℕ → Option S) (is_goal : S → Bool) (path : List ℕ) (low high : ℕ) (s now : S) →
@@ -186,7 +118,7 @@ stands-push {S} next is_goal IsKey path levels start machine t choice level firs
       runs = further;
       here = λ some. refl;
       covered = stands.ahead.0;
-      known = levels-push next IsKey path levels choice level start machine runs is stands.known;
+      known = along-push next (IsLevel next IsKey) path levels choice level start machine runs is stands.known;
       ahead = ahead-entered next is_goal (path ++ choice ∷ []) first start t done further no_goal stands.ahead.0 new nothing none;
     }
 
@@ -204,7 +136,7 @@ stands-back {S} next is_goal IsKey path front last levels start machine stands a
     let runs : after next (front ++ last ∷ []) start ≡ Some stands.node = (let P : List ℕ → Type 0 = λ xs. after next xs start ≡ Some stands.node in subst P are stands.runs) in
     let known : AreLevels next IsKey (front ++ last ∷ []) levels start = (let P : List ℕ → Type 0 = λ xs. AreLevels next IsKey xs levels start in subst P are stands.known) in
     let covered : Covered next is_goal (front ++ last ∷ []) start = (let P : List ℕ → Type 0 = λ xs. Covered next is_goal xs start in subst P are stands.covered) in
-    let split = levels-last next IsKey front last levels start stands.node runs known in
+    let split = along-last next (IsLevel next IsKey) front last levels start stands.node runs known in
     let none : (t : S) → after next (front ++ last ∷ []) start ≡ Some t → HasNoGoal next is_goal t =
     λ t there. let same : stands.node ≡ t = cc in let P : S → Type 0 = λ x. HasNoGoal next is_goal x in subst P same stands.ahead
     in
@@ -218,7 +150,7 @@ stands-back {S} next is_goal IsKey path front last levels start machine stands a
           let step : next node last ≡ Some stands.node = taken next node stands.node last (rw e at last_step) in
           record {
             others = split.others;
-            level = split.level;
+            level = split.kept;
             are = split.are;
             key = level.key stands.node step;
             back = λ machine at. record {
@@ -227,7 +159,7 @@ stands-back {S} next is_goal IsKey path front last levels start machine stands a
               here = λ some. let f = at some in cc;
               covered = covered-front next is_goal front (last ∷ []) start covered;
               known = split.front_are;
-              ahead = ahead-from next is_goal front (last + 1) split.level.other start node e level.first further;
+              ahead = ahead-from next is_goal front (last + 1) split.kept.other start node e level.first further;
             };
           })
     ]

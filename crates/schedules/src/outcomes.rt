@@ -1,13 +1,13 @@
 //! What all schedules of a machine come to.
 ghost use Rattle.std.specs.Prelude.{◌≡◌, ◌++◌, ◌∷◌, [], ℕ, All, IfOk, List, None, OnOk, Some, false, is_some, true};
 ghost use Rattle.schedules.specs.Choices.{IsFirstFrom};
-ghost use Rattle.schedules.specs.Schedules.{IsReached, after};
-ghost use Rattle.schedules.specs.Likeness.{AreBothAlike, HasKey};
+ghost use Rattle.schedules.specs.Schedules.{after};
 ghost use Rattle.schedules.specs.Seen.{Noted, is_done};
 ghost use Rattle.schedules.specs.Told.{Told};
 ghost use Rattle.schedules.specs.Outcomes.{AreAll, AreDistinct, IsWitness, are_same, is_among, told_by};
 ghost use Rattle.schedules.specs.declared.outcomes.Level.{Level};
 
+use crate::keyed::Keyed;
 use crate::machine::Machine;
 use crate::search::run_again;
 use crate::seen::Seen;
@@ -34,27 +34,11 @@ pub trait Telling: Machine {
         ensures { result ≡ is_some (Self.next self.now choice) };
 }
 
-/// A machine that can say of some of its states that they are alike: what follows comes to the same. It says so by a key of each.
-pub trait Keyed: Telling {
-    /// The same schedules lead to goals from both, and the same is told of these.
-    ghost IsAlike: { Self → Self → Type 0 };
-
-    /// The list is a key of the state.
-    ghost IsKey: { Self → List ℕ → Type 0 };
-
-    /// A key, where the state has one. A state that has none is like no other.
-    fn key(&self, alloc: Global) -> Result<Option<Vec<u64>>, AllocError>
-        ensures { IfOk result (HasKey IsKey self.now) };
-
-    /// What keys and likeness promise. The method does nothing: its contract is the law. States that are reached from the start and
-    /// have one key are alike. By each choice states that are alike lead to such again, unless it can be taken at neither.
-    fn keeps_alike(&self)
-        ensures by_key { (x y : Self) (k : List ℕ) → IsReached Self.next (Self.start self.now) x →
-            IsReached Self.next (Self.start self.now) y → IsKey x k → IsKey y k → IsAlike x y }
-        ensures same_goal { (x y : Self) → IsAlike x y → Self.is_goal x ≡ Self.is_goal y }
-        ensures same_outcome { (x y : Self) → IsAlike x y → Self.outcome x ≡ Self.outcome y }
-        ensures same_next { (x y : Self) (choice : ℕ) → IsAlike x y →
-            AreBothAlike IsAlike (Self.next x choice) (Self.next y choice) };
+/// A machine of whose goals that are alike the same is told.
+pub trait TellsAlike: Telling + Keyed {
+    /// Of states that are alike the same is told. The method does nothing: its contract is the law.
+    fn tells_alike(&self)
+        ensures { (x y : Self) → Self.IsAlike x y → Self.outcome x ≡ Self.outcome y };
 }
 
 /// An outcome, and a schedule that has it.
@@ -159,16 +143,14 @@ fn leave(levels: &mut Vec<Level>, seen: &mut Seen) -> Result<Option<u32>, AllocE
     let Some(Level { other, key }) = levels.pop() else {
         return Ok(None);
     };
-    if let Some(key) = key {
-        seen.note(key)?;
-    }
+    seen.note(key)?;
     Ok(other)
 }
 
 /// Tries every schedule of a machine, in so many steps at most, and collects what is told of the goals that they lead to. A step takes a
 /// choice, or takes one back; the choices before it are taken again only where another one is left to be taken after them. From
 /// states with one key it goes on only once.
-pub fn collect<M: Keyed>(
+pub fn collect<M: TellsAlike>(
     alloc: Global,
     machine: &mut M,
     budget: u64,
@@ -181,6 +163,7 @@ pub fn collect<M: Keyed>(
     ensures start { OnOk result (M.start machine.new ≡ M.start machine.old) }
 {
     machine.keeps_alike();
+    machine.tells_alike();
     machine.restart()?;
     let mut path: Vec<u32> = Vec::new(alloc);
     let mut levels: Vec<Level> = Vec::new(alloc);

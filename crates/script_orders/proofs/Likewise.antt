@@ -1,16 +1,14 @@
 -- Stages that are alike stay so by each choice.
-use Rattle.std.proofs.Common.{◌≡◌, ℕ, zero, suc, ◌+◌, ◌≤◌, ◌<◌, ◌==◌, Bool, true, false, ◌&&◌, ◌||◌, List, [], ◌∷◌, ◌++◌, length, Option, Some, None, is_some, is_none, slice_get, slice_set, refl, ap, sym, ◌∙◌, subst, arith, if◌then◌else◌, Vec, nat_le, nat_lt, not}
+use Rattle.std.proofs.Common.{◌≡◌, ℕ, zero, suc, ◌+◌, ◌≤◌, ◌<◌, ◌==◌, Bool, true, false, ◌&&◌, ◌||◌, List, [], ◌∷◌, ◌++◌, length, Option, Some, None, is_some, is_none, slice_get, slice_set, refl, ap, sym, ◌∙◌, subst, arith, if◌then◌else◌, Vec, nat_lt, not}
 use Rattle.std.specs.Option.{option_and_then, option_map}
 use Rattle.std.specs.declared.alloc.Global.{Global}
 use Rattle.std.proofs.lemmas.Bool.{eqb-false, eqb-true}
 use Rattle.std.proofs.lemmas.Option.{slice_get_within, slice_get-map}
 use Rattle.mq_model.specs.Record.{Past, Process}
-use Rattle.mq_model.specs.Limits.{most_processes}
 use Rattle.mq_model.specs.Waits.{open_wait}
-use Rattle.mq_model.specs.Legality.{is_payload, may_call, payload_of, reply_to}
+use Rattle.mq_model.specs.Legality.{may_call, reply_to}
 use Rattle.mq_model.specs.declared.entries.Call.{Call}
-use Rattle.mq_model.specs.declared.entries.Call.TheVariants.{MqOpen, MqClose, MqUnlink, MqSend, MqReceive, MqTimedSend, MqTimedReceive, MqGetattr, MqSetattr, MqNotify, NextNotice, Collect, Withdraw}
-use Rattle.mq_model.specs.declared.entries.Reply.{Reply}
+use Rattle.mq_model.specs.declared.entries.Call.TheVariants.{MqClose, Collect}
 use Rattle.mq_model.proofs.Places.{split}
 use Rattle.mq_state.specs.Trails.{can_call, record_of_call}
 use Rattle.placeless.specs.Key.{key_of, listed}
@@ -18,12 +16,13 @@ use Rattle.placeless.specs.Likeness.{AreAlike, is_plain}
 use Rattle.placeless.specs.Views.{Message}
 use Rattle.placeless.proofs.Codes.{IsTold, told-listed, told-message}
 use Rattle.placeless.proofs.Keys.{same-key}
-use Rattle.placeless.specs.Steps.{StepsAlike, shape}
-use Rattle.placeless.proofs.Alike.{payload-alike, refused-alike}
+use Rattle.placeless.proofs.Alike.{refused-alike}
+use Rattle.placeless.proofs.Calls.{can-alike}
 use Rattle.placeless.proofs.Stays.{steps-alike}
 use Rattle.schedules.specs.Likeness.{AreBothAlike}
 use Rattle.schedules.specs.Schedules.{IsReached, after}
 use Rattle.schedules.specs.Told.{Told}
+use Rattle.schedules.proofs.Covering.{reach-start}
 use Rattle.script_orders.specs.Progress.{Progress}
 use Rattle.script_orders.specs.Said.{said}
 use Rattle.script_orders.specs.Scenes.{Scene, after_call, after_step, close_first, close_held, is_held}
@@ -42,30 +41,6 @@ use Rattle.script_orders.proofs.Printing.{call-said}
 record ScenesAlike (a b : Scene) : Type 0 where
   text : b.text ≡ a.text
   past : AreAlike a.past b.past
-
-payload-form : (call : Call) (a b : Reply) (payload : List ℕ) → shape a ≡ shape b → is_payload call a payload ≡ is_payload call b payload
-payload-form (MqSend d prio len) a b payload e = ap (λ (t : Bool). length payload == (if t then 0 else len)) (refused-alike a b e)
-payload-form (MqTimedSend d prio len until now) a b payload e = ap (λ (t : Bool). length payload == (if t then 0 else len)) (refused-alike a b e)
-payload-form (MqOpen flags attr) a b payload e = refl
-payload-form MqUnlink a b payload e = refl
-payload-form (MqClose d) a b payload e = refl
-payload-form (MqReceive d room) a b payload e = refl
-payload-form (MqTimedReceive d room until now) a b payload e = refl
-payload-form (MqGetattr d) a b payload e = refl
-payload-form (MqSetattr d nonblock) a b payload e = refl
-payload-form (MqNotify d value) a b payload e = refl
-payload-form NextNotice a b payload e = refl
-payload-form Collect a b payload e = refl
-payload-form (Withdraw now) a b payload e = refl
-
-can-alike : (x y : Past) (p : Process) (call : Call) (given : List ℕ) → StepsAlike x y p call given → can_call y p call given ≡ can_call x p call given
-can-alike x y p call given steps =
-    let a = reply_to x p call given in
-    let b = reply_to y p call given in
-    let process = nat_le 1 p && nat_le p most_processes in
-    ap (λ (t : Bool). process && t && is_payload call b (payload_of call b given)) steps.turn
-    ∙ ap (λ (t : Bool). process && may_call x p call && t) (payload-form call b a (payload_of call b given) steps.reply)
-    ∙ ap (λ (bytes : List ℕ). process && may_call x p call && is_payload call a bytes) (payload-alike call b a given steps.reply)
 
 may-of : (past : Past) (p : Process) (call : Call) (given : List ℕ) → can_call past p call given ≡ true → may_call past p call ≡ true
 may-of past p call given can = let one = and-parts _ _ can in let two = and-parts _ _ one.0 in two.1
@@ -362,13 +337,7 @@ pub stages-told : (x y : Stage) → AreStagesAlike x y → told x ≡ told y
 stages-told x y alike = sym (told-alike x y.past alike.journals) ∙ ap told (sym alike.differ)
 
 reach-first : (schedule : List ℕ) (s x : Stage) → after next_stage schedule s ≡ Some x → first_stage x ≡ first_stage s
-reach-first [] s x h = let e : s ≡ x = cc in ap first_stage (sym e)
-reach-first (choice ∷ schedule) s x h =
-    let goes : (o : Option Stage) → next_stage s choice ≡ o → option_and_then (after next_stage schedule) o ≡ Some x → first_stage x ≡ first_stage s =
-    λ (o : Option Stage). elim o as (λ o. next_stage s choice ≡ o → option_and_then (after next_stage schedule) o ≡ Some x → first_stage x ≡ first_stage s)
-    [ None ↦ (λ e h. cc) | Some z ↦ (λ e h. reach-first schedule z x h ∙ next-first s z choice e) ]
-    in
-    goes (next_stage s choice) refl h
+reach-first schedule s x h = reach-start next_stage first_stage next-first schedule s x h
 
 told-seat : IsTold seat_code
 told-seat a b u v e =

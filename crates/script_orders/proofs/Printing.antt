@@ -1,5 +1,5 @@
 -- What is printed of replies that differ in their places alone is the same.
-use Rattle.std.proofs.Common.{◌≡◌, ℕ, Bool, true, false, List, [], ◌∷◌, length, Option, Some, None, is_some, if◌then◌else◌, refl, sym, ◌∙◌, ap, subst}
+use Rattle.std.proofs.Common.{◌≡◌, ℕ, Bool, true, false, List, [], ◌∷◌, length, Option, Some, None, is_some, if◌then◌else◌, refl, sym, ◌∙◌, ap}
 use Rattle.std.specs.Option.{option_map, unwrap_or}
 use Rattle.mq_model.specs.Record.{Record, Past, Place, Process, record_at}
 use Rattle.mq_model.specs.Messages.{is_send, priority_given}
@@ -9,11 +9,11 @@ use Rattle.mq_model.specs.declared.entries.Call.{Call}
 use Rattle.mq_model.specs.declared.entries.Call.TheVariants.{MqOpen, MqClose, MqUnlink, MqSend, MqReceive, MqTimedSend, MqTimedReceive, MqGetattr, MqSetattr, MqNotify, NextNotice, Collect, Withdraw}
 use Rattle.mq_model.specs.declared.entries.Reply.{Reply}
 use Rattle.mq_model.specs.declared.entries.Reply.TheVariants.{Opened, Queued, Handed, Waits, Got, Collected, Attrs, Notice, Done, Refused, Withdrawn}
-use Rattle.mq_model.proofs.Cases.{Says, reply_says}
-use Rattle.placeless.specs.Views.{Message, answer, at, sent, told}
+use Rattle.placeless.specs.Views.{Message, at, sent, told}
 use Rattle.placeless.specs.Likeness.{AreAlike, is_plain}
 use Rattle.placeless.specs.Steps.{StepsAlike, message_given, record_of, shape}
-use Rattle.placeless.proofs.Effects.{answer-older, is_collected}
+use Rattle.placeless.proofs.Calls.{collected-at, is_other, never-collected}
+use Rattle.placeless.proofs.Effects.{is_collected}
 use Rattle.script_text.specs.Replies.{reply_line}
 use Rattle.script_text.specs.declared.reply.Outcome.TheVariants as outcomes
 use Rattle.script_orders.specs.Said.{said, said_of_collect, said_of_message}
@@ -84,14 +84,6 @@ said-alike : (x y : Past) (p : Process) (a b : Reply) → is_collected a ≡ fal
 said-alike x y p a b not_a not_b e f =
     said-shape y p b not_b ∙ ap (λ (r : Reply). said_of p r (message_given y b)) e ∙ ap (λ (m : Option Message). said_of p (shape a) m) f ∙ sym (said-shape x p a not_a)
 
--- what a wait was answered with is at the place that its collect names
-collected-at : (past : Past) (r : Record) (p : Process) → is_some (answered_by past p) ≡ true → Some (at told (r ∷ past) (unwrap_or (answered_by past p) 0)) ≡ answer past p
-collected-at past r p some =
-    let goes : (o : Option ℕ) → is_some o ≡ true → Some (at told (r ∷ past) (unwrap_or o 0)) ≡ option_map (at told (r ∷ past)) o =
-    λ (o : Option ℕ). elim o as (λ o. is_some o ≡ true → Some (at told (r ∷ past) (unwrap_or o 0)) ≡ option_map (at told (r ∷ past)) o) [ None ↦ (λ h. absurd (cc)) | Some b ↦ (λ h. refl) ]
-    in
-    goes (answered_by past p) some ∙ answer-older past r p
-
 collect-said : (x y : Past) (r s : Record) (p : Process) → AreAlike x y → is_some (answered_by x p) ≡ true → is_some (answered_by y p) ≡ true →
     said_of_collect (s ∷ y) p (unwrap_or (answered_by y p) 0) ≡ said_of_collect (r ∷ x) p (unwrap_or (answered_by x p) 0)
 collect-said x y r s p alike some_x some_y =
@@ -103,44 +95,6 @@ collect-said x y r s p alike some_x some_y =
     said-collect (s ∷ y) p (unwrap_or (answered_by y p) 0) ∙ ap (λ (o : Option (Option Message)). collect_by p o) is ∙ sym (said-collect (r ∷ x) p (unwrap_or (answered_by x p) 0))
 
 -- a call ------------------------------------------------------------------------------------------------------------------
-
-not-collected : (reply : Reply) → ((b : ℕ) → reply ≡ Collected b → ⊥) → is_collected reply ≡ false
-not-collected (Collected b) never = absurd (never b refl)
-not-collected (Opened d created) never = refl
-not-collected (Queued n) never = refl
-not-collected (Handed w) never = refl
-not-collected (Got m a n) never = refl
-not-collected Waits never = refl
-not-collected (Withdrawn w) never = refl
-not-collected (Attrs s) never = refl
-not-collected (Notice v) never = refl
-not-collected Done never = refl
-not-collected (Refused f) never = refl
-
--- of a plain call that is no collect
-abbrev is_other : Call → Bool
-is_other Collect = false
-is_other call = is_plain call
-
-says-collected : (past : Past) (p : ℕ) (call : Call) (b : ℕ) → is_other call ≡ true → Says past p call (Collected b) → ⊥
-says-collected past p (MqClose d) b other says = says.0
-says-collected past p (MqSend d prio len) b other says = says.3
-says-collected past p (MqReceive d room) b other says = says.3
-says-collected past p (MqTimedSend d prio len until now) b other says = says.3
-says-collected past p (MqTimedReceive d room until now) b other says = says.3
-says-collected past p (MqGetattr d) b other says = says
-says-collected past p (MqSetattr d nonblock) b other says = says
-says-collected past p Collect b other says = cc
-says-collected past p (MqOpen flags attr) b other says = cc
-says-collected past p MqUnlink b other says = cc
-says-collected past p (MqNotify d value) b other says = cc
-says-collected past p NextNotice b other says = cc
-says-collected past p (Withdraw now) b other says = cc
-
-never-collected : (past : Past) (p : ℕ) (call : Call) (given : List ℕ) → is_other call ≡ true → is_collected (reply_to past p call given) ≡ false
-never-collected past p call given other =
-    not-collected (reply_to past p call given)
-    (λ b e. let P : Reply → Type 0 = λ r. Says past p call r in says-collected past p call b other (subst P e (reply_says past p call given)))
 
 other-said : (x y : Past) (p : Process) (call : Call) (given : List ℕ) → is_other call ≡ true → StepsAlike x y p call given →
     said (record_of y p call given ∷ y) p (reply_to y p call given) ≡ said (record_of x p call given ∷ x) p (reply_to x p call given)

@@ -5,45 +5,16 @@ ghost use Rattle.script_orders.specs.Likeness.{ArePlainFrom, is_plain_step, seat
 
 use crate::plan::{Planned, Step};
 use crate::turn::Seat;
-use mq_model::entries::Call;
+use placeless::is_plain;
 use placeless::parts::push_bytes;
 use std::alloc::AllocError;
 
 // A step that makes plain calls alone.
-fn is_plain(step: Step) -> bool
+fn is_plain_step(step: Step) -> bool
     ensures { result ≡ is_plain_step step }
 {
     match step {
-        Step::Call(call) => match call {
-            Call::MqClose { d: _ }
-            | Call::MqSend {
-                d: _,
-                prio: _,
-                len: _,
-            }
-            | Call::MqReceive { d: _, room: _ }
-            | Call::MqTimedSend {
-                d: _,
-                prio: _,
-                len: _,
-                until: _,
-                now: _,
-            }
-            | Call::MqTimedReceive {
-                d: _,
-                room: _,
-                until: _,
-                now: _,
-            }
-            | Call::MqGetattr { d: _ }
-            | Call::MqSetattr { d: _, nonblock: _ }
-            | Call::Collect => true,
-            Call::MqOpen { flags: _, attr: _ }
-            | Call::MqUnlink
-            | Call::MqNotify { d: _, value: _ }
-            | Call::NextNotice
-            | Call::Withdraw { now: _ } => false,
-        },
+        Step::Call(call) => is_plain(call),
         Step::Refusal(_) => true,
         Step::Exit => true,
     }
@@ -54,7 +25,7 @@ pub fn are_plain_from(program: &[Planned], from: usize) -> bool
     ensures { IsTrue result → ArePlainFrom program.now from }
 {
     for at in from..program.len() {
-        if !is_plain(program[at].step) {
+        if !is_plain_step(program[at].step) {
             return false;
         }
     }

@@ -11,8 +11,9 @@ use crate::turn::{Seat, can_turn, turn};
 use mq_model::journals::Journal;
 use mq_state::trail::Trail;
 use placeless::{is_unregistered, key_of};
+use schedules::keyed::Keyed;
 use schedules::machine::Machine;
-use schedules::outcomes::{Keyed, Outcome, Telling};
+use schedules::outcomes::{Outcome, Telling, TellsAlike};
 use std::alloc::{AllocError, Global};
 use std::marker::Model;
 
@@ -375,6 +376,12 @@ impl Keyed for Play {
     }
 
     fn keeps_alike(&self) {
+        let _processes = self.programs.len();
+    }
+}
+
+impl TellsAlike for Play {
+    fn tells_alike(&self) {
         let _processes = self.programs.len();
     }
 }

@@ -27,7 +27,7 @@ loop-init g c =
     in
     record {
       stands = rw (c.new-path.ensures.items, c.new-levels.ensures.items) begins;
-      done = λ k noted. let none = c.new-seen.ensures k in let h : true ≡ false = sym noted ∙ none in cc;
+      done = λ k noted. let none = c.new-seen.ensures.none k in let h : true ≡ false = sym noted ∙ none in cc;
       start = same;
       distinct = c.in_ok-note.ensures.distinct;
       witnessed = (rw same at c.in_ok-note.ensures.witnessed);
@@ -122,7 +122,7 @@ loop-preserved g c =
             stands = rw (last.0, last.1) (back.back w.run_again.new.machine (λ some. runs));
             done =
                 done-more next is_new g.M.Keyed.IsAlike IsKey start c.keeps_alike.ensures.by_key
-                (new-alike is_goal outcome g.M.Keyed.IsAlike c.keeps_alike.ensures.same_goal c.keeps_alike.ensures.same_outcome found) c.keeps_alike.ensures.same_next
+                (new-alike is_goal outcome g.M.Keyed.IsAlike c.keeps_alike.ensures.same_goal c.tells_alike.ensures found) c.keeps_alike.ensures.same_next
                 seen w.leave.new.seen back.level.key stands.node last.2 back.key (path, stands.runs) stands.ahead c.loop.invariant.done;
             start = w.in_ok-run_again-in-None.ensures.start ∙ c.loop.invariant.start;
             distinct = c.loop.invariant.distinct;
@@ -139,7 +139,7 @@ loop-preserved g c =
             stands = rw (last.0, last.1) (back.back now machine);
             done =
                 done-more next is_new g.M.Keyed.IsAlike IsKey start c.keeps_alike.ensures.by_key
-                (new-alike is_goal outcome g.M.Keyed.IsAlike c.keeps_alike.ensures.same_goal c.keeps_alike.ensures.same_outcome found) c.keeps_alike.ensures.same_next
+                (new-alike is_goal outcome g.M.Keyed.IsAlike c.keeps_alike.ensures.same_goal c.tells_alike.ensures found) c.keeps_alike.ensures.same_next
                 seen w.leave.new.seen back.level.key stands.node last.2 back.key (path, stands.runs) stands.ahead c.loop.invariant.done;
             start = c.loop.invariant.start;
             distinct = c.loop.invariant.distinct;

@@ -1,10 +1,9 @@
-use Rattle.script_orders.proofs.Likewise.{stages-goal, stages-key, stages-next, stages-told}
+use Rattle.script_orders.proofs.Likewise.{stages-goal, stages-key, stages-next}
 use Rattle.script_orders.proofs.play.PlayKeyed.keeps_alike.Goals as goal
 
 pub returns : goal.returns
 returns c = record {
   by_key = λ x y key. stages-key c.args.self.now x y key;
   same_goal = stages-goal;
-  same_outcome = stages-told;
   same_next = stages-next;
 }

@@ -1,0 +1,44 @@
+-- The keys of the nodes to which the choices of a path lead.
+use Rattle.std.proofs.Common.{◌≡◌, ℕ, List, [], ◌∷◌, ◌++◌, Option, Some, None, IsSome, Vec, refl, subst, sym, ◌∙◌}
+use Rattle.std.specs.Option.{option_and_then}
+use Rattle.std.specs.declared.alloc.Global.{Global}
+use Rattle.schedules.specs.Schedules.{after}
+use Rattle.schedules.specs.Likeness.{HasKey}
+use Rattle.schedules.proofs.Along.{AreAlong, along-last, taken}
+use Rattle.schedules.proofs.Covering.{after-append, front_runs}
+
+-- it is a key of the state to which the choice leads
+abbrev pub IsKeyOf : {S : Type 0} → (S → ℕ → Option S) → (S → List ℕ → Type 0) → S → ℕ → Option (Vec ℕ Global) → Type 0
+IsKeyOf {S} next IsKey s choice key = (t : S) → next s choice ≡ Some t → HasKey IsKey t key
+
+abbrev pub AreKeys : {S : Type 0} → (S → ℕ → Option S) → (S → List ℕ → Type 0) → List ℕ → List (Option (Vec ℕ Global)) → S → Type 0
+AreKeys next IsKey path keys s = AreAlong next (IsKeyOf next IsKey) path keys s
+
+-- the last of them is that of the node to which the path leads
+pub record IsLastKey {S : Type 0} (next : S → ℕ → Option S) (IsKey : S → List ℕ → Type 0) (front : List ℕ) (keys : List (Option (Vec ℕ Global))) (start now : S) : Type 0 where
+  pub others : List (Option (Vec ℕ Global))
+  pub last : Option (Vec ℕ Global)
+  pub are : keys ≡ others ++ last ∷ []
+  pub front_are : AreKeys next IsKey front others start
+  pub key : HasKey IsKey now last
+
+pub keys-last : {S : Type 0} (next : S → ℕ → Option S) (IsKey : S → List ℕ → Type 0) (path front : List ℕ) (choice : ℕ) (keys : List (Option (Vec ℕ Global))) (start now : S) →
+    path ≡ front ++ choice ∷ [] → after next path start ≡ Some now → AreKeys next IsKey path keys start → IsLastKey next IsKey front keys start now
+keys-last {S} next IsKey path front choice keys start now parts runs_on are =
+    let runs : after next (front ++ choice ∷ []) start ≡ Some now = (let P : List ℕ → Type 0 = λ xs. after next xs start ≡ Some now in subst P parts runs_on) in
+    let known : AreKeys next IsKey (front ++ choice ∷ []) keys start = (let P : List ℕ → Type 0 = λ xs. AreKeys next IsKey xs keys start in subst P parts are) in
+    let split = along-last next (IsKeyOf next IsKey) front choice keys start now runs known in
+    let last_step : option_and_then (after next (choice ∷ [])) (after next front start) ≡ Some now = sym (after-append next front (choice ∷ []) start) ∙ runs in
+    let goes : (o : Option S) → after next front start ≡ o → IsSome o → HasKey IsKey now split.kept =
+    λ (o : Option S). elim o as (λ o. after next front start ≡ o → IsSome o → HasKey IsKey now split.kept) [
+      | None ↦ (λ e h. cc)
+      | Some node ↦ (λ e h. split.here node e now (taken next node now choice (rw e at last_step)))
+    ]
+    in
+    record {
+      others = split.others;
+      last = split.kept;
+      are = split.are;
+      front_are = split.front_are;
+      key = goes (after next front start) refl (front_runs next front (choice ∷ []) start now runs);
+    }

@@ -1,0 +1,33 @@
+use Rattle.std.proofs.Common.{◌≡◌, ◌||◌, ℕ, ◌+◌, ◌≤◌, List, Bool, false, true, ◌∷◌, ◌∙◌, refl, length, Vec, arith, ap}
+use Rattle.std.specs.declared.alloc.Global.{Global}
+use Rattle.std.specs.Bool.{MatchBool}
+use Rattle.std.specs.Str.{bytes_eq}
+use Rattle.std.specs.List.{list_any, sum_by}
+use Rattle.std.specs.List.Sorted.{IsPermutation}
+use Rattle.std.proofs.lemmas.List.Sorted.{list_any-IsPermutation, sum_by_pushed}
+use Rattle.schedules.proofs.seen.Seen.add.Goals as goal
+
+either : (a b : Bool) → b ≡ true → (a || b) ≡ true
+either true b h = refl
+either false b h = h
+
+-- what passes a test after a key was put in
+passes : {K : Type 0} (test : K → Bool) (old new : List K) (key : K) (added : Bool) →
+    MatchBool added (IsPermutation (key ∷ old) new) (new ≡ old) → list_any test new ≡ true → (test key || list_any test old) ≡ true
+passes test old new key true puts h = list_any-IsPermutation test (key ∷ old) new puts ∙ h
+passes test old new key false same h = either (test key) (list_any test old) (rw same at h)
+
+pub returns-clause-noted : goal.returns-clause-noted
+returns-clause-noted c other h =
+    passes (λ k. bytes_eq other k.items) c.args.self.now.keys.keys c.insert.new.self.keys c.args.key c.in_ok-_added._added c.in_ok-_added.ensures.keys h
+
+-- the numbers that are kept grow by those of the key at most
+grows : {K : Type 0} (f : K → ℕ) (old new : List K) (key : K) (added : Bool) → MatchBool added (IsPermutation (key ∷ old) new) (new ≡ old) → sum_by f new ≤ f key + sum_by f old
+grows f old new key true puts = let e : sum_by f new ≡ f key + sum_by f old = sum_by_pushed f key old new puts in omega (arith, e)
+grows f old new key false same = let e = ap (λ xs. sum_by f xs) same in omega (arith, e)
+
+pub returns-clause-bounded : goal.returns-clause-bounded
+returns-clause-bounded c before =
+    let f : Vec ℕ Global → ℕ = λ k. length k.items in
+    let more = grows f c.args.self.now.keys.keys c.insert.new.self.keys c.args.key c.in_ok-_added._added c.in_ok-_added.ensures.keys in
+    omega (arith, more, before, c.len-numbers.ensures, c.if-numbers-self.false)
