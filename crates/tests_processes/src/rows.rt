@@ -165,6 +165,18 @@ fn journal_after<L: Look<Guarded>, R: Wait + Clock + Abort>(
     Ok(mq.finish(room).ok())
 }
 
+// The same over Lamport's lock, where all is there.
+fn journal_of<R: Wait + Clock + Abort>(
+    rt: &R,
+    bounds: Option<(u64, u64)>,
+    steps: &[(Ask, Result<bool, Fault>)],
+    alloc: Global,
+    buf: &mut [u8],
+) -> Journal {
+    let journal = journal_after::<FastMutex<Guarded>, R>(rt, bounds, steps, alloc, buf);
+    journal.expect(rt, "memory").expect(rt, "the end")
+}
+
 const FULL: Result<bool, Fault> = Err(Fault::JournalFull);
 
 static FOUR_OF_EACH: [(Ask, Result<bool, Fault>); 9] = [
@@ -209,14 +221,7 @@ static REPLIES_OF_FOUR: [Reply; 4] = [
 #[test]
 fn four_entries_and_four_bytes(rt: HostRuntime) {
     let mut buf = [0; 2];
-    let journal = journal_after::<FastMutex<Guarded>, _>(
-        &rt,
-        Some((4, 4)),
-        &FOUR_OF_EACH,
-        rt.alloc(),
-        &mut buf,
-    );
-    let journal = journal.expect(&rt, "memory").expect(&rt, "the end");
+    let journal = journal_of(&rt, Some((4, 4)), &FOUR_OF_EACH, rt.alloc(), &mut buf);
     expect_replies(&rt, &journal, &REPLIES_OF_FOUR);
 }
 
@@ -237,13 +242,6 @@ static REPLIES_UNTIL_ONE: [Reply; 3] = [
 #[test]
 fn a_deadline_of_one_process(rt: HostRuntime) {
     let mut buf = [0; 8];
-    let journal = journal_after::<FastMutex<Guarded>, _>(
-        &rt,
-        None,
-        &UNTIL_ONE,
-        rt.alloc(),
-        &mut buf,
-    );
-    let journal = journal.expect(&rt, "memory").expect(&rt, "the end");
+    let journal = journal_of(&rt, None, &UNTIL_ONE, rt.alloc(), &mut buf);
     expect_replies(&rt, &journal, &REPLIES_UNTIL_ONE);
 }
