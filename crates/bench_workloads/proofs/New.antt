@@ -1,8 +1,8 @@
 -- Processes of a new system, and what holds of all of them.
-use Rattle.std.proofs.Common.{◌≡◌, ◌<◌, ◌++◌, ◌∙◌, ℕ, List, [], ◌∷◌, refl, sym, subst, length, get_or, arith, All, zero, suc}
+use Rattle.std.proofs.Common.{◌≡◌, ◌++◌, ℕ, List, [], ◌∷◌, refl, All, zero, suc}
 use Rattle.std.proofs.lemmas.List.Elements.{All-nil, All-cons, All-head, All-tail, All-from_recursion, All-same}
 use Rattle.std.specs.List.{AllByRecursion as ByRecursion}
-use Rattle.fast_mutex.specs.Items.{LockId, Ticket, new_ticket, tickets_from}
+use Rattle.fast_mutex.specs.Items.{LockId, Ticket, tickets_from}
 use Rattle.mq_model.specs.Record.{Record}
 use Rattle.bench_workloads.specs.Ready.{IsReady}
 

@@ -39,19 +39,32 @@ pub fn alone<L: Look<Guarded>, R: Wait + Clock>(
     let Some(mut process) = processes.pop() else {
         unreachable!()
     };
-    let depth = match task {
-        Task::Deep { depth, rounds: _ } => depth,
-        _ => DEPTH,
-    };
-    let d = open(rt, &mq, &mut process, b"/bench", depth)?;
-    let start = Instant::now(rt)?;
-    carry_out(rt, &mq, &mut process, d, task)?;
-    let time = start.elapsed(rt)?;
+    let time = time_of(rt, &mq, &mut process, task)?;
     processes.push_reserved(process);
     let Ok(journal) = mq.finish(processes) else {
         unreachable!()
     };
     Ok((time, journal))
+}
+
+// The time that the task takes on a queue that is opened for it.
+fn time_of<L: Look<Guarded>, R: Wait + Clock>(
+    rt: &R,
+    mq: &Mq<L>,
+    process: &mut Process<L>,
+    task: Task,
+) -> Result<Duration, WorkFault>
+    requires ready { IsReady mq.now process.old }
+    ensures ready { IsReady mq.now process.new }
+{
+    let depth = match task {
+        Task::Deep { depth, rounds: _ } => depth,
+        _ => DEPTH,
+    };
+    let d = open(rt, mq, process, b"/bench", depth)?;
+    let start = Instant::now(rt)?;
+    carry_out(rt, mq, process, d, task)?;
+    Ok(start.elapsed(rt)?)
 }
 
 fn carry_out<L: Look<Guarded>, R: Wait + Clock>(

@@ -69,76 +69,131 @@ fn carry_out<S: Wait + Threads + Clock + CpuClock + Sync>(
 ) -> Result<Measured, WorkFault> {
     match workload {
         Workload::Pair { rounds } => {
-            let (time, journal) = alone::<Lamport, S>(rt, alloc, bounds, Task::Pair { rounds })?;
-            Ok(result_of(2 * u64::from(rounds), time, &journal))
+            let operations = 2 * u64::from(rounds);
+            of_one(rt, alloc, bounds, Task::Pair { rounds }, operations)
         }
         Workload::Deep { depth, rounds } => {
-            let (time, journal) = alone::<Lamport, S>(
-                rt,
-                alloc,
-                bounds,
-                Task::Deep { depth, rounds },
-            )?;
-            Ok(result_of(
-                u64::from(rounds).saturating_mul(2 * u64::from(depth)),
-                time,
-                &journal,
-            ))
+            let operations = u64::from(rounds).saturating_mul(2 * u64::from(depth));
+            of_one(rt, alloc, bounds, Task::Deep { depth, rounds }, operations)
         }
-        Workload::Wide { rounds } => {
-            let time = wide::<Lamport, S>(rt, alloc, bounds, rounds)?;
-            Ok(timed(2 * u64::from(rounds), time))
-        }
+        Workload::Wide { rounds } => of_wide(rt, alloc, bounds, rounds),
         Workload::PingPong { rounds } => {
             let parts = (Part::Asks, Part::Replies);
-            let time = crowd::<Lamport, S>(rt, alloc, bounds, 2, parts, rounds)?;
-            Ok(timed(4 * u64::from(rounds), time))
+            of_crowd(rt, alloc, bounds, 2, parts, rounds, 4 * u64::from(rounds))
         }
         Workload::Stream { rounds } => {
             let parts = (Part::Sends, Part::Receives);
-            let time = crowd::<Lamport, S>(rt, alloc, bounds, 2, parts, rounds)?;
-            Ok(timed(2 * u64::from(rounds), time))
+            of_crowd(rt, alloc, bounds, 2, parts, rounds, 2 * u64::from(rounds))
         }
-        Workload::Check { entries } => {
-            let task = Task::Calls {
-                count: entries.saturating_sub(1),
-            };
-            let (_, journal) = alone::<Lamport, S>(rt, alloc, bounds, task)?;
-            let start = Instant::now(rt)?;
-            let _ = check_history(&journal);
-            let time = start.elapsed(rt)?;
-            Ok(result_of(u64::from(entries), time, &journal))
-        }
+        Workload::Check { entries } => of_check(rt, alloc, bounds, entries),
         Workload::Replay { entries, processes } => {
-            let journal = journal_of(alloc, bounds, entries, processes)?;
-            let start = Instant::now(rt)?;
-            let legal = is_legal(alloc, &journal)?;
-            let time = start.elapsed(rt)?;
-            Ok(replayed(time, &journal, legal))
+            of_replay(rt, alloc, bounds, entries, processes)
         }
         Workload::Crowd { processes, rounds } => {
             let parts = (Part::Sends, Part::Receives);
-            let time = crowd::<Lamport, S>(rt, alloc, bounds, processes, parts, rounds)?;
-            Ok(timed(u64::from(processes) * u64::from(rounds), time))
+            let operations = u64::from(processes) * u64::from(rounds);
+            of_crowd(rt, alloc, bounds, processes, parts, rounds, operations)
         }
-        Workload::Storm { seed, calls } => {
-            let (time, journal) = storm::<Lamport, S>(rt, alloc, bounds, seed, calls)?;
-            let legal = is_legal(alloc, &journal)?;
-            Ok(stormed(seed, time, &journal, legal))
-        }
+        Workload::Storm { seed, calls } => of_storm(rt, alloc, bounds, seed, calls),
         Workload::Idle {
             processes,
             milliseconds,
-        } => {
-            let time = Duration::from_millis(u64::from(milliseconds));
-            let worked = idle::<Lamport, S>(rt, alloc, bounds, processes, time)?;
-            Ok(Measured {
-                operations: worked.operations,
-                nanoseconds: worked.time.as_nanos(),
-                besides: Besides::Processor {
-                    nanoseconds: worked.processor.as_nanos(),
-                },
-            })
-        }
+        } => of_idle(rt, alloc, bounds, processes, milliseconds),
     }
+}
+
+// A task of one process, which has so many operations.
+fn of_one<S: Wait + Clock>(
+    rt: &S,
+    alloc: Global,
+    bounds: Option<Bounds>,
+    task: Task,
+    operations: u64,
+) -> Result<Measured, WorkFault> {
+    let (time, journal) = alone::<Lamport, S>(rt, alloc, bounds, task)?;
+    Ok(result_of(operations, time, &journal))
+}
+
+fn of_wide<S: Wait + Clock>(
+    rt: &S,
+    alloc: Global,
+    bounds: Option<Bounds>,
+    rounds: u32,
+) -> Result<Measured, WorkFault> {
+    let time = wide::<Lamport, S>(rt, alloc, bounds, rounds)?;
+    Ok(timed(2 * u64::from(rounds), time))
+}
+
+// So many processes in threads, which have so many operations in all.
+fn of_crowd<S: Wait + Threads + Clock + Sync>(
+    rt: &S,
+    alloc: Global,
+    bounds: Option<Bounds>,
+    processes: u32,
+    parts: (Part, Part),
+    rounds: u32,
+    operations: u64,
+) -> Result<Measured, WorkFault> {
+    let time = crowd::<Lamport, S>(rt, alloc, bounds, processes, parts, rounds)?;
+    Ok(timed(operations, time))
+}
+
+fn of_check<S: Wait + Clock>(
+    rt: &S,
+    alloc: Global,
+    bounds: Option<Bounds>,
+    entries: u32,
+) -> Result<Measured, WorkFault> {
+    let task = Task::Calls {
+        count: entries.saturating_sub(1),
+    };
+    let (_, journal) = alone::<Lamport, S>(rt, alloc, bounds, task)?;
+    let start = Instant::now(rt)?;
+    let _ = check_history(&journal);
+    let time = start.elapsed(rt)?;
+    Ok(result_of(u64::from(entries), time, &journal))
+}
+
+fn of_replay<S: Clock>(
+    rt: &S,
+    alloc: Global,
+    bounds: Option<Bounds>,
+    entries: u32,
+    processes: u32,
+) -> Result<Measured, WorkFault> {
+    let journal = journal_of(alloc, bounds, entries, processes)?;
+    let start = Instant::now(rt)?;
+    let legal = is_legal(alloc, &journal)?;
+    let time = start.elapsed(rt)?;
+    Ok(replayed(time, &journal, legal))
+}
+
+fn of_storm<S: Wait + Threads + Clock + Sync>(
+    rt: &S,
+    alloc: Global,
+    bounds: Option<Bounds>,
+    seed: u32,
+    calls: u32,
+) -> Result<Measured, WorkFault> {
+    let (time, journal) = storm::<Lamport, S>(rt, alloc, bounds, seed, calls)?;
+    let legal = is_legal(alloc, &journal)?;
+    Ok(stormed(seed, time, &journal, legal))
+}
+
+fn of_idle<S: Wait + Threads + Clock + CpuClock + Sync>(
+    rt: &S,
+    alloc: Global,
+    bounds: Option<Bounds>,
+    processes: u32,
+    milliseconds: u32,
+) -> Result<Measured, WorkFault> {
+    let time = Duration::from_millis(u64::from(milliseconds));
+    let worked = idle::<Lamport, S>(rt, alloc, bounds, processes, time)?;
+    Ok(Measured {
+        operations: worked.operations,
+        nanoseconds: worked.time.as_nanos(),
+        besides: Besides::Processor {
+            nanoseconds: worked.processor.as_nanos(),
+        },
+    })
 }

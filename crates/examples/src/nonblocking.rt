@@ -1,5 +1,8 @@
 // Calls that never wait: a descriptor with O_NONBLOCK, and what each refusal is called.
-use mq::{Attr, FastMq, Fault, Name, OpenFlags};
+ghost use Rattle.std.specs.Prelude.{◌≡◌};
+ghost use Rattle.mq.specs.Calls.{IsFree};
+
+use mq::{Attr, FastMq, FastProcess, Fault, Name, OpenFlags};
 use std::alloc::Global;
 use std::io::Print;
 use std::sync::Wait;
@@ -8,26 +11,43 @@ use std::time::Clock;
 pub fn run(rt: &(impl Print + Wait + Clock), alloc: Global) -> anyhow::Result<()> {
     let (mq, mut processes) = FastMq::new(alloc, 1)?;
     let mut process = processes.pop().unwrap();
+    poll(rt, &mq, &mut process)
+}
 
+// Makes calls of an empty queue, of a full one, and of a name that is bound.
+fn poll(
+    rt: &(impl Print + Wait + Clock),
+    mq: &FastMq,
+    process: &mut FastProcess,
+) -> anyhow::Result<()>
+    requires { (process.old.lock ≡ mq.now) × IsFree process.old }
+{
+    let d = open_new(rt, mq, process)?;
+    let mut buf = [0; 8];
+    match process.receive(rt, mq, d, &mut buf) {
+        Err(Fault::Again) => println!(rt; "nothing there yet")?,
+        outcome => println!(rt; "{outcome:?}")?,
+    }
+    process.send(rt, mq, d, b"tick", 0)?;
+    if let Err(fault) = process.send(rt, mq, d, b"tock", 0) {
+        println!(rt; "a full queue refuses with {fault}")?;
+    }
+    if let Err(fault) = open_new(rt, mq, process) {
+        println!(rt; "a name that is bound refuses with {fault}")?;
+    }
+    Ok(())
+}
+
+// Opens a queue that has to be new, for calls that never wait.
+fn open_new(rt: &impl Wait, mq: &FastMq, process: &mut FastProcess) -> Result<u32, Fault>
+    requires { (process.old.lock ≡ mq.now) × IsFree process.old }
+    ensures { (process.new.lock ≡ mq.now) × IsFree process.new }
+{
     let name = Name::read(b"/poll")?;
     let limits = Attr {
         maxmsg: 1,
         msgsize: 8,
     };
     let flags = OpenFlags::read_write().create().exclusive().nonblocking();
-    let d = process.open(rt, &mq, &name, flags, Some(limits))?;
-
-    let mut buf = [0; 8];
-    match process.receive(rt, &mq, d, &mut buf) {
-        Err(Fault::Again) => println!(rt; "nothing there yet")?,
-        outcome => println!(rt; "{outcome:?}")?,
-    }
-    process.send(rt, &mq, d, b"tick", 0)?;
-    if let Err(fault) = process.send(rt, &mq, d, b"tock", 0) {
-        println!(rt; "a full queue refuses with {fault}")?;
-    }
-    if let Err(fault) = process.open(rt, &mq, &name, flags, Some(limits)) {
-        println!(rt; "a name that is bound refuses with {fault}")?;
-    }
-    Ok(())
+    process.open(rt, mq, &name, flags, Some(limits))
 }

@@ -1,5 +1,8 @@
 // A notice: a process is told once when a message comes to its empty queue.
-use mq::{FastMq, Name, OpenFlags};
+ghost use Rattle.std.specs.Prelude.{◌≡◌};
+ghost use Rattle.mq.specs.Calls.{IsFree};
+
+use mq::{FastMq, FastProcess, Name, OpenFlags};
 use std::alloc::Global;
 use std::io::Print;
 use std::sync::Wait;
@@ -9,16 +12,28 @@ pub fn run(rt: &(impl Print + Wait + Clock), alloc: Global) -> anyhow::Result<()
     let (mq, mut processes) = FastMq::new(alloc, 2)?;
     let mut sender = processes.pop().unwrap();
     let mut reader = processes.pop().unwrap();
+    tell_once(rt, &mq, &mut sender, &mut reader)
+}
 
+// The reader is registered, and looks for a notice before the message and twice after it.
+fn tell_once(
+    rt: &(impl Print + Wait + Clock),
+    mq: &FastMq,
+    sender: &mut FastProcess,
+    reader: &mut FastProcess,
+) -> anyhow::Result<()>
+    requires sender { (sender.old.lock ≡ mq.now) × IsFree sender.old }
+    requires reader { (reader.old.lock ≡ mq.now) × IsFree reader.old }
+{
     let name = Name::read(b"/mail")?;
     let flags = OpenFlags::read_write().create();
-    let inbox = reader.open(rt, &mq, &name, flags, None)?;
-    let outbox = sender.open(rt, &mq, &name, OpenFlags::write_only(), None)?;
+    let inbox = reader.open(rt, mq, &name, flags, None)?;
+    let outbox = sender.open(rt, mq, &name, OpenFlags::write_only(), None)?;
 
-    reader.notify(rt, &mq, inbox, Some(42))?;
-    println!(rt; "before: {:?}", reader.next_notice(rt, &mq)?)?;
-    sender.send(rt, &mq, outbox, b"hello", 0)?;
-    println!(rt; "after: {:?}", reader.next_notice(rt, &mq)?)?;
-    println!(rt; "once: {:?}", reader.next_notice(rt, &mq)?)?;
+    reader.notify(rt, mq, inbox, Some(42))?;
+    println!(rt; "before: {:?}", reader.next_notice(rt, mq)?)?;
+    sender.send(rt, mq, outbox, b"hello", 0)?;
+    println!(rt; "after: {:?}", reader.next_notice(rt, mq)?)?;
+    println!(rt; "once: {:?}", reader.next_notice(rt, mq)?)?;
     Ok(())
 }

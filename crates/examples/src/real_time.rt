@@ -5,7 +5,7 @@ ghost use Rattle.mq.specs.Calls.{IsFree};
 ghost use Rattle.mq_model.specs.Deadlines.{is_moment};
 
 use journal_format::text::write_journal;
-use mq::{Attr, Clock, Deadline, FastMq, FastProcess, Fault, Name, OpenFlags};
+use mq::{Attr, Clock, Deadline, FastMq, FastProcess, Fault, Journal, Name, OpenFlags};
 use std::alloc::Global;
 use std::io;
 use std::io::Print;
@@ -201,16 +201,51 @@ fn simulate(
     Ok(())
 }
 
+// Opens the queue of reports for each.
+fn open_all(
+    rt: &impl Wait,
+    mq: &FastMq,
+    control: &mut FastProcess,
+    sensor: &mut FastProcess,
+    logger: &mut FastProcess,
+    watchdog: &mut FastProcess,
+) -> anyhow::Result<()>
+    requires control { (control.old.lock ≡ mq.now) × IsFree control.old }
+    requires sensor { (sensor.old.lock ≡ mq.now) × IsFree sensor.old }
+    requires logger { (logger.old.lock ≡ mq.now) × IsFree logger.old }
+    requires watchdog { (watchdog.old.lock ≡ mq.now) × IsFree watchdog.old }
+    ensures control { (control.new.lock ≡ mq.now) × IsFree control.new }
+    ensures sensor { (sensor.new.lock ≡ mq.now) × IsFree sensor.new }
+    ensures logger { (logger.new.lock ≡ mq.now) × IsFree logger.new }
+    ensures watchdog { (watchdog.new.lock ≡ mq.now) × IsFree watchdog.new }
+{
+    open_reports(rt, mq, control)?;
+    open_reports(rt, mq, sensor)?;
+    open_reports(rt, mq, logger)?;
+    open_reports(rt, mq, watchdog)
+}
+
+// Prints the journal.
+fn print(rt: &impl Print, alloc: Global, journal: &Journal) -> anyhow::Result<()> {
+    let text = write_journal(alloc, journal)?;
+    write_all(&mut io::writer(rt), text.as_slice())?;
+    Ok(())
+}
+
 pub fn run(rt: &(impl Print + Wait), alloc: Global) -> anyhow::Result<()> {
     let (mq, mut processes) = FastMq::new(alloc, 4)?;
     let mut watchdog = processes.pop().unwrap();
     let mut logger = processes.pop().unwrap();
     let mut sensor = processes.pop().unwrap();
     let mut control = processes.pop().unwrap();
-    open_reports(rt, &mq, &mut control)?;
-    open_reports(rt, &mq, &mut sensor)?;
-    open_reports(rt, &mq, &mut logger)?;
-    open_reports(rt, &mq, &mut watchdog)?;
+    open_all(
+        rt,
+        &mq,
+        &mut control,
+        &mut sensor,
+        &mut logger,
+        &mut watchdog,
+    )?;
     simulate(
         rt,
         &mq,
@@ -227,7 +262,5 @@ pub fn run(rt: &(impl Print + Wait), alloc: Global) -> anyhow::Result<()> {
     let Ok(journal) = mq.finish(processes) else {
         unreachable!()
     };
-    let text = write_journal(alloc, &journal)?;
-    write_all(&mut io::writer(rt), text.as_slice())?;
-    Ok(())
+    print(rt, alloc, &journal)
 }

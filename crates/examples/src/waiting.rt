@@ -1,5 +1,8 @@
 // A call that would wait, begun by a thread that does other work meanwhile.
-use mq::{Attr, Collected, FastMq, Name, OpenFlags};
+ghost use Rattle.std.specs.Prelude.{◌≡◌};
+ghost use Rattle.mq.specs.Calls.{IsFree};
+
+use mq::{Attr, Collected, FastMq, FastProcess, Name, OpenFlags};
 use std::alloc::Global;
 use std::io::Print;
 use std::sync::Wait;
@@ -9,24 +12,36 @@ pub fn run(rt: &(impl Print + Wait + Clock), alloc: Global) -> anyhow::Result<()
     let (mq, mut processes) = FastMq::new(alloc, 2)?;
     let mut sender = processes.pop().unwrap();
     let mut reader = processes.pop().unwrap();
+    send_meanwhile(rt, &mq, &mut sender, &mut reader)
+}
 
+// The reader begins to receive before there is a message, and collects it after it was sent.
+fn send_meanwhile(
+    rt: &(impl Print + Wait + Clock),
+    mq: &FastMq,
+    sender: &mut FastProcess,
+    reader: &mut FastProcess,
+) -> anyhow::Result<()>
+    requires sender { (sender.old.lock ≡ mq.now) × IsFree sender.old }
+    requires reader { (reader.old.lock ≡ mq.now) × IsFree reader.old }
+{
     let name = Name::read(b"/later")?;
     let limits = Attr {
         maxmsg: 1,
         msgsize: 8,
     };
     let flags = OpenFlags::read_write().create();
-    let inbox = reader.open(rt, &mq, &name, flags, Some(limits))?;
-    let outbox = sender.open(rt, &mq, &name, OpenFlags::write_only(), None)?;
+    let inbox = reader.open(rt, mq, &name, flags, Some(limits))?;
+    let outbox = sender.open(rt, mq, &name, OpenFlags::write_only(), None)?;
 
     let mut buf = [0; 8];
-    if let Some(received) = reader.start_receive(rt, &mq, inbox, &mut buf)? {
+    if let Some(received) = reader.start_receive(rt, mq, inbox, &mut buf)? {
         println!(rt; "at once: {} bytes", received.len)?;
         return Ok(());
     }
     println!(rt; "the receive waits")?;
-    sender.send(rt, &mq, outbox, b"done", 3)?;
-    match reader.collect(rt, &mq, &mut buf) {
+    sender.send(rt, mq, outbox, b"done", 3)?;
+    match reader.collect(rt, mq, &mut buf) {
         Some(Collected::Got(received)) => println!(rt; "collected {} bytes", received.len)?,
         Some(Collected::Sent) => println!(rt; "sent")?,
         None => println!(rt; "not yet")?,

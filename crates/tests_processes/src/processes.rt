@@ -1,6 +1,7 @@
 //! Processes over a lock, by functions that are generic over it. What processes are told in one thread is a table of steps.
 ghost use Rattle.std.specs.Prelude.{◌≡◌, None, IfSome, length, []};
 ghost use Rattle.mq.specs.Calls.{IsFree};
+ghost use Rattle.fast_mutex.specs.Items.{tickets_from};
 
 use fast_mutex::{FastMutex, Look};
 use mq::{Guarded, Mq, Process, verdict};
@@ -36,18 +37,24 @@ struct Pair<L: Look<Guarded>> {
     two: Process<L>,
 }
 
-// One growth may be refused from outside.
+// Queues for two processes, and those in a vector. One growth may be refused from outside.
+fn make_two<L: Look<Guarded>, R: Print>(rt: &R, alloc: Global) -> Option<(Mq<L>, Vec<Process<L>>)>
+    ensures { IfSome result (λ r. r.1.items ≡ tickets_from r.0 1 2) }
+{
+    match Mq::<L>::new(alloc, 2) {
+        Ok(made) => Some(made),
+        Err(_) => {
+            say_refused(rt, "the making");
+            Mq::<L>::new(alloc, 2).ok()
+        }
+    }
+}
+
 fn make_pair<L: Look<Guarded>, R: Print>(rt: &R, alloc: Global) -> Option<Pair<L>>
     ensures { IfSome result (λ p. (p.one.lock ≡ p.mq) × IsFree p.one × (p.two.lock ≡ p.mq) ×
         IsFree p.two) }
 {
-    let (mq, mut processes) = match Mq::<L>::new(alloc, 2) {
-        Ok(made) => made,
-        Err(_) => {
-            say_refused(rt, "the making");
-            Mq::<L>::new(alloc, 2).ok()?
-        }
-    };
+    let (mq, mut processes) = make_two::<L, R>(rt, alloc)?;
     match (processes.pop(), processes.pop()) {
         (Some(two), Some(one)) => Some(Pair { mq, one, two }),
         _ => None,
@@ -93,6 +100,15 @@ fn after<L: Look<Guarded>, R: Wait + Clock + Abort + Print>(
     expect_steps(rt, &pair.mq, &mut pair.one, &mut pair.two, steps);
     let Pair { mq, one, two } = pair;
     finish(room(rt, alloc)?, mq, one, two)
+}
+
+/// The journal after the steps of two processes in one thread, over Lamport's lock.
+fn journal_after<R: Wait + Clock + Abort + Print>(
+    rt: &R,
+    alloc: Global,
+    steps: &[Step],
+) -> Journal {
+    after::<FastMutex<Guarded>, R>(rt, alloc, steps).expect(rt, "memory")
 }
 
 /// The journal is legal, and has just these processes and replies.
@@ -181,8 +197,7 @@ static REPLIES: [(u32, Reply); 9] = [
 
 #[test]
 fn two_processes_in_one_thread_wait_for_each_other(rt: HostRuntime) {
-    let journal = after::<FastMutex<Guarded>, _>(&rt, rt.alloc(), &BOTH_WAIT);
-    expect_journal(&rt, &journal.expect(&rt, "memory"), &REPLIES);
+    expect_journal(&rt, &journal_after(&rt, rt.alloc(), &BOTH_WAIT), &REPLIES);
 }
 
 static REPLIES_IN_ORDER: [(u32, Reply); 5] = [
@@ -234,26 +249,34 @@ fn expect_order<R: Abort + Print>(rt: &R, alloc: Global, journal: &Journal) {
 #[test]
 fn messages_of_one_priority_leave_in_sending_order(rt: HostRuntime) {
     let alloc = rt.alloc();
-    let journal = after::<FastMutex<Guarded>, _>(&rt, alloc, &IN_ORDER).expect(&rt, "memory");
-    expect_order(&rt, alloc, &journal);
+    expect_order(&rt, alloc, &journal_after(&rt, alloc, &IN_ORDER));
 }
 
-#[test]
-fn a_verdict_is_that_of_the_rules_with_memory_or_without(rt: HostRuntime) {
-    let alloc = rt.alloc();
-    let journal = after::<FastMutex<Guarded>, _>(&rt, alloc, &IN_ORDER).expect(&rt, "memory");
-    assert_eq!(&rt; journal.len(), 5);
-    let other = exchanged(&rt, alloc, &journal).expect(&rt, "memory");
-    assert_eq!(&rt;
-        (verdict(alloc, &journal), verdict(alloc, &other)),
+// The verdicts on the journal, and on the one with two receives exchanged.
+fn expect_verdicts<R: Abort + Print>(rt: &R, alloc: Global, journal: &Journal) {
+    assert_eq!(rt; journal.len(), 5);
+    let other = exchanged(rt, alloc, journal).expect(rt, "memory");
+    assert_eq!(rt;
+        (verdict(alloc, journal), verdict(alloc, &other)),
         (Ok(()), Err(3))
     );
 }
 
 #[test]
+fn a_verdict_is_that_of_the_rules_with_memory_or_without(rt: HostRuntime) {
+    let alloc = rt.alloc();
+    expect_verdicts(&rt, alloc, &journal_after(&rt, alloc, &IN_ORDER));
+}
+
+// How a system of so many processes is refused, if it is.
+fn refusal<L: Look<Guarded>>(alloc: Global, n: u32) -> Option<Fault> {
+    Mq::<L>::new(alloc, n).err()
+}
+
+#[test]
 fn a_system_has_1_to_32_processes(rt: HostRuntime) {
     for n in [0, 33] {
-        let made = Mq::<FastMutex<Guarded>>::new(rt.alloc(), n);
-        assert!(rt; made.err() == Some(Fault::Invalid), "{n}");
+        let refused = refusal::<FastMutex<Guarded>>(rt.alloc(), n);
+        assert!(rt; refused == Some(Fault::Invalid), "{n}");
     }
 }

@@ -1,5 +1,6 @@
 //! Worked rows of one process, with their own limits and buffers, and with their own entries alone.
 ghost use Rattle.std.specs.Prelude.{◌≡◌, [], IfOk};
+ghost use Rattle.fast_mutex.specs.Items.{tickets_from};
 ghost use Rattle.mq.specs.Calls.{IsFree};
 
 use fast_mutex::{FastMutex, Look};
@@ -129,6 +130,19 @@ fn expect_replies<R: Abort>(rt: &R, journal: &Journal, wanted: &[Reply]) {
     assert_eq!(rt; check_history(journal), Ok(()));
 }
 
+// A system of one process, with these bounds or none, and its process in a vector.
+fn make_one<L: Look<Guarded>>(
+    alloc: Global,
+    bounds: Option<(u64, u64)>,
+) -> Result<(Mq<L>, Vec<Process<L>>), Fault>
+    ensures { IfOk result (λ r. r.1.items ≡ tickets_from r.0 1 1) }
+{
+    match bounds {
+        None => Mq::<L>::new(alloc, 1),
+        Some((entries, bytes)) => Mq::<L>::bounded(alloc, 1, entries, bytes),
+    }
+}
+
 // A system of one process, with these bounds or none, its process, and room for that process.
 fn make<L: Look<Guarded>>(
     alloc: Global,
@@ -136,10 +150,7 @@ fn make<L: Look<Guarded>>(
 ) -> Result<(Mq<L>, Process<L>, Vec<Process<L>>), Fault>
     ensures { IfOk result (λ r. (r.1.lock ≡ r.0) × IsFree r.1 × (r.2.items ≡ [])) }
 {
-    let (mq, mut processes) = match bounds {
-        None => Mq::<L>::new(alloc, 1)?,
-        Some((entries, bytes)) => Mq::<L>::bounded(alloc, 1, entries, bytes)?,
-    };
+    let (mq, mut processes) = make_one::<L>(alloc, bounds)?;
     let Ok(room) = Vec::with_capacity(alloc, 1) else {
         return Err(Fault::NoMemory);
     };
@@ -163,6 +174,18 @@ fn journal_after<L: Look<Guarded>, R: Wait + Clock + Abort>(
         return Err(Fault::NoMemory);
     }
     Ok(mq.finish(room).ok())
+}
+
+// The same over Lamport's lock, where all is there.
+fn journal_of<R: Wait + Clock + Abort>(
+    rt: &R,
+    bounds: Option<(u64, u64)>,
+    steps: &[(Ask, Result<bool, Fault>)],
+    alloc: Global,
+    buf: &mut [u8],
+) -> Journal {
+    let journal = journal_after::<FastMutex<Guarded>, R>(rt, bounds, steps, alloc, buf);
+    journal.expect(rt, "memory").expect(rt, "the end")
 }
 
 const FULL: Result<bool, Fault> = Err(Fault::JournalFull);
@@ -209,14 +232,7 @@ static REPLIES_OF_FOUR: [Reply; 4] = [
 #[test]
 fn four_entries_and_four_bytes(rt: HostRuntime) {
     let mut buf = [0; 2];
-    let journal = journal_after::<FastMutex<Guarded>, _>(
-        &rt,
-        Some((4, 4)),
-        &FOUR_OF_EACH,
-        rt.alloc(),
-        &mut buf,
-    );
-    let journal = journal.expect(&rt, "memory").expect(&rt, "the end");
+    let journal = journal_of(&rt, Some((4, 4)), &FOUR_OF_EACH, rt.alloc(), &mut buf);
     expect_replies(&rt, &journal, &REPLIES_OF_FOUR);
 }
 
@@ -237,13 +253,6 @@ static REPLIES_UNTIL_ONE: [Reply; 3] = [
 #[test]
 fn a_deadline_of_one_process(rt: HostRuntime) {
     let mut buf = [0; 8];
-    let journal = journal_after::<FastMutex<Guarded>, _>(
-        &rt,
-        None,
-        &UNTIL_ONE,
-        rt.alloc(),
-        &mut buf,
-    );
-    let journal = journal.expect(&rt, "memory").expect(&rt, "the end");
+    let journal = journal_of(&rt, None, &UNTIL_ONE, rt.alloc(), &mut buf);
     expect_replies(&rt, &journal, &REPLIES_UNTIL_ONE);
 }

@@ -1,8 +1,7 @@
 //! Waits with a deadline that are begun and not waited for, and who is blocked meanwhile.
-use super::after;
+use super::journal_after;
 use super::steps::{Ask, CREATE, OPEN, Step, Told};
-use fast_mutex::FastMutex;
-use mq::{Collected, Guarded, Received};
+use mq::{Collected, Received};
 
 const RECEIVED: Received = Received { len: 1, prio: 0 };
 
@@ -27,6 +26,5 @@ static STEPS: [Step; 15] = [
 
 #[test]
 fn a_process_is_blocked_until_an_entry_names_its_wait(rt: HostRuntime) {
-    let journal = after::<FastMutex<Guarded>, _>(&rt, rt.alloc(), &STEPS);
-    assert_eq!(&rt; journal.expect(&rt, "memory").len(), 9);
+    assert_eq!(&rt; journal_after(&rt, rt.alloc(), &STEPS).len(), 9);
 }

@@ -1,5 +1,6 @@
 //! Processes of a system whose journal has bounds.
 ghost use Rattle.std.specs.Prelude.{◌≡◌, [], IfSome};
+ghost use Rattle.fast_mutex.specs.Items.{tickets_from};
 
 use super::steps::{Ask, CREATE, Step, Told, asked_once};
 use fast_mutex::{FastMutex, Look};
@@ -14,7 +15,38 @@ use std::sync::Wait;
 use std::time::Clock;
 use tests_refusals::{refuse_all, say_refused};
 
-// A system of one process with these bounds, and a vector with room for that process. One growth may be refused from outside.
+// A system of one process with these bounds, and that process in a vector. One growth may be refused from outside.
+fn make_one<L: Look<Guarded>, R: Print>(
+    rt: &R,
+    alloc: Global,
+    entries: u64,
+    bytes: u64,
+) -> Option<(Mq<L>, Vec<Process<L>>)>
+    ensures { IfSome result (λ r. r.1.items ≡ tickets_from r.0 1 1) }
+{
+    match Mq::<L>::bounded(alloc, 1, entries, bytes) {
+        Ok(made) => Some(made),
+        Err(_) => {
+            say_refused(rt, "the making");
+            Mq::<L>::bounded(alloc, 1, entries, bytes).ok()
+        }
+    }
+}
+
+// Room for a process. One growth may be refused from outside.
+fn room_for_one<L: Look<Guarded>, R: Print>(rt: &R, alloc: Global) -> Option<Vec<Process<L>>>
+    ensures { IfSome result (λ room. room.items ≡ []) }
+{
+    match Vec::with_capacity(alloc, 1) {
+        Ok(room) => Some(room),
+        Err(_) => {
+            say_refused(rt, "the room");
+            Vec::with_capacity(alloc, 1).ok()
+        }
+    }
+}
+
+// A system of one process with these bounds, and a vector with room for that process.
 fn make_alone<L: Look<Guarded>, R: Print>(
     rt: &R,
     alloc: Global,
@@ -23,20 +55,8 @@ fn make_alone<L: Look<Guarded>, R: Print>(
 ) -> Option<(Mq<L>, Process<L>, Vec<Process<L>>)>
     ensures { IfSome result (λ r. (r.1.lock ≡ r.0) × (r.2.items ≡ [])) }
 {
-    let (mq, mut processes) = match Mq::<L>::bounded(alloc, 1, entries, bytes) {
-        Ok(made) => made,
-        Err(_) => {
-            say_refused(rt, "the making");
-            Mq::<L>::bounded(alloc, 1, entries, bytes).ok()?
-        }
-    };
-    let room = match Vec::with_capacity(alloc, 1) {
-        Ok(room) => room,
-        Err(_) => {
-            say_refused(rt, "the room");
-            Vec::with_capacity(alloc, 1).ok()?
-        }
-    };
+    let (mq, mut processes) = make_one::<L, R>(rt, alloc, entries, bytes)?;
+    let room = room_for_one::<L, R>(rt, alloc)?;
     let process = processes.pop()?;
     Some((mq, process, room))
 }
@@ -76,6 +96,17 @@ fn expect_alone<L: Look<Guarded>, R: Wait + Clock + Abort + Print>(
     Some(journal.len())
 }
 
+// The same over Lamport's lock.
+fn alone<R: Wait + Clock + Abort + Print>(
+    rt: &R,
+    alloc: Global,
+    entries: u64,
+    bytes: u64,
+    steps: &[Step],
+) -> Option<u64> {
+    expect_alone::<FastMutex<Guarded>, R>(rt, alloc, entries, bytes, steps)
+}
+
 const FULL: Told = Told::Refused(Fault::JournalFull);
 
 const EMPTY: Status = Status {
@@ -103,8 +134,7 @@ static FOUR_OF_EACH: [Step; 12] = [
 
 #[test]
 fn calls_find_the_journal_full_where_the_bounds_say(rt: HostRuntime) {
-    let entries = expect_alone::<FastMutex<Guarded>, _>(&rt, rt.alloc(), 4, 4, &FOUR_OF_EACH);
-    assert_eq!(rt; entries, Some(4));
+    assert_eq!(rt; alone(&rt, rt.alloc(), 4, 4, &FOUR_OF_EACH), Some(4));
 }
 
 static NOTHING_FITS: [Step; 14] = [
@@ -126,27 +156,36 @@ static NOTHING_FITS: [Step; 14] = [
 
 #[test]
 fn without_an_entry_each_call_that_has_one_is_refused(rt: HostRuntime) {
-    let entries = expect_alone::<FastMutex<Guarded>, _>(&rt, rt.alloc(), 0, 100, &NOTHING_FITS);
-    assert_eq!(rt; entries, Some(0));
+    assert_eq!(rt; alone(&rt, rt.alloc(), 0, 100, &NOTHING_FITS), Some(0));
+}
+
+// How a system of so many processes with these bounds is refused, if it is.
+fn refusal_of<L: Look<Guarded>>(alloc: Global, n: u32, entries: u64, bytes: u64) -> Option<Fault> {
+    Mq::<L>::bounded(alloc, n, entries, bytes).err()
+}
+
+// The same over Lamport's lock.
+fn refusal(alloc: Global, n: u32, entries: u64, bytes: u64) -> Option<Fault> {
+    refusal_of::<FastMutex<Guarded>>(alloc, n, entries, bytes)
 }
 
 #[test]
 fn a_bounded_system_has_1_to_32_processes(rt: HostRuntime) {
     for n in [0, 33] {
-        let made = Mq::<FastMutex<Guarded>>::bounded(rt.alloc(), n, 4, 4);
-        assert!(rt; made.err() == Some(Fault::Invalid), "{n}");
+        let refused = refusal(rt.alloc(), n, 4, 4);
+        assert!(rt; refused == Some(Fault::Invalid), "{n}");
     }
     for n in [1, 32] {
-        let made = Mq::<FastMutex<Guarded>>::bounded(rt.alloc(), n, 4, 4);
-        assert!(rt; matches!(made.err(), None | Some(Fault::NoMemory)), "{n}");
+        let refused = refusal(rt.alloc(), n, 4, 4);
+        assert!(rt; matches!(refused, None | Some(Fault::NoMemory)), "{n}");
     }
 }
 
 #[test]
 fn bounds_beyond_all_memory_are_refused_at_the_making(rt: HostRuntime) {
     for (entries, bytes) in [(u64::MAX, 0), (0, u64::MAX), (u64::MAX, u64::MAX)] {
-        let made = Mq::<FastMutex<Guarded>>::bounded(rt.alloc(), 1, entries, bytes);
-        assert!(rt; made.err() == Some(Fault::NoMemory), "{entries} {bytes}");
+        let refused = refusal(rt.alloc(), 1, entries, bytes);
+        assert!(rt; refused == Some(Fault::NoMemory), "{entries} {bytes}");
     }
 }
 
@@ -161,8 +200,6 @@ static NO_OPEN: [Step; 1] = [(1, Ask::Open(CREATE, 2), FULL)];
 
 #[test]
 fn a_bound_of_one_entry_has_room_for_an_open(rt: HostRuntime) {
-    let entries = expect_alone::<FastMutex<Guarded>, _>(&rt, rt.alloc(), 1, 2, &ONE_ENTRY);
-    assert_eq!(rt; entries, Some(1));
-    let entries = expect_alone::<FastMutex<Guarded>, _>(&rt, rt.alloc(), 1, 1, &NO_OPEN);
-    assert_eq!(rt; entries, Some(0));
+    assert_eq!(rt; alone(&rt, rt.alloc(), 1, 2, &ONE_ENTRY), Some(1));
+    assert_eq!(rt; alone(&rt, rt.alloc(), 1, 1, &NO_OPEN), Some(0));
 }

@@ -1,8 +1,6 @@
 //! The calls of a process that never wait.
 use super::steps::{Ask, CREATE, OPEN, Step, Told};
-use super::{after, expect_journal};
-use fast_mutex::FastMutex;
-use mq::Guarded;
+use super::{expect_journal, journal_after};
 use mq_model::entries::{Received, Reply, Status};
 use mq_model::faults::Fault;
 
@@ -81,6 +79,5 @@ static REPLIES: [(u32, Reply); 17] = [
 
 #[test]
 fn each_call_that_never_waits_replies(rt: HostRuntime) {
-    let journal = after::<FastMutex<Guarded>, _>(&rt, rt.alloc(), &EACH_CALL);
-    expect_journal(&rt, &journal.expect(&rt, "memory"), &REPLIES);
+    expect_journal(&rt, &journal_after(&rt, rt.alloc(), &EACH_CALL), &REPLIES);
 }

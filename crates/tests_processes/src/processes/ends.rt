@@ -2,7 +2,9 @@
 ghost use Rattle.std.specs.Prelude.{◌≡◌, [], IfSome};
 
 use super::steps::{Ask, CREATE, Step, Told, expect_steps};
-use super::{CREATED, Pair, QUEUED, RECEIVED, after, expect_journal, finish, make_pair, room};
+use super::{
+    CREATED, Pair, QUEUED, RECEIVED, expect_journal, finish, journal_after, make_pair, room,
+};
 use fast_mutex::{FastMutex, Look, Missing};
 use mq::{Guarded, Mq, Process};
 use mq_model::entries::Reply;
@@ -92,7 +94,6 @@ static STILL_WAITS: [Step; 2] = [
 
 #[test]
 fn queues_may_end_while_a_process_waits(rt: HostRuntime) {
-    let journal = after::<FastMutex<Guarded>, _>(&rt, rt.alloc(), &STILL_WAITS);
     let replies = [(1, CREATED), (1, Reply::Waits)];
-    expect_journal(&rt, &journal.expect(&rt, "memory"), &replies);
+    expect_journal(&rt, &journal_after(&rt, rt.alloc(), &STILL_WAITS), &replies);
 }

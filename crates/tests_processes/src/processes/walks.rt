@@ -115,17 +115,39 @@ fn waiting<L: Look<Guarded>>(
     }
 }
 
+// Both processes, each of which has opened the queue.
+fn both_opened<L: Look<Guarded>, R: Print>(rt: &R, alloc: Global) -> Option<Pair<L>>
+    ensures { IfSome result (λ p. (p.one.lock ≡ p.mq) × IsFree p.one × (p.two.lock ≡ p.mq) ×
+        IsFree p.two) }
+{
+    let Pair { mq, one, two } = make_pair::<L, R>(rt, alloc)?;
+    let one = opened(rt, &mq, inside(&mq, one)?)?;
+    let two = opened(rt, &mq, inside(&mq, two)?)?;
+    Some(Pair { mq, one, two })
+}
+
+// The process that has waited until the deadline, and what its wait came to.
+fn waited<L: Look<Guarded>>(
+    mq: &Mq<L>,
+    process: Process<L>,
+    buf: &mut [u8; 8],
+) -> Option<(Process<L>, Option<Collected>)>
+    requires made { process.lock ≡ mq.now }
+    requires free { IsFree process }
+    ensures { IfSome result (λ r. (r.0.lock ≡ mq.now) × IsFree r.0) }
+{
+    let process = waiting(mq, process, buf, LATER)?;
+    Some(inside(mq, process)?.end_wait(mq, buf, LATER))
+}
+
 // Process 1 waits twice, and ends each wait at its deadline. Process 2 sends before the second one's: it gives what both came to.
 fn journal_of_ends<L: Look<Guarded>, R: Print>(
     rt: &R,
     alloc: Global,
     buf: &mut [u8; 8],
 ) -> Option<(Journal, [Option<Collected>; 2])> {
-    let Pair { mq, one, two } = make_pair::<L, R>(rt, alloc)?;
-    let one = opened(rt, &mq, inside(&mq, one)?)?;
-    let two = opened(rt, &mq, inside(&mq, two)?)?;
-    let one = waiting(&mq, one, buf, LATER)?;
-    let (one, first) = inside(&mq, one)?.end_wait(&mq, buf, LATER);
+    let Pair { mq, one, two } = both_opened::<L, R>(rt, alloc)?;
+    let (one, first) = waited(&mq, one, buf)?;
     let one = waiting(&mq, one, buf, LATER)?;
     let call = Call::MqSend {
         d: 0,
