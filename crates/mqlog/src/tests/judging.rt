@@ -214,6 +214,39 @@ fn a_budget_is_used_up(rt: HostRuntime) {
     }
 }
 
+// Sixteen calls of four processes, all of which overlap, in 63,063,000 orders. What the last one received nobody sent.
+static OVERLAPPING: &str = "1 0 10 open bc limits 20 8 \"/q\" -> fd 3\n\
+     2 20 30 open b \"/q\" -> fd 3\n\
+     3 20 30 open b \"/q\" -> fd 3\n\
+     4 20 30 open b \"/q\" -> fd 3\n\
+     1 100 200 send 3 0 1 \"a\" -> ok\n\
+     1 100 200 send 3 0 1 \"a\" -> ok\n\
+     1 100 200 send 3 0 1 \"a\" -> ok\n\
+     1 100 200 send 3 0 1 \"a\" -> ok\n\
+     2 100 200 send 3 0 1 \"a\" -> ok\n\
+     2 100 200 send 3 0 1 \"a\" -> ok\n\
+     2 100 200 send 3 0 1 \"a\" -> ok\n\
+     2 100 200 send 3 0 1 \"a\" -> ok\n\
+     3 100 200 send 3 0 1 \"a\" -> ok\n\
+     3 100 200 send 3 0 1 \"a\" -> ok\n\
+     3 100 200 send 3 0 1 \"a\" -> ok\n\
+     3 100 200 send 3 0 1 \"a\" -> ok\n\
+     4 100 200 send 3 0 1 \"a\" -> ok\n\
+     4 100 200 send 3 0 1 \"a\" -> ok\n\
+     4 100 200 send 3 0 1 \"a\" -> ok\n\
+     4 100 200 recv 3 8 -> got 1 \"a\"\n";
+
+const FEW_STEPS: Question = Question {
+    journal: false,
+    budget: 40_000,
+};
+
+#[test]
+fn orders_that_come_to_the_same_are_tried_once(rt: HostRuntime) {
+    let said = "impossible: line 20, front part of 20 calls\n";
+    is_judged(&rt, rt.alloc(), OVERLAPPING, FEW_STEPS, 1, said);
+}
+
 // Texts with the first line that is none of a call of a process from 1 to 32.
 static NO_HISTORIES: [(&str, u64); 6] = [
     ("1 0 10 close 0 -> EBADF", 1),
