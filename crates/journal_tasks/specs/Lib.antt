@@ -4,3 +4,4 @@ pub mod Records
 pub mod Task
 pub mod Verdict
 pub mod Window
+pub mod Judged

@@ -1,4 +1,8 @@
 //! A concurrent history, from its bytes to the judgement of it.
+ghost use Rattle.std.specs.Prelude.{◌≡◌, ◌+◌, ℕ, List, IfOk, IsErrOf, Some, take};
+ghost use Rattle.journal_tasks.specs.Judged.{JudgesHistory, StopsInJudgement};
+ghost use Rattle.journal_tasks.specs.declared.fault.LogFault.TheVariants.{BadLine, Input, NoMemory, Output};
+
 use crate::fault::LogFault;
 use history_judge::judgement::judge_calls;
 use history_judge::processes::first_stranger;
@@ -27,12 +31,25 @@ pub const PLAIN: Question = Question {
 
 /// Reads a concurrent history, judges it, and writes what it comes to. The number is the exit status: 0 where it is possible, 1 where
 /// it is not, 5 where the budget was used up. `LogFault::BadLine`: this line is not that of a call of a process from 1 to 32.
+/// `LogFault::Input`: a read failed. `LogFault::Output`: a write failed, and a front part of what the history comes to is written. Of the
+/// others nothing is written.
 pub fn judge_history<R: Read, W: Write>(
     alloc: Global,
     input: &mut R,
     output: &mut W,
     question: Question,
-) -> Result<u8, LogFault> {
+) -> Result<u8, LogFault>
+    ensures done { (all : List ℕ) → R.remaining input.old ≡ Some all →
+        IfOk result (λ status. JudgesHistory (take (MOST_BYTES + 1) all) question.journal status
+        (W.contents output.old) (W.contents output.new)) }
+    ensures input { IsErrOf result Input → W.contents output.new ≡ W.contents output.old }
+    ensures no_memory { IsErrOf result NoMemory → W.contents output.new ≡ W.contents output.old }
+    ensures unwritten { (line : ℕ) → IsErrOf result (BadLine line) →
+        W.contents output.new ≡ W.contents output.old }
+    ensures output { (all : List ℕ) → R.remaining input.old ≡ Some all →
+        IsErrOf result Output → StopsInJudgement (take (MOST_BYTES + 1) all) question.journal
+        (W.contents output.old) (W.contents output.new) }
+{
     let text = match read_all(alloc, input, MOST_BYTES) {
         Ok(text) => text,
         Err(ReadFault::Failed) => return Err(LogFault::Input),

@@ -1,4 +1,4 @@
-use Rattle.std.proofs.Common.{◌≡◌, ◌∙◌, sym, take}
+use Rattle.std.proofs.Common.{◌≡◌, ◌∙◌}
 use Rattle.journal_tasks.specs.Verdict.{verdict_text}
 use Rattle.journal_tasks.specs.declared.fault.LogFault.TheVariants.{NoMemory, Output}
 use Rattle.journal_tasks.proofs.check.check_journal.Goals as goal

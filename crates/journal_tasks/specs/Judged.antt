@@ -1,0 +1,32 @@
+-- What a concurrent history comes to.
+use Rattle.std.specs.Prelude.{◌≡◌, ℕ, Bool, not, List, Option, None}
+use Rattle.std.specs.List.{position}
+use Rattle.std.specs.Io.KnownBytes as known
+use Rattle.text_io.specs.Output.{AppendsTooLittle}
+use Rattle.history_judge.specs.Text.{history_text}
+use Rattle.history_judge.specs.Processes.{is_process}
+use Rattle.history_judge.specs.Said.{judgement_text, status_of}
+use Rattle.history_judge.specs.Verdicts.{IsJudgement}
+use Rattle.history_judge.specs.declared.line.Called.{Called}
+use Rattle.history_judge.specs.declared.judgement.Judgement.{Judgement}
+
+-- the bytes are the text of a history of processes from 1 to 32, and this is a judgement of it
+pub record IsJudged (bytes : List ℕ) (calls : List Called) (judgement : Judgement) : Type 0 where
+  pub text : bytes ≡ history_text calls
+  pub processes : position (λ c. not (is_process c.process)) calls ≡ None
+  pub judges : IsJudgement calls judgement
+
+-- the status is that of a judgement of the bytes; known bytes have grown by its text
+pub record JudgesHistory (bytes : List ℕ) (with_journal : Bool) (status : ℕ) (old new : Option (List ℕ)) : Type 0 where
+  pub calls : List Called
+  pub judgement : Judgement
+  pub judged : IsJudged bytes calls judgement
+  pub says : status ≡ status_of judgement
+  pub written : known.Appends old new (judgement_text calls with_journal judgement)
+
+-- of the text of a judgement of the bytes a front part was written that lacks a byte or more
+pub record StopsInJudgement (bytes : List ℕ) (with_journal : Bool) (old new : Option (List ℕ)) : Type 0 where
+  pub calls : List Called
+  pub judgement : Judgement
+  pub judged : IsJudged bytes calls judgement
+  pub written : AppendsTooLittle old new (judgement_text calls with_journal judgement)
