@@ -1,4 +1,5 @@
 pub mod Says
+pub mod Moments
 pub mod Blocked
 pub mod Calls
 pub mod Asked

@@ -1,6 +1,7 @@
 //! A clock of real time.
 ghost use Rattle.std.specs.Prelude.{◌≡◌, true};
-ghost use Rattle.mq_model.specs.Deadlines.{is_moment};
+ghost use Rattle.mq.specs.Moments.{moment_past};
+ghost use Rattle.mq_model.specs.Deadlines.{has_passed, is_moment};
 
 use mq_model::clock::Clock;
 use mq_model::entries::Deadline;
@@ -26,9 +27,11 @@ impl<'a, R: time::Clock> Monotonic<'a, R> {
         self.start.elapsed(self.rt).unwrap_or(Duration::ZERO)
     }
 
-    /// The moment that comes when this time has passed: the deadline of a call that waits so long at most.
+    /// The moment that comes when this time has passed: the deadline of a call that waits so long at most. It is no earlier than this
+    /// time past the start.
     pub fn after(&self, time: Duration) -> Deadline
-        ensures { is_moment result ≡ true }
+        ensures moment { is_moment result ≡ true }
+        ensures past { has_passed (moment_past time) result ≡ true }
     {
         moment(self.elapsed().saturating_add(time))
     }
@@ -45,12 +48,19 @@ impl<'a, R: time::Clock> Clock for Monotonic<'a, R> {
     }
 }
 
-// The moment so long after the start. Seconds that a deadline cannot hold are its most.
+// The moment so long after the start, or the last one where a deadline cannot hold its seconds.
 fn moment(time: Duration) -> Deadline
-    ensures { is_moment result ≡ true }
+    ensures moment { is_moment result ≡ true }
+    ensures past { result ≡ moment_past time }
 {
+    let Ok(sec) = i64::try_from(time.as_secs()) else {
+        return Deadline {
+            sec: i64::MAX,
+            nsec: 999_999_999,
+        };
+    };
     Deadline {
-        sec: i64::try_from(time.as_secs()).unwrap_or(i64::MAX),
+        sec,
         nsec: i64::from(time.subsec_nanos()),
     }
 }
