@@ -278,6 +278,14 @@ static inline void yak_wake(yak_process *process)
             yak_ring(&process->bells[32 + p]);
 }
 
+/* Whether somebody may sleep until what the last call of the process changed. */
+static inline bool yak_has_to_wake_(const yak_process *process)
+{
+    const uint64_t *bells = process->bells;
+    return bells != 0 && (__atomic_load_n(&bells[0], __ATOMIC_SEQ_CST) == 1 ||
+                          __atomic_load_n(&bells[process->number], __ATOMIC_SEQ_CST) == 1 || process->answered != 0);
+}
+
 /* Passes the time before the next try of a call that was YAK_RETRY: spins, and after some tries announces that it sleeps. Where the try after that
  * is in vain too it sleeps until who keeps the process out of the lock wakes it, for 10 milliseconds at the most, announces the next sleep for
  * those that sleep on, and begins anew. */
@@ -470,15 +478,50 @@ static inline uint32_t yak_await_until(yak_process *process, uint8_t *buf, size_
     }
 }
 
-/* mq_send. */
-static inline uint32_t yak_send(yak_process *process, uint32_t d, const uint8_t *bytes, size_t len, uint32_t prio)
+/* What a send or a receive comes to seldom stands apart, so that one that meets nobody, and does not wait, keeps no more than its process. */
+#define YAK_SELDOM_(what) __builtin_expect(!!(what), 0)
+#define YAK_APART_ static __attribute__((noinline, unused))
+
+/* What is left of a send after its first try. */
+YAK_APART_ uint32_t yak_send_on_(yak_process *process, uint32_t d, const uint8_t *bytes, size_t len, uint32_t prio, uint32_t answer)
 {
     uint8_t none = 0;
     yak_message message = {0, 0};
+    unsigned tries = 0;
+    while (answer == YAK_RETRY) {
+        yak_rest(process, &tries);
+        answer = yak_start_send(process, d, bytes, len, prio);
+    }
+    yak_tell_after_(process);
+    yak_wake(process);
+    return answer == YAK_WAITS ? yak_await(process, &none, 0, &message) : answer;
+}
+
+/* mq_send. */
+static inline uint32_t yak_send(yak_process *process, uint32_t d, const uint8_t *bytes, size_t len, uint32_t prio)
+{
     uint32_t answer;
     YAK_CALLS_("a send", d);
-    YAK_TRY(answer, process, yak_start_send(process, d, bytes, len, prio));
-    return answer == YAK_WAITS ? yak_await(process, &none, 0, &message) : answer;
+    YAK_TURN_();
+    yak_tell_before_(process);
+    answer = yak_start_send(process, d, bytes, len, prio);
+    if (YAK_SELDOM_(answer != YAK_DONE || yak_has_to_wake_(process)))
+        return yak_send_on_(process, d, bytes, len, prio, answer);
+    yak_tell_after_(process);
+    return YAK_DONE;
+}
+
+/* What is left of a receive after its first try. */
+YAK_APART_ uint32_t yak_receive_on_(yak_process *process, uint32_t d, uint8_t *buf, size_t len, yak_message *message, uint32_t answer)
+{
+    unsigned tries = 0;
+    while (answer == YAK_RETRY) {
+        yak_rest(process, &tries);
+        answer = yak_start_receive(process, d, buf, len, message);
+    }
+    yak_tell_after_(process);
+    yak_wake(process);
+    return answer == YAK_WAITS ? yak_await(process, buf, len, message) : answer;
 }
 
 /* mq_receive. */
@@ -486,8 +529,13 @@ static inline uint32_t yak_receive(yak_process *process, uint32_t d, uint8_t *bu
 {
     uint32_t answer;
     YAK_CALLS_("a receive", d);
-    YAK_TRY(answer, process, yak_start_receive(process, d, buf, len, message));
-    return answer == YAK_WAITS ? yak_await(process, buf, len, message) : answer;
+    YAK_TURN_();
+    yak_tell_before_(process);
+    answer = yak_start_receive(process, d, buf, len, message);
+    if (YAK_SELDOM_(answer != YAK_DONE || yak_has_to_wake_(process)))
+        return yak_receive_on_(process, d, buf, len, message, answer);
+    yak_tell_after_(process);
+    return YAK_DONE;
 }
 
 /* mq_timedsend, by the system's clock of real time. */

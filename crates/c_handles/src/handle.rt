@@ -4,7 +4,7 @@ ghost use Rattle.std.specs.Prelude.{◌≡◌, is_some};
 use crate::member::Member;
 use crate::seal::Seal;
 use crate::tried::{Ending, Looked, Tried};
-use mq::{Call, Deadline, Fault, Returned};
+use mq::{Call, Deadline, Fault, Received, Returned};
 use std::alloc::Global;
 use std::ptr::null;
 
@@ -93,14 +93,15 @@ macro_rules! with_member {
 impl Handle {
     ghost use Rattle.std.specs.Prelude.{◌≡◌, None, Some, length};
     ghost use Rattle.mq_state.specs.Requests.{Brings};
-    ghost use Rattle.mq.specs.Calls.{Exits};
+    ghost use Rattle.mq_model.specs.declared.entries.Call.{Call};
+    ghost use Rattle.mq.specs.Calls.{Exits, OneCall, ReceiveCall};
+    ghost use Rattle.mq.specs.Says.{start_send_says, start_receive_says};
     ghost use Rattle.mq.specs.Kinds.{IsOf, IsCall};
     ghost use Rattle.c_handles.specs.Endings.{GivesEnd, LooksIn};
     ghost use Rattle.c_handles.specs.Handles.{process_in, under_way_in};
     ghost use Rattle.c_handles.specs.Tries.{Gives, GivesWith};
 
     /// As [`Member::make`], where there is a member.
-    #[inline(always)]
     pub fn make<A: Returned>(
         &mut self,
         alloc: Global,
@@ -115,6 +116,84 @@ impl Handle {
             (λ tried. tried) (process_in self.old) (process_in self.new) result }
     {
         with_member!(self, alloc, |member| member.make(call, given, buf))
+    }
+
+    /// As [`make`](Handle::make) of a send. The way of a process that is at rest has nothing in it but that.
+    #[inline(always)]
+    pub fn start_send(
+        &mut self,
+        alloc: Global,
+        d: u32,
+        bytes: &[u8],
+        prio: u32,
+    ) -> Option<Tried<Result<bool, Fault>>>
+        ensures { Gives (λ old new result.
+            OneCall start_send_says old new (Call.MqSend d prio (length bytes.now)) bytes.now
+            result) (λ tried. tried) (process_in self.old) (process_in self.new) result }
+    {
+        let mut member = self.take(alloc)?;
+        if !member.is_idle() {
+            self.put(member);
+            return self.send_apart(alloc, d, bytes, prio);
+        }
+        let sent = member.start_send(d, bytes, prio);
+        self.put(member);
+        Some(sent)
+    }
+
+    // The same of any process.
+    #[inline(never)]
+    fn send_apart(
+        &mut self,
+        alloc: Global,
+        d: u32,
+        bytes: &[u8],
+        prio: u32,
+    ) -> Option<Tried<Result<bool, Fault>>>
+        ensures { Gives (λ old new result.
+            OneCall start_send_says old new (Call.MqSend d prio (length bytes.now)) bytes.now
+            result) (λ tried. tried) (process_in self.old) (process_in self.new) result }
+    {
+        let len = bytes.len() as u64;
+        self.make(alloc, Call::MqSend { d, prio, len }, bytes, &mut [])
+    }
+
+    /// As [`make`](Handle::make) of a receive, in the same way.
+    #[inline(always)]
+    pub fn start_receive(
+        &mut self,
+        alloc: Global,
+        d: u32,
+        buf: &mut [u8],
+    ) -> Option<Tried<Result<Option<Received>, Fault>>>
+        ensures { GivesWith (buf.new ≡ buf.old) (λ old new result.
+            ReceiveCall start_receive_says old new (Call.MqReceive d (length buf.old)) buf.old
+            buf.new result) (λ tried. tried) (process_in self.old) (process_in self.new) result }
+    {
+        let mut member = self.take(alloc)?;
+        if !member.is_idle() {
+            self.put(member);
+            return self.receive_apart(alloc, d, buf);
+        }
+        let got = member.start_receive(d, buf);
+        self.put(member);
+        Some(got)
+    }
+
+    // The same of any process.
+    #[inline(never)]
+    fn receive_apart(
+        &mut self,
+        alloc: Global,
+        d: u32,
+        buf: &mut [u8],
+    ) -> Option<Tried<Result<Option<Received>, Fault>>>
+        ensures { GivesWith (buf.new ≡ buf.old) (λ old new result.
+            ReceiveCall start_receive_says old new (Call.MqReceive d (length buf.old)) buf.old
+            buf.new result) (λ tried. tried) (process_in self.old) (process_in self.new) result }
+    {
+        let room = buf.len() as u64;
+        self.make(alloc, Call::MqReceive { d, room }, &[], buf)
     }
 
     /// As [`Member::exit`].

@@ -9,7 +9,7 @@ ghost use Rattle.c_handles.specs.Standings.{ticket_of};
 use crate::standing;
 use crate::standing::{Standing, arrive, look, settle, waiting};
 use crate::tried::{Ending, Looked, Tried};
-use mq::{Bounds, Call, Deadline, Entry, FastMq, FastProcess, Fault, Returned};
+use mq::{Bounds, Call, Deadline, Entry, FastMq, FastProcess, Fault, Received, Returned};
 use mq_model::ladder;
 use std::alloc::{AllocError, Global};
 use std::sync::Arc;
@@ -27,11 +27,13 @@ pub struct Member {
 }
 
 impl Member {
-    ghost use Rattle.std.specs.Prelude.{◌≡◌, [], length};
+    ghost use Rattle.std.specs.Prelude.{◌≡◌, IsTrue, [], length};
     ghost use Rattle.std.specs.Arc.{arc_value};
     ghost use Rattle.mq_state.specs.Requests.{Brings};
-    ghost use Rattle.mq.specs.Calls.{Exits};
+    ghost use Rattle.mq_model.specs.declared.entries.Call.{Call};
+    ghost use Rattle.mq.specs.Calls.{Exits, IsFree, OneCall, ReceiveCall};
     ghost use Rattle.mq.specs.Kinds.{IsOf, IsCall};
+    ghost use Rattle.mq.specs.Says.{start_send_says, start_receive_says};
     ghost use Rattle.c_handles.specs.Standings.{ticket_of};
     ghost use Rattle.c_handles.specs.Tries.{Tries, TriesWith};
 
@@ -70,7 +72,7 @@ impl Member {
 
     /// Tries to make a call of whichever kind, with its name, the bytes of its message or none, and the buffer that a receive fills. A send
     /// or a receive may begin to wait.
-    #[inline(always)]
+    #[inline(never)]
     pub fn make<A: Returned>(&mut self, call: Call, given: &[u8], buf: &mut [u8]) -> Tried<A>
         requires brings { Brings call given.now (length buf.old) }
         requires kind { IsOf A.kind call }
@@ -88,6 +90,52 @@ impl Member {
         self.until = until_of(&process, call);
         settle(&mut self.standing, process);
         Tried::Made(returned)
+    }
+
+    /// Whether its process is at rest, without an open wait.
+    #[inline(always)]
+    pub fn is_idle(&self) -> bool
+        ensures { IsTrue result → IsFree (ticket_of self.now.standing) }
+    {
+        standing::is_idle(&self.standing)
+    }
+
+    /// Tries to send, of a process without an open wait, as [`make`](Member::make). Of one at rest the compiler knows each step.
+    #[tactic(auto, using(crate::proofs::Members::no_deadline))]
+    pub fn start_send(&mut self, d: u32, bytes: &[u8], prio: u32) -> Tried<Result<bool, Fault>>
+        requires free { IsFree (ticket_of self.old.standing) }
+        ensures { Tries (λ old new result.
+            OneCall start_send_says old new (Call.MqSend d prio (length bytes.now)) bytes.now
+            result) (ticket_of self.old.standing) (ticket_of self.new.standing) result }
+    {
+        let len = bytes.len() as u64;
+        let Some(arrived) = arrive(&self.mq, &mut self.standing) else {
+            return Tried::Retry;
+        };
+        let (process, sent) = arrived.make(&self.mq, Call::MqSend { d, prio, len }, bytes, &mut []);
+        settle(&mut self.standing, process);
+        Tried::Made(sent)
+    }
+
+    /// Tries to receive, in the same way.
+    #[tactic(auto, using(crate::proofs::Members::no_deadline))]
+    pub fn start_receive(
+        &mut self,
+        d: u32,
+        buf: &mut [u8],
+    ) -> Tried<Result<Option<Received>, Fault>>
+        requires free { IsFree (ticket_of self.old.standing) }
+        ensures { TriesWith (buf.new ≡ buf.old) (λ old new result.
+            ReceiveCall start_receive_says old new (Call.MqReceive d (length buf.old)) buf.old
+            buf.new result) (ticket_of self.old.standing) (ticket_of self.new.standing) result }
+    {
+        let room = buf.len() as u64;
+        let Some(arrived) = arrive(&self.mq, &mut self.standing) else {
+            return Tried::Retry;
+        };
+        let (process, got) = arrived.make(&self.mq, Call::MqReceive { d, room }, &[], buf);
+        settle(&mut self.standing, process);
+        Tried::Made(got)
     }
 
     /// Tries to close all descriptors.

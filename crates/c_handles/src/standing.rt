@@ -1,9 +1,11 @@
 //! Where a process stands between two tries.
-ghost use Rattle.std.specs.Prelude.{◌≡◌, true, is_some, IfSome, IfNone};
+ghost use Rattle.std.specs.Prelude.{◌≡◌, true, is_some, IfSome, IfNone, IsTrue};
 ghost use Rattle.mq_state.specs.Buffers.{waiting_room};
+ghost use Rattle.mq.specs.Calls.{IsFree};
 ghost use Rattle.c_handles.specs.Standings.{ticket_of, is_under_way, LooksAt};
 
 use mq::{FastApproach, FastArrived, FastMq, FastProcess};
+use std::mem;
 
 // How many steps on its way into the lock one try takes.
 const STEPS: u32 = 100;
@@ -24,17 +26,48 @@ pub fn arrive(mq: &FastMq, standing: &mut Option<Standing>) -> Option<FastArrive
     ensures same { IfNone result (ticket_of standing.new ≡ ticket_of standing.old) }
     ensures some { IfNone result (is_some standing.new ≡ true) }
 {
-    let approach = match standing.take() {
-        Some(Standing::AtRest(process)) => process.approach(mq),
-        Some(Standing::UnderWay(approach)) => approach,
+    match standing.take() {
+        Some(Standing::AtRest(process)) => match process.approach(mq).advance(mq, STEPS) {
+            Ok(arrived) => Some(arrived),
+            Err(approach) => {
+                *standing = Some(Standing::UnderWay(approach));
+                None
+            }
+        },
+        Some(Standing::UnderWay(approach)) => go_on(mq, standing, approach),
         None => unreachable!(),
-    };
+    }
+}
+
+// Takes a process inside that is under way. It stands apart, so that the way of one that sets out is known step by step.
+#[inline(never)]
+fn go_on(
+    mq: &FastMq,
+    standing: &mut Option<Standing>,
+    approach: FastApproach,
+) -> Option<FastArrived>
+    requires made { approach.lock ≡ mq.now }
+    ensures arrived { IfSome result (λ arrived. arrived ≡ approach) }
+    ensures same { IfNone result (ticket_of standing.new ≡ approach) }
+    ensures some { IfNone result (is_some standing.new ≡ true) }
+{
     match approach.advance(mq, STEPS) {
         Ok(arrived) => Some(arrived),
         Err(approach) => {
             *standing = Some(Standing::UnderWay(approach));
             None
         }
+    }
+}
+
+/// Whether the process is at rest, without an open wait.
+#[inline(always)]
+pub fn is_idle(standing: &Option<Standing>) -> bool
+    ensures { IsTrue result → IsFree (ticket_of standing.now) }
+{
+    match standing {
+        Some(Standing::AtRest(process)) => process.waiting().is_none(),
+        _ => false,
     }
 }
 
@@ -57,7 +90,10 @@ pub fn settle(standing: &mut Option<Standing>, process: FastProcess)
     ensures process { ticket_of standing.new ≡ process }
     ensures some { is_some standing.new ≡ true }
 {
-    *standing = Some(Standing::AtRest(process));
+    mem::forget(mem::replace(
+        standing,
+        Some(Standing::AtRest(process)),
+    ));
 }
 
 /// What one look from outside tells of the open wait of a process: at rest what [`FastProcess::answered`] gives, and nothing of one
