@@ -7,7 +7,7 @@ ghost use Rattle.mq_state.specs.Buffers.{waiting_room};
 ghost use Rattle.c_handles.specs.Standings.{ticket_of};
 
 use crate::standing;
-use crate::standing::{Standing, arrive, look, settle, waiting};
+use crate::standing::{Standing, arrive, look, set_out, settle, waiting, walk_on};
 use crate::tried::{Ending, Looked, Tried};
 use mq::{Bounds, Call, Deadline, Entry, FastMq, FastProcess, Fault, Received, Returned};
 use mq_model::ladder;
@@ -27,14 +27,14 @@ pub struct Member {
 }
 
 impl Member {
-    ghost use Rattle.std.specs.Prelude.{◌≡◌, IsTrue, [], length};
+    ghost use Rattle.std.specs.Prelude.{◌≡◌, IsTrue, false, [], length};
     ghost use Rattle.std.specs.Arc.{arc_value};
     ghost use Rattle.mq_state.specs.Requests.{Brings};
     ghost use Rattle.mq_model.specs.declared.entries.Call.{Call};
     ghost use Rattle.mq.specs.Calls.{Exits, IsFree, OneCall, ReceiveCall};
     ghost use Rattle.mq.specs.Kinds.{IsOf, IsCall};
     ghost use Rattle.mq.specs.Says.{start_send_says, start_receive_says};
-    ghost use Rattle.c_handles.specs.Standings.{ticket_of};
+    ghost use Rattle.c_handles.specs.Standings.{ticket_of, is_under_way};
     ghost use Rattle.c_handles.specs.Tries.{Tries, TriesWith};
 
     /// A new process with its queues.
@@ -95,26 +95,38 @@ impl Member {
     /// Whether its process is at rest, without an open wait.
     #[inline(always)]
     pub fn is_idle(&self) -> bool
-        ensures { IsTrue result → IsFree (ticket_of self.now.standing) }
+        ensures free { IsTrue result → IsFree (ticket_of self.now.standing) }
+        ensures rest { IsTrue result → is_under_way self.now.standing ≡ false }
     {
         standing::is_idle(&self.standing)
     }
 
-    /// Tries to send, of a process without an open wait, as [`make`](Member::make). Of one at rest the compiler knows each step.
+    /// Tries to send, of a process at rest without an open wait, as [`make`](Member::make). The compiler knows each step of its way.
     #[tactic(auto, using(crate::proofs::Members::no_deadline))]
     pub fn start_send(&mut self, d: u32, bytes: &[u8], prio: u32) -> Tried<Result<bool, Fault>>
         requires free { IsFree (ticket_of self.old.standing) }
+        requires rest { is_under_way self.old.standing ≡ false }
         ensures { Tries (λ old new result.
             OneCall start_send_says old new (Call.MqSend d prio (length bytes.now)) bytes.now
             result) (ticket_of self.old.standing) (ticket_of self.new.standing) result }
     {
         let len = bytes.len() as u64;
-        let Some(arrived) = arrive(&self.mq, &mut self.standing) else {
-            return Tried::Retry;
-        };
-        let (process, sent) = arrived.make(&self.mq, Call::MqSend { d, prio, len }, bytes, &mut []);
-        settle(&mut self.standing, process);
-        Tried::Made(sent)
+        match set_out(&self.mq, &mut self.standing) {
+            Ok(arrived) => {
+                let (process, sent) = arrived.make(
+                    &self.mq,
+                    Call::MqSend { d, prio, len },
+                    bytes,
+                    &mut [],
+                );
+                settle(&mut self.standing, process);
+                Tried::Made(sent)
+            }
+            Err(approach) => {
+                walk_on(&mut self.standing, approach);
+                Tried::Retry
+            }
+        }
     }
 
     /// Tries to receive, in the same way.
@@ -125,17 +137,23 @@ impl Member {
         buf: &mut [u8],
     ) -> Tried<Result<Option<Received>, Fault>>
         requires free { IsFree (ticket_of self.old.standing) }
+        requires rest { is_under_way self.old.standing ≡ false }
         ensures { TriesWith (buf.new ≡ buf.old) (λ old new result.
             ReceiveCall start_receive_says old new (Call.MqReceive d (length buf.old)) buf.old
             buf.new result) (ticket_of self.old.standing) (ticket_of self.new.standing) result }
     {
         let room = buf.len() as u64;
-        let Some(arrived) = arrive(&self.mq, &mut self.standing) else {
-            return Tried::Retry;
-        };
-        let (process, got) = arrived.make(&self.mq, Call::MqReceive { d, room }, &[], buf);
-        settle(&mut self.standing, process);
-        Tried::Made(got)
+        match set_out(&self.mq, &mut self.standing) {
+            Ok(arrived) => {
+                let (process, got) = arrived.make(&self.mq, Call::MqReceive { d, room }, &[], buf);
+                settle(&mut self.standing, process);
+                Tried::Made(got)
+            }
+            Err(approach) => {
+                walk_on(&mut self.standing, approach);
+                Tried::Retry
+            }
+        }
     }
 
     /// Tries to close all descriptors.

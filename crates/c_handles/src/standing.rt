@@ -1,5 +1,5 @@
 //! Where a process stands between two tries.
-ghost use Rattle.std.specs.Prelude.{◌≡◌, true, is_some, IfSome, IfNone, IsTrue};
+ghost use Rattle.std.specs.Prelude.{◌≡◌, true, false, Some, is_some, IfSome, IfNone, IfOk, IfErr, IsTrue};
 ghost use Rattle.mq_state.specs.Buffers.{waiting_room};
 ghost use Rattle.mq.specs.Calls.{IsFree};
 ghost use Rattle.c_handles.specs.Standings.{ticket_of, is_under_way, LooksAt};
@@ -26,32 +26,12 @@ pub fn arrive(mq: &FastMq, standing: &mut Option<Standing>) -> Option<FastArrive
     ensures same { IfNone result (ticket_of standing.new ≡ ticket_of standing.old) }
     ensures some { IfNone result (is_some standing.new ≡ true) }
 {
-    match standing.take() {
-        Some(Standing::AtRest(process)) => match process.approach(mq).advance(mq, STEPS) {
-            Ok(arrived) => Some(arrived),
-            Err(approach) => {
-                *standing = Some(Standing::UnderWay(approach));
-                None
-            }
-        },
-        Some(Standing::UnderWay(approach)) => go_on(mq, standing, approach),
+    let came = match standing.take() {
+        Some(Standing::AtRest(process)) => process.approach(mq).advance(mq, STEPS),
+        Some(Standing::UnderWay(approach)) => go_on(mq, approach),
         None => unreachable!(),
-    }
-}
-
-// Takes a process inside that is under way. It stands apart, so that the way of one that sets out is known step by step.
-#[inline(never)]
-fn go_on(
-    mq: &FastMq,
-    standing: &mut Option<Standing>,
-    approach: FastApproach,
-) -> Option<FastArrived>
-    requires made { approach.lock ≡ mq.now }
-    ensures arrived { IfSome result (λ arrived. arrived ≡ approach) }
-    ensures same { IfNone result (ticket_of standing.new ≡ approach) }
-    ensures some { IfNone result (is_some standing.new ≡ true) }
-{
-    match approach.advance(mq, STEPS) {
+    };
+    match came {
         Ok(arrived) => Some(arrived),
         Err(approach) => {
             *standing = Some(Standing::UnderWay(approach));
@@ -60,10 +40,36 @@ fn go_on(
     }
 }
 
+// It stands apart, so that of a process that sets out each step is known.
+#[inline(never)]
+fn go_on(mq: &FastMq, approach: FastApproach) -> Result<FastArrived, FastApproach>
+    requires made { approach.lock ≡ mq.now }
+    ensures arrived { IfOk result (λ arrived. arrived ≡ approach) }
+    ensures under_way { IfErr result (λ nearer. nearer ≡ approach) }
+{
+    approach.advance(mq, STEPS)
+}
+
+/// Takes a process inside that is at rest, or gives it back on its way there. It leaves none.
+#[inline(always)]
+pub fn set_out(mq: &FastMq, standing: &mut Option<Standing>) -> Result<FastArrived, FastApproach>
+    requires some { is_some standing.old ≡ true }
+    requires rest { is_under_way standing.old ≡ false }
+    requires made { (ticket_of standing.old).lock ≡ mq.now }
+    ensures arrived { IfOk result (λ arrived. arrived ≡ ticket_of standing.old) }
+    ensures under_way { IfErr result (λ approach. approach ≡ ticket_of standing.old) }
+{
+    match standing.take() {
+        Some(Standing::AtRest(process)) => process.approach(mq).advance(mq, STEPS),
+        _ => unreachable!(),
+    }
+}
+
 /// Whether the process is at rest, without an open wait.
 #[inline(always)]
 pub fn is_idle(standing: &Option<Standing>) -> bool
-    ensures { IsTrue result → IsFree (ticket_of standing.now) }
+    ensures free { IsTrue result → IsFree (ticket_of standing.now) }
+    ensures rest { IsTrue result → is_under_way standing.now ≡ false }
 {
     match standing {
         Some(Standing::AtRest(process)) => process.waiting().is_none(),
@@ -90,10 +96,24 @@ pub fn settle(standing: &mut Option<Standing>, process: FastProcess)
     ensures process { ticket_of standing.new ≡ process }
     ensures some { is_some standing.new ≡ true }
 {
-    mem::forget(mem::replace(
-        standing,
-        Some(Standing::AtRest(process)),
-    ));
+    put_down(standing, Standing::AtRest(process));
+}
+
+/// Puts a process down that is under way.
+#[inline(always)]
+pub fn walk_on(standing: &mut Option<Standing>, approach: FastApproach)
+    ensures process { ticket_of standing.new ≡ approach }
+    ensures some { is_some standing.new ≡ true }
+{
+    put_down(standing, Standing::UnderWay(approach));
+}
+
+// Nothing is dropped: what stood there was taken.
+#[inline(always)]
+fn put_down(standing: &mut Option<Standing>, process: Standing)
+    ensures { standing.new ≡ Some process }
+{
+    mem::forget(mem::replace(standing, Some(process)));
 }
 
 /// What one look from outside tells of the open wait of a process: at rest what [`FastProcess::answered`] gives, and nothing of one
