@@ -2,9 +2,12 @@
 ghost use Rattle.std.specs.Prelude.{◌≡◌, is_some};
 
 use crate::member::Member;
+use crate::numbers;
+use crate::numbers::EMPTY;
+use crate::requests::Message;
 use crate::seal::Seal;
 use crate::tried::{Ending, Looked, Tried};
-use mq::{Call, Deadline, Fault, Received, Returned};
+use mq::{Call, Deadline, Fault, Returned};
 use std::alloc::Global;
 use std::ptr::null;
 
@@ -100,6 +103,7 @@ impl Handle {
     ghost use Rattle.c_handles.specs.Endings.{GivesEnd, LooksIn};
     ghost use Rattle.c_handles.specs.Handles.{process_in, under_way_in};
     ghost use Rattle.c_handles.specs.Tries.{Gives, GivesWith};
+    ghost use Rattle.c_handles.specs.Codes.{told, code_of, written, sent_code, got_code, message_got};
 
     /// As [`Member::make`], where there is a member.
     pub fn make<A: Returned>(
@@ -118,82 +122,76 @@ impl Handle {
         with_member!(self, alloc, |member| member.make(call, given, buf))
     }
 
-    /// As [`make`](Handle::make) of a send. The way of a process that is at rest has nothing in it but that.
+    /// Tries to send: the number of what [`make`](Handle::make) would come to. The way of a process at rest has nothing in it but that.
     #[inline(always)]
-    pub fn start_send(
-        &mut self,
-        alloc: Global,
-        d: u32,
-        bytes: &[u8],
-        prio: u32,
-    ) -> Option<Tried<Result<bool, Fault>>>
+    pub fn start_send(&mut self, alloc: Global, d: u32, bytes: &[u8], prio: u32) -> u32
         ensures { Gives (λ old new result.
             OneCall start_send_says old new (Call.MqSend d prio (length bytes.now)) bytes.now
-            result) (λ tried. tried) (process_in self.old) (process_in self.new) result }
+            result) (code_of sent_code) (process_in self.old) (process_in self.new) result }
     {
-        let mut member = self.take(alloc)?;
+        let Some(mut member) = self.take(alloc) else {
+            return EMPTY;
+        };
         if !member.is_idle() {
             self.put(member);
             return self.send_apart(alloc, d, bytes, prio);
         }
-        let sent = member.start_send(d, bytes, prio);
+        let code = numbers::sent(Some(member.start_send(d, bytes, prio)));
         self.put(member);
-        Some(sent)
+        code
     }
 
     // The same of any process.
     #[inline(never)]
-    fn send_apart(
-        &mut self,
-        alloc: Global,
-        d: u32,
-        bytes: &[u8],
-        prio: u32,
-    ) -> Option<Tried<Result<bool, Fault>>>
+    fn send_apart(&mut self, alloc: Global, d: u32, bytes: &[u8], prio: u32) -> u32
         ensures { Gives (λ old new result.
             OneCall start_send_says old new (Call.MqSend d prio (length bytes.now)) bytes.now
-            result) (λ tried. tried) (process_in self.old) (process_in self.new) result }
+            result) (code_of sent_code) (process_in self.old) (process_in self.new) result }
     {
         let len = bytes.len() as u64;
-        self.make(alloc, Call::MqSend { d, prio, len }, bytes, &mut [])
+        let tried = self.make(alloc, Call::MqSend { d, prio, len }, bytes, &mut []);
+        numbers::sent(tried)
     }
 
-    /// As [`make`](Handle::make) of a receive, in the same way.
+    /// Tries to receive, in the same way, and writes what it got.
     #[inline(always)]
     pub fn start_receive(
         &mut self,
         alloc: Global,
         d: u32,
         buf: &mut [u8],
-    ) -> Option<Tried<Result<Option<Received>, Fault>>>
+        message: &mut Message,
+    ) -> u32
         ensures { GivesWith (buf.new ≡ buf.old) (λ old new result.
             ReceiveCall start_receive_says old new (Call.MqReceive d (length buf.old)) buf.old
-            buf.new result) (λ tried. tried) (process_in self.old) (process_in self.new) result }
+            buf.new result) (λ t.
+            told (code_of got_code t) (written (message_got message.old) message.old t))
+            (process_in self.old) (process_in self.new) (told result message.new) }
     {
-        let mut member = self.take(alloc)?;
+        let Some(mut member) = self.take(alloc) else {
+            return EMPTY;
+        };
         if !member.is_idle() {
             self.put(member);
-            return self.receive_apart(alloc, d, buf);
+            return self.receive_apart(alloc, d, buf, message);
         }
-        let got = member.start_receive(d, buf);
+        let code = numbers::got(Some(member.start_receive(d, buf)), message);
         self.put(member);
-        Some(got)
+        code
     }
 
     // The same of any process.
     #[inline(never)]
-    fn receive_apart(
-        &mut self,
-        alloc: Global,
-        d: u32,
-        buf: &mut [u8],
-    ) -> Option<Tried<Result<Option<Received>, Fault>>>
+    fn receive_apart(&mut self, alloc: Global, d: u32, buf: &mut [u8], message: &mut Message) -> u32
         ensures { GivesWith (buf.new ≡ buf.old) (λ old new result.
             ReceiveCall start_receive_says old new (Call.MqReceive d (length buf.old)) buf.old
-            buf.new result) (λ tried. tried) (process_in self.old) (process_in self.new) result }
+            buf.new result) (λ t.
+            told (code_of got_code t) (written (message_got message.old) message.old t))
+            (process_in self.old) (process_in self.new) (told result message.new) }
     {
         let room = buf.len() as u64;
-        self.make(alloc, Call::MqReceive { d, room }, &[], buf)
+        let tried = self.make(alloc, Call::MqReceive { d, room }, &[], buf);
+        numbers::got(tried, message)
     }
 
     /// As [`Member::exit`].
