@@ -1,14 +1,12 @@
 //! Each lock over a state of its own list, by functions that are generic over the lock.
 ghost use Rattle.std.specs.Prelude.{◌≡◌, ◌≤◌, ℕ, List, [], ◌∷◌, false, refl, map, IfOk, IfSome, MatchResult};
 ghost use Rattle.fast_mutex.specs.Items.{Grows, tickets_from};
-ghost use Rattle.fast_mutex.specs.Word.{ticket_of, lock_id, made_with};
 
-use fast_mutex::{Enter, FastMutex, Lock, Logged, Missing, Path, WordLock, WordSeat};
+use fast_mutex::{Enter, FastMutex, Lock, Logged, Missing, Path, WordLock};
 use std::alloc::{AllocError, Global};
 use std::io::Print;
 use std::process::Abort;
 use std::sync::Wait;
-use std::thread::{Threads, join};
 use tests_refusals::{refuse_all, say_refused};
 
 mod looks;
@@ -264,46 +262,6 @@ fn add_many<L: Lock<Notes>, R: Wait>(rt: &R, lock: &L, seat: L::Seat, stays: u32
         seat = next;
     }
     seat
-}
-
-/// The notes of two threads, each with as many stays of a process.
-fn in_two_threads<R: Wait + Threads + Print + Abort + Sync>(
-    rt: &R,
-    alloc: Global,
-    stays: u32,
-) -> Notes {
-    let notes = no_notes(rt, alloc, 7, 2 * stays as usize).expect(rt, "memory");
-    let (lock, mut seats) = lock_for::<WordLock<Notes>, R>(rt, alloc, 2, notes).expect(
-        rt, "memory",
-    );
-    let two = seats.pop().expect(rt, "two seats");
-    let one = seats.pop().expect(rt, "two seats");
-    let (one, two) = join(
-        rt,
-        || -> WordSeat<Notes>
-            requires { (ticket_of one.number one.seat).lock ≡ lock_id lock.table.shared.table_id
-                (made_with (λ s. s.title ∷ []) lock.table.shared.key) }
-            ensures { (ticket_of result.number result.seat).lock ≡
-                lock_id lock.table.shared.table_id (made_with (λ s. s.title ∷
-                []) lock.table.shared.key) }
-        { add_many(rt, &lock, one, stays) },
-        || -> WordSeat<Notes>
-            requires { (ticket_of two.number two.seat).lock ≡ lock_id lock.table.shared.table_id
-                (made_with (λ s. s.title ∷ []) lock.table.shared.key) }
-            ensures { (ticket_of result.number result.seat).lock ≡
-                lock_id lock.table.shared.table_id (made_with (λ s. s.title ∷
-                []) lock.table.shared.key) }
-        { add_many(rt, &lock, two, stays) },
-    );
-    seats.push(one).ok().expect(rt, "room for two seats");
-    seats.push(two).ok().expect(rt, "room for two seats");
-    lock.finish(seats).ok().expect(rt, "all seats")
-}
-
-#[test]
-fn two_threads_lose_no_note_of_a_word_lock(rt: HostRuntime) {
-    let notes = in_two_threads(&rt, rt.alloc(), threads::STAYS);
-    threads::expect_all(&rt, &notes, 2);
 }
 
 // A lock for each number of processes, which has as many seats.

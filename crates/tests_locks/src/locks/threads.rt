@@ -11,7 +11,7 @@ use std::process::Abort;
 use std::sync::Wait;
 use std::thread::{Threads, map_vec};
 
-pub const STAYS: u32 = 1000;
+const STAYS: u32 = 1000;
 
 /// The notes of so many threads over the lock of one word.
 fn over_word_lock<R: Wait + Threads + Print + Abort + Sync>(
@@ -69,7 +69,7 @@ fn over_fast_mutex<R: Wait + Threads + Print + Abort + Sync>(
 }
 
 // Each process's notes are all there, in its order.
-pub fn expect_all<A: Abort>(rt: &A, notes: &Notes, threads: u32)
+fn expect_all<A: Abort>(rt: &A, notes: &Notes, threads: u32)
     requires { threads ≤ 32 }
 {
     assert_eq!(rt; notes.items.len(), threads as usize * STAYS as usize);
@@ -81,6 +81,12 @@ pub fn expect_all<A: Abort>(rt: &A, notes: &Notes, threads: u32)
             .map(|note| note.1);
         assert!(rt; values.eq(0..STAYS), "of process {process}");
     }
+}
+
+#[test]
+fn two_threads_lose_no_note_of_a_word_lock(rt: HostRuntime) {
+    let notes = over_word_lock(&rt, rt.alloc(), 2);
+    expect_all(&rt, &notes, 2);
 }
 
 #[test]
