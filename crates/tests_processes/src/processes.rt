@@ -1,5 +1,5 @@
 //! Processes over a lock, by functions that are generic over it. What processes are told in one thread is a table of steps.
-ghost use Rattle.std.specs.Prelude.{◌≡◌, None, IfSome, length, []};
+ghost use Rattle.std.specs.Prelude.{◌≡◌, length, []};
 ghost use Rattle.mq.specs.Calls.{IsFree};
 ghost use Rattle.fast_mutex.specs.Items.{tickets_from};
 
@@ -21,7 +21,7 @@ use tests_refusals::say_refused;
 mod blocked;
 mod bounded;
 mod calls;
-mod deadlines;
+pub mod deadlines;
 mod ends;
 mod exits;
 mod memory;
@@ -38,56 +38,56 @@ struct Pair<L: Look<Guarded>> {
 }
 
 // Queues for two processes, and those in a vector. One growth may be refused from outside.
-fn make_two<L: Look<Guarded>, R: Print>(rt: &R, alloc: Global) -> Option<(Mq<L>, Vec<Process<L>>)>
-    ensures { IfSome result (λ r. r.1.items ≡ tickets_from r.0 1 2) }
+fn make_two<L: Look<Guarded>, R: Abort + Print>(rt: &R, alloc: Global) -> (Mq<L>, Vec<Process<L>>)
+    ensures { result.1.items ≡ tickets_from result.0 1 2 }
 {
     match Mq::<L>::new(alloc, 2) {
-        Ok(made) => Some(made),
+        Ok(made) => made,
         Err(_) => {
             say_refused(rt, "the making");
-            Mq::<L>::new(alloc, 2).ok()
+            Mq::<L>::new(alloc, 2).ok().expect(rt, "memory")
         }
     }
 }
 
-fn make_pair<L: Look<Guarded>, R: Print>(rt: &R, alloc: Global) -> Option<Pair<L>>
-    ensures { IfSome result (λ p. (p.one.lock ≡ p.mq) × IsFree p.one × (p.two.lock ≡ p.mq) ×
-        IsFree p.two) }
+fn make_pair<L: Look<Guarded>, R: Abort + Print>(rt: &R, alloc: Global) -> Pair<L>
+    ensures one { (result.one.lock ≡ result.mq) × IsFree result.one }
+    ensures two { (result.two.lock ≡ result.mq) × IsFree result.two }
 {
-    let (mq, mut processes) = make_two::<L, R>(rt, alloc)?;
-    match (processes.pop(), processes.pop()) {
-        (Some(two), Some(one)) => Some(Pair { mq, one, two }),
-        _ => None,
-    }
+    let (mq, mut processes) = make_two::<L, R>(rt, alloc);
+    let two = processes.pop().unwrap();
+    let one = processes.pop().unwrap();
+    Pair { mq, one, two }
 }
 
 // Room for two processes. One growth may be refused from outside.
-fn room<L: Look<Guarded>, R: Print>(rt: &R, alloc: Global) -> Option<Vec<Process<L>>>
-    ensures { IfSome result (λ room. room.items ≡ []) }
+fn room<L: Look<Guarded>, R: Abort + Print>(rt: &R, alloc: Global) -> Vec<Process<L>>
+    ensures { result.items ≡ [] }
 {
     match Vec::with_capacity(alloc, 2) {
-        Ok(processes) => Some(processes),
+        Ok(processes) => processes,
         Err(_) => {
             say_refused(rt, "room for two processes");
-            Vec::with_capacity(alloc, 2).ok()
+            Vec::with_capacity(alloc, 2).ok().expect(rt, "memory")
         }
     }
 }
 
 // The end with both processes: the journal.
-fn finish<L: Look<Guarded>>(
+fn finish<L: Look<Guarded>, A: Abort>(
+    rt: &A,
     mut processes: Vec<Process<L>>,
     mq: Mq<L>,
     one: Process<L>,
     two: Process<L>,
-) -> Option<Journal>
+) -> Journal
     requires room { processes.items ≡ [] }
     requires one { one.lock ≡ mq }
     requires two { two.lock ≡ mq }
 {
-    processes.push(one).ok()?;
-    processes.push(two).ok()?;
-    mq.finish(processes).ok()
+    processes.push(one).ok().expect(rt, "memory");
+    processes.push(two).ok().expect(rt, "memory");
+    mq.finish(processes).ok().expect(rt, "both processes")
 }
 
 /// The journal after the steps of two processes in one thread.
@@ -95,11 +95,14 @@ fn after<L: Look<Guarded>, R: Wait + Clock + Abort + Print>(
     rt: &R,
     alloc: Global,
     steps: &[Step],
-) -> Option<Journal> {
-    let mut pair = make_pair::<L, R>(rt, alloc)?;
-    expect_steps(rt, &pair.mq, &mut pair.one, &mut pair.two, steps);
-    let Pair { mq, one, two } = pair;
-    finish(room(rt, alloc)?, mq, one, two)
+) -> Journal {
+    let Pair {
+        mq,
+        mut one,
+        mut two,
+    } = make_pair::<L, R>(rt, alloc);
+    expect_steps(rt, &mq, &mut one, &mut two, steps);
+    finish(rt, room(rt, alloc), mq, one, two)
 }
 
 /// The journal after the steps of two processes in one thread, over Lamport's lock.
@@ -108,11 +111,11 @@ fn journal_after<R: Wait + Clock + Abort + Print>(
     alloc: Global,
     steps: &[Step],
 ) -> Journal {
-    after::<FastMutex<Guarded>, R>(rt, alloc, steps).expect(rt, "memory")
+    after::<FastMutex<Guarded>, R>(rt, alloc, steps)
 }
 
 /// The journal is legal, and has just these processes and replies.
-fn expect_journal<R: Abort>(rt: &R, journal: &Journal, wanted: &[(u32, Reply)]) {
+pub fn expect_journal<R: Abort>(rt: &R, journal: &Journal, wanted: &[(u32, Reply)]) {
     assert_eq!(rt; journal.len(), wanted.len() as u64);
     for (place, wanted) in (0..).zip(wanted) {
         let entry = journal.entry(place).expect(rt, "an entry");

@@ -1,16 +1,15 @@
 //! Worked rows of one process, with their own limits and buffers, and with their own entries alone.
-ghost use Rattle.std.specs.Prelude.{◌≡◌, [], IfOk};
+ghost use Rattle.std.specs.Prelude.{◌≡◌, []};
 ghost use Rattle.fast_mutex.specs.Items.{tickets_from};
 ghost use Rattle.mq.specs.Calls.{IsFree};
 
+use crate::processes::deadlines::{LATER, Ticks};
+use crate::processes::expect_journal;
 use fast_mutex::{FastMutex, Look};
-use mq::{Attr, Deadline, Fault, Guarded, Journal, Mq, Name, OpenFlags, Process, Reply, Status};
-use mq_checker::checker::check_history;
-use mq_model::clock;
+use mq::{Attr, Fault, Guarded, Journal, Mq, Name, OpenFlags, Process, Reply, Status};
 use std::alloc::Global;
 use std::process::Abort;
 use std::sync::Wait;
-use std::sync::atomic::{AtomicBool, Ordering};
 use std::time::Clock;
 
 // What the process asks.
@@ -26,29 +25,6 @@ enum Ask {
     Getattr(Status),
     Close,
     Exit,
-}
-
-// A clock that gives the start once, and then the moment one second later.
-#[derive(Drop)]
-struct Ticks {
-    asked: AtomicBool,
-}
-
-const LATER: Deadline = Deadline { sec: 1, nsec: 0 };
-
-impl clock::Clock for Ticks {
-    ghost use Rattle.std.specs.Prelude.{◌≡◌, true};
-    ghost use Rattle.mq_model.specs.Deadlines.{is_moment};
-
-    ghost gives = { λ ticks moment. is_moment moment ≡ true };
-
-    fn now(&self) -> Deadline {
-        if self.asked.swap(true, Ordering::SeqCst) {
-            LATER
-        } else {
-            Deadline { sec: 0, nsec: 0 }
-        }
-    }
 }
 
 // Whether the call was done and gave what is said, or how it was refused.
@@ -80,10 +56,7 @@ fn told<L: Look<Guarded>, R: Wait + Clock>(
             Ok(&buf[..received.len] == wanted)
         }
         Ask::ReceiveUntil => {
-            let ticks = Ticks {
-                asked: AtomicBool::new(false),
-            };
-            p.timed_receive(rt, mq, 0, buf, LATER, &ticks)?;
+            p.timed_receive(rt, mq, 0, buf, LATER, &Ticks::new())?;
             Ok(true)
         }
         Ask::Getattr(wanted) => {
@@ -120,63 +93,51 @@ fn take_steps<L: Look<Guarded>, R: Wait + Clock + Abort>(
     }
 }
 
-// The replies of a journal, which is legal.
-fn expect_replies<R: Abort>(rt: &R, journal: &Journal, wanted: &[Reply]) {
-    assert_eq!(rt; journal.len(), wanted.len() as u64);
-    for (place, wanted) in (0..).zip(wanted) {
-        let found = journal.entry(place).map(|entry| entry.reply);
-        assert_eq!(rt; found, Some(*wanted), "at {place}");
-    }
-    assert_eq!(rt; check_history(journal), Ok(()));
-}
-
 // A system of one process, with these bounds or none, and its process in a vector.
-fn make_one<L: Look<Guarded>>(
+fn make_one<L: Look<Guarded>, A: Abort>(
+    rt: &A,
     alloc: Global,
     bounds: Option<(u64, u64)>,
-) -> Result<(Mq<L>, Vec<Process<L>>), Fault>
-    ensures { IfOk result (λ r. r.1.items ≡ tickets_from r.0 1 1) }
+) -> (Mq<L>, Vec<Process<L>>)
+    ensures { result.1.items ≡ tickets_from result.0 1 1 }
 {
-    match bounds {
+    let made = match bounds {
         None => Mq::<L>::new(alloc, 1),
         Some((entries, bytes)) => Mq::<L>::bounded(alloc, 1, entries, bytes),
-    }
+    };
+    made.ok().expect(rt, "memory")
 }
 
-// A system of one process, with these bounds or none, its process, and room for that process.
-fn make<L: Look<Guarded>>(
-    alloc: Global,
-    bounds: Option<(u64, u64)>,
-) -> Result<(Mq<L>, Process<L>, Vec<Process<L>>), Fault>
-    ensures { IfOk result (λ r. (r.1.lock ≡ r.0) × IsFree r.1 × (r.2.items ≡ [])) }
+// The end with the one process: the journal.
+fn finish<L: Look<Guarded>, A: Abort>(
+    rt: &A,
+    mq: Mq<L>,
+    process: Process<L>,
+    mut room: Vec<Process<L>>,
+) -> Journal
+    requires made { process.lock ≡ mq }
+    requires empty { room.items ≡ [] }
 {
-    let (mq, mut processes) = make_one::<L>(alloc, bounds)?;
-    let Ok(room) = Vec::with_capacity(alloc, 1) else {
-        return Err(Fault::NoMemory);
-    };
-    let Some(process) = processes.pop() else {
-        return Err(Fault::Invalid);
-    };
-    Ok((mq, process, room))
+    room.push(process).ok().expect(rt, "memory");
+    mq.finish(room).ok().expect(rt, "the end")
 }
 
-// The journal after these steps, where memory is there.
+// The journal after these steps.
 fn journal_after<L: Look<Guarded>, R: Wait + Clock + Abort>(
     rt: &R,
     bounds: Option<(u64, u64)>,
     steps: &[(Ask, Result<bool, Fault>)],
     alloc: Global,
     buf: &mut [u8],
-) -> Result<Option<Journal>, Fault> {
-    let (mq, mut process, mut room) = make::<L>(alloc, bounds)?;
+) -> Journal {
+    let (mq, mut processes) = make_one::<L, R>(rt, alloc, bounds);
+    let room = Vec::with_capacity(alloc, 1).ok().expect(rt, "memory");
+    let mut process = processes.pop().unwrap();
     take_steps(rt, &mq, &mut process, steps, buf);
-    if room.push(process).is_err() {
-        return Err(Fault::NoMemory);
-    }
-    Ok(mq.finish(room).ok())
+    finish(rt, mq, process, room)
 }
 
-// The same over Lamport's lock, where all is there.
+// The same over Lamport's lock.
 fn journal_of<R: Wait + Clock + Abort>(
     rt: &R,
     bounds: Option<(u64, u64)>,
@@ -184,8 +145,7 @@ fn journal_of<R: Wait + Clock + Abort>(
     alloc: Global,
     buf: &mut [u8],
 ) -> Journal {
-    let journal = journal_after::<FastMutex<Guarded>, R>(rt, bounds, steps, alloc, buf);
-    journal.expect(rt, "memory").expect(rt, "the end")
+    journal_after::<FastMutex<Guarded>, R>(rt, bounds, steps, alloc, buf)
 }
 
 const FULL: Result<bool, Fault> = Err(Fault::JournalFull);
@@ -210,30 +170,39 @@ static FOUR_OF_EACH: [(Ask, Result<bool, Fault>); 9] = [
     (Ask::Exit, FULL),
 ];
 
-static REPLIES_OF_FOUR: [Reply; 4] = [
-    Reply::Opened {
-        d: 0,
-        created: true,
-    },
-    Reply::Queued { notified: None },
-    Reply::Got {
-        place: 1,
-        admitted: None,
-        notified: None,
-    },
-    Reply::Attrs(Status {
-        nonblock: false,
-        maxmsg: 2,
-        msgsize: 2,
-        curmsgs: 0,
-    }),
+static REPLIES_OF_FOUR: [(u32, Reply); 4] = [
+    (
+        1,
+        Reply::Opened {
+            d: 0,
+            created: true,
+        },
+    ),
+    (1, Reply::Queued { notified: None }),
+    (
+        1,
+        Reply::Got {
+            place: 1,
+            admitted: None,
+            notified: None,
+        },
+    ),
+    (
+        1,
+        Reply::Attrs(Status {
+            nonblock: false,
+            maxmsg: 2,
+            msgsize: 2,
+            curmsgs: 0,
+        }),
+    ),
 ];
 
 #[test]
 fn four_entries_and_four_bytes(rt: HostRuntime) {
     let mut buf = [0; 2];
     let journal = journal_of(&rt, Some((4, 4)), &FOUR_OF_EACH, rt.alloc(), &mut buf);
-    expect_replies(&rt, &journal, &REPLIES_OF_FOUR);
+    expect_journal(&rt, &journal, &REPLIES_OF_FOUR);
 }
 
 static UNTIL_ONE: [(Ask, Result<bool, Fault>); 2] = [
@@ -241,18 +210,21 @@ static UNTIL_ONE: [(Ask, Result<bool, Fault>); 2] = [
     (Ask::ReceiveUntil, Err(Fault::TimedOut)),
 ];
 
-static REPLIES_UNTIL_ONE: [Reply; 3] = [
-    Reply::Opened {
-        d: 0,
-        created: true,
-    },
-    Reply::Waits,
-    Reply::Withdrawn { wait: 1 },
+static REPLIES_UNTIL_ONE: [(u32, Reply); 3] = [
+    (
+        1,
+        Reply::Opened {
+            d: 0,
+            created: true,
+        },
+    ),
+    (1, Reply::Waits),
+    (1, Reply::Withdrawn { wait: 1 }),
 ];
 
 #[test]
 fn a_deadline_of_one_process(rt: HostRuntime) {
     let mut buf = [0; 8];
     let journal = journal_of(&rt, None, &UNTIL_ONE, rt.alloc(), &mut buf);
-    expect_replies(&rt, &journal, &REPLIES_UNTIL_ONE);
+    expect_journal(&rt, &journal, &REPLIES_UNTIL_ONE);
 }

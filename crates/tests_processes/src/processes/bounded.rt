@@ -1,5 +1,5 @@
 //! Processes of a system whose journal has bounds.
-ghost use Rattle.std.specs.Prelude.{◌≡◌, [], IfSome};
+ghost use Rattle.std.specs.Prelude.{◌≡◌, []};
 ghost use Rattle.fast_mutex.specs.Items.{tickets_from};
 
 use super::steps::{Ask, CREATE, Step, Told, asked_once};
@@ -7,7 +7,6 @@ use fast_mutex::{FastMutex, Look};
 use mq::{Guarded, Mq, Process};
 use mq_model::entries::{Received, Status};
 use mq_model::faults::Fault;
-use mq_model::journals::Journal;
 use std::alloc::Global;
 use std::io::Print;
 use std::process::Abort;
@@ -16,84 +15,85 @@ use std::time::Clock;
 use tests_refusals::{refuse_all, say_refused};
 
 // A system of one process with these bounds, and that process in a vector. One growth may be refused from outside.
-fn make_one<L: Look<Guarded>, R: Print>(
+fn make_one<L: Look<Guarded>, R: Abort + Print>(
     rt: &R,
     alloc: Global,
     entries: u64,
     bytes: u64,
-) -> Option<(Mq<L>, Vec<Process<L>>)>
-    ensures { IfSome result (λ r. r.1.items ≡ tickets_from r.0 1 1) }
+) -> (Mq<L>, Vec<Process<L>>)
+    ensures { result.1.items ≡ tickets_from result.0 1 1 }
 {
     match Mq::<L>::bounded(alloc, 1, entries, bytes) {
-        Ok(made) => Some(made),
+        Ok(made) => made,
         Err(_) => {
             say_refused(rt, "the making");
-            Mq::<L>::bounded(alloc, 1, entries, bytes).ok()
+            Mq::<L>::bounded(alloc, 1, entries, bytes)
+                .ok()
+                .expect(rt, "memory")
         }
     }
 }
 
 // Room for a process. One growth may be refused from outside.
-fn room_for_one<L: Look<Guarded>, R: Print>(rt: &R, alloc: Global) -> Option<Vec<Process<L>>>
-    ensures { IfSome result (λ room. room.items ≡ []) }
+fn room_for_one<L: Look<Guarded>, R: Abort + Print>(rt: &R, alloc: Global) -> Vec<Process<L>>
+    ensures { result.items ≡ [] }
 {
     match Vec::with_capacity(alloc, 1) {
-        Ok(room) => Some(room),
+        Ok(room) => room,
         Err(_) => {
             say_refused(rt, "the room");
-            Vec::with_capacity(alloc, 1).ok()
+            Vec::with_capacity(alloc, 1).ok().expect(rt, "memory")
         }
     }
 }
 
-// A system of one process with these bounds, and a vector with room for that process.
-fn make_alone<L: Look<Guarded>, R: Print>(
-    rt: &R,
-    alloc: Global,
-    entries: u64,
-    bytes: u64,
-) -> Option<(Mq<L>, Process<L>, Vec<Process<L>>)>
-    ensures { IfSome result (λ r. (r.1.lock ≡ r.0) × (r.2.items ≡ [])) }
-{
-    let (mq, mut processes) = make_one::<L, R>(rt, alloc, entries, bytes)?;
-    let room = room_for_one::<L, R>(rt, alloc)?;
-    let process = processes.pop()?;
-    Some((mq, process, room))
-}
-
-fn finish_alone<L: Look<Guarded>>(
+// The end with the one process: how many entries the journal has.
+fn finish_alone<L: Look<Guarded>, A: Abort>(
+    rt: &A,
     mq: Mq<L>,
     process: Process<L>,
     mut room: Vec<Process<L>>,
-) -> Option<Journal>
+) -> u64
     requires made { process.lock ≡ mq }
     requires empty { room.items ≡ [] }
 {
-    room.push(process).ok()?;
-    mq.finish(room).ok()
+    room.push(process).ok().expect(rt, "memory");
+    mq.finish(room).ok().expect(rt, "the one process").len()
 }
 
-// The one process takes the steps, while every growth may be refused from outside. Gives how many entries the journal has at the end.
+// The one process takes the steps.
 fn expect_alone<L: Look<Guarded>, R: Wait + Clock + Abort + Print>(
+    rt: &R,
+    mq: &Mq<L>,
+    process: &mut Process<L>,
+    steps: &[Step],
+)
+    requires { process.old.lock ≡ mq.now }
+    ensures { process.new.lock ≡ mq.now }
+{
+    let mut buf = [0; 8];
+    'steps: for (number, step) in steps.iter().enumerate() {
+        let (_, ask, wanted) = *step;
+        let found = asked_once(rt, mq, process, ask, &mut buf);
+        assert!(rt; found == wanted, "step {number}");
+    }
+}
+
+// A system with these bounds, whose one process takes the steps while every growth may be refused from outside. Gives how many
+// entries the journal has at the end.
+fn after<L: Look<Guarded>, R: Wait + Clock + Abort + Print>(
     rt: &R,
     alloc: Global,
     entries: u64,
     bytes: u64,
     steps: &[Step],
-) -> Option<u64> {
-    let (mq, mut process, room) = make_alone::<L, R>(rt, alloc, entries, bytes)?;
+) -> u64 {
+    let (mq, mut processes) = make_one::<L, R>(rt, alloc, entries, bytes);
+    let room = room_for_one::<L, R>(rt, alloc);
+    let mut process = processes.pop().unwrap();
     refuse_all(rt, alloc);
-    let mut buf = [0; 8];
-    'steps: for (number, step) in steps.iter().enumerate() {
-        let (_, ask, wanted) = *step;
-        assert_eq!(rt;
-            asked_once(rt, &mq, &mut process, ask, &mut buf),
-            wanted,
-            "step {number}"
-        );
-    }
-    let journal = finish_alone(mq, process, room)?;
-    Some(journal.len())
+    expect_alone(rt, &mq, &mut process, steps);
+    finish_alone(rt, mq, process, room)
 }
 
 // The same over Lamport's lock.
@@ -103,8 +103,8 @@ fn alone<R: Wait + Clock + Abort + Print>(
     entries: u64,
     bytes: u64,
     steps: &[Step],
-) -> Option<u64> {
-    expect_alone::<FastMutex<Guarded>, R>(rt, alloc, entries, bytes, steps)
+) -> u64 {
+    after::<FastMutex<Guarded>, R>(rt, alloc, entries, bytes, steps)
 }
 
 const FULL: Told = Told::Refused(Fault::JournalFull);
@@ -134,7 +134,7 @@ static FOUR_OF_EACH: [Step; 12] = [
 
 #[test]
 fn calls_find_the_journal_full_where_the_bounds_say(rt: HostRuntime) {
-    assert_eq!(rt; alone(&rt, rt.alloc(), 4, 4, &FOUR_OF_EACH), Some(4));
+    assert_eq!(rt; alone(&rt, rt.alloc(), 4, 4, &FOUR_OF_EACH), 4);
 }
 
 static NOTHING_FITS: [Step; 14] = [
@@ -156,7 +156,7 @@ static NOTHING_FITS: [Step; 14] = [
 
 #[test]
 fn without_an_entry_each_call_that_has_one_is_refused(rt: HostRuntime) {
-    assert_eq!(rt; alone(&rt, rt.alloc(), 0, 100, &NOTHING_FITS), Some(0));
+    assert_eq!(rt; alone(&rt, rt.alloc(), 0, 100, &NOTHING_FITS), 0);
 }
 
 // How a system of so many processes with these bounds is refused, if it is.
@@ -200,6 +200,6 @@ static NO_OPEN: [Step; 1] = [(1, Ask::Open(CREATE, 2), FULL)];
 
 #[test]
 fn a_bound_of_one_entry_has_room_for_an_open(rt: HostRuntime) {
-    assert_eq!(rt; alone(&rt, rt.alloc(), 1, 2, &ONE_ENTRY), Some(1));
-    assert_eq!(rt; alone(&rt, rt.alloc(), 1, 1, &NO_OPEN), Some(0));
+    assert_eq!(rt; alone(&rt, rt.alloc(), 1, 2, &ONE_ENTRY), 1);
+    assert_eq!(rt; alone(&rt, rt.alloc(), 1, 1, &NO_OPEN), 0);
 }

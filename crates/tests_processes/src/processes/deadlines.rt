@@ -69,20 +69,21 @@ static STEPS: [Step; 7] = [
 fn steps_with_deadlines<L: Look<Guarded>, R: Wait + Clock + Abort + Print>(
     rt: &R,
     alloc: Global,
-) -> Option<(Journal, Deadline)> {
-    let mut pair = make_pair::<L, R>(rt, alloc)?;
-    let clock = Monotonic::start(rt).ok()?;
-    expect_steps(rt, &pair.mq, &mut pair.one, &mut pair.two, &STEPS);
+) -> (Journal, Deadline) {
+    let Pair {
+        mq,
+        mut one,
+        mut two,
+    } = make_pair::<L, R>(rt, alloc);
+    let clock = Monotonic::start(rt).ok().expect(rt, "a clock");
+    expect_steps(rt, &mq, &mut one, &mut two, &STEPS);
     let took = clock.now();
-    let Pair { mq, one, two } = pair;
-    Some((finish(room(rt, alloc)?, mq, one, two)?, took))
+    (finish(rt, room(rt, alloc), mq, one, two), took)
 }
 
 #[test]
 fn a_wait_is_withdrawn_at_its_deadline_and_not_before(rt: HostRuntime) {
-    let (journal, took) = steps_with_deadlines::<FastMutex<Guarded>, _>(&rt, rt.alloc()).expect(
-        &rt, "memory",
-    );
+    let (journal, took) = steps_with_deadlines::<FastMutex<Guarded>, _>(&rt, rt.alloc());
     assert!(&rt; took.sec > 0 || took.nsec >= 20_000_000);
     let replies = [
         (2, Reply::Waits),

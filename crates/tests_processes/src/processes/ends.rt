@@ -1,5 +1,5 @@
 //! The end of the queues: with nobody, with one process of two, and while one waits.
-ghost use Rattle.std.specs.Prelude.{◌≡◌, [], IfSome};
+ghost use Rattle.std.specs.Prelude.{◌≡◌, []};
 
 use super::steps::{Ask, CREATE, Step, Told, expect_steps};
 use super::{
@@ -16,31 +16,33 @@ use std::sync::Wait;
 use std::time::Clock;
 
 // The end without a process: the queues come back.
-fn finish_empty<L: Look<Guarded>>(alloc: Global, mq: Mq<L>) -> Option<Mq<L>>
-    ensures { IfSome result (λ m. m ≡ mq) }
+fn finish_empty<L: Look<Guarded>, A: Abort>(rt: &A, alloc: Global, mq: Mq<L>) -> Mq<L>
+    ensures { result ≡ mq }
 {
     let Err(Missing { whole, parts }) = mq.finish(Vec::new(alloc)) else {
-        return None;
+        panic!(rt; "all handed back")
     };
-    if parts.is_empty() { Some(whole) } else { None }
+    assert!(rt; parts.is_empty(), "all handed back");
+    whole
 }
 
 // The end with process 1 alone: the queues and the process come back, with the room for both.
-fn finish_early<L: Look<Guarded>>(
+fn finish_early<L: Look<Guarded>, A: Abort>(
+    rt: &A,
     mut processes: Vec<Process<L>>,
     mq: Mq<L>,
     one: Process<L>,
-) -> Option<(Mq<L>, Process<L>, Vec<Process<L>>)>
+) -> (Mq<L>, Process<L>, Vec<Process<L>>)
     requires room { processes.items ≡ [] }
     requires made { one.lock ≡ mq }
-    ensures { IfSome result (λ r. (r.0 ≡ mq) × (r.1.lock ≡ mq) × (r.2.items ≡ [])) }
+    ensures { (result.0 ≡ mq) × (result.1.lock ≡ mq) × (result.2.items ≡ []) }
 {
-    processes.push(one).ok()?;
+    processes.push(one).ok().expect(rt, "memory");
     let Err(Missing { whole, mut parts }) = mq.finish(processes) else {
-        return None;
+        panic!(rt; "all handed back")
     };
-    let one = parts.pop()?;
-    Some((whole, one, parts))
+    let one = parts.pop().expect(rt, "all handed back");
+    (whole, one, parts)
 }
 
 static FIRST: [Step; 1] = [(1, Ask::Open(CREATE, 2), Told::Opened(0))];
@@ -66,25 +68,25 @@ static THREE_CALLS: [(u32, Reply); 3] = [
 fn with_early_ends<L: Look<Guarded>, R: Wait + Clock + Abort + Print>(
     rt: &R,
     alloc: Global,
-) -> Option<Journal> {
-    let processes = room(rt, alloc)?;
+) -> Journal {
+    let processes = room(rt, alloc);
     let Pair {
         mq,
         mut one,
         mut two,
-    } = make_pair::<L, R>(rt, alloc)?;
+    } = make_pair::<L, R>(rt, alloc);
     expect_steps(rt, &mq, &mut one, &mut two, &FIRST);
-    let mq = finish_empty(alloc, mq)?;
+    let mq = finish_empty(rt, alloc, mq);
     expect_steps(rt, &mq, &mut one, &mut two, &SECOND);
-    let (mq, mut one, processes) = finish_early(processes, mq, one)?;
+    let (mq, mut one, processes) = finish_early(rt, processes, mq, one);
     expect_steps(rt, &mq, &mut one, &mut two, &THIRD);
-    finish(processes, mq, one, two)
+    finish(rt, processes, mq, one, two)
 }
 
 #[test]
 fn what_an_early_end_hands_back_is_used_again(rt: HostRuntime) {
     let journal = with_early_ends::<FastMutex<Guarded>, _>(&rt, rt.alloc());
-    expect_journal(&rt, &journal.expect(&rt, "all handed back"), &THREE_CALLS);
+    expect_journal(&rt, &journal, &THREE_CALLS);
 }
 
 static STILL_WAITS: [Step; 2] = [

@@ -53,18 +53,21 @@ static REPLIES: [(u32, Reply); 6] = [
 fn journal_of_waits<L: Look<Guarded>, R: Wait + Clock + Abort + Print>(
     rt: &R,
     alloc: Global,
-) -> Option<Journal> {
-    let processes = room(rt, alloc)?;
-    let mut pair = make_pair::<L, R>(rt, alloc)?;
-    expect_steps(rt, &pair.mq, &mut pair.one, &mut pair.two, &WAITING);
+) -> Journal {
+    let processes = room(rt, alloc);
+    let Pair {
+        mq,
+        mut one,
+        mut two,
+    } = make_pair::<L, R>(rt, alloc);
+    expect_steps(rt, &mq, &mut one, &mut two, &WAITING);
     refuse_all(rt, alloc);
-    expect_steps(rt, &pair.mq, &mut pair.one, &mut pair.two, &WITHOUT_MEMORY);
-    let Pair { mq, one, two } = pair;
-    finish(processes, mq, one, two)
+    expect_steps(rt, &mq, &mut one, &mut two, &WITHOUT_MEMORY);
+    finish(rt, processes, mq, one, two)
 }
 
 #[test]
 fn processes_collect_and_queues_end_without_memory(rt: HostRuntime) {
     let journal = journal_of_waits::<FastMutex<Guarded>, _>(&rt, rt.alloc());
-    expect_journal(&rt, &journal.expect(&rt, "memory"), &REPLIES);
+    expect_journal(&rt, &journal, &REPLIES);
 }

@@ -63,7 +63,7 @@ pub enum Ask<'a> {
 }
 
 /// What it is told.
-#[derive(Clone, Copy, Debug, PartialEq, Eq)]
+#[derive(Clone, Copy, PartialEq, Eq)]
 pub enum Told {
     Done,
     Opened(u32),
@@ -235,6 +235,6 @@ pub fn expect_steps<L: Look<Guarded>, R: Wait + Clock + Abort + Print>(
         } else {
             asked(rt, mq, two, ask, &mut buf)
         };
-        assert_eq!(rt; found, wanted, "step {number}");
+        assert!(rt; found == wanted, "step {number}");
     }
 }

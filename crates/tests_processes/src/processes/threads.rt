@@ -65,22 +65,21 @@ fn receive_all<L: Look<Guarded>, R: Wait + Clock + Print>(
     (p, all)
 }
 
-/// One process sends and the other receives, each in a thread of its own, and the journal at the end.
-fn side_by_side<L: Look<Guarded> + Sync, R: Wait + Clock + Threads + Abort + Print + Sync>(
+/// One process sends and the other receives, each in a thread of its own.
+fn pass_all<L: Look<Guarded> + Sync, R: Wait + Clock + Threads + Abort + Print + Sync>(
     rt: &R,
-    alloc: Global,
-) -> Option<Journal>
+    queues: &Mq<L>,
+    one: Process<L>,
+    two: Process<L>,
+) -> (Process<L>, Process<L>)
 where
     L::Seat: Send,
     L::Walk: Send,
+    requires one { one.lock ≡ queues.now }
+    requires two { two.lock ≡ queues.now }
+    ensures one { result.0.lock ≡ queues.now }
+    ensures two { result.1.lock ≡ queues.now }
 {
-    let Pair {
-        mq,
-        mut one,
-        mut two,
-    } = make_pair::<L, R>(rt, alloc)?;
-    expect_steps(rt, &mq, &mut one, &mut two, &OPENS);
-    let queues = &mq;
     let (sent, received) = join(
         rt,
         move || -> (Process<L>, bool)
@@ -94,7 +93,26 @@ where
     );
     assert!(rt; sent.1);
     assert!(rt; received.1);
-    finish(room(rt, alloc)?, mq, sent.0, received.0)
+    (sent.0, received.0)
+}
+
+/// The journal of two processes that open a queue and pass all messages.
+fn side_by_side<L: Look<Guarded> + Sync, R: Wait + Clock + Threads + Abort + Print + Sync>(
+    rt: &R,
+    alloc: Global,
+) -> Journal
+where
+    L::Seat: Send,
+    L::Walk: Send,
+{
+    let Pair {
+        mq,
+        mut one,
+        mut two,
+    } = make_pair::<L, R>(rt, alloc);
+    expect_steps(rt, &mq, &mut one, &mut two, &OPENS);
+    let (one, two) = pass_all(rt, &mq, one, two);
+    finish(rt, room(rt, alloc), mq, one, two)
 }
 
 // An open for each, and 400 calls at least, since a call that waited has two entries.
@@ -106,6 +124,5 @@ fn expect_all<A: Abort>(rt: &A, journal: &Journal) {
 #[test]
 fn a_sender_and_a_receiver_in_threads_pass_all_messages_in_order(rt: HostRuntime) {
     let alloc = rt.alloc();
-    let journal = side_by_side::<FastMutex<Guarded>, _>(&rt, alloc).expect(&rt, "memory");
-    expect_all(&rt, &journal);
+    expect_all(&rt, &side_by_side::<FastMutex<Guarded>, _>(&rt, alloc));
 }

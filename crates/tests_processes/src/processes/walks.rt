@@ -1,5 +1,5 @@
 //! Processes that are taken into the lock step by step.
-ghost use Rattle.std.specs.Prelude.{◌≡◌, Some, IfSome};
+ghost use Rattle.std.specs.Prelude.{◌≡◌, Some};
 ghost use Rattle.mq_model.specs.Waits.{wait_deadline};
 ghost use Rattle.mq_state.specs.Buffers.{waiting_room};
 ghost use Rattle.mq.specs.Calls.{IsFree};
@@ -8,14 +8,15 @@ use super::deadlines::{LATER, START};
 use super::steps::CREATE;
 use super::{CREATED, OPENED, Pair, expect_journal, finish, make_pair, room};
 use fast_mutex::{FastMutex, Look};
-use mq::{Arrived, Guarded, Mq, Process};
-use mq_model::entries::{Attr, Call, Deadline, Entry, Received, Reply};
+use mq::{Approach, Arrived, Guarded, Mq, Process};
+use mq_model::entries::{Attr, Call, Entry, Received, Reply};
 use mq_model::faults::Fault;
 use mq_model::journals::Journal;
 use mq_model::names::Name;
 use mq_state::collected::Collected;
 use std::alloc::Global;
 use std::io::Print;
+use std::process::Abort;
 use tests_refusals::say_refused;
 
 const SMALL: Attr = Attr {
@@ -28,136 +29,216 @@ const OPEN: Call = Call::MqOpen {
     attr: Some(SMALL),
 };
 
-// The process that has opened a queue. A growth may be refused from outside.
-fn opened<L: Look<Guarded>, R: Print>(rt: &R, mq: &Mq<L>, arrived: Arrived<L>) -> Option<Process<L>>
+// The process that has tried to open a queue, and whether memory was refused.
+fn opens<L: Look<Guarded>, A: Abort>(rt: &A, mq: &Mq<L>, arrived: Arrived<L>) -> (Process<L>, bool)
     requires made { arrived.lock ≡ mq.now }
     requires free { IsFree arrived }
-    ensures lock { IfSome result (λ process. process.lock ≡ mq.now) }
-    ensures free { IfSome result (λ process. IsFree process) }
+    ensures { (result.0.lock ≡ mq.now) × IsFree result.0 }
 {
-    let name = Name::read(b"/q").ok()?;
+    let name = Name::read(b"/q").ok().expect(rt, "a name");
     let (process, opened) = arrived.make::<Result<u32, Fault>>(mq, OPEN, name.bytes(), &mut []);
-    if opened != Err(Fault::NoMemory) {
-        return Some(process);
+    (process, opened == Err(Fault::NoMemory))
+}
+
+// The process that has opened a queue. A growth may be refused from outside.
+fn opened<L: Look<Guarded>, R: Abort + Print>(rt: &R, mq: &Mq<L>, arrived: Arrived<L>) -> Process<L>
+    requires made { arrived.lock ≡ mq.now }
+    requires free { IsFree arrived }
+    ensures { (result.lock ≡ mq.now) × IsFree result }
+{
+    let (process, is_refused) = opens(rt, mq, arrived);
+    if !is_refused {
+        return process;
     }
     say_refused(rt, "an open");
-    let Ok(arrived) = process.approach(mq).advance(mq, 5) else {
-        return None;
+    opens(rt, mq, inside(rt, mq, process)).0
+}
+
+// The process comes in by its fifth step and not before.
+fn in_by_the_fifth<L: Look<Guarded>, A: Abort>(
+    rt: &A,
+    mq: &Mq<L>,
+    process: Process<L>,
+) -> Arrived<L>
+    requires { process.lock ≡ mq.now }
+    ensures { result ≡ process }
+{
+    let Err(process) = process.approach(mq).advance(mq, 4) else {
+        panic!(rt; "inside by four steps")
     };
-    let (process, _) = arrived.make::<Result<u32, Fault>>(mq, OPEN, name.bytes(), &mut []);
-    Some(process)
+    process
+        .advance(mq, 1)
+        .ok()
+        .expect(rt, "inside by five steps")
+}
+
+// The process does not come in.
+fn kept_out<L: Look<Guarded>, A: Abort>(rt: &A, mq: &Mq<L>, process: Process<L>) -> Approach<L>
+    requires { process.lock ≡ mq.now }
+    ensures { result ≡ process }
+{
+    match process.approach(mq).advance(mq, 1_000) {
+        Err(process) => process,
+        Ok(_) => panic!(rt; "two processes inside"),
+    }
+}
+
+// The process comes in and leaves without a call.
+fn in_and_out<L: Look<Guarded>, A: Abort>(rt: &A, mq: &Mq<L>, process: Approach<L>) -> Process<L>
+    requires { process.lock ≡ mq.now }
+    ensures { result.lock ≡ mq.now }
+{
+    let arrived = process
+        .advance(mq, 1_000)
+        .ok()
+        .expect(rt, "inside once nobody is there");
+    arrived.leave(mq)
 }
 
 // Process 1 comes in by its fifth step and not before, and opens a queue; meanwhile process 2 does not come in, and it leaves
 // without a call.
-fn journal_of_walks<L: Look<Guarded>, R: Print>(rt: &R, alloc: Global) -> Option<Journal> {
-    let Pair { mq, one, two } = make_pair::<L, R>(rt, alloc)?;
-    let Err(one) = one.approach(&mq).advance(&mq, 4) else {
-        return None;
-    };
-    let Ok(one) = one.advance(&mq, 1) else {
-        return None;
-    };
-    let Err(two) = two.approach(&mq).advance(&mq, 1_000) else {
-        return None;
-    };
-    let one = opened(rt, &mq, one)?;
-    let Ok(two) = two.advance(&mq, 1_000) else {
-        return None;
-    };
-    let two = two.leave(&mq);
-    finish(room(rt, alloc)?, mq, one, two)
+fn journal_of_walks<L: Look<Guarded>, R: Abort + Print>(rt: &R, alloc: Global) -> Journal {
+    let Pair { mq, one, two } = make_pair::<L, R>(rt, alloc);
+    let one = in_by_the_fifth(rt, &mq, one);
+    let two = kept_out(rt, &mq, two);
+    let one = opened(rt, &mq, one);
+    let two = in_and_out(rt, &mq, two);
+    finish(rt, room(rt, alloc), mq, one, two)
+}
+
+// The process that has read the entry at a place from inside.
+fn read<L: Look<Guarded>, A: Abort>(
+    rt: &A,
+    mq: &Mq<L>,
+    process: Process<L>,
+    place: u64,
+) -> (Process<L>, Option<Entry>)
+    requires { process.lock ≡ mq.now }
+    ensures { result.0.lock ≡ mq.now }
+{
+    inside(rt, mq, process).entry(mq, place)
 }
 
 // What the process that made the only call finds inside: the verdict on the journal, its first entry, and that there is no second.
-fn readings<L: Look<Guarded>, R: Print>(rt: &R, alloc: Global) -> Option<Readings> {
-    let Pair { mq, one, two: _ } = make_pair::<L, R>(rt, alloc)?;
-    let one = opened(rt, &mq, inside(&mq, one)?)?;
-    let (one, checked) = inside(&mq, one)?.check(alloc, &mq);
-    let (one, first) = inside(&mq, one)?.entry(&mq, 0);
-    let (_, second) = inside(&mq, one)?.entry(&mq, 1);
-    Some((checked, first, second))
+fn readings<L: Look<Guarded>, R: Abort + Print>(rt: &R, alloc: Global) -> Readings {
+    let Pair { mq, one, two: _ } = make_pair::<L, R>(rt, alloc);
+    let one = opened(rt, &mq, inside(rt, &mq, one));
+    let (one, checked) = inside(rt, &mq, one).check(alloc, &mq);
+    let (one, first) = read(rt, &mq, one, 0);
+    let (_, second) = read(rt, &mq, one, 1);
+    (checked, first, second)
 }
 
 type Readings = (Result<(), u64>, Option<Entry>, Option<Entry>);
 
 // The process inside, where nobody else is.
-fn inside<L: Look<Guarded>>(mq: &Mq<L>, process: Process<L>) -> Option<Arrived<L>>
+fn inside<L: Look<Guarded>, A: Abort>(rt: &A, mq: &Mq<L>, process: Process<L>) -> Arrived<L>
     requires { process.lock ≡ mq.now }
-    ensures { IfSome result (λ arrived. arrived ≡ process) }
+    ensures { result ≡ process }
 {
-    process.approach(mq).advance(mq, 5).ok()
+    process
+        .approach(mq)
+        .advance(mq, 5)
+        .ok()
+        .expect(rt, "nobody else inside")
 }
 
 // The process that has begun, at the start, to wait for a message until a moment.
-fn waiting<L: Look<Guarded>>(
+fn waiting<L: Look<Guarded>, A: Abort>(
+    rt: &A,
     mq: &Mq<L>,
     process: Process<L>,
     buf: &mut [u8; 8],
-    until: Deadline,
-) -> Option<Process<L>>
+) -> Process<L>
     requires made { process.lock ≡ mq.now }
     requires free { IsFree process }
-    ensures lock { IfSome result (λ process. process.lock ≡ mq.now) }
-    ensures room { IfSome result (λ process. waiting_room process.left process.number ≡ Some 8) }
-    ensures deadline { IfSome result (λ process. wait_deadline process.left process.number ≡
-        Some until) }
+    ensures lock { result.lock ≡ mq.now }
+    ensures room { waiting_room result.left result.number ≡ Some 8 }
+    ensures deadline { wait_deadline result.left result.number ≡ Some LATER }
 {
     let call = Call::MqTimedReceive {
         d: 0,
         room: 8,
-        until,
+        until: LATER,
         now: START,
     };
-    match inside(mq, process)?.make::<Result<Option<Received>, Fault>>(mq, call, &[], buf) {
-        (process, Ok(None)) => Some(process),
-        _ => None,
+    match inside(rt, mq, process).make::<Result<Option<Received>, Fault>>(mq, call, &[], buf) {
+        (process, Ok(None)) => process,
+        _ => panic!(rt; "the receive waits"),
     }
 }
 
 // Both processes, each of which has opened the queue.
-fn both_opened<L: Look<Guarded>, R: Print>(rt: &R, alloc: Global) -> Option<Pair<L>>
-    ensures { IfSome result (λ p. (p.one.lock ≡ p.mq) × IsFree p.one × (p.two.lock ≡ p.mq) ×
-        IsFree p.two) }
+fn both_opened<L: Look<Guarded>, R: Abort + Print>(rt: &R, alloc: Global) -> Pair<L>
+    ensures one { (result.one.lock ≡ result.mq) × IsFree result.one }
+    ensures two { (result.two.lock ≡ result.mq) × IsFree result.two }
 {
-    let Pair { mq, one, two } = make_pair::<L, R>(rt, alloc)?;
-    let one = opened(rt, &mq, inside(&mq, one)?)?;
-    let two = opened(rt, &mq, inside(&mq, two)?)?;
-    Some(Pair { mq, one, two })
+    let Pair { mq, one, two } = make_pair::<L, R>(rt, alloc);
+    let one = opened(rt, &mq, inside(rt, &mq, one));
+    let two = opened(rt, &mq, inside(rt, &mq, two));
+    Pair { mq, one, two }
 }
 
 // The process that has waited until the deadline, and what its wait came to.
-fn waited<L: Look<Guarded>>(
+fn waited<L: Look<Guarded>, A: Abort>(
+    rt: &A,
     mq: &Mq<L>,
     process: Process<L>,
     buf: &mut [u8; 8],
-) -> Option<(Process<L>, Option<Collected>)>
+) -> (Process<L>, Option<Collected>)
     requires made { process.lock ≡ mq.now }
     requires free { IsFree process }
-    ensures { IfSome result (λ r. (r.0.lock ≡ mq.now) × IsFree r.0) }
+    ensures { (result.0.lock ≡ mq.now) × IsFree result.0 }
 {
-    let process = waiting(mq, process, buf, LATER)?;
-    Some(inside(mq, process)?.end_wait(mq, buf, LATER))
+    let process = waiting(rt, mq, process, buf);
+    inside(rt, mq, process).end_wait(mq, buf, LATER)
 }
 
-// Process 1 waits twice, and ends each wait at its deadline. Process 2 sends before the second one's: it gives what both came to.
-fn journal_of_ends<L: Look<Guarded>, R: Print>(
-    rt: &R,
-    alloc: Global,
-    buf: &mut [u8; 8],
-) -> Option<(Journal, [Option<Collected>; 2])> {
-    let Pair { mq, one, two } = both_opened::<L, R>(rt, alloc)?;
-    let (one, first) = waited(&mq, one, buf)?;
-    let one = waiting(&mq, one, buf, LATER)?;
+// The process that has sent a message.
+fn sent<L: Look<Guarded>, A: Abort>(rt: &A, mq: &Mq<L>, process: Process<L>) -> Process<L>
+    requires made { process.lock ≡ mq.now }
+    requires free { IsFree process }
+    ensures { result.lock ≡ mq.now }
+{
     let call = Call::MqSend {
         d: 0,
         prio: 4,
         len: 2,
     };
-    let (two, _) = inside(&mq, two)?.make::<Result<bool, Fault>>(&mq, call, b"hi", &mut []);
-    let (one, second) = inside(&mq, one)?.end_wait(&mq, buf, LATER);
-    let journal = finish(room(rt, alloc)?, mq, one, two)?;
-    Some((journal, [first, second]))
+    inside(rt, mq, process)
+        .make::<Result<bool, Fault>>(mq, call, b"hi", &mut [])
+        .0
+}
+
+// As `waited`, where process 2 sends before the deadline.
+fn met<L: Look<Guarded>, A: Abort>(
+    rt: &A,
+    mq: &Mq<L>,
+    one: Process<L>,
+    two: Process<L>,
+    buf: &mut [u8; 8],
+) -> (Process<L>, Process<L>, Option<Collected>)
+    requires one { (one.lock ≡ mq.now) × IsFree one }
+    requires two { (two.lock ≡ mq.now) × IsFree two }
+    ensures one { result.0.lock ≡ mq.now }
+    ensures two { result.1.lock ≡ mq.now }
+{
+    let one = waiting(rt, mq, one, buf);
+    let two = sent(rt, mq, two);
+    let (one, end) = inside(rt, mq, one).end_wait(mq, buf, LATER);
+    (one, two, end)
+}
+
+// Process 1 waits twice, and ends each wait at its deadline. Process 2 sends before the second one's: it gives what both came to.
+fn journal_of_ends<L: Look<Guarded>, R: Abort + Print>(
+    rt: &R,
+    alloc: Global,
+    buf: &mut [u8; 8],
+) -> (Journal, [Option<Collected>; 2]) {
+    let Pair { mq, one, two } = both_opened::<L, R>(rt, alloc);
+    let (one, first) = waited(rt, &mq, one, buf);
+    let (one, two, second) = met(rt, &mq, one, two, buf);
+    (finish(rt, room(rt, alloc), mq, one, two), [first, second])
 }
 
 static REPLIES: [(u32, Reply); 7] = [
@@ -173,8 +254,7 @@ static REPLIES: [(u32, Reply); 7] = [
 #[test]
 fn a_wait_is_ended_at_its_deadline_from_inside(rt: HostRuntime) {
     let mut buf = [0; 8];
-    let found = journal_of_ends::<FastMutex<Guarded>, _>(&rt, rt.alloc(), &mut buf);
-    let (journal, ends) = found.expect(&rt, "memory");
+    let (journal, ends) = journal_of_ends::<FastMutex<Guarded>, _>(&rt, rt.alloc(), &mut buf);
     let received = Received { len: 2, prio: 4 };
     assert_eq!(&rt; ends, [None, Some(Collected::Got(received))]);
     assert_eq!(&rt; buf, [b'h', b'i', 0, 0, 0, 0, 0, 0]);
@@ -183,8 +263,7 @@ fn a_wait_is_ended_at_its_deadline_from_inside(rt: HostRuntime) {
 
 #[test]
 fn the_journal_is_read_from_inside(rt: HostRuntime) {
-    let found = readings::<FastMutex<Guarded>, _>(&rt, rt.alloc());
-    let (checked, first, second) = found.expect(&rt, "memory");
+    let (checked, first, second) = readings::<FastMutex<Guarded>, _>(&rt, rt.alloc());
     assert_eq!(&rt; checked, Ok(()));
     let replies = (
         first.map(|entry| entry.reply),
@@ -196,5 +275,5 @@ fn the_journal_is_read_from_inside(rt: HostRuntime) {
 #[test]
 fn five_steps_lead_inside_where_nobody_else_is(rt: HostRuntime) {
     let journal = journal_of_walks::<FastMutex<Guarded>, _>(&rt, rt.alloc());
-    expect_journal(&rt, &journal.expect(&rt, "memory"), &[(1, CREATED)]);
+    expect_journal(&rt, &journal, &[(1, CREATED)]);
 }
