@@ -2,7 +2,8 @@
 ghost use Rattle.std.specs.Prelude.{◌≡◌};
 ghost use Rattle.mq.specs.Calls.{IsFree};
 
-use mq::{Attr, FastMq, FastProcess, Fault, Name, OpenFlags};
+use fast_mutex::Look;
+use mq::{Attr, FastMq, Fault, Guarded, Mq, Name, OpenFlags, Process};
 use std::alloc::Global;
 use std::io::Print;
 use std::sync::Wait;
@@ -13,10 +14,10 @@ use std::time::Clock;
 const SHARE: u32 = 50;
 
 // Sends the jobs, each with its number for a message; every fifth is urgent.
-fn produce<R: Wait + Clock>(
+fn produce<L: Look<Guarded>, R: Wait + Clock>(
     rt: &R,
-    mq: &FastMq,
-    mut process: FastProcess,
+    mq: &Mq<L>,
+    mut process: Process<L>,
     jobs: u32,
 ) -> Result<(), Fault>
     requires made { process.lock ≡ mq.now }
@@ -30,7 +31,11 @@ fn produce<R: Wait + Clock>(
 }
 
 // Takes as many jobs as it is to, and gives how many of them were urgent.
-fn consume<R: Wait + Clock>(rt: &R, mq: &FastMq, mut process: FastProcess) -> Result<u32, Fault>
+fn consume<L: Look<Guarded>, R: Wait + Clock>(
+    rt: &R,
+    mq: &Mq<L>,
+    mut process: Process<L>,
+) -> Result<u32, Fault>
     requires made { process.lock ≡ mq.now }
     requires free { IsFree process }
 {
@@ -51,38 +56,65 @@ pub fn run(rt: &(impl Print + Wait + Clock + Threads + Sync), alloc: Global) -> 
     let (mq, mut processes) = FastMq::new(alloc, 3)?;
     let two = processes.pop().unwrap();
     let one = processes.pop().unwrap();
-    let mut producer = processes.pop().unwrap();
+    let producer = processes.pop().unwrap();
+    let urgent = share_jobs(rt, &mq, producer, one, two)?;
+    println!(rt; "{} jobs taken, {urgent} of them urgent", 2 * SHARE)?;
+    Ok(())
+}
 
+// Opens the queue of jobs, which it creates.
+fn open_jobs<L: Look<Guarded>>(
+    rt: &impl Wait,
+    mq: &Mq<L>,
+    producer: &mut Process<L>,
+) -> Result<u32, Fault>
+    requires { (producer.old.lock ≡ mq.now) × IsFree producer.old }
+    ensures { (producer.new.lock ≡ mq.now) × IsFree producer.new }
+{
     let name = Name::read(b"/jobs")?;
     let limits = Attr {
         maxmsg: 8,
         msgsize: 4,
     };
     let flags = OpenFlags::write_only().create();
-    let jobs = producer.open(rt, &mq, &name, flags, Some(limits))?;
+    producer.open(rt, mq, &name, flags, Some(limits))
+}
 
-    let queues = &mq;
+// Lets each do its part, and gives how many jobs were urgent.
+fn share_jobs<L: Look<Guarded> + Sync>(
+    rt: &(impl Wait + Clock + Threads + Sync),
+    mq: &Mq<L>,
+    mut producer: Process<L>,
+    one: Process<L>,
+    two: Process<L>,
+) -> Result<u64, Fault>
+where
+    L::Seat: Send,
+    L::Walk: Send,
+    requires producer { (producer.lock ≡ mq.now) × IsFree producer }
+    requires one { (one.lock ≡ mq.now) × IsFree one }
+    requires two { (two.lock ≡ mq.now) × IsFree two }
+{
+    let jobs = open_jobs(rt, mq, &mut producer)?;
     let (sent, (first, second)) = join(
         rt,
         move ||
-            requires { (producer.lock ≡ queues.now) × IsFree producer }
-        { produce(rt, queues, producer, jobs) },
+            requires { (producer.lock ≡ mq.now) × IsFree producer }
+        { produce(rt, mq, producer, jobs) },
         move ||
-            requires { (one.lock ≡ queues.now) × IsFree one × (two.lock ≡ queues.now) × IsFree two }
+            requires { (one.lock ≡ mq.now) × IsFree one × (two.lock ≡ mq.now) × IsFree two }
         {
             join(
                 rt,
                 move ||
-                    requires { (one.lock ≡ queues.now) × IsFree one }
-                { consume(rt, queues, one) },
+                    requires { (one.lock ≡ mq.now) × IsFree one }
+                { consume(rt, mq, one) },
                 move ||
-                    requires { (two.lock ≡ queues.now) × IsFree two }
-                { consume(rt, queues, two) },
+                    requires { (two.lock ≡ mq.now) × IsFree two }
+                { consume(rt, mq, two) },
             )
         },
     );
     sent?;
-    let urgent = u64::from(first?) + u64::from(second?);
-    println!(rt; "{} jobs taken, {urgent} of them urgent", 2 * SHARE)?;
-    Ok(())
+    Ok(u64::from(first?) + u64::from(second?))
 }

@@ -2,7 +2,8 @@
 ghost use Rattle.std.specs.Prelude.{◌≡◌};
 ghost use Rattle.mq.specs.Calls.{IsFree};
 
-use mq::{Attr, FastMq, FastProcess, Fault, Monotonic, Name, OpenFlags};
+use fast_mutex::Look;
+use mq::{Attr, FastMq, Fault, Guarded, Monotonic, Mq, Name, OpenFlags, Process};
 use std::alloc::Global;
 use std::io::Print;
 use std::sync::Wait;
@@ -11,22 +12,33 @@ use std::time::{Clock, Duration};
 pub fn run(rt: &(impl Print + Wait + Clock), alloc: Global) -> anyhow::Result<()> {
     let (mq, mut processes) = FastMq::new(alloc, 1)?;
     let mut process = processes.pop().unwrap();
+    take_alarms(rt, &mq, &mut process)
+}
+
+// Opens the queue of alarms, and takes none, and then one.
+fn take_alarms<L: Look<Guarded>>(
+    rt: &(impl Print + Wait + Clock),
+    mq: &Mq<L>,
+    process: &mut Process<L>,
+) -> anyhow::Result<()>
+    requires { (process.old.lock ≡ mq.now) × IsFree process.old }
+{
     let limits = Attr {
         maxmsg: 1,
         msgsize: 8,
     };
     let name = Name::read(b"/alarms")?;
     let flags = OpenFlags::read_write().create();
-    let alarms = process.open(rt, &mq, &name, flags, Some(limits))?;
-    await_alarm(rt, &mq, &mut process, alarms)?;
-    alarm_at_once(rt, &mq, &mut process, alarms)
+    let alarms = process.open(rt, mq, &name, flags, Some(limits))?;
+    await_alarm(rt, mq, process, alarms)?;
+    alarm_at_once(rt, mq, process, alarms)
 }
 
 // Waits for an alarm that does not come.
-fn await_alarm(
+fn await_alarm<L: Look<Guarded>>(
     rt: &(impl Print + Wait + Clock),
-    mq: &FastMq,
-    process: &mut FastProcess,
+    mq: &Mq<L>,
+    process: &mut Process<L>,
     alarms: u32,
 ) -> anyhow::Result<()>
     requires { (process.old.lock ≡ mq.now) × IsFree process.old }
@@ -44,10 +56,10 @@ fn await_alarm(
 }
 
 // Sends an alarm and receives it, with a deadline that has passed.
-fn alarm_at_once(
+fn alarm_at_once<L: Look<Guarded>>(
     rt: &(impl Print + Wait + Clock),
-    mq: &FastMq,
-    process: &mut FastProcess,
+    mq: &Mq<L>,
+    process: &mut Process<L>,
     alarms: u32,
 ) -> anyhow::Result<()>
     requires { (process.old.lock ≡ mq.now) × IsFree process.old }

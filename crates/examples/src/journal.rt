@@ -1,18 +1,32 @@
 // The journal at the end: every call with its reply, in the order in which they were made inside the lock.
 ghost use Rattle.std.specs.Prelude.{◌≡◌};
+ghost use Rattle.fast_mutex.specs.Items.{tickets_from};
 ghost use Rattle.mq.specs.Calls.{IsFree};
 
-use mq::{Attr, FastMq, FastProcess, Journal, Name, OpenFlags, check_history};
+use fast_mutex::Look;
+use mq::{Attr, FastMq, Guarded, Journal, Mq, Name, OpenFlags, Process, check_history};
 use std::alloc::Global;
 use std::io::Print;
 use std::sync::Wait;
 use std::time::Clock;
 
 pub fn run(rt: &(impl Print + Wait + Clock), alloc: Global) -> anyhow::Result<()> {
-    let (mq, mut processes) = FastMq::new(alloc, 2)?;
+    let (mq, processes) = FastMq::new(alloc, 2)?;
+    let journal = journal_of(rt, mq, processes)?;
+    print(rt, &journal)
+}
+
+// The journal of the two processes, once they have talked.
+fn journal_of<L: Look<Guarded>>(
+    rt: &(impl Print + Wait + Clock),
+    mq: Mq<L>,
+    mut processes: Vec<Process<L>>,
+) -> anyhow::Result<Journal>
+    requires count { mq.count ≡ 2 }
+    requires all { processes.items ≡ tickets_from mq 1 2 }
+{
     let mut two = processes.pop().unwrap();
     let mut one = processes.pop().unwrap();
-    open_both(rt, &mq, &mut one, &mut two)?;
     talk(rt, &mq, &mut one, &mut two)?;
 
     processes.push_reserved(one);
@@ -20,14 +34,14 @@ pub fn run(rt: &(impl Print + Wait + Clock), alloc: Global) -> anyhow::Result<()
     let Ok(journal) = mq.finish(processes) else {
         unreachable!()
     };
-    print(rt, &journal)
+    Ok(journal)
 }
 
-fn open_both(
+fn open_both<L: Look<Guarded>>(
     rt: &impl Wait,
-    mq: &FastMq,
-    one: &mut FastProcess,
-    two: &mut FastProcess,
+    mq: &Mq<L>,
+    one: &mut Process<L>,
+    two: &mut Process<L>,
 ) -> anyhow::Result<()>
     requires one { (one.old.lock ≡ mq.now) × IsFree one.old }
     requires two { (two.old.lock ≡ mq.now) × IsFree two.old }
@@ -46,17 +60,18 @@ fn open_both(
 }
 
 // One receives before there is a message, so its receive waits until two sends.
-fn talk(
+fn talk<L: Look<Guarded>>(
     rt: &(impl Print + Wait + Clock),
-    mq: &FastMq,
-    one: &mut FastProcess,
-    two: &mut FastProcess,
+    mq: &Mq<L>,
+    one: &mut Process<L>,
+    two: &mut Process<L>,
 ) -> anyhow::Result<()>
     requires one { (one.old.lock ≡ mq.now) × IsFree one.old }
     requires two { (two.old.lock ≡ mq.now) × IsFree two.old }
     ensures one { one.new.lock ≡ mq.now }
     ensures two { two.new.lock ≡ mq.now }
 {
+    open_both(rt, mq, one, two)?;
     let mut buf = [0; 8];
     if one.start_receive(rt, mq, 0, &mut buf)?.is_some() {
         println!(rt; "a message was there")?;

@@ -2,7 +2,8 @@
 ghost use Rattle.std.specs.Prelude.{◌≡◌};
 ghost use Rattle.mq.specs.Calls.{IsFree};
 
-use mq::{Attr, FastMq, FastProcess, Fault, Name, OpenFlags};
+use fast_mutex::Look;
+use mq::{Attr, FastMq, Fault, Guarded, Mq, Name, OpenFlags, Process};
 use std::alloc::Global;
 use std::io::Print;
 use std::sync::Wait;
@@ -15,10 +16,10 @@ pub fn run(rt: &(impl Print + Wait + Clock), alloc: Global) -> anyhow::Result<()
 }
 
 // Makes calls of an empty queue, of a full one, and of a name that is bound.
-fn poll(
+fn poll<L: Look<Guarded>>(
     rt: &(impl Print + Wait + Clock),
-    mq: &FastMq,
-    process: &mut FastProcess,
+    mq: &Mq<L>,
+    process: &mut Process<L>,
 ) -> anyhow::Result<()>
     requires { (process.old.lock ≡ mq.now) × IsFree process.old }
 {
@@ -39,7 +40,11 @@ fn poll(
 }
 
 // Opens a queue that has to be new, for calls that never wait.
-fn open_new(rt: &impl Wait, mq: &FastMq, process: &mut FastProcess) -> Result<u32, Fault>
+fn open_new<L: Look<Guarded>>(
+    rt: &impl Wait,
+    mq: &Mq<L>,
+    process: &mut Process<L>,
+) -> Result<u32, Fault>
     requires { (process.old.lock ≡ mq.now) × IsFree process.old }
     ensures { (process.new.lock ≡ mq.now) × IsFree process.new }
 {

@@ -2,7 +2,8 @@
 ghost use Rattle.std.specs.Prelude.{◌≡◌};
 ghost use Rattle.mq.specs.Calls.{IsFree};
 
-use mq::{FastMq, FastProcess, Name, OpenFlags};
+use fast_mutex::Look;
+use mq::{FastMq, Guarded, Mq, Name, OpenFlags, Process};
 use std::alloc::Global;
 use std::io::Print;
 use std::sync::Wait;
@@ -16,11 +17,11 @@ pub fn run(rt: &(impl Print + Wait + Clock), alloc: Global) -> anyhow::Result<()
 }
 
 // The reader is registered, and looks for a notice before the message and twice after it.
-fn tell_once(
+fn tell_once<L: Look<Guarded>>(
     rt: &(impl Print + Wait + Clock),
-    mq: &FastMq,
-    sender: &mut FastProcess,
-    reader: &mut FastProcess,
+    mq: &Mq<L>,
+    sender: &mut Process<L>,
+    reader: &mut Process<L>,
 ) -> anyhow::Result<()>
     requires sender { (sender.old.lock ≡ mq.now) × IsFree sender.old }
     requires reader { (reader.old.lock ≡ mq.now) × IsFree reader.old }

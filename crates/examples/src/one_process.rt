@@ -2,7 +2,8 @@
 ghost use Rattle.std.specs.Prelude.{◌≡◌};
 ghost use Rattle.mq.specs.Calls.{IsFree};
 
-use mq::{Attr, FastMq, FastProcess, Name, OpenFlags};
+use fast_mutex::Look;
+use mq::{Attr, FastMq, Guarded, Mq, Name, OpenFlags, Process};
 use std::alloc::Global;
 use std::io::Print;
 use std::sync::Wait;
@@ -15,11 +16,11 @@ pub fn run(rt: &(impl Print + Wait + Clock), alloc: Global) -> anyhow::Result<()
 }
 
 // Opens the queue, sends two orders, and receives the one that comes first.
-fn take_orders(
+fn take_orders<L: Look<Guarded>>(
     rt: &(impl Print + Wait + Clock),
     alloc: Global,
-    mq: &FastMq,
-    process: &mut FastProcess,
+    mq: &Mq<L>,
+    process: &mut Process<L>,
 ) -> anyhow::Result<()>
     requires { (process.old.lock ≡ mq.now) × IsFree process.old }
 {

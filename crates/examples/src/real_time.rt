@@ -1,11 +1,13 @@
 // A real-time system in virtual time: three periodic tasks report to a watchdog, in one thread. The clock is the simulation's own and
 // jumps from one event to the next, so each run has the same output.
 ghost use Rattle.std.specs.Prelude.{◌≡◌, true};
+ghost use Rattle.fast_mutex.specs.Items.{tickets_from};
 ghost use Rattle.mq.specs.Calls.{IsFree};
 ghost use Rattle.mq_model.specs.Deadlines.{is_moment};
 
+use fast_mutex::Look;
 use journal_format::text::write_journal;
-use mq::{Attr, Clock, Deadline, FastMq, FastProcess, Fault, Journal, Name, OpenFlags};
+use mq::{Attr, Clock, Deadline, FastMq, Fault, Guarded, Journal, Mq, Name, OpenFlags, Process};
 use std::alloc::Global;
 use std::io;
 use std::io::Print;
@@ -92,7 +94,11 @@ impl Plan {
 }
 
 // Opens the queue of reports.
-fn open_reports(rt: &impl Wait, mq: &FastMq, process: &mut FastProcess) -> anyhow::Result<()>
+fn open_reports<L: Look<Guarded>>(
+    rt: &impl Wait,
+    mq: &Mq<L>,
+    process: &mut Process<L>,
+) -> anyhow::Result<()>
     requires { (process.old.lock ≡ mq.now) × IsFree process.old }
     ensures { (process.new.lock ≡ mq.now) × IsFree process.new }
 {
@@ -112,10 +118,10 @@ fn open_reports(rt: &impl Wait, mq: &FastMq, process: &mut FastProcess) -> anyho
 }
 
 // A task reports, with its name for a message.
-fn report(
+fn report<L: Look<Guarded>>(
     rt: &impl Wait,
-    mq: &FastMq,
-    process: &mut FastProcess,
+    mq: &Mq<L>,
+    process: &mut Process<L>,
     name: &[u8],
     prio: u32,
     now: u32,
@@ -129,10 +135,10 @@ fn report(
 }
 
 // The watchdog takes all reports. Its deadline is now, so it never waits.
-fn watch(
+fn watch<L: Look<Guarded>>(
     rt: &(impl Print + Wait),
-    mq: &FastMq,
-    watchdog: &mut FastProcess,
+    mq: &Mq<L>,
+    watchdog: &mut Process<L>,
     now: u32,
 ) -> anyhow::Result<()>
     requires { (watchdog.old.lock ≡ mq.now) × IsFree watchdog.old }
@@ -160,13 +166,13 @@ fn watch(
 }
 
 // Goes from event to event.
-fn simulate(
+fn simulate<L: Look<Guarded>>(
     rt: &(impl Print + Wait),
-    mq: &FastMq,
-    control: &mut FastProcess,
-    sensor: &mut FastProcess,
-    logger: &mut FastProcess,
-    watchdog: &mut FastProcess,
+    mq: &Mq<L>,
+    control: &mut Process<L>,
+    sensor: &mut Process<L>,
+    logger: &mut Process<L>,
+    watchdog: &mut Process<L>,
 ) -> anyhow::Result<()>
     requires control { (control.old.lock ≡ mq.now) × IsFree control.old }
     requires sensor { (sensor.old.lock ≡ mq.now) × IsFree sensor.old }
@@ -177,6 +183,7 @@ fn simulate(
     ensures logger { logger.new.lock ≡ mq.now }
     ensures watchdog { watchdog.new.lock ≡ mq.now }
 {
+    open_all(rt, mq, control, sensor, logger, watchdog)?;
     let mut plan = Plan {
         control: Periodic::every(20),
         sensor: Periodic::every(30),
@@ -202,13 +209,13 @@ fn simulate(
 }
 
 // Opens the queue of reports for each.
-fn open_all(
+fn open_all<L: Look<Guarded>>(
     rt: &impl Wait,
-    mq: &FastMq,
-    control: &mut FastProcess,
-    sensor: &mut FastProcess,
-    logger: &mut FastProcess,
-    watchdog: &mut FastProcess,
+    mq: &Mq<L>,
+    control: &mut Process<L>,
+    sensor: &mut Process<L>,
+    logger: &mut Process<L>,
+    watchdog: &mut Process<L>,
 ) -> anyhow::Result<()>
     requires control { (control.old.lock ≡ mq.now) × IsFree control.old }
     requires sensor { (sensor.old.lock ≡ mq.now) × IsFree sensor.old }
@@ -233,19 +240,24 @@ fn print(rt: &impl Print, alloc: Global, journal: &Journal) -> anyhow::Result<()
 }
 
 pub fn run(rt: &(impl Print + Wait), alloc: Global) -> anyhow::Result<()> {
-    let (mq, mut processes) = FastMq::new(alloc, 4)?;
+    let (mq, processes) = FastMq::new(alloc, 4)?;
+    let journal = journal_of(rt, mq, processes)?;
+    print(rt, alloc, &journal)
+}
+
+// The journal of the three tasks and the watchdog, once all events are simulated.
+fn journal_of<L: Look<Guarded>>(
+    rt: &(impl Print + Wait),
+    mq: Mq<L>,
+    mut processes: Vec<Process<L>>,
+) -> anyhow::Result<Journal>
+    requires count { mq.count ≡ 4 }
+    requires all { processes.items ≡ tickets_from mq 1 4 }
+{
     let mut watchdog = processes.pop().unwrap();
     let mut logger = processes.pop().unwrap();
     let mut sensor = processes.pop().unwrap();
     let mut control = processes.pop().unwrap();
-    open_all(
-        rt,
-        &mq,
-        &mut control,
-        &mut sensor,
-        &mut logger,
-        &mut watchdog,
-    )?;
     simulate(
         rt,
         &mq,
@@ -262,5 +274,5 @@ pub fn run(rt: &(impl Print + Wait), alloc: Global) -> anyhow::Result<()> {
     let Ok(journal) = mq.finish(processes) else {
         unreachable!()
     };
-    print(rt, alloc, &journal)
+    Ok(journal)
 }
