@@ -2,6 +2,7 @@ pub mod AtOnce
 pub mod Blocking
 pub mod KnownBytes
 pub mod Lists
+pub mod NotedLines
 pub mod Authors
 pub mod Standing
 pub mod Stopping

@@ -7,3 +7,4 @@ pub mod RunFault
 pub mod Runs
 pub mod Stands
 pub mod Stops
+pub mod Notes

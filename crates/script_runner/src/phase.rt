@@ -3,7 +3,7 @@ ghost use Rattle.std.specs.Prelude.{◌≡◌, [], IfErr, IfNone, IfOk, IfSome, 
 ghost use Rattle.mq.specs.Calls.{IsFree};
 ghost use Rattle.script_runner.specs.Buffer.{buffer_given};
 ghost use Rattle.script_runner.specs.Members.{AllGive, AllHaveShares, Gives};
-ghost use Rattle.script_runner.specs.Phase.{AllWorkOff, AreReady, Ends, EndsEarly};
+ghost use Rattle.script_runner.specs.Phase.{AllEnd, AllWorkOff, AreReady, Ends, EndsEarly};
 ghost use Rattle.script_runner.specs.Runs.{Blocks, IsReady, IsSameProcess, Performs};
 ghost use Rattle.script_text.specs.Grammar.{said};
 ghost use Rattle.script_text.specs.Replies.{HasMessage};
@@ -55,11 +55,29 @@ where
     ensures through { IfOk result (λ workers. AllWorkOff shares.entry.items workers.items) }
     ensures fault { IfErr result (EndsEarly shares.entry.items) }
 {
+    let workers = make_calls(rt, alloc, mq, gate, shares)?;
+    settled(rt, alloc, mq, workers)
+}
+
+/// Makes the calls of a phase, each process up to one that waits for ever, and joins all its threads. An error: memory or a thread was
+/// refused. Those threads that were started have then run to their end.
+pub fn make_calls<'s, L: Look<Guarded> + Sync, R: Threads + Wait + Clock + Sync, G: Gate + Sync>(
+    rt: &'s R,
+    alloc: Global,
+    mq: &'s Mq<L>,
+    gate: &'s G,
+    shares: Vec<Share<'s, Process<L>>>,
+) -> Result<Vec<Worked<Process<L>>>, AllocError>
+where
+    L::Seat: Send,
+    L::Walk: Send,
+    requires { AreReady mq.now shares.items }
+    ensures { IfOk result (λ workers. AllEnd shares.entry.items workers.items) }
+{
     let peers = peers_of(alloc, &shares)?;
     let workers = Vec::with_capacity(alloc, shares.len())?;
     let members = start_all(rt, alloc, mq, gate, &peers, shares)?;
-    let workers = join_all(rt, members, workers)?;
-    settled(rt, alloc, mq, workers)
+    join_all(rt, members, workers)
 }
 
 // Starts the threads of a phase, which have run to their end when it returns.
@@ -162,7 +180,10 @@ fn work<L: Look<Guarded>, R: Wait + Clock, G: Gate>(
         let line = turn.call.line;
         gate.before(process.number(), line);
         match complete(rt, mq, &mut process, peers, turn) {
-            Some(completion) => completions.push_reserved(completion),
+            Some(completion) => {
+                gate.after(process.number(), line);
+                completions.push_reserved(completion);
+            }
             None => {
                 return Worked {
                     process,

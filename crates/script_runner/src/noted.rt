@@ -1,0 +1,69 @@
+//! What the calls of a phase came to, noted by process.
+ghost use Rattle.std.specs.Prelude.{◌≡◌, ◌++◌, IfOk, OnOk};
+ghost use Rattle.script_runner.specs.Notes.{line_of, lines_of};
+ghost use Rattle.script_runner.specs.Phase.{text_in};
+ghost use Rattle.script_text.specs.Replies.{reply_line};
+ghost use Rattle.script_text.specs.ReplyLines.{reply_lines};
+
+use crate::turns::Worked;
+use fast_mutex::Look;
+use mq::{Guarded, Process};
+use script_text::reply::Completion;
+use std::alloc::{AllocError, Global};
+
+/// A process, and what a call of it came to.
+#[derive(Drop)]
+pub struct Noted {
+    pub process: u32,
+    pub completion: Completion,
+}
+
+/// Notes what the calls of a phase came to that returned: those of the first process first, and of each in their order.
+pub fn note_all<L: Look<Guarded>>(
+    alloc: Global,
+    noted: &mut Vec<Noted>,
+    workers: &[Worked<Process<L>>],
+) -> Result<(), AllocError>
+    ensures { OnOk result (lines_of noted.new.items ≡
+        lines_of noted.old.items ++ text_in workers.now) }
+{
+    for worked in workers {
+        note_completions(
+            alloc,
+            noted,
+            worked.process.number(),
+            worked.completions.as_slice(),
+        )?;
+    }
+    Ok(())
+}
+
+// Notes what calls of a process came to.
+fn note_completions(
+    alloc: Global,
+    noted: &mut Vec<Noted>,
+    process: u32,
+    completions: &[Completion],
+) -> Result<(), AllocError>
+    ensures { OnOk result (lines_of noted.new.items ≡
+        lines_of noted.old.items ++ reply_lines process completions.now) }
+{
+    for completion in completions {
+        noted.push(noted_of(alloc, process, completion)?)?;
+    }
+    Ok(())
+}
+
+fn noted_of(alloc: Global, process: u32, completion: &Completion) -> Result<Noted, AllocError>
+    ensures { IfOk result (λ noted. line_of noted ≡
+        reply_line process completion.now.outcome completion.now.buffer.items) }
+{
+    let buffer = completion.buffer.as_slice().to_vec(alloc)?;
+    Ok(Noted {
+        process,
+        completion: Completion {
+            outcome: completion.outcome,
+            buffer,
+        },
+    })
+}

@@ -1,0 +1,121 @@
+//! A script with what its calls came to.
+ghost use Rattle.std.specs.Prelude.{◌≡◌, ◌≤◌, ◌++◌, [], ℕ, List, IfErr, IfOk, vec_len};
+ghost use Rattle.std.specs.List.{All};
+ghost use Rattle.mq_model.specs.Legality.{Legal};
+ghost use Rattle.script_runner.specs.Notes.{lines_of};
+ghost use Rattle.script_runner.specs.RunFault.{IsUnwritten};
+ghost use Rattle.script_runner.specs.Runs.{IsReady, RunsPhase, RunsPhases, RunsWhole};
+ghost use Rattle.script_text.specs.Script.{said_calls, said_phases, said_script};
+
+use crate::deal::{processes_of, shares_of};
+use crate::fault::RunFault;
+use crate::gate::Gate;
+use crate::noted::{Noted, note_all};
+use crate::phase::make_calls;
+use crate::settling::settled;
+use fast_mutex::Look;
+use mq::{Guarded, Mq, Process};
+use mq_model::journals::Journal;
+use script_text::line::ScriptCall;
+use script_text::script::Script;
+use std::alloc::Global;
+use std::sync::Wait;
+use std::thread::Threads;
+use std::time::Clock;
+
+/// Makes the calls of a script as `run_script` does, notes what they come to in place of writing their replies, and gives their journal.
+/// At `RunFault::Deadlock` the calls that returned are noted too, also those of the phase that can't go on, and at
+/// `RunFault::NoMemory` some.
+pub fn run_noted<L, S, G>(
+    rt: &S,
+    alloc: Global,
+    script: &Script<'_>,
+    gate: &G,
+    noted: &mut Vec<Noted>,
+) -> Result<Journal, RunFault>
+where
+    L: Look<Guarded> + Sync,
+    L::Seat: Send,
+    L::Walk: Send,
+    S: Threads + Wait + Clock + Sync,
+    G: Gate + Sync,
+    requires processes { (1 ≤ script.now.processes) × (script.now.processes ≤ 32) }
+    requires nothing { noted.old.items ≡ [] }
+    ensures fault { IfErr result IsUnwritten }
+    ensures legal { IfOk result (λ journal. Legal journal.records) }
+    // What is noted are the replies.
+    ensures done { IfOk result (λ journal.
+        RunsWhole (said_script script.now) (lines_of noted.new.items) journal.records) }
+{
+    let Ok((mq, processes)) = Mq::<L>::new(alloc, script.processes) else {
+        return Err(RunFault::NoMemory);
+    };
+    let phases = script.phases.as_slice();
+    let processes = run_noted_phases(rt, alloc, &mq, gate, noted, processes, phases)?;
+    let Ok(journal) = mq.finish(processes) else {
+        unreachable!()
+    };
+    Ok(journal)
+}
+
+// Runs phases one after the other.
+fn run_noted_phases<'s, L, S, G>(
+    rt: &'s S,
+    alloc: Global,
+    mq: &'s Mq<L>,
+    gate: &'s G,
+    noted: &mut Vec<Noted>,
+    mut processes: Vec<Process<L>>,
+    phases: &'s [Vec<ScriptCall<&'s [u8]>>],
+) -> Result<Vec<Process<L>>, RunFault>
+where
+    L: Look<Guarded> + Sync,
+    L::Seat: Send,
+    L::Walk: Send,
+    S: Threads + Wait + Clock + Sync,
+    G: Gate + Sync,
+    requires { All (IsReady mq.now) processes.items }
+    ensures fault { IfErr result IsUnwritten }
+    ensures ready { IfOk result (λ after. All (IsReady mq.now) after.items) }
+    ensures count { IfOk result (λ after. vec_len after ≡ vec_len processes) }
+    ensures ran { IfOk result (λ after. (replies : List ℕ) ×
+        RunsPhases (said_phases phases.now) processes.items after.items replies ×
+        (lines_of noted.new.items ≡ lines_of noted.old.items ++ replies)) }
+{
+    for calls in phases {
+        processes = run_noted_phase(rt, alloc, mq, gate, noted, processes, calls.as_slice())?;
+    }
+    Ok(processes)
+}
+
+// Runs a phase.
+fn run_noted_phase<'s, L, S, G>(
+    rt: &'s S,
+    alloc: Global,
+    mq: &'s Mq<L>,
+    gate: &'s G,
+    noted: &mut Vec<Noted>,
+    processes: Vec<Process<L>>,
+    calls: &[ScriptCall<&'s [u8]>],
+) -> Result<Vec<Process<L>>, RunFault>
+where
+    L: Look<Guarded> + Sync,
+    L::Seat: Send,
+    L::Walk: Send,
+    S: Threads + Wait + Clock + Sync,
+    G: Gate + Sync,
+    requires { All (IsReady mq.now) processes.items }
+    ensures fault { IfErr result IsUnwritten }
+    ensures ready { IfOk result (λ after. All (IsReady mq.now) after.items) }
+    ensures count { IfOk result (λ after. vec_len after ≡ vec_len processes) }
+    ensures ran { IfOk result (λ after. (replies : List ℕ) ×
+        RunsPhase (said_calls calls.now) processes.items after.items replies ×
+        (lines_of noted.new.items ≡ lines_of noted.old.items ++ replies)) }
+{
+    let shares = shares_of(alloc, processes, calls)?;
+    let workers = make_calls(rt, alloc, mq, gate, shares)?;
+    note_all(alloc, noted, &workers)?;
+    let workers = settled(rt, alloc, mq, workers)?;
+    let processes = processes_of(alloc, workers)?;
+    Ok(processes)
+}
