@@ -1,4 +1,5 @@
 pub mod EveryOrder
+pub mod Histories
 pub mod LogFault
 pub mod Records
 pub mod Task

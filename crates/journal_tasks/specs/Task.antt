@@ -3,7 +3,7 @@ use Rattle.std.specs.Prelude.{◌&&◌, Bool, true, List, [], ◌∷◌, Option,
 use Rattle.std.specs.Str.{bytes_eq}
 use Rattle.text_io.specs.Words.{◌>>=◌, Word, number_written}
 use Rattle.journal_tasks.specs.declared.task.Task.{Task}
-use Rattle.journal_tasks.specs.declared.task.Task.TheVariants.{Run, Check, Draw, Judge, Orders, Help}
+use Rattle.journal_tasks.specs.declared.task.Task.TheVariants.{Run, History, Check, Draw, Judge, Orders, Help}
 use Rattle.journal_tasks.specs.declared.every_order.Trial.{Trial}
 use Rattle.journal_tasks.specs.declared.every_order.TheConstants.{REPORT}
 use Rattle.journal_tasks.specs.declared.judge.Question.{Question}
@@ -90,7 +90,7 @@ trial_written words = None
 -- the task of a name alone
 abbrev pub task_named : Word → Option Task
 task_named word =
-    if bytes_eq word (codes "run") then Some Run else (if bytes_eq word (codes "check") then Some Check else (if bytes_eq word (codes "draw") then Some (Draw WHOLE) else (if bytes_eq word (codes "judge") then Some (Judge PLAIN) else (if bytes_eq word (codes "orders") then Some (Orders REPORT) else (if bytes_eq word (codes "--help") then Some Help else None)))))
+    if bytes_eq word (codes "run") then Some Run else (if bytes_eq word (codes "history") then Some History else (if bytes_eq word (codes "check") then Some Check else (if bytes_eq word (codes "draw") then Some (Draw WHOLE) else (if bytes_eq word (codes "judge") then Some (Judge PLAIN) else (if bytes_eq word (codes "orders") then Some (Orders REPORT) else (if bytes_eq word (codes "--help") then Some Help else None))))))
 
 -- the task of a name with these options
 abbrev pub task_after : Word → List Word → Option Task

@@ -1,12 +1,15 @@
-//! Journals as text: of scripts that are run, checked, and drawn.
+//! Journals and histories as text: of scripts that are run, checked, drawn, and judged.
 #![tactic(auto)]
 
+mod called;
 mod check;
 mod counts;
 mod draw;
 mod every_order;
 mod fault;
+mod history;
 mod judge;
+mod moments;
 mod record;
 mod task;
 mod verdict;
@@ -17,6 +20,7 @@ pub use counts::Counts;
 pub use draw::draw_journal;
 pub use every_order::{Ending, REPORT, Trial, try_orders};
 pub use fault::LogFault;
+pub use history::record_history;
 pub use judge::{PLAIN, Question, judge_history};
 pub use record::record_script;
 pub use task::{Task, USAGE, task_of};

@@ -12,6 +12,8 @@ use text_io::words::number;
 pub enum Task {
     /// Runs a script and writes its journal.
     Run,
+    /// Runs a script and writes the history of its calls.
+    History,
     /// Checks a journal.
     Check,
     /// Writes a picture of a journal.
@@ -28,6 +30,8 @@ pub enum Task {
 pub const USAGE: &str = "\
 usage: mqlog TASK
   run    runs the script on the standard input, and writes its journal
+  history
+         runs the script on the standard input, and writes the history of its calls, also of one that can't go on (status 5)
   check  checks the journal on the standard input: writes that it is legal, or its first entry that is not (status 1)
   draw   writes a picture (SVG) of the journal on the standard input, of at most 2000 entries:
          draw --from K begins with the entry at place K, draw --to L ends with that at place L, both in either order do both
@@ -73,6 +77,8 @@ fn task_named(word: &[u8]) -> Option<Task>
 {
     if word == b"run".as_slice() {
         Some(Task::Run)
+    } else if word == b"history".as_slice() {
+        Some(Task::History)
     } else if word == b"check".as_slice() {
         Some(Task::Check)
     } else if word == b"draw".as_slice() {

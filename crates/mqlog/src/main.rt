@@ -1,4 +1,4 @@
-// Journals of message queue calls as text: of a script that is run, checked, and drawn.
+// Journals and histories of message queue calls as text: of a script that is run, checked, drawn, and judged.
 #![tactic(auto)]
 
 #[cfg(test)]
@@ -7,7 +7,7 @@ mod tests;
 use fast_mutex::FastMutex;
 use journal_tasks::{
     Ending, LogFault, Question, Task, Trial, USAGE, Window, check_journal, draw_journal,
-    judge_history, record_script, task_of, try_orders,
+    judge_history, record_history, record_script, task_of, try_orders,
 };
 use mq::Guarded;
 use script_runner::{Plain, RunFault};
@@ -23,6 +23,7 @@ use std::{env, io};
 fn main(rt: HostRuntime) -> ExitCode {
     match asked(&rt) {
         Ok(Some(Task::Run)) => run(&rt, rt.alloc()),
+        Ok(Some(Task::History)) => history(&rt, rt.alloc()),
         Ok(Some(Task::Check)) => check(&rt, rt.alloc()),
         Ok(Some(Task::Draw(window))) => draw(&rt, rt.alloc(), window),
         Ok(Some(Task::Judge(question))) => judge(&rt, rt.alloc(), question),
@@ -98,6 +99,17 @@ fn run(
         &Plain,
     );
     match outcome {
+        Ok(()) => ExitCode::SUCCESS,
+        Err(fault) => stopped(rt, fault),
+    }
+}
+
+fn history(
+    rt: &(impl Print + Eprint + Input + Threads + Wait + Clock + Sync),
+    alloc: Global,
+) -> ExitCode {
+    let (mut input, mut output) = (rt.reader(), io::writer(rt));
+    match record_history::<FastMutex<Guarded>, _, _, _>(rt, alloc, &mut input, &mut output) {
         Ok(()) => ExitCode::SUCCESS,
         Err(fault) => stopped(rt, fault),
     }

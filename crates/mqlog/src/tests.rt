@@ -11,6 +11,7 @@ use std::io::{Error, ErrorKind, Read, Write};
 use std::test::Fail;
 
 mod every_order;
+mod histories;
 mod judging;
 mod overlapping;
 mod pictures;
@@ -392,6 +393,7 @@ fn reads_and_writes_that_fail_end_the_check(rt: HostRuntime) {
 fn one_word_is_a_task(rt: HostRuntime) -> Result<(), Fail> {
     for (word, task) in [
         ("run", Some(Task::Run)),
+        ("history", Some(Task::History)),
         ("check", Some(Task::Check)),
         ("--help", Some(Task::Help)),
         ("draw", Some(Task::Draw(WHOLE))),

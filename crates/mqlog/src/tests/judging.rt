@@ -5,7 +5,11 @@ use std::alloc::Global;
 use std::process::Abort;
 
 // How the judgement of a history ended, and what it wrote.
-fn judged(alloc: Global, mut text: &[u8], question: Question) -> (Result<u8, LogFault>, Vec<u8>) {
+pub(super) fn judged(
+    alloc: Global,
+    mut text: &[u8],
+    question: Question,
+) -> (Result<u8, LogFault>, Vec<u8>) {
     let mut output = Vec::new(alloc);
     let outcome = judge_history(alloc, &mut text, &mut output, question);
     (outcome, output)
