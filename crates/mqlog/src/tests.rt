@@ -11,11 +11,11 @@ use std::io::{Error, ErrorKind, Read, Write};
 use std::test::Fail;
 
 mod every_order;
-mod histories;
 mod judging;
 mod overlapping;
 mod pictures;
 mod recorded;
+mod script_histories;
 
 // How the check of a text ended, and what it wrote.
 fn output_of(alloc: Global, mut text: &[u8]) -> (Result<Verdict, LogFault>, Vec<u8>) {
