@@ -287,21 +287,26 @@ static inline bool yak_has_to_wake_(const yak_process *process)
 }
 
 /* Passes the time before the next try of a call that was YAK_RETRY: spins, and after some tries announces that it sleeps. Where the try after that
- * is in vain too it sleeps until who keeps the process out of the lock wakes it, for 10 milliseconds at the most, announces the next sleep for
- * those that sleep on, and begins anew. */
+ * is in vain too, and leaves the process waiting for the same, it sleeps until who keeps it out of the lock wakes it, for 10 milliseconds at the
+ * most, and begins anew. Who wakes from a sleep until the lock is free announces the next sleep for those that sleep on, since each departure wakes
+ * one; who wakes from one until a process has lowered its flag wakes the next, since nobody may come to lower that flag again. */
 static inline void yak_rest(yak_process *process, unsigned *tries)
 {
     uint32_t bell;
     if (yak_spin(tries, YAK_SPINS) || process->bells == 0 || yak_bell(process, &bell) != YAK_DONE || bell > 32)
         return;
-    if (*tries == YAK_SPINS) {
-        ++*tries;
-        yak_ring(&process->bells[process->number]);
-    } else {
-        *tries = 0;
-        yak_sleep(&process->bells[bell], YAK_NAP);
+    yak_ring(&process->bells[process->number]); /* its own flag, which the last try may have lowered */
+    if (*tries != YAK_SPINS + 1 + bell) {
+        *tries = YAK_SPINS + 1 + bell;
+        __atomic_store_n(&process->bells[bell], 1, __ATOMIC_SEQ_CST);
+        return;
     }
-    __atomic_store_n(&process->bells[bell], 1, __ATOMIC_SEQ_CST);
+    *tries = 0;
+    yak_sleep(&process->bells[bell], YAK_NAP);
+    if (bell == 0)
+        __atomic_store_n(&process->bells[bell], 1, __ATOMIC_SEQ_CST);
+    else
+        yak_rouse(&process->bells[bell]);
 }
 
 /* With seed.h, and a seed in the environment, each call is a choice of the seed, and what waits gives the turn away. */

@@ -129,8 +129,10 @@ impl Handle {
         }
     }
 
-    /// Passes the time before the next try: spins, and after some tries announces that it sleeps. Where the try after that is in vain too it
-    /// sleeps until who keeps the process out of the lock wakes it, announces the next sleep for those that sleep on, and begins anew.
+    /// Passes the time before the next try: spins, and after some tries announces that it sleeps. Where the try after that is in vain too, and
+    /// leaves the process waiting for the same, it sleeps until who keeps it out of the lock wakes it, and begins anew. Who wakes from a sleep
+    /// until the lock is free announces the next sleep for those that sleep on, since each departure wakes one; who wakes from one until a
+    /// process has lowered its flag wakes the next, since nobody may come to lower that flag again.
     #[cold]
     fn rest(&mut self, tries: &mut u32) {
         if spins(tries, SPINS) {
@@ -140,14 +142,21 @@ impl Handle {
         if own > 32 {
             return;
         }
-        if *tries == SPINS {
-            *tries += 1;
-            ring(self.bell(self.number()));
-        } else {
-            *tries = 0;
-            sleep(self.bell(own), NAP);
+        // Its own flag, which the last try may have lowered.
+        ring(self.bell(self.number()));
+        let announced = SPINS + 1 + own;
+        if *tries != announced {
+            *tries = announced;
+            self.bell(own).store(1, SeqCst);
+            return;
         }
-        self.bell(own).store(1, SeqCst);
+        *tries = 0;
+        sleep(self.bell(own), NAP);
+        if own == OF_LOCK {
+            self.bell(own).store(1, SeqCst);
+        } else {
+            rouse(self.bell(own));
+        }
     }
 
     /// Looks until the open wait is answered, for so long at the most: spins, and then sleeps until the call that answers it wakes the
