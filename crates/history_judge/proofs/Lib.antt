@@ -5,3 +5,5 @@ pub mod Grouping
 pub mod Alike
 pub mod Transport
 pub mod Narrowing
+pub mod Written
+pub mod Lines

@@ -1,5 +1,8 @@
 pub mod Text
 pub mod Seen
+pub mod Fitting
+pub mod Reading
+pub mod HistoryFault
 pub mod Processes
 pub mod Descriptors
 pub mod Fronts

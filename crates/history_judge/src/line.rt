@@ -1,6 +1,9 @@
 //! The line of a call.
-ghost use Rattle.std.specs.Prelude.{◌≡◌, IfOk, IfSome, codes, string_bytes};
+ghost use Rattle.std.specs.Prelude.{◌≡◌, IfOk, IfSome, MatchOption, codes, string_bytes};
+ghost use Rattle.std.specs.Option.{option_map};
+ghost use Rattle.journal_format.specs.Reading.{words_at};
 ghost use Rattle.journal_format.specs.Text.{number_or};
+ghost use Rattle.history_judge.specs.Reading.{IsNoLine, IsOneOf, parts_at, parts_seen};
 ghost use Rattle.history_judge.specs.Text.{end_of, line_text};
 
 use crate::outcome::{outcome_of, outcome_text};
@@ -57,7 +60,10 @@ struct Parts<'w, 's> {
     result: &'w [&'s [u8]],
 }
 
-fn parts_of<'w, 's>(words: &'w [&'s [u8]]) -> Option<Parts<'w, 's>> {
+#[tactic(auto, unfolding(crate::specs::Reading::parts_at))]
+fn parts_of<'w, 's>(words: &'w [&'s [u8]]) -> Option<Parts<'w, 's>>
+    ensures { option_map parts_seen result ≡ parts_at (words_at words.now) }
+{
     let (process, words) = small_number_of(words)?;
     let (begin, words) = number_of(words)?;
     let (end, words) = number_or_of(b"-", words)?;
@@ -76,7 +82,10 @@ fn parts_of<'w, 's>(words: &'w [&'s [u8]]) -> Option<Parts<'w, 's>> {
 
 /// The call whose line this is, if it is one. The line ends with its feed.
 pub fn read_line(alloc: Global, line: &[u8]) -> Result<Option<Called>, AllocError>
-    ensures { IfOk result (λ read. IfSome read (λ called. line.now ≡ line_text called)) }
+    // What is read is written as it was.
+    ensures found { IfOk result (λ read. IfSome read (λ called. line.now ≡ line_text called)) }
+    // What was written is read as it was.
+    ensures only { IfOk result (λ read. MatchOption read (IsNoLine line.now) (IsOneOf line.now)) }
 {
     let words = words(alloc, line)?;
     let Some(parts) = parts_of(words.as_slice()) else {

@@ -1,5 +1,8 @@
 //! What a call returned, in words.
-ghost use Rattle.std.specs.Prelude.{◌≡◌, IfOk, string_bytes};
+ghost use Rattle.std.specs.Prelude.{◌≡◌, IfOk, drop, string_bytes};
+ghost use Rattle.std.specs.Option.{option_map};
+ghost use Rattle.journal_format.specs.Reading.{words_at};
+ghost use Rattle.history_judge.specs.Reading.{message_at, outcome_at, shown};
 ghost use Rattle.history_judge.specs.Text.{message_of, result_words, spaced, written_reply};
 
 use histories::operation::Outcome;
@@ -59,7 +62,10 @@ pub fn outcome_text(alloc: Global, outcome: &Outcome) -> Result<String, AllocErr
 }
 
 /// What the words after the arrow read as. Words that no line has may be read, too: the line of what was read is then another.
-pub fn outcome_of(alloc: Global, words: &[&[u8]]) -> Result<Option<Outcome>, AllocError> {
+#[tactic(auto, unfolding(crate::specs::Reading::outcome_at))]
+pub fn outcome_of(alloc: Global, words: &[&[u8]]) -> Result<Option<Outcome>, AllocError>
+    ensures { IfOk result (λ read. option_map shown read ≡ outcome_at (words_at words.now)) }
+{
     if words.is_empty() {
         return Ok(Some(Outcome::Pending));
     }
@@ -81,15 +87,24 @@ pub fn outcome_of(alloc: Global, words: &[&[u8]]) -> Result<Option<Outcome>, All
     }
 }
 
+// The words behind the first one.
+fn behind_first<'w, 's>(words: &'w [&'s [u8]]) -> &'w [&'s [u8]]
+    ensures { words_at result.now ≡ drop 1 (words_at words.now) }
+{
+    match words {
+        [] => words,
+        [_first, words @ ..] => words,
+    }
+}
+
 // The message of a receive, whose priority was read.
-fn got_of(alloc: Global, prio: u64, words: &[&[u8]]) -> Result<Option<Outcome>, AllocError> {
+fn got_of(alloc: Global, prio: u64, words: &[&[u8]]) -> Result<Option<Outcome>, AllocError>
+    ensures { IfOk result (λ read. option_map shown read ≡ message_at prio (words_at words.now)) }
+{
     let Ok(prio) = u32::try_from(prio) else {
         return Ok(None);
     };
-    let quoted = match words {
-        [_got, _prio, words @ ..] => quoted_of(words).0,
-        _ => &[],
-    };
+    let quoted = quoted_of(behind_first(behind_first(words))).0;
     let mut message = Vec::new(alloc);
     percent_decode(quoted).append_to(&mut message)?;
     Ok(Some(Outcome::Got { prio, message }))

@@ -1,5 +1,9 @@
 //! The text of a history.
-ghost use Rattle.std.specs.Prelude.{◌≡◌, ◌++◌, ◌∷◌, [], IfOk, OnOk};
+ghost use Rattle.std.specs.Prelude.{◌≡◌, ◌++◌, ◌∷◌, [], ℕ, List, IfOk, IsErrOf, MatchResult, OnOk};
+ghost use Rattle.journal_format.specs.declared.fault.JournalFault.TheVariants.{BadLine, Input, NoMemory};
+ghost use Rattle.history_judge.specs.Fitting.{AllFit};
+ghost use Rattle.history_judge.specs.HistoryFault.{StopsAt};
+ghost use Rattle.history_judge.specs.Seen.{AreSameCalls};
 ghost use Rattle.history_judge.specs.Text.{history_text};
 
 use crate::line::{Called, line_of, read_line};
@@ -19,11 +23,17 @@ pub fn write_history(alloc: Global, calls: &[Called]) -> Result<Vec<u8>, AllocEr
     Ok(text)
 }
 
-/// The calls whose text this is, in the order of their lines. `JournalFault::BadLine`: this line, counted from 1, is no line of a call;
-/// a last line that lacks its feed is none.
+/// The calls whose text this is, in the order of their lines. `JournalFault::BadLine`: this line, counted from 1, is the first that is no
+/// line of a call; a last line that lacks its feed is none.
 pub fn read_history(alloc: Global, text: &[u8]) -> Result<Vec<Called>, JournalFault>
     // What is read is written as it was.
-    ensures { IfOk result (λ calls. text.now ≡ history_text calls.items) }
+    ensures found { IfOk result (λ calls. text.now ≡ history_text calls.items) }
+    // What was written is read as it was, unless memory runs out.
+    ensures only { (history : List Called) → AllFit history → text.now ≡ history_text history →
+        MatchResult result (λ calls. AreSameCalls calls.items history) (λ fault. fault ≡ NoMemory) }
+    // A line that is named is the first one.
+    ensures bad_line { (line : ℕ) → IsErrOf result (BadLine line) → StopsAt line text.now }
+    ensures no_input { IsErrOf result Input → ⊥ }
 {
     let mut calls: Vec<Called> = Vec::new(alloc);
     let mut rest = text;

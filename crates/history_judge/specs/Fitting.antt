@@ -1,0 +1,32 @@
+-- The numbers of a call fit their types. Of a call that the program holds they always do, but for the moment at which a call that had
+-- not returned ended: it has no place in a line.
+use Rattle.std.specs.Prelude.{◌≡◌, ◌<◌, ◌-◌, ◌^◌, true, List, All, IfSome}
+use Rattle.std.specs.List.{AllByRecursion}
+use Rattle.journal_format.specs.Fitting.{CallFits, StatusFits}
+use Rattle.histories.specs.Histories.{is_pending}
+use Rattle.histories.specs.declared.operation.Outcome.{Outcome}
+use Rattle.histories.specs.declared.operation.Outcome.TheVariants.{Pending, Done, Opened, Got, Attributes, Notice, Refused}
+use Rattle.history_judge.specs.declared.line.Called.{Called}
+
+abbrev pub OutcomeFits : Outcome → Type 0
+OutcomeFits Pending = Unit {0}
+OutcomeFits Done = Unit {0}
+OutcomeFits (Opened d) = d < 2 ^ 32
+OutcomeFits (Got prio message) = (prio < 2 ^ 32) × All (λ b. b < 256) message.items
+OutcomeFits (Attributes status) = StatusFits status
+OutcomeFits (Notice value) = IfSome value (λ n. n < 2 ^ 64)
+OutcomeFits (Refused fault) = Unit {0}
+
+-- the numbers of a call fit their types, and one that had not returned ended at the greatest moment
+pub record Fits (c : Called) : Type 0 where
+  pub process : c.process < 2 ^ 32
+  pub begin : c.operation.begin < 2 ^ 64
+  pub end : c.operation.end < 2 ^ 64
+  pub call : CallFits c.operation.call
+  pub given : All (λ b. b < 256) c.operation.given.items
+  pub outcome : OutcomeFits c.operation.outcome
+  pub pending : is_pending c.operation.outcome ≡ true → c.operation.end ≡ 2 ^ 64 - 1
+
+-- those of each call do
+abbrev pub AllFit : List Called → Type 0
+AllFit calls = AllByRecursion Fits calls
