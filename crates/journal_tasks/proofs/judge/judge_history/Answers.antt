@@ -17,7 +17,7 @@ returns-in_err-write_all-clause-output g c = λ all known failed.
       calls = calls;
       judgement = judgement;
       judged = record {
-        text = sym bytes ∙ sym c.as_slice.ensures.value ∙ c.in_ok-calls.ensures;
+        text = sym bytes ∙ sym c.as_slice.ensures.value ∙ c.in_ok-calls.ensures.found;
         processes = ap (λ (cs : List Called). position (λ (d : Called). not (is_process d.process)) cs) (sym c.deref.ensures.value) ∙ sym c.first_stranger.ensures ∙ c.in_default.is;
         judges = subst (λ (cs : List Called). IsJudgement cs judgement) c.deref-2.ensures.value c.in_ok-judgement.ensures;
       };
