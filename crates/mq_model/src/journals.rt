@@ -97,8 +97,12 @@ impl Journal {
             IsOk result }
         ensures enough { bytes ≤ self.old.byte_room → self.new.byte_room ≡ self.old.byte_room }
     {
-        self.stored.reserve(entries)?;
-        self.apart.reserve(entries)?;
+        if entries > self.stored.capacity() - self.stored.len() {
+            self.stored.reserve(entries)?;
+        }
+        if entries > self.apart.capacity() - self.apart.len() {
+            self.apart.reserve(entries)?;
+        }
         if bytes > self.bytes.capacity() - self.bytes.len() {
             self.bytes.reserve(bytes)?;
         }

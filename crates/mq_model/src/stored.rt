@@ -6,6 +6,9 @@ ghost use Rattle.mq_model.specs.declared.entries.Call.{Call};
 use crate::entries::{Call, OpenFlags, Reply, Status};
 use crate::faults::Fault;
 
+// One more than four bytes hold.
+const HALF: u64 = 4_294_967_296;
+
 /// A call in twelve bytes. Where it has more than they hold, it stands among the calls kept apart, at the index of these halves. A
 /// message is as long as the payload.
 #[derive(Clone, Copy, Debug)]
@@ -86,30 +89,6 @@ pub struct Stored {
     pub end: usize,
 }
 
-// The call in twelve bytes, where it fits into them.
-#[inline(always)]
-fn brief(call: Call, len: usize) -> Option<StoredCall>
-    ensures call { IfSome result (λ stored. (apart : List Call) → call_of apart len stored ≡ call) }
-    ensures whole { IfSome result (λ stored. needs stored ≡ 0) }
-{
-    match call {
-        Call::MqOpen { flags, attr: None } => Some(StoredCall::Open { flags }),
-        Call::MqClose { d } => Some(StoredCall::Close { d }),
-        Call::MqUnlink => Some(StoredCall::Unlink),
-        Call::MqSend { d, prio, len: l } if l == len as u64 => Some(StoredCall::Send { d, prio }),
-        Call::MqReceive { d, room } => {
-            let room = u32::try_from(room).ok()?;
-            Some(StoredCall::Receive { d, room })
-        }
-        Call::MqGetattr { d } => Some(StoredCall::Getattr { d }),
-        Call::MqSetattr { d, nonblock } => Some(StoredCall::Setattr { d, nonblock }),
-        Call::MqNotify { d, value: None } => Some(StoredCall::Removal { d }),
-        Call::NextNotice => Some(StoredCall::NextNotice),
-        Call::Collect => Some(StoredCall::Collect),
-        _ => None,
-    }
-}
-
 // The form of a call that is kept apart, at that index.
 fn apart_at(index: usize) -> StoredCall
     ensures needs { needs result ≡ index + 1 }
@@ -118,9 +97,23 @@ fn apart_at(index: usize) -> StoredCall
 {
     let index = index as u64;
     StoredCall::Apart {
-        high: (index / 4_294_967_296) as u32,
-        low: (index % 4_294_967_296) as u32,
+        high: (index / HALF) as u32,
+        low: (index % HALF) as u32,
     }
+}
+
+// Keeps a call apart that twelve bytes do not hold, in room that is there.
+#[inline(always)]
+fn keep_apart(apart: &mut Vec<Call>, call: Call) -> StoredCall
+    requires room { vec_len apart.old < vec_capacity apart.old }
+    ensures call { (len : ℕ) → call_of apart.new.items len result ≡ call }
+    ensures needs { needs result ≤ vec_len apart.new }
+    ensures apart { apart.new.items ≡ apart.old.items ++ kept_apart result call }
+    ensures capacity { vec_capacity apart.old ≤ vec_capacity apart.new }
+{
+    let stored = apart_at(apart.len());
+    apart.push_reserved(call);
+    stored
 }
 
 /// Stores the call of an entry whose payload has that length: in the form that is given back, or apart from it, in room that is there.
@@ -132,12 +125,22 @@ pub fn store_call(apart: &mut Vec<Call>, call: Call, len: usize) -> StoredCall
     ensures apart { apart.new.items ≡ apart.old.items ++ kept_apart result call }
     ensures capacity { vec_capacity apart.old ≤ vec_capacity apart.new }
 {
-    if let Some(stored) = brief(call, len) {
-        return stored;
+    match call {
+        Call::MqOpen { flags, attr: None } => StoredCall::Open { flags },
+        Call::MqClose { d } => StoredCall::Close { d },
+        Call::MqUnlink => StoredCall::Unlink,
+        Call::MqSend { d, prio, len: l } if l == len as u64 => StoredCall::Send { d, prio },
+        Call::MqReceive { d, room } if room < HALF => StoredCall::Receive {
+            d,
+            room: room as u32,
+        },
+        Call::MqGetattr { d } => StoredCall::Getattr { d },
+        Call::MqSetattr { d, nonblock } => StoredCall::Setattr { d, nonblock },
+        Call::MqNotify { d, value: None } => StoredCall::Removal { d },
+        Call::NextNotice => StoredCall::NextNotice,
+        Call::Collect => StoredCall::Collect,
+        _ => keep_apart(apart, call),
     }
-    let stored = apart_at(apart.len());
-    apart.push_reserved(call);
-    stored
 }
 
 /// The call of a stored entry whose payload has that length.

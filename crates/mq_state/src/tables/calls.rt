@@ -65,6 +65,9 @@ impl Tables {
             (length journal.now.records + open_waits journal.now.records + entries)
             (payload_bytes journal.now.records + bytes) }
     {
+        if self.bounds.is_none() {
+            return false;
+        }
         let entries = journal.len() + (self.open_waits() + entries) as u64;
         let bytes = journal.payload_bytes() + bytes as u64;
         bounds::exceeds(self.bounds, entries, bytes)
