@@ -244,7 +244,7 @@ void yak_rouse(uint64_t *bell);
 
 /* How many tries lie between two naps; how often a wait looks for its answer before it sleeps, and how often where its process doubts that this is
  * worth it (see yak_learn_); how long it sleeps at first and at the most. */
-enum { YAK_SPINS = 12, YAK_LONG_LOOKS = 12, YAK_SHORT_LOOKS = 6, YAK_MOST_DOUBT = 12, YAK_DOUBTFUL_WAITS = 32, YAK_NAP = 10, YAK_LONGEST_NAP = 80 };
+enum { YAK_SPINS = 12, YAK_LONG_LOOKS = 7, YAK_SHORT_LOOKS = 2, YAK_MOST_DOUBT = 12, YAK_DOUBTFUL_WAITS = 32, YAK_NAP = 10, YAK_LONGEST_NAP = 80 };
 
 /* Passes some time before the next try, twice as much each time up to some microseconds, or is false after so many tries. Where threads crowd, long
  * pauses let the one that is inside make several calls in a row. */
@@ -252,7 +252,7 @@ static inline bool yak_spin(unsigned *tries, unsigned most)
 {
     if (*tries >= most)
         return false;
-    for (unsigned left = 16u << (*tries < 10 ? *tries : 10); left != 0; --left)
+    for (unsigned left = 1024u << (*tries < 4 ? *tries : 4); left != 0; --left)
         __asm__ volatile("" ::: "memory"); /* so that the loop stays */
     ++*tries;
     return true;

@@ -10,8 +10,8 @@ use std::time::{Duration, Instant};
 /// How many tries lie between two naps; how often a wait looks for its answer before it sleeps, and how often where its process doubts that
 /// this is worth it.
 const SPINS: u32 = 12;
-const LONG_LOOKS: u32 = 12;
-const SHORT_LOOKS: u32 = 6;
+const LONG_LOOKS: u32 = 7;
+const SHORT_LOOKS: u32 = 2;
 const MOST_DOUBT: u64 = 12;
 const DOUBTFUL_WAITS: u64 = 32;
 const NAP: Duration = Duration::from_millis(10);
@@ -50,7 +50,7 @@ fn spins(tries: &mut u32, most: u32) -> bool {
     if *tries >= most {
         return false;
     }
-    for left in 0..16 << (*tries).min(10) {
+    for left in 0..1024 << (*tries).min(4) {
         black_box(left);
     }
     *tries += 1;

@@ -1,21 +1,26 @@
 //! The calls that workloads are made of.
-ghost use Rattle.std.specs.Prelude.{◌≡◌, OnOk};
+ghost use Rattle.std.specs.Prelude.{◌≡◌, ◌≤◌, IsSome, IfSome, OnOk, length};
+ghost use Rattle.mq_state.specs.Buffers.{waiting_room};
 ghost use Rattle.bench_workloads.specs.Ready.{IsReady};
 
-use crate::course::{Course, DEADLINE};
+use crate::course::Course;
 use bench_line::fault::WorkFault;
 use fast_mutex::Look;
 use mq::{Guarded, Mq, Process};
 use mq_model::entries::{Access, Attr, OpenFlags};
+use mq_model::faults::Fault;
 use mq_model::names::Name;
 use std::sync::Wait;
-use std::time::Clock;
+use std::time::{Clock, Duration};
 
 /// How many bytes each message has.
 pub const MESSAGE_SIZE: usize = 16;
 
 /// A message.
 pub const MESSAGE: [u8; MESSAGE_SIZE] = *b"sixteen bytes ..";
+
+// After how long a wait looks, where nobody wakes it, whether the run goes on.
+const LONGEST_NAP: Duration = Duration::from_millis(80);
 
 /// Opens a queue for sends and receives that may wait, which it creates with this depth where there is none.
 pub fn open<L: Look<Guarded>, R: Wait>(
@@ -82,9 +87,12 @@ pub fn send_in<L: Look<Guarded>, R: Wait + Clock>(
     d: u32,
 ) -> Result<(), WorkFault>
     requires ready { IsReady mq.now process.old }
-    ensures ready { IsReady mq.now process.new }
+    ensures ready { OnOk result (IsReady mq.now process.new) }
 {
-    Ok(process.timed_send(rt, mq, d, &MESSAGE, 0, DEADLINE, course)?)
+    if process.start_send(rt, mq, d, &MESSAGE, 0)? {
+        return Ok(());
+    }
+    wait_in(rt, mq, process, course, &mut [])
 }
 
 /// Receives a message, and waits as long as the run goes on.
@@ -96,9 +104,40 @@ pub fn receive_in<L: Look<Guarded>, R: Wait + Clock>(
     d: u32,
 ) -> Result<(), WorkFault>
     requires ready { IsReady mq.now process.old }
-    ensures ready { IsReady mq.now process.new }
+    ensures ready { OnOk result (IsReady mq.now process.new) }
 {
     let mut buffer = [0; MESSAGE_SIZE];
-    process.timed_receive(rt, mq, d, &mut buffer, DEADLINE, course)?;
-    Ok(())
+    match process.start_receive(rt, mq, d, &mut buffer)? {
+        Some(_) => Ok(()),
+        None => wait_in(rt, mq, process, course, &mut buffer),
+    }
+}
+
+// Waits until the open wait is answered, and ends it. Where the run ends first, the process stays in its wait.
+fn wait_in<L: Look<Guarded>, R: Wait + Clock>(
+    rt: &R,
+    mq: &Mq<L>,
+    process: &mut Process<L>,
+    course: &Course,
+    buffer: &mut [u8],
+) -> Result<(), WorkFault>
+    requires made { process.old.lock ≡ mq.now }
+    requires wait { IsSome (waiting_room process.old.left process.old.number) }
+    requires room { IfSome (waiting_room process.old.left process.old.number)
+        (λ room. room ≤ length buffer.old) }
+    ensures ready { OnOk result (IsReady mq.now process.new) }
+{
+    'looks: for _ in rt.forever() {
+        if process.await_answer(rt, mq, LONGEST_NAP) {
+            break;
+        }
+        course.outcome()?;
+        if course.is_over() {
+            return Err(WorkFault::Refused(Fault::TimedOut));
+        }
+    }
+    match process.collect(rt, mq, buffer) {
+        Some(_) => Ok(()),
+        None => unreachable!(),
+    }
 }

@@ -1,17 +1,8 @@
 //! Whether the threads of a run go on, and which refusal ended it.
 use bench_line::fault::WorkFault;
-use mq::Clock;
-use mq_model::entries::Deadline;
 use std::sync::OnceLock;
 
-/// The deadline of all calls of a run.
-pub const DEADLINE: Deadline = Deadline { sec: 1, nsec: 0 };
-
-// Before the deadline.
-const START: Deadline = Deadline { sec: 0, nsec: 0 };
-
-/// The course of a run. It is the clock that calls with the deadline are lent, and stands still before it until the run has ended: so a
-/// call waits as long as the run goes on, and no longer.
+/// The course of a run. A call that waits looks at it now and then: so it waits as long as the run goes on, and not much longer.
 #[derive(Drop)]
 pub struct Course {
     ended: OnceLock<Result<(), WorkFault>>,
@@ -46,16 +37,5 @@ impl Course {
             Some(ended) => *ended,
             None => Ok(()),
         }
-    }
-}
-
-impl Clock for Course {
-    ghost use Rattle.std.specs.Prelude.{◌≡◌, true};
-    ghost use Rattle.mq_model.specs.Deadlines.{is_moment};
-
-    ghost gives = { λ course moment. is_moment moment ≡ true };
-
-    fn now(&self) -> Deadline {
-        if self.is_over() { DEADLINE } else { START }
     }
 }

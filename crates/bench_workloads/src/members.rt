@@ -1,5 +1,5 @@
 //! Processes on the same queues, each in a thread of its own.
-ghost use Rattle.std.specs.Prelude.{◌≡◌};
+ghost use Rattle.std.specs.Prelude.{◌≡◌, OnOk};
 ghost use Rattle.std.specs.List.{All};
 ghost use Rattle.bench_workloads.specs.Ready.{IsReady};
 
@@ -118,7 +118,7 @@ fn all_rounds<L: Look<Guarded>, R: Wait + Clock>(
     rounds: u32,
 ) -> Result<(), WorkFault>
     requires ready { IsReady mq.now process.old }
-    ensures ready { IsReady mq.now process.new }
+    ensures ready { OnOk result (IsReady mq.now process.new) }
 {
     for _ in 0..rounds {
         round(rt, mq, process, course, queues, part)?;
@@ -135,7 +135,7 @@ fn round<L: Look<Guarded>, R: Wait + Clock>(
     part: Part,
 ) -> Result<(), WorkFault>
     requires ready { IsReady mq.now process.old }
-    ensures ready { IsReady mq.now process.new }
+    ensures ready { OnOk result (IsReady mq.now process.new) }
 {
     match part {
         Part::Sends => send_in(rt, mq, process, course, queues.to),

@@ -92,68 +92,76 @@ impl Member {
         Tried::Made(returned)
     }
 
-    /// Whether its process is at rest, without an open wait.
+    /// Tries to send, as [`make`](Member::make). Of a process at rest that meets nobody on its way in the compiler knows each step.
+    #[tactic(auto, using(crate::proofs::Members::no_deadline))]
     #[inline(always)]
-    pub fn is_idle(&self) -> bool
-        ensures free { IsTrue result → IsFree (ticket_of self.now.standing) }
-        ensures rest { IsTrue result → is_under_way self.now.standing ≡ false }
+    pub fn start_send(&mut self, d: u32, bytes: &[u8], prio: u32) -> Tried<Result<bool, Fault>>
+        ensures { Tries (λ old new result.
+            OneCall start_send_says old new (Call.MqSend d prio (length bytes.now)) bytes.now
+            result) (ticket_of self.old.standing) (ticket_of self.new.standing) result }
     {
-        standing::is_idle(&self.standing)
+        if standing::is_idle(&self.standing) {
+            match set_out(&self.mq, &mut self.standing) {
+                Ok(arrived) => {
+                    let len = bytes.len() as u64;
+                    let call = Call::MqSend { d, prio, len };
+                    let (process, sent) = arrived.make(&self.mq, call, bytes, &mut []);
+                    settle(&mut self.standing, process);
+                    return Tried::Made(sent);
+                }
+                Err(approach) => walk_on(&mut self.standing, approach),
+            }
+        }
+        self.send_apart(d, bytes, prio)
     }
 
-    /// Tries to send, of a process at rest without an open wait, as [`make`](Member::make). The compiler knows each step of its way.
-    #[tactic(auto, using(crate::proofs::Members::no_deadline))]
-    pub fn start_send(&mut self, d: u32, bytes: &[u8], prio: u32) -> Tried<Result<bool, Fault>>
-        requires free { IsFree (ticket_of self.old.standing) }
-        requires rest { is_under_way self.old.standing ≡ false }
+    // The same of any process.
+    #[inline(never)]
+    fn send_apart(&mut self, d: u32, bytes: &[u8], prio: u32) -> Tried<Result<bool, Fault>>
         ensures { Tries (λ old new result.
             OneCall start_send_says old new (Call.MqSend d prio (length bytes.now)) bytes.now
             result) (ticket_of self.old.standing) (ticket_of self.new.standing) result }
     {
         let len = bytes.len() as u64;
-        match set_out(&self.mq, &mut self.standing) {
-            Ok(arrived) => {
-                let (process, sent) = arrived.make(
-                    &self.mq,
-                    Call::MqSend { d, prio, len },
-                    bytes,
-                    &mut [],
-                );
-                settle(&mut self.standing, process);
-                Tried::Made(sent)
-            }
-            Err(approach) => {
-                walk_on(&mut self.standing, approach);
-                Tried::Retry
-            }
-        }
+        self.make(Call::MqSend { d, prio, len }, bytes, &mut [])
     }
 
     /// Tries to receive, in the same way.
     #[tactic(auto, using(crate::proofs::Members::no_deadline))]
+    #[inline(always)]
     pub fn start_receive(
         &mut self,
         d: u32,
         buf: &mut [u8],
     ) -> Tried<Result<Option<Received>, Fault>>
-        requires free { IsFree (ticket_of self.old.standing) }
-        requires rest { is_under_way self.old.standing ≡ false }
+        ensures { TriesWith (buf.new ≡ buf.old) (λ old new result.
+            ReceiveCall start_receive_says old new (Call.MqReceive d (length buf.old)) buf.old
+            buf.new result) (ticket_of self.old.standing) (ticket_of self.new.standing) result }
+    {
+        if standing::is_idle(&self.standing) {
+            match set_out(&self.mq, &mut self.standing) {
+                Ok(arrived) => {
+                    let room = buf.len() as u64;
+                    let call = Call::MqReceive { d, room };
+                    let (process, got) = arrived.make(&self.mq, call, &[], buf);
+                    settle(&mut self.standing, process);
+                    return Tried::Made(got);
+                }
+                Err(approach) => walk_on(&mut self.standing, approach),
+            }
+        }
+        self.receive_apart(d, buf)
+    }
+
+    // The same of any process.
+    #[inline(never)]
+    fn receive_apart(&mut self, d: u32, buf: &mut [u8]) -> Tried<Result<Option<Received>, Fault>>
         ensures { TriesWith (buf.new ≡ buf.old) (λ old new result.
             ReceiveCall start_receive_says old new (Call.MqReceive d (length buf.old)) buf.old
             buf.new result) (ticket_of self.old.standing) (ticket_of self.new.standing) result }
     {
         let room = buf.len() as u64;
-        match set_out(&self.mq, &mut self.standing) {
-            Ok(arrived) => {
-                let (process, got) = arrived.make(&self.mq, Call::MqReceive { d, room }, &[], buf);
-                settle(&mut self.standing, process);
-                Tried::Made(got)
-            }
-            Err(approach) => {
-                walk_on(&mut self.standing, approach);
-                Tried::Retry
-            }
-        }
+        self.make(Call::MqReceive { d, room }, &[], buf)
     }
 
     /// Tries to close all descriptors.

@@ -4,6 +4,7 @@ ghost use Rattle.mq_state.specs.Buffers.{waiting_room};
 ghost use Rattle.mq.specs.Calls.{IsFree};
 ghost use Rattle.c_handles.specs.Standings.{ticket_of, is_under_way, LooksAt};
 
+use fast_mutex::HASTE;
 use mq::{FastApproach, FastArrived, FastMq, FastProcess};
 use std::mem;
 
@@ -50,7 +51,7 @@ fn go_on(mq: &FastMq, approach: FastApproach) -> Result<FastArrived, FastApproac
     approach.advance(mq, STEPS)
 }
 
-/// Takes a process inside that is at rest, or gives it back on its way there. It leaves none.
+/// Takes a process inside that is at rest and meets nobody, or gives it back on its way there. It leaves none.
 #[inline(always)]
 pub fn set_out(mq: &FastMq, standing: &mut Option<Standing>) -> Result<FastArrived, FastApproach>
     requires some { is_some standing.old ≡ true }
@@ -60,7 +61,7 @@ pub fn set_out(mq: &FastMq, standing: &mut Option<Standing>) -> Result<FastArriv
     ensures under_way { IfErr result (λ approach. approach ≡ ticket_of standing.old) }
 {
     match standing.take() {
-        Some(Standing::AtRest(process)) => process.approach(mq).advance(mq, STEPS),
+        Some(Standing::AtRest(process)) => process.approach(mq).advance(mq, HASTE),
         _ => unreachable!(),
     }
 }

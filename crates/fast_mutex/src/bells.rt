@@ -17,9 +17,9 @@ const LONGEST_NAP: u64 = 10;
 
 // How often a process looks for its answer before it sleeps, and how often where it doubts that this is worth it: where of its last looks
 // one in four or more was in vain. It doubts for so many waits, and then tries again.
-const LONG_LOOKS: u32 = 12;
+const LONG_LOOKS: u32 = 7;
 
-const SHORT_LOOKS: u32 = 6;
+const SHORT_LOOKS: u32 = 2;
 
 const MOST_DOUBT: u64 = 12;
 
@@ -98,10 +98,14 @@ impl Bells {
         self.sleep(rt, bell, Duration::from_millis(LONGEST_NAP));
     }
 
-    /// Ends what was announced. Who was woken so announces for those that still sleep, and the next departure wakes the next.
+    /// Ends what was announced. Who was woken so announces for those that still sleep, and the next departure wakes the next. Nobody may
+    /// come to lower a flag again, so who slept on its bell wakes the next there.
     pub(crate) fn end_walk(&self, bell: u32) {
         if self.sleepers.fetch_sub(1, SeqCst) != 1 {
             self.set(bell, 1);
+            if bell != Bells::of_y() {
+                self.ring(bell);
+            }
         }
     }
 

@@ -2,12 +2,13 @@
 use crate::bells::Bells;
 
 // The shortest and the longest, in loads of a word.
-const SHORTEST: u32 = 16;
+const SHORTEST: u32 = 1_024;
 
 const LONGEST: u32 = 16_384;
 
-/// Pauses, each twice as long as the one before, up to some microseconds. A short one does for a wait that is over at once; where threads
-/// crowd, long ones let the one that is inside make several calls in a row, with all that they touch in its own cache.
+/// Pauses of half a microsecond and more, each twice as long as the one before, up to some microseconds. A look takes the words of the lock
+/// out of the cache of the one that is inside, so it is worth it only now and then; and where threads crowd, long pauses let that one
+/// make several calls in a row, with all that they touch in its own cache.
 #[derive(Drop)]
 pub(crate) struct Pauses {
     next: u32,

@@ -86,6 +86,9 @@ impl<L: Look<Guarded>> Approach<L> {
             walk: hastened,
             waits,
         };
+        if steps == HASTE {
+            return Err(on_its_way);
+        }
         on_its_way.go_on(mq, steps - HASTE)
     }
 
