@@ -19,8 +19,8 @@ pub const MESSAGE_SIZE: usize = 16;
 /// A message.
 pub const MESSAGE: [u8; MESSAGE_SIZE] = *b"sixteen bytes ..";
 
-// After how long a wait looks, where nobody wakes it, whether the run goes on.
-const LONGEST_NAP: Duration = Duration::from_millis(80);
+// After how many milliseconds a wait looks, where nobody wakes it, whether the run goes on.
+const LONGEST_NAP: u64 = 80;
 
 /// Opens a queue for sends and receives that may wait, which it creates with this depth where there is none.
 pub fn open<L: Look<Guarded>, R: Wait>(
@@ -127,8 +127,9 @@ fn wait_in<L: Look<Guarded>, R: Wait + Clock>(
         (λ room. room ≤ length buffer.old) }
     ensures ready { OnOk result (IsReady mq.now process.new) }
 {
+    let longest = Duration::from_millis(LONGEST_NAP);
     'looks: for _ in rt.forever() {
-        if process.await_answer(rt, mq, LONGEST_NAP) {
+        if process.await_answer(rt, mq, longest) {
             break;
         }
         course.outcome()?;
