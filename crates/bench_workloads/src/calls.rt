@@ -6,21 +6,18 @@ ghost use Rattle.bench_workloads.specs.Ready.{IsReady};
 use crate::course::Course;
 use bench_line::fault::WorkFault;
 use fast_mutex::Look;
-use mq::{Guarded, Mq, Process};
+use mq::{Guarded, Mq, Naps, Process};
 use mq_model::entries::{Access, Attr, OpenFlags};
 use mq_model::faults::Fault;
 use mq_model::names::Name;
 use std::sync::Wait;
-use std::time::{Clock, Duration};
+use std::time::Clock;
 
 /// How many bytes each message has.
 pub const MESSAGE_SIZE: usize = 16;
 
 /// A message.
 pub const MESSAGE: [u8; MESSAGE_SIZE] = *b"sixteen bytes ..";
-
-// After how many milliseconds a wait looks, where nobody wakes it, whether the run goes on.
-const LONGEST_NAP: u64 = 80;
 
 /// Opens a queue for sends and receives that may wait, which it creates with this depth where there is none.
 pub fn open<L: Look<Guarded>, R: Wait>(
@@ -127,9 +124,9 @@ fn wait_in<L: Look<Guarded>, R: Wait + Clock>(
         (λ room. room ≤ length buffer.old) }
     ensures ready { OnOk result (IsReady mq.now process.new) }
 {
-    let longest = Duration::from_millis(LONGEST_NAP);
+    let mut naps = Naps::new();
     'looks: for _ in rt.forever() {
-        if process.await_answer(rt, mq, longest) {
+        if process.await_answer(rt, mq, naps.next()) {
             break;
         }
         course.outcome()?;
