@@ -95,20 +95,17 @@ pub fn stormed(seed: u32, time: Duration, journal: &Journal, legal: bool) -> Mea
     }
 }
 
-// The bytes of the entries of a journal without calls that have a deadline.
+// The bytes of the entries of a journal without calls that have a deadline, whose queues are opened before all other calls.
 fn entry_bytes(journal: &Journal) -> u64 {
-    let mut bytes = 0u64;
+    let mut bytes = ENTRY_SIZE.saturating_mul(journal.len());
     for place in 0..journal.len() {
-        let more = match journal.entry(place).map(|entry| entry.call) {
-            Some(
-                Call::MqOpen {
-                    flags: _,
-                    attr: Some(_),
-                },
-            ) => LIMITS_SIZE,
-            _ => 0,
+        let Some(Call::MqOpen { flags: _, attr }) = journal.entry(place).map(|entry| entry.call)
+        else {
+            break;
         };
-        bytes = bytes.saturating_add(ENTRY_SIZE + more);
+        if attr.is_some() {
+            bytes = bytes.saturating_add(LIMITS_SIZE);
+        }
     }
     bytes
 }

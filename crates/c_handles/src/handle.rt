@@ -122,7 +122,7 @@ impl Handle {
         with_member!(self, alloc, |member| member.make(call, given, buf))
     }
 
-    /// As [`Member::start_send`], where there is a member: the number of what it comes to.
+    /// Tries to send: the number of what [`make`](Handle::make) would come to.
     #[inline(always)]
     pub fn start_send(&mut self, alloc: Global, d: u32, bytes: &[u8], prio: u32) -> u32
         ensures { Gives (λ old new result.
@@ -132,12 +132,27 @@ impl Handle {
         let Some(mut member) = self.take(alloc) else {
             return EMPTY;
         };
-        let code = numbers::sent(Some(member.start_send(d, bytes, prio)));
+        let sent = member.send_at_once(d, bytes, prio);
         self.put(member);
-        code
+        match sent {
+            Some(sent) => numbers::sent(Some(Tried::Made(sent))),
+            None => self.send_apart(alloc, d, bytes, prio),
+        }
     }
 
-    /// As [`Member::start_receive`], where there is a member: the number of what it comes to. It writes what it got.
+    // The same of any process.
+    #[inline(never)]
+    fn send_apart(&mut self, alloc: Global, d: u32, bytes: &[u8], prio: u32) -> u32
+        ensures { Gives (λ old new result.
+            OneCall start_send_says old new (Call.MqSend d prio (length bytes.now)) bytes.now
+            result) (code_of sent_code) (process_in self.old) (process_in self.new) result }
+    {
+        let len = bytes.len() as u64;
+        let tried = self.make(alloc, Call::MqSend { d, prio, len }, bytes, &mut []);
+        numbers::sent(tried)
+    }
+
+    /// Tries to receive, in the same way, and writes what it got.
     #[inline(always)]
     pub fn start_receive(
         &mut self,
@@ -155,9 +170,26 @@ impl Handle {
         let Some(mut member) = self.take(alloc) else {
             return EMPTY;
         };
-        let code = numbers::got(Some(member.start_receive(d, buf)), message);
+        let got = member.receive_at_once(d, buf);
         self.put(member);
-        code
+        match got {
+            Some(got) => numbers::got(Some(Tried::Made(got)), message),
+            None => self.receive_apart(alloc, d, buf, message),
+        }
+    }
+
+    // The same of any process.
+    #[inline(never)]
+    fn receive_apart(&mut self, alloc: Global, d: u32, buf: &mut [u8], message: &mut Message) -> u32
+        ensures { GivesWith (buf.new ≡ buf.old) (λ old new result.
+            ReceiveCall start_receive_says old new (Call.MqReceive d (length buf.old)) buf.old
+            buf.new result) (λ t.
+            told (code_of got_code t) (written (message_got message.old) message.old t))
+            (process_in self.old) (process_in self.new) (told result message.new) }
+    {
+        let room = buf.len() as u64;
+        let tried = self.make(alloc, Call::MqReceive { d, room }, &[], buf);
+        numbers::got(tried, message)
     }
 
     /// As [`Member::exit`].

@@ -27,7 +27,7 @@ pub struct Member {
 }
 
 impl Member {
-    ghost use Rattle.std.specs.Prelude.{◌≡◌, IsTrue, false, [], length};
+    ghost use Rattle.std.specs.Prelude.{◌≡◌, IfNone, IfSome, [], length};
     ghost use Rattle.std.specs.Arc.{arc_value};
     ghost use Rattle.mq_state.specs.Requests.{Brings};
     ghost use Rattle.mq_model.specs.declared.entries.Call.{Call};
@@ -92,76 +92,63 @@ impl Member {
         Tried::Made(returned)
     }
 
-    /// Tries to send, as [`make`](Member::make). Of a process at rest that meets nobody on its way in the compiler knows each step.
+    /// Sends at once, where its process is at rest without an open wait and meets nobody on its way in: what [`make`](Member::make) would
+    /// come to, of which the compiler knows each step. Else `None`, and the process is perhaps on its way.
     #[tactic(auto, using(crate::proofs::Members::no_deadline))]
     #[inline(always)]
-    pub fn start_send(&mut self, d: u32, bytes: &[u8], prio: u32) -> Tried<Result<bool, Fault>>
-        ensures { Tries (λ old new result.
-            OneCall start_send_says old new (Call.MqSend d prio (length bytes.now)) bytes.now
-            result) (ticket_of self.old.standing) (ticket_of self.new.standing) result }
+    pub fn send_at_once(&mut self, d: u32, bytes: &[u8], prio: u32) -> Option<Result<bool, Fault>>
+        ensures none { IfNone result (ticket_of self.new.standing ≡ ticket_of self.old.standing) }
+        ensures sent { IfSome result (λ sent. OneCall start_send_says (ticket_of self.old.standing)
+            (ticket_of self.new.standing) (Call.MqSend d prio (length bytes.now)) bytes.now sent) }
     {
-        if standing::is_idle(&self.standing) {
-            match set_out(&self.mq, &mut self.standing) {
-                Ok(arrived) => {
-                    let len = bytes.len() as u64;
-                    let call = Call::MqSend { d, prio, len };
-                    let (process, sent) = arrived.make(&self.mq, call, bytes, &mut []);
-                    settle(&mut self.standing, process);
-                    return Tried::Made(sent);
-                }
-                Err(approach) => walk_on(&mut self.standing, approach),
+        if !standing::is_idle(&self.standing) {
+            return None;
+        }
+        match set_out(&self.mq, &mut self.standing) {
+            Ok(arrived) => {
+                let len = bytes.len() as u64;
+                let call = Call::MqSend { d, prio, len };
+                let (process, sent) = arrived.make(&self.mq, call, bytes, &mut []);
+                settle(&mut self.standing, process);
+                Some(sent)
+            }
+            Err(approach) => {
+                walk_on(&mut self.standing, approach);
+                None
             }
         }
-        self.send_apart(d, bytes, prio)
     }
 
-    // The same of any process.
-    #[inline(never)]
-    fn send_apart(&mut self, d: u32, bytes: &[u8], prio: u32) -> Tried<Result<bool, Fault>>
-        ensures { Tries (λ old new result.
-            OneCall start_send_says old new (Call.MqSend d prio (length bytes.now)) bytes.now
-            result) (ticket_of self.old.standing) (ticket_of self.new.standing) result }
-    {
-        let len = bytes.len() as u64;
-        self.make(Call::MqSend { d, prio, len }, bytes, &mut [])
-    }
-
-    /// Tries to receive, in the same way.
+    /// Receives at once, in the same way.
     #[tactic(auto, using(crate::proofs::Members::no_deadline))]
     #[inline(always)]
-    pub fn start_receive(
+    pub fn receive_at_once(
         &mut self,
         d: u32,
         buf: &mut [u8],
-    ) -> Tried<Result<Option<Received>, Fault>>
-        ensures { TriesWith (buf.new ≡ buf.old) (λ old new result.
-            ReceiveCall start_receive_says old new (Call.MqReceive d (length buf.old)) buf.old
-            buf.new result) (ticket_of self.old.standing) (ticket_of self.new.standing) result }
+    ) -> Option<Result<Option<Received>, Fault>>
+        ensures none { IfNone result (ticket_of self.new.standing ≡ ticket_of self.old.standing) }
+        ensures same { IfNone result (buf.new ≡ buf.old) }
+        ensures got { IfSome result (λ got. ReceiveCall start_receive_says
+            (ticket_of self.old.standing) (ticket_of self.new.standing)
+            (Call.MqReceive d (length buf.old)) buf.old buf.new got) }
     {
-        if standing::is_idle(&self.standing) {
-            match set_out(&self.mq, &mut self.standing) {
-                Ok(arrived) => {
-                    let room = buf.len() as u64;
-                    let call = Call::MqReceive { d, room };
-                    let (process, got) = arrived.make(&self.mq, call, &[], buf);
-                    settle(&mut self.standing, process);
-                    return Tried::Made(got);
-                }
-                Err(approach) => walk_on(&mut self.standing, approach),
+        if !standing::is_idle(&self.standing) {
+            return None;
+        }
+        match set_out(&self.mq, &mut self.standing) {
+            Ok(arrived) => {
+                let room = buf.len() as u64;
+                let call = Call::MqReceive { d, room };
+                let (process, got) = arrived.make(&self.mq, call, &[], buf);
+                settle(&mut self.standing, process);
+                Some(got)
+            }
+            Err(approach) => {
+                walk_on(&mut self.standing, approach);
+                None
             }
         }
-        self.receive_apart(d, buf)
-    }
-
-    // The same of any process.
-    #[inline(never)]
-    fn receive_apart(&mut self, d: u32, buf: &mut [u8]) -> Tried<Result<Option<Received>, Fault>>
-        ensures { TriesWith (buf.new ≡ buf.old) (λ old new result.
-            ReceiveCall start_receive_says old new (Call.MqReceive d (length buf.old)) buf.old
-            buf.new result) (ticket_of self.old.standing) (ticket_of self.new.standing) result }
-    {
-        let room = buf.len() as u64;
-        self.make(Call::MqReceive { d, room }, &[], buf)
     }
 
     /// Tries to close all descriptors.
