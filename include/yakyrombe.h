@@ -282,8 +282,8 @@ static inline void yak_wake(yak_process *process)
 static inline bool yak_has_to_wake_(const yak_process *process)
 {
     const uint64_t *bells = process->bells;
-    return bells != 0 && (__atomic_load_n(&bells[0], __ATOMIC_SEQ_CST) == 1 ||
-                          __atomic_load_n(&bells[process->number], __ATOMIC_SEQ_CST) == 1 || process->answered != 0);
+    return bells != 0 && (__atomic_load_n(&bells[0], __ATOMIC_SEQ_CST) | __atomic_load_n(&bells[process->number], __ATOMIC_SEQ_CST) |
+                          process->answered) != 0;
 }
 
 /* Passes the time before the next try of a call that was YAK_RETRY: spins, and after some tries announces that it sleeps. Where the try after that

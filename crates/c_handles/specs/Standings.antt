@@ -1,22 +1,26 @@
 -- The process that a member has, at rest or under way.
-use Rattle.std.specs.Prelude.{◌≡◌, ◌||◌, Bool, true, false, Option, Some, None, IsSome}
+use Rattle.std.specs.Prelude.{◌≡◌, ◌||◌, Bool, true, false, not, Option, Some, None, IsSome, is_some}
 use Rattle.fast_mutex.specs.Items.{Ticket}
 use Rattle.mq_model.specs.Record.{Record}
 use Rattle.mq_model.specs.Waits.{is_answered}
 use Rattle.mq_state.specs.Buffers.{waiting_room}
 use Rattle.mq.specs.Calls.{no_ticket}
 use Rattle.c_handles.specs.declared.standing.Standing.{Standing}
-use Rattle.c_handles.specs.declared.standing.Standing.TheVariants.{AtRest, UnderWay}
 
-abbrev pub ticket_of : Option Standing → Ticket Record
-ticket_of (Some (AtRest process)) = process
-ticket_of (Some (UnderWay approach)) = approach
-ticket_of None = no_ticket
+abbrev pub ticket_in : Option (Ticket Record) → Option (Ticket Record) → Ticket Record
+ticket_in (Some process) way = process
+ticket_in None (Some approach) = approach
+ticket_in None None = no_ticket
 
-abbrev pub is_under_way : Option Standing → Bool
-is_under_way (Some (AtRest process)) = false
-is_under_way (Some (UnderWay approach)) = true
-is_under_way None = false
+abbrev pub ticket_of : Standing → Ticket Record
+ticket_of s = ticket_in s.rest s.way
+
+abbrev pub is_under_way : Standing → Bool
+is_under_way s = not (is_some s.rest)
+
+-- one of the two is there
+abbrev pub is_there : Standing → Bool
+is_there s = is_some s.rest || is_some s.way
 
 -- a look from outside at a process at rest, as `Process::answered`: where it is true the process was told so, and nothing else changes.
 -- It is false without an open wait, and true of a wait that the journal last left answers, or that it was true of before

@@ -135,7 +135,7 @@ impl Handle {
         let sent = member.send_at_once(d, bytes, prio);
         self.put(member);
         match sent {
-            Some(sent) => numbers::sent(Some(Tried::Made(sent))),
+            Some(tried) => numbers::sent(Some(tried)),
             None => self.send_apart(alloc, d, bytes, prio),
         }
     }
@@ -173,7 +173,7 @@ impl Handle {
         let got = member.receive_at_once(d, buf);
         self.put(member);
         match got {
-            Some(got) => numbers::got(Some(Tried::Made(got)), message),
+            Some(tried) => numbers::got(Some(tried), message),
             None => self.receive_apart(alloc, d, buf, message),
         }
     }

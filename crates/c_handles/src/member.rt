@@ -1,13 +1,13 @@
 //! A process with its queues, and the tries of its calls.
-ghost use Rattle.std.specs.Prelude.{◌≡◌, true, is_some, IsSome};
+ghost use Rattle.std.specs.Prelude.{◌≡◌, true, IsSome};
 ghost use Rattle.mq.specs.Calls.{WaitsIn};
 ghost use Rattle.std.specs.Arc.{arc_value};
 ghost use Rattle.mq_model.specs.Waits.{wait_deadline};
 ghost use Rattle.mq_state.specs.Buffers.{waiting_room};
-ghost use Rattle.c_handles.specs.Standings.{ticket_of};
+ghost use Rattle.c_handles.specs.Standings.{ticket_of, is_there};
 
 use crate::standing;
-use crate::standing::{Standing, arrive, look, set_out, settle, waiting, walk_on};
+use crate::standing::{Standing, arrive, at_rest, look, set_out, settle, waiting, walk_on};
 use crate::tried::{Ending, Looked, Tried};
 use mq::{Bounds, Call, Deadline, Entry, FastMq, FastProcess, Fault, Received, Returned};
 use mq_model::ladder;
@@ -18,10 +18,10 @@ use std::sync::Arc;
 #[derive(Drop)]
 pub struct Member {
     mq: Arc<FastMq, Global>,
-    standing: Option<Standing>,
+    standing: Standing,
     // until when its open wait waits, where that has a deadline
     until: Option<Deadline>,
-    ghost there: { is_some standing ≡ true },
+    ghost there: { is_there standing ≡ true },
     ghost made: { (ticket_of standing).lock ≡ arc_value mq },
     ghost deadline: { until ≡ wait_deadline (ticket_of standing).left (ticket_of standing).number },
 }
@@ -45,7 +45,7 @@ impl Member {
     {
         Member {
             mq,
-            standing: Some(Standing::AtRest(process)),
+            standing: at_rest(process),
             until: None,
         }
     }
@@ -92,14 +92,20 @@ impl Member {
         Tried::Made(returned)
     }
 
-    /// Sends at once, where its process is at rest without an open wait and meets nobody on its way in: what [`make`](Member::make) would
-    /// come to, of which the compiler knows each step. Else `None`, and the process is perhaps on its way.
+    /// Tries to send, as [`make`](Member::make), where its process is at rest without an open wait and meets nobody on its way in: so the compiler
+    /// knows each step. Else `None`, and the process is perhaps on its way.
     #[tactic(auto, using(crate::proofs::Members::no_deadline))]
     #[inline(always)]
-    pub fn send_at_once(&mut self, d: u32, bytes: &[u8], prio: u32) -> Option<Result<bool, Fault>>
+    pub fn send_at_once(
+        &mut self,
+        d: u32,
+        bytes: &[u8],
+        prio: u32,
+    ) -> Option<Tried<Result<bool, Fault>>>
         ensures none { IfNone result (ticket_of self.new.standing ≡ ticket_of self.old.standing) }
-        ensures sent { IfSome result (λ sent. OneCall start_send_says (ticket_of self.old.standing)
-            (ticket_of self.new.standing) (Call.MqSend d prio (length bytes.now)) bytes.now sent) }
+        ensures sent { IfSome result (λ tried. Tries (λ old new result.
+            OneCall start_send_says old new (Call.MqSend d prio (length bytes.now)) bytes.now
+            result) (ticket_of self.old.standing) (ticket_of self.new.standing) tried) }
     {
         if !standing::is_idle(&self.standing) {
             return None;
@@ -110,7 +116,7 @@ impl Member {
                 let call = Call::MqSend { d, prio, len };
                 let (process, sent) = arrived.make(&self.mq, call, bytes, &mut []);
                 settle(&mut self.standing, process);
-                Some(sent)
+                Some(Tried::Made(sent))
             }
             Err(approach) => {
                 walk_on(&mut self.standing, approach);
@@ -119,19 +125,19 @@ impl Member {
         }
     }
 
-    /// Receives at once, in the same way.
+    /// Tries to receive, in the same way.
     #[tactic(auto, using(crate::proofs::Members::no_deadline))]
     #[inline(always)]
     pub fn receive_at_once(
         &mut self,
         d: u32,
         buf: &mut [u8],
-    ) -> Option<Result<Option<Received>, Fault>>
+    ) -> Option<Tried<Result<Option<Received>, Fault>>>
         ensures none { IfNone result (ticket_of self.new.standing ≡ ticket_of self.old.standing) }
         ensures same { IfNone result (buf.new ≡ buf.old) }
-        ensures got { IfSome result (λ got. ReceiveCall start_receive_says
-            (ticket_of self.old.standing) (ticket_of self.new.standing)
-            (Call.MqReceive d (length buf.old)) buf.old buf.new got) }
+        ensures got { IfSome result (λ tried. TriesWith (buf.new ≡ buf.old) (λ old new result.
+            ReceiveCall start_receive_says old new (Call.MqReceive d (length buf.old)) buf.old
+            buf.new result) (ticket_of self.old.standing) (ticket_of self.new.standing) tried) }
     {
         if !standing::is_idle(&self.standing) {
             return None;
@@ -142,7 +148,7 @@ impl Member {
                 let call = Call::MqReceive { d, room };
                 let (process, got) = arrived.make(&self.mq, call, &[], buf);
                 settle(&mut self.standing, process);
-                Some(got)
+                Some(Tried::Made(got))
             }
             Err(approach) => {
                 walk_on(&mut self.standing, approach);

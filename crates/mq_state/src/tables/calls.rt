@@ -457,8 +457,26 @@ impl Tables {
                 let reply = Reply::Queued { notified: None };
                 self.settle_send(journal, p, call, reply, bytes, bytes.len(), q)
             }
-            _ => self.any_send(journal, p, d, bytes, prio),
+            _ => self.other_send(journal, p, d, bytes, prio),
         }
+    }
+
+    // Between a send and `any_send`, so that there is no place for the reply of that where it is not called.
+    #[inline(always)]
+    fn other_send(
+        &mut self,
+        journal: &mut Journal,
+        p: u32,
+        d: u32,
+        bytes: &[u8],
+        prio: u32,
+    ) -> Reply
+        requires { MayCall journal.old self.old p }
+        ensures called { IsCalled journal.old journal.new self.old self.new p
+            (Call.MqSend d prio (length bytes.now)) bytes.now result }
+        ensures refused { SparesBytes journal.old journal.new result }
+    {
+        self.any_send(journal, p, d, bytes, prio)
     }
 
     // Any send without a deadline, apart.
@@ -567,8 +585,19 @@ impl Tables {
                 };
                 self.settle_receive(journal, p, Call::MqReceive { d, room }, reply, buf, q)
             }
-            _ => self.any_receive(journal, p, d, buf),
+            _ => self.other_receive(journal, p, d, buf),
         }
+    }
+
+    // Between a receive and `any_receive`, in the same way.
+    #[inline(always)]
+    fn other_receive(&mut self, journal: &mut Journal, p: u32, d: u32, buf: &mut [u8]) -> Reply
+        requires { MayCall journal.old self.old p }
+        ensures called { IsCalled journal.old journal.new self.old self.new p
+            (Call.MqReceive d (length buf.old)) [] result }
+        ensures buffer { buf.new ≡ filled journal.old.records result buf.old }
+    {
+        self.any_receive(journal, p, d, buf)
     }
 
     // Any receive without a deadline, apart.
