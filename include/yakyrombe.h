@@ -244,7 +244,7 @@ void yak_rouse(uint64_t *bell);
 
 /* How many tries lie between two naps; how often a wait looks for its answer before it sleeps, and how often where its process doubts that this is
  * worth it (see yak_learn_); how long it sleeps at first and at the most. */
-enum { YAK_SPINS = 12, YAK_LONG_LOOKS = 7, YAK_SHORT_LOOKS = 2, YAK_MOST_DOUBT = 12, YAK_DOUBTFUL_WAITS = 32, YAK_NAP = 10, YAK_LONGEST_NAP = 80 };
+enum { YAK_SPINS = 12, YAK_LONG_LOOKS = 7, YAK_SHORT_LOOKS = 1, YAK_MOST_DOUBT = 12, YAK_DOUBTFUL_WAITS = 64, YAK_NAP = 10, YAK_LONGEST_NAP = 80 };
 
 /* Passes some time before the next try, twice as much each time up to some microseconds, or is false after so many tries. Where threads crowd, long
  * pauses let the one that is inside make several calls in a row. */

@@ -11,9 +11,9 @@ use std::time::{Duration, Instant};
 /// this is worth it.
 const SPINS: u32 = 12;
 const LONG_LOOKS: u32 = 7;
-const SHORT_LOOKS: u32 = 2;
+const SHORT_LOOKS: u32 = 1;
 const MOST_DOUBT: u64 = 12;
-const DOUBTFUL_WAITS: u64 = 32;
+const DOUBTFUL_WAITS: u64 = 64;
 const NAP: Duration = Duration::from_millis(10);
 const LONGEST_NAP: Duration = Duration::from_millis(80);
 const NOBODY: u32 = 0;

@@ -19,13 +19,13 @@ const LONGEST_NAP: u64 = 10;
 // one in four or more was in vain. It doubts for so many waits, and then tries again.
 const LONG_LOOKS: u32 = 7;
 
-const SHORT_LOOKS: u32 = 2;
+const SHORT_LOOKS: u32 = 1;
 
 const MOST_DOUBT: u64 = 12;
 
 const FOR_A_LOOK_IN_VAIN: u64 = 3;
 
-const DOUBTFUL_WAITS: u64 = 32;
+const DOUBTFUL_WAITS: u64 = 64;
 
 /// Bells, each a word that is 1 where somebody may sleep on it. Who is about to sleep announces it, looks once more at what it waits
 /// for, and sleeps while the word is 1; who changes that rings. All are sequentially consistent.
