@@ -31,10 +31,10 @@ impl Member {
     ghost use Rattle.std.specs.Arc.{arc_value};
     ghost use Rattle.mq_state.specs.Requests.{Brings};
     ghost use Rattle.mq_model.specs.declared.entries.Call.{Call};
-    ghost use Rattle.mq.specs.Calls.{Exits, IsFree, OneCall, ReceiveCall};
+    ghost use Rattle.mq.specs.Calls.{Exits, OneCall, ReceiveCall};
     ghost use Rattle.mq.specs.Kinds.{IsOf, IsCall};
     ghost use Rattle.mq.specs.Says.{start_send_says, start_receive_says};
-    ghost use Rattle.c_handles.specs.Standings.{ticket_of, is_under_way};
+    ghost use Rattle.c_handles.specs.Standings.{ticket_of};
     ghost use Rattle.c_handles.specs.Tries.{Tries, TriesWith};
 
     /// A new process with its queues.

@@ -1,5 +1,5 @@
 //! The form in which a journal stores an entry: 64 bytes, and 56 more for a call with a deadline or limits.
-ghost use Rattle.std.specs.Prelude.{◌≡◌, ℕ, ◌+◌, ◌++◌, ◌<◌, ◌≤◌, List, slice_index_or, length, vec_len, vec_capacity, IfSome};
+ghost use Rattle.std.specs.Prelude.{◌≡◌, ℕ, ◌+◌, ◌++◌, ◌<◌, ◌≤◌, List, slice_index_or, length, vec_len, vec_capacity};
 ghost use Rattle.mq_model.specs.Stored.{needs, call_of, kept_apart, reply_of};
 ghost use Rattle.mq_model.specs.declared.entries.Call.{Call};
 
