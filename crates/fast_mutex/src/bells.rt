@@ -7,10 +7,11 @@ use std::sync::atomic::Ordering::SeqCst;
 use std::time::Duration;
 
 // The bells of a lock for the most processes, that of y, of each flag b[j], and of the answer of each process, and behind them the doubt
-// of each process, and a word that stays as it is.
-const WORDS: u32 = 98;
+// of each process. Then a word that stays as it is, with fifteen on either side of it that nobody touches: who pauses loads it again and
+// again, and would take what lies beside it, also what the allocator put behind these words, out of the cache of the one inside.
+const WORDS: u32 = 128;
 
-const STILL: usize = 97;
+const STILL: usize = 112;
 
 // How long a walk sleeps at the most before it takes its next step anyway, in milliseconds.
 const LONGEST_NAP: u64 = 10;
