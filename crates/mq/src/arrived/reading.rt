@@ -17,7 +17,7 @@ use mq_model::journals::Journal;
 use std::alloc::{AllocError, Global};
 
 impl<L: Look<Guarded>> Arrived<L> {
-    ghost use Rattle.std.specs.Prelude.{◌≡◌, ◌↔◌, IsTrue, IsOk, IfOk, []};
+    ghost use Rattle.std.specs.Prelude.{◌≡◌, ◌↔◌, IsTrue, IsOk, IfOk, length, []};
     ghost use Rattle.std.specs.Option.{option_map};
     ghost use Rattle.mq_model.specs.Record.{record_at};
     ghost use Rattle.mq_state.specs.Buffers.{waiting_room};
@@ -82,6 +82,19 @@ impl<L: Look<Guarded>> Arrived<L> {
         let (inside, state) = begin::<L>(self.walk, self.number);
         let room = state.books.room();
         (process_of(depart(mq, inside, state), self.waits), room)
+    }
+
+    /// How many entries the journal has, as [`Process::journal_len`].
+    pub fn journal_len(self, mq: &Mq<L>) -> (Process<L>, u64)
+        requires made { self.lock ≡ mq.now }
+        ensures count { result.1 ≡ length result.0.left }
+        ensures calls { Calls self result.0 [] }
+        ensures wait { waiting_room result.0.left result.0.number ≡
+            waiting_room self.left self.number }
+    {
+        let (inside, state) = begin::<L>(self.walk, self.number);
+        let count = state.books.journal().len();
+        (process_of(depart(mq, inside, state), self.waits), count)
     }
 
     /// Whether nobody can make a call any more, as [`Process::nobody_can_call`].

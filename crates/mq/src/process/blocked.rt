@@ -70,6 +70,21 @@ impl<L: Look<Guarded>> Process<L> {
         room
     }
 
+    /// How many entries the journal has. Asked once inside the lock, of the journal found, which it leaves as it was; the process that
+    /// asks may have an open wait, and keeps it. Takes no memory.
+    pub fn journal_len<R: Wait>(&mut self, rt: &R, mq: &Mq<L>) -> u64
+        requires made { self.old.lock ≡ mq.now }
+        ensures count { result ≡ length self.new.left }
+        ensures calls { Calls self.old self.new [] }
+        ensures wait { waiting_room self.new.left self.new.number ≡
+            waiting_room self.old.left self.old.number }
+    {
+        let arrived = arrive(rt, mq, &mut self.seat, self.waits);
+        let (process, count) = arrived.journal_len(mq);
+        *self = process.settled(mq);
+        count
+    }
+
     /// Begins a send with a deadline at the moment `now`, without waiting for its admission: true where the queue or a waiting
     /// receive took the message, false where the process now has an open wait. Refused as [`Process::timed_send`].
     pub fn start_timed_send<R: Wait>(
