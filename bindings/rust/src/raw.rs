@@ -79,6 +79,7 @@ pub struct Handle {
     answered: u32,
     number: u32,
     bells: *mut u64,
+    apart: [u64; 12],
 }
 
 // SAFETY: the header lets a handle go from thread to thread where that is ordered, as a move is. It has no tie to a thread.
@@ -127,7 +128,7 @@ extern "C" {
 }
 
 impl Handle {
-    const EMPTY: Handle = Handle { at: null_mut(), full: false, answered: 0, number: 0, bells: null_mut() };
+    const EMPTY: Handle = Handle { at: null_mut(), full: false, answered: 0, number: 0, bells: null_mut(), apart: [0; 12] };
 
     /// Handles of the processes of a new system, process 1 first; with bounds its journal is of at most so many entries and bytes. Or the
     /// number of the fault.

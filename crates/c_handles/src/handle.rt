@@ -23,6 +23,8 @@ pub struct Handle {
     number: u32,
     // the bells of its system
     bells: *const u64,
+    // so that no two handles of an array share a cache line, which each call of either would take from the other
+    apart: [u64; 12],
     ghost fullness: { full ≡ is_some seal.member },
 }
 

@@ -5,13 +5,16 @@ use mq::{Collected, Received};
 
 const RECEIVED: Received = Received { len: 1, prio: 0 };
 
-// A process is blocked from the call that waits to the entry that names its wait, and not only to its collect.
-static STEPS: [Step; 15] = [
+// A process is blocked from the call that waits to the entry that names its wait, and not only to its collect. Questions add no entry.
+static STEPS: [Step; 18] = [
+    (1, Ask::JournalLen, Told::Entries(0)),
     (1, Ask::Open(CREATE, 1), Told::Opened(0)),
     (2, Ask::Open(OPEN, 1), Told::Opened(0)),
     (1, Ask::AreBlocked(&[1]), Told::Is(false)),
     (1, Ask::StartTimedReceive(0), Told::Waits),
     (1, Ask::AreBlocked(&[1]), Told::Is(true)),
+    (1, Ask::JournalLen, Told::Entries(3)),
+    (2, Ask::JournalLen, Told::Entries(3)),
     (2, Ask::AreBlocked(&[1, 2]), Told::Is(false)),
     (2, Ask::StartTimedSend(0, b"a", 0), Told::Done),
     (1, Ask::AreBlocked(&[1]), Told::Is(false)),

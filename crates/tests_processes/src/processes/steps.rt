@@ -50,6 +50,8 @@ pub enum Ask<'a> {
     StartTimedReceive(u32),
     /// Whether these processes are blocked.
     AreBlocked(&'a [u32]),
+    /// How many entries the journal has.
+    JournalLen,
     Notify(u32, Option<u64>),
     NextNotice,
     Getattr(u32),
@@ -76,6 +78,7 @@ pub enum Told {
     Came(Option<Collected>),
     Number(u32),
     Room(Option<usize>),
+    Entries(u64),
     Is(bool),
     Bytes([u8; 8]),
     /// It may not ask that now.
@@ -185,6 +188,7 @@ pub fn asked_once<L: Look<Guarded>, R: Wait + Clock>(
         Ask::Buffer => Told::Bytes(*buf),
         Ask::Collect => collect(rt, mq, p, buf),
         Ask::AreBlocked(processes) => Told::Is(p.are_blocked(rt, mq, processes)),
+        Ask::JournalLen => Told::Entries(p.journal_len(rt, mq)),
         _ if p.waiting().is_some() => Told::Nothing,
         _ => match call(rt, mq, p, ask, buf) {
             Ok(told) => told,
