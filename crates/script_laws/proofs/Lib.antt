@@ -1,1 +1,5 @@
 pub mod Course
+mod Joins
+mod Courses
+mod Runners
+mod Weaving
