@@ -3,3 +3,9 @@ mod Joins
 mod Courses
 mod Runners
 mod Weaving
+mod Growth
+mod Coursing
+mod Sitting
+mod Resting
+mod Beginning
+mod Phasing

@@ -42,6 +42,11 @@ abbrev pub AreOnCourse : ℕ → Past → Past → List Runner → Type 0
 AreOnCourse phase to past runners =
     (i : ℕ) (r : Runner) → slice_get runners i ≡ Some r → Course (i + 1) phase r.program to r.end r.moves past r.seat
 
+pub there-is : {A : Type 0} (xs : List A) (i : ℕ) → i < length xs → (x : A) × (slice_get xs i ≡ Some x)
+there-is [] i below = let k : ⊥ = omega (arith, below) in absurd k
+there-is (x ∷ xs) zero below = (x, refl)
+there-is (x ∷ xs) (suc i) below = there-is xs i (omega (arith, below))
+
 pub get-set-here : {A : Type 0} (xs : List A) (i : ℕ) (y x : A) → slice_get (slice_set xs i y) i ≡ Some x → x ≡ y
 get-set-here [] i y x h = cc
 get-set-here (z ∷ xs) zero y x h = cc

@@ -17,7 +17,7 @@ use Rattle.script_orders.specs.declared.plan.Planned.{Planned}
 use Rattle.script_laws.proofs.Course.{Course, Move}
 use Rattle.script_laws.proofs.Courses.{course-end, course-goes-on, first-move, found-here}
 use Rattle.script_laws.proofs.Joins.{all-left, all-right, all-last, both-empty, by-last, owns-last}
-use Rattle.script_laws.proofs.Runners.{AreOnCourse, Runner, ends_in, get-set-here, get-set-other, goes-on, gone, map-agree, map-set-same, programs_in, seats_in, staged}
+use Rattle.script_laws.proofs.Runners.{AreOnCourse, Runner, ends_in, get-set-here, get-set-other, goes-on, gone, map-agree, map-set-same, programs_in, seats_in, staged, there-is}
 
 -- a move that leaves no record ---------------------------------------------------------------------------------------------
 
@@ -79,12 +79,8 @@ nothing a own b e = (both-empty a own (both-empty (a ++ own) b (sym e)).0).1
 
 -- who is numbered so
 reached : (runners : List Runner) (p : ℕ) → (1 ≤ p) × (p ≤ length runners) → (i : ℕ) × (r : Runner) × (slice_get runners i ≡ Some r) × (p ≡ i + 1)
-reached [] p bounds = let k : ⊥ = omega (arith, bounds.0, bounds.1) in absurd k
-reached (r ∷ runners) zero bounds = let k : ⊥ = omega (arith, bounds.0) in absurd k
-reached (r ∷ runners) (suc zero) bounds = (0, r, refl, refl)
-reached (r ∷ runners) (suc (suc p)) bounds =
-    let rest = reached runners (suc p) (omega arith, omega (arith, bounds.1)) in
-    (suc rest.0, rest.1, rest.2, omega (arith, rest.3))
+reached runners zero bounds = let k : ⊥ = omega (arith, bounds.0) in absurd k
+reached runners (suc i) bounds = let there = there-is runners i (omega (arith, bounds.1)) in (i, there.0, there.1, omega arith)
 
 abbrev pub IsOf : ℕ → Record → Type 0
 IsOf count r = (1 ≤ author r) × (author r ≤ count)
