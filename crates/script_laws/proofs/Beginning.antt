@@ -1,11 +1,9 @@
 -- How the processes of a script begin.
 use Rattle.std.proofs.Common.{◌≡◌, ℕ, zero, suc, ◌+◌, List, [], ◌∷◌, ◌++◌, length, map, None, replicate, refl, ap, sym, ◌∙◌, arith, Vec}
 use Rattle.std.specs.declared.alloc.Global.{Global}
-use Rattle.fast_mutex.specs.Items.{LockId, new_ticket, tickets_from}
+use Rattle.fast_mutex.specs.Items.{LockId, tickets_from}
 use Rattle.mq.specs.Calls.{bounds_in}
-use Rattle.mq_model.specs.Record.{Record}
 use Rattle.script_orders.specs.Plans.{Plan, plan_of, program_of, programs_of}
-use Rattle.script_orders.specs.Progress.{Progress}
 use Rattle.script_orders.specs.Stage.{fresh}
 use Rattle.script_orders.specs.declared.plan.Planned.{Planned}
 use Rattle.script_text.specs.Script.{WrittenCall}
@@ -40,10 +38,16 @@ begin-sit phases lock p zero (program ∷ programs) unbounded are = cc
 begin-sit phases lock p (suc n) [] unbounded are = cc
 begin-sit phases lock p (suc n) (program ∷ programs) unbounded are =
     let lines : map plan_of program.items ≡ program_of 0 phases p = cc in
-    let rest : map shown programs ≡ programs_from phases (suc p) n = cc in
-    (program, programs, fresh, replicate n fresh, refl, refl,
-        record { number = refl; unbounded = unbounded; free = refl; earlier = []; are = lines; count = refl; text = refl },
-        begin-sit phases lock (suc p) n programs unbounded rest)
+    let rest : map shown programs ≡ programs_from phases (suc p) n = cc in (
+      program,
+      programs,
+      fresh,
+      replicate n fresh,
+      refl,
+      refl,
+      record { number = refl; unbounded = unbounded; free = refl; earlier = []; are = lines; count = refl; text = refl },
+      begin-sit phases lock (suc p) n programs unbounded rest,
+    )
 
 pub all-begin : (phases : List (List WrittenCall)) (lock : LockId) (n : ℕ) (programs : List (Vec Planned Global)) → bounds_in lock.fixed ≡ None → map shown programs ≡ programs_of phases n → AllSit 0 phases 1 programs (replicate n fresh) (tickets_from lock 1 n)
 all-begin phases lock n programs unbounded are = begin-sit phases lock 1 n programs unbounded (are ∙ in-order phases n)

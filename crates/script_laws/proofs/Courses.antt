@@ -1,10 +1,10 @@
 -- Where the next move of a process stands.
-use Rattle.std.proofs.Common.{◌≡◌, ◌⊎◌, inl, inr, ℕ, ◌==◌, List, [], ◌∷◌, ◌++◌, refl, ap, sym, ◌∙◌, subst, append_assoc, Vec}
+use Rattle.std.proofs.Common.{◌≡◌, inl, inr, ℕ, ◌==◌, List, [], ◌∷◌, ◌++◌, refl, ap, sym, ◌∙◌, subst, append_assoc, Vec}
 use Rattle.std.specs.List.{All}
 use Rattle.std.specs.declared.alloc.Global.{Global}
 use Rattle.std.proofs.lemmas.List.{append_cancel_right}
 use Rattle.std.proofs.lemmas.List.Elements.{filter-append}
-use Rattle.fast_mutex.specs.Items.{Grows, items_of}
+use Rattle.fast_mutex.specs.Items.{items_of}
 use Rattle.mq.specs.Calls.{author}
 use Rattle.mq_model.specs.Record.{Past, Record}
 use Rattle.script_orders.specs.Progress.{Progress}
@@ -34,20 +34,20 @@ pub found-behind : (p q : ℕ) → (q ≡ p → ⊥) → (a own c mine others : 
 found-behind p q differ a own c mine others by_p by_q some h =
     elim (two-ends a (c ++ mine) own others h) [
       | inl e ↦ elim (by-last e.0) [
-          | inl z ↦ ([], sym (e.1 ∙ ap (λ (l : Past). l ++ others) z))
-          | inr z ↦ elim (by-last mine) [
-              | inl n ↦ absurd (some n)
-              | inr n ↦
-                  let sides : (c ++ n.0) ++ n.1 ∷ [] ≡ (a ++ z.0) ++ z.1 ∷ [] =
-                  append_assoc c n.0 (n.1 ∷ []) ∙ (ap (λ (l : Past). c ++ l) (sym n.2) ∙ (e.2 ∙ (ap (λ (l : Past). a ++ l) z.2 ∙ sym (append_assoc a z.0 (z.1 ∷ [])))))
-                  in
-                  let same : n.1 ≡ z.1 = same-last (c ++ n.0) (a ++ z.0) n.1 z.1 sides in
-                  let q_is : author n.1 ≡ q = all-last (λ r. author r ≡ q) n.0 n.1 (subst (λ (l : Past). All (λ r. author r ≡ q) l) n.2 by_q) in
-                  let front : All (λ r. author r ≡ p) e.0 = all-left (λ r. author r ≡ p) e.0 others (subst (λ (l : Past). All (λ r. author r ≡ p) l) e.1 by_p) in
-                  let p_is : author z.1 ≡ p = all-last (λ r. author r ≡ p) z.0 z.1 (subst (λ (l : Past). All (λ r. author r ≡ p) l) z.2 front) in
-                  absurd (differ (sym q_is ∙ (ap (λ (r : Record). author r) same ∙ p_is)))
-            ]
+        | inl z ↦ ([], sym (e.1 ∙ ap (λ (l : Past). l ++ others) z))
+        | inr z ↦ elim (by-last mine) [
+          | inl n ↦ absurd (some n)
+          | inr n ↦
+              let sides : (c ++ n.0) ++ n.1 ∷ [] ≡ (a ++ z.0) ++ z.1 ∷ [] =
+              append_assoc c n.0 (n.1 ∷ []) ∙ (ap (λ (l : Past). c ++ l) (sym n.2) ∙ (e.2 ∙ (ap (λ (l : Past). a ++ l) z.2 ∙ sym (append_assoc a z.0 (z.1 ∷ [])))))
+              in
+              let same : n.1 ≡ z.1 = same-last (c ++ n.0) (a ++ z.0) n.1 z.1 sides in
+              let q_is : author n.1 ≡ q = all-last (λ r. author r ≡ q) n.0 n.1 (subst (λ (l : Past). All (λ r. author r ≡ q) l) n.2 by_q) in
+              let front : All (λ r. author r ≡ p) e.0 = all-left (λ r. author r ≡ p) e.0 others (subst (λ (l : Past). All (λ r. author r ≡ p) l) e.1 by_p) in
+              let p_is : author z.1 ≡ p = all-last (λ r. author r ≡ p) z.0 z.1 (subst (λ (l : Past). All (λ r. author r ≡ p) l) z.2 front) in
+              absurd (differ (sym q_is ∙ (ap (λ (r : Record). author r) same ∙ p_is)))
         ]
+      ]
       | inr e ↦ (e.0, e.1)
     ]
 

@@ -1,17 +1,17 @@
 -- What a process left is an older end of what it leaves later.
-use Rattle.std.proofs.Common.{◌≡◌, ◌⊎◌, inl, inr, ℕ, Bool, true, false, ◌&&◌, IsTrue, IsFalse, List, [], ◌∷◌, ◌++◌, length, Option, Result, refl, ap, sym, ◌∙◌, subst, append_assoc, length-append, arith}
+use Rattle.std.proofs.Common.{◌≡◌, inl, inr, ℕ, Bool, true, false, List, [], ◌∷◌, ◌++◌, length, Option, Result, refl, ap, sym, ◌∙◌, subst, append_assoc, length-append, arith}
 use Rattle.std.specs.List.{All, AllZip}
 use Rattle.std.proofs.lemmas.List.Elements.{All-head, All-tail}
 use Rattle.fast_mutex.specs.Items.{Grows, Ticket}
-use Rattle.mq.specs.Calls.{Calls, Exits, OneCall, ReceiveCall, SendCall, TimedReceive, TimedSend, WholeReceive, author}
-use Rattle.mq_model.specs.Name.{has_name_form, is_name, is_short}
+use Rattle.mq.specs.Calls.{Calls, TimedReceive, TimedSend, author}
+use Rattle.mq_model.specs.Name.{has_name_form, is_short}
 use Rattle.mq_model.specs.Record.{Past, Record}
 use Rattle.mq_model.specs.declared.entries.Call.{Call}
 use Rattle.mq_model.specs.declared.entries.Deadline.{Deadline}
 use Rattle.mq_model.specs.declared.entries.Reply.{Reply}
 use Rattle.mq_model.specs.declared.faults.Fault.{Fault}
 use Rattle.script_runner.specs.Buffer.{buffer_given}
-use Rattle.script_runner.specs.Runs.{FindsLength, MakesNamed, Performs, RunsCalls, RunsPhase, RunsPhases, Shows, calls_of}
+use Rattle.script_runner.specs.Runs.{FindsLength, MakesNamed, Performs, RunsCalls, RunsPhase, RunsPhases, calls_of}
 use Rattle.script_text.specs.Script.{WrittenCall}
 use Rattle.script_text.specs.declared.command.Command.{Command}
 use Rattle.script_text.specs.declared.command.Command.TheVariants as command
@@ -43,9 +43,9 @@ named-grows says shows call name old new came named =
     λ form short. elim form as (λ form. has_name_form name ≡ form → is_short name ≡ short → IsEnd old.left new.left) [
       | false ↦ (λ f s. by-same old new (named.invalid f).0)
       | true ↦ elim short as (λ short. has_name_form name ≡ true → is_short name ≡ short → IsEnd old.left new.left) [
-          | false ↦ (λ f s. by-same old new (named.too_long f s).0)
-          | true ↦ (λ f s. let made = named.made (rw (f, s) refl) in by-calls old new _ made.called.calls)
-        ]
+        | false ↦ (λ f s. by-same old new (named.too_long f s).0)
+        | true ↦ (λ f s. let made = named.made (rw (f, s) refl) in by-calls old new _ made.called.calls)
+      ]
     ]
     in
     goes (has_name_form name) (is_short name) refl refl
@@ -68,17 +68,17 @@ performs-grows moment (command.TimedSend d prio until message) before after old 
     elim h.called.how [
       | inl one ↦ by-calls old new _ one.calls
       | inr later ↦ elim later [
-          | inl waits ↦ by-calls old new _ waits.waited.calls
-          | inr expires ↦ by-calls old new _ expires.calls
-        ]
+        | inl waits ↦ by-calls old new _ waits.waited.calls
+        | inr expires ↦ by-calls old new _ expires.calls
+      ]
     ]
 performs-grows moment (command.TimedReceive d room until) before after old new came h =
     elim h.called.how [
       | inl one ↦ by-calls old new _ one.calls
       | inr later ↦ elim later [
-          | inl waits ↦ by-calls old new _ waits.waited.calls
-          | inr expires ↦ by-calls old new _ expires.0.calls
-        ]
+        | inl waits ↦ by-calls old new _ waits.waited.calls
+        | inr expires ↦ by-calls old new _ expires.0.calls
+      ]
     ]
 performs-grows moment (command.Getattr d) before after old new came h = by-calls old new _ h.called.calls
 performs-grows moment (command.Setattr d nonblock) before after old new came h = by-calls old new _ h.called.calls

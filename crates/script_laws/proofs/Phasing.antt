@@ -1,5 +1,5 @@
 -- What a run prints of each phase is told of some order.
-use Rattle.std.proofs.Common.{◌≡◌, ℕ, zero, suc, ◌+◌, ◌<◌, ◌≤◌, Bool, true, false, List, [], ◌∷◌, ◌++◌, length, map, Option, Some, None, slice_get, replicate, refl, ap, sym, ◌∙◌, subst, arith, append-nil, Vec}
+use Rattle.std.proofs.Common.{◌≡◌, ℕ, zero, suc, ◌+◌, ◌≤◌, true, List, [], ◌∷◌, ◌++◌, length, map, Option, Some, replicate, ap, sym, ◌∙◌, subst, arith, append-nil, Vec}
 use Rattle.std.specs.List.{All}
 use Rattle.std.specs.Option.{option_and_then}
 use Rattle.std.specs.declared.alloc.Global.{Global}
@@ -12,19 +12,18 @@ use Rattle.schedules.specs.Told.{Told}
 use Rattle.schedules.specs.declared.outcomes.Witnessed.{Witnessed}
 use Rattle.schedules.proofs.Covering.{after-append}
 use Rattle.script_orders.specs.Orders.{Begins}
-use Rattle.script_orders.specs.Plans.{Plan, plan_of, programs_of}
+use Rattle.script_orders.specs.Plans.{Plan, plan_of}
 use Rattle.script_orders.specs.Progress.{Progress}
-use Rattle.script_orders.specs.Stage.{Stage, fresh, next_stage, replies, seats_cleared, stands_still, told}
+use Rattle.script_orders.specs.Stage.{Stage, fresh, next_stage, seats_cleared, stands_still, told}
 use Rattle.script_orders.specs.declared.plan.Planned.{Planned}
 use Rattle.script_runner.specs.Runs.{RunsPhases, RunsWhole}
 use Rattle.script_text.specs.Script.{Whole, WrittenCall}
 use Rattle.script_laws.specs.RunLaws.{AreAmplePhases, AreFound, AreTold, EachPhase, IsAmple, IsTold, phase_told}
 use Rattle.script_laws.proofs.Beginning.{all-begin, count-from, in-order, none-left}
-use Rattle.script_laws.proofs.Course.{Course}
 use Rattle.script_laws.proofs.Growth.{AllLeft, AreEnds, IsEnd, all-grow, meeting, phases-end}
 use Rattle.script_laws.proofs.Joins.{all-left, all-right}
 use Rattle.script_laws.proofs.Resting.{AllThrough, next-begins, still, tells}
-use Rattle.script_laws.proofs.Runners.{AreOnCourse, Runner, ends_in, programs_in, seats_in, staged}
+use Rattle.script_laws.proofs.Runners.{AreOnCourse, Runner, ends_in, programs_in, staged}
 use Rattle.script_laws.proofs.Sitting.{AllSit, Through, all-run}
 use Rattle.script_laws.proofs.Weaving.{IsOf, ended, weaving}
 
@@ -55,7 +54,7 @@ phases-told from journal programs total of (calls ∷ phases) phase past seats b
     let of_more : All (IsOf (length programs)) met.from.more = all-left (IsOf (length programs)) met.from.more past (subst (λ (l : Past). All (IsOf (length programs)) l) met.from.is of_to) in
     let woven = weaving total phase to past runners met.from.more on met.from.is (subst (λ (k : ℕ). All (IsOf k) met.from.more) many of_more) in
     let made : List (Vec Planned Global) → List Progress → Option Stage = λ programs seats.
-        Some (record { programs = programs; phases = total; phase = phase; past = past; seats = seats })
+    Some (record { programs = programs; phases = total; phase = phase; past = past; seats = seats })
     in
     let start : after next_stage schedule from ≡ Some (staged total phase past runners) =
     leads (omega arith) ∙ (ap (λ (l : List (Vec Planned Global)). made l seats) (sym all.programs_are) ∙ ap (λ (l : List Progress). made (programs_in runners) l) (sym all.seats_are))
@@ -66,15 +65,18 @@ phases-told from journal programs total of (calls ∷ phases) phase past seats b
     let first : IsTold from phase ran.3 = (schedule ++ woven.0, last, record { runs = runs; goal = still total phase past to runners through }, said) in
     let n : ℕ = length (programs_in runners) in
     let next : List (Vec Planned Global) → Option Stage = λ programs.
-        Some (record { programs = programs; phases = total; phase = phase + 1; past = to; seats = seats_cleared (ends_in runners) })
+    Some (record { programs = programs; phases = total; phase = phase + 1; past = to; seats = seats_cleared (ends_in runners) })
     in
     let goes : 1 ≤ length phases → after next_stage ((schedule ++ woven.0) ++ n ∷ []) from ≡ next programs = λ some.
-        then-after (schedule ++ woven.0) (n ∷ []) from last _ runs (ap (λ (o : Option Stage). option_and_then (after next_stage []) o) (next-begins total phase past to runners through (omega (arith, some, count))))
-        ∙ ap next all.programs_are
-    in
-    (ran.3, ran.4, first,
-        phases-told from journal programs total of phases (phase + 1) to (seats_cleared (ends_in runners)) between after_all ran.4 ((schedule ++ woven.0) ++ n ∷ []) ran.7 ample.1 all.sit met.all met.end ends (omega (arith, count)) goes,
-        ran.8)
+    then-after (schedule ++ woven.0) (n ∷ []) from last _ runs (ap (λ (o : Option Stage). option_and_then (after next_stage []) o) (next-begins total phase past to runners through (omega (arith, some, count))))
+    ∙ ap next all.programs_are
+    in (
+      ran.3,
+      ran.4,
+      first,
+      phases-told from journal programs total of phases (phase + 1) to (seats_cleared (ends_in runners)) between after_all ran.4 ((schedule ++ woven.0) ++ n ∷ []) ran.7 ample.1 all.sit met.all met.end ends (omega (arith, count)) goes,
+      ran.8,
+    )
 
 -- of a run: what is printed of each phase is told of some order
 pub run-told : (script : Whole) (text : List ℕ) (journal : Past) (ran : RunsWhole script text journal) (from : Stage) → IsAmple ran → Begins script from → AreTold from 0 (length script.phases) text
@@ -87,7 +89,7 @@ run-told script text journal ran from ample begins =
     let seats : List Progress = replicate script.processes fresh in
     let sit : AllSit 0 script.phases 1 from.programs seats (tickets_from ran.system 1 script.processes) = all-begin script.phases ran.system script.processes from.programs ran.unbounded begins.programs in
     let made : List Progress → Option Stage = λ seats.
-        Some (record { programs = from.programs; phases = from.phases; phase = 0; past = []; seats = seats })
+    Some (record { programs = from.programs; phases = from.phases; phase = 0; past = []; seats = seats })
     in
     let start : after next_stage [] from ≡ made seats = ap (λ (s : Stage). Some s) (sym begins.first) ∙ ap (λ (k : ℕ). made (replicate k fresh)) many in
     phases-told from journal from.programs from.phases of script.phases 0 [] seats (tickets_from ran.system 1 script.processes) ran.processes text [] ran.ran ample sit

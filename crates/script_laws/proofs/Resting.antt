@@ -1,5 +1,5 @@
 -- The end of a phase: no process can go on, and none waits.
-use Rattle.std.proofs.Common.{◌≡◌, ℕ, zero, suc, ◌+◌, ◌<◌, ◌≤◌, ◌==◌, Bool, true, false, ◌&&◌, not, nat_lt, List, [], ◌∷◌, ◌++◌, length, map, Option, Some, None, is_some, is_none, slice_get, refl, ap, sym, ◌∙◌, subst, arith, if◌then◌else◌, eq-eqb, Vec}
+use Rattle.std.proofs.Common.{◌≡◌, ℕ, zero, suc, ◌+◌, ◌<◌, ◌==◌, Bool, true, false, ◌&&◌, not, nat_lt, List, [], length, Option, Some, None, is_some, is_none, slice_get, refl, ap, ◌∙◌, arith, if◌then◌else◌, eq-eqb, Vec}
 use Rattle.std.specs.Prelude.{◌||◌}
 use Rattle.std.specs.Option.{option_map, option_and_then}
 use Rattle.std.specs.declared.alloc.Global.{Global}
@@ -11,7 +11,7 @@ use Rattle.mq_model.specs.Waits.{open_wait}
 use Rattle.mq_model.specs.declared.entries.Call.TheVariants.{Collect}
 use Rattle.script_orders.specs.Progress.{Progress}
 use Rattle.script_orders.specs.Scenes.{Scene, after_call, after_step}
-use Rattle.script_orders.specs.Stage.{Stage, after_phase, in_next_phase, is_phase_over, next_stage, none_can_turn, one_waits, replies, seats_cleared, stands_still, told, turn_of, waiting_lines, waits, with_turn}
+use Rattle.script_orders.specs.Stage.{Stage, after_phase, in_next_phase, is_phase_over, next_stage, none_can_turn, one_waits, replies, stands_still, told, turn_of, waiting_lines, waits, with_turn}
 use Rattle.script_orders.specs.Turns.{Turned, after_line, after_turn, scene_of, turned}
 use Rattle.script_orders.specs.declared.plan.Planned.{Planned}
 use Rattle.script_orders.proofs.Turning.{turn_of-is}

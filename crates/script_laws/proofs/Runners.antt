@@ -1,5 +1,5 @@
 -- Processes that go through a phase, each by its course, as a stage of the machine.
-use Rattle.std.proofs.Common.{◌≡◌, ◌⊎◌, inl, inr, ℕ, zero, suc, ◌+◌, ◌<◌, ◌==◌, Bool, true, false, List, [], ◌∷◌, ◌++◌, length, map, Option, Some, None, slice_get, slice_set, refl, ap, sym, ◌∙◌, subst, arith, if◌then◌else◌, Vec}
+use Rattle.std.proofs.Common.{◌≡◌, ℕ, zero, suc, ◌+◌, ◌<◌, ◌==◌, Bool, false, List, [], ◌∷◌, length, map, Option, Some, slice_get, slice_set, refl, ap, sym, ◌∙◌, arith, if◌then◌else◌, Vec}
 use Rattle.std.specs.Option.{option_map}
 use Rattle.std.specs.declared.alloc.Global.{Global}
 use Rattle.std.proofs.lemmas.Bool.Decides.{nat_tests}
@@ -83,7 +83,7 @@ goes-on phases phase past runners i r turned moves here goes =
     let below : i < length s.programs = slice_get_within s.programs i r.program has in
     let other : (i == length s.programs) ≡ false = grind (arith, nat_tests) in
     let made : List (Vec Planned Global) → List Progress → Option Stage = λ programs seats.
-        Some (record { programs = programs; phases = phases; phase = phase; past = turned.past; seats = seats })
+    Some (record { programs = programs; phases = phases; phase = phase; past = turned.past; seats = seats })
     in
     ap (λ (b : Bool). if b then after_phase s else option_map (with_turn s i) (turn_of s i)) other
     ∙ ap (λ (o : Option Turned). option_map (with_turn s i) o) turn

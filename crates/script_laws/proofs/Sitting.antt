@@ -1,6 +1,5 @@
 -- How the processes of a run sit in the machine at the beginning of a phase, and the courses that their calls of the phase are.
-use Rattle.std.proofs.Common.{◌≡◌, ℕ, zero, suc, ◌+◌, ◌<◌, ◌≤◌, ◌==◌, List, [], ◌∷◌, ◌++◌, length, map, Option, Some, None, slice_get, refl, ap, sym, ◌∙◌, subst, arith, append_assoc, length-append, Vec}
-use Rattle.std.specs.Prelude.{filter}
+use Rattle.std.proofs.Common.{◌≡◌, ℕ, zero, suc, ◌+◌, ◌<◌, ◌≤◌, List, [], ◌∷◌, ◌++◌, length, map, Option, Some, None, slice_get, refl, ap, sym, ◌∙◌, subst, arith, append_assoc, length-append, Vec}
 use Rattle.std.specs.List.{All, AllZip}
 use Rattle.std.specs.Option.{option_map}
 use Rattle.std.specs.declared.alloc.Global.{Global}
@@ -10,7 +9,7 @@ use Rattle.fast_mutex.specs.Items.{Grows, Ticket}
 use Rattle.mq.specs.Calls.{IsFree, author, bounds_in}
 use Rattle.mq_model.specs.Record.{Past, Record}
 use Rattle.mq_model.specs.Waits.{open_wait}
-use Rattle.script_orders.specs.Plans.{Plan, plan, plan_of, plans_of, program_of}
+use Rattle.script_orders.specs.Plans.{Plan, plan, plan_of, program_of}
 use Rattle.script_orders.specs.Progress.{Progress}
 use Rattle.script_orders.specs.Stage.{replies, seats_cleared}
 use Rattle.script_orders.specs.declared.plan.Planned.{Planned}

@@ -1,11 +1,10 @@
 -- Processes that each have a course through a phase go through it in some order.
-use Rattle.std.proofs.Common.{◌≡◌, ◌⊎◌, inl, inr, ℕ, zero, suc, ◌+◌, ◌-◌, ◌<◌, ◌≤◌, ◌==◌, Bool, true, false, List, [], ◌∷◌, ◌++◌, length, map, Option, Some, None, slice_get, slice_set, refl, ap, sym, ◌∙◌, subst, arith, append_assoc, append-nil, length-append, length-set, Vec}
+use Rattle.std.proofs.Common.{◌≡◌, ◌⊎◌, inl, inr, ℕ, zero, suc, ◌+◌, ◌≤◌, ◌==◌, List, [], ◌∷◌, ◌++◌, length, Option, Some, slice_get, slice_set, refl, ap, sym, ◌∙◌, subst, arith, append_assoc, append-nil, length-set, Vec}
 use Rattle.std.specs.List.{All}
 use Rattle.std.specs.Option.{option_and_then}
 use Rattle.std.specs.declared.alloc.Global.{Global}
-use Rattle.std.proofs.lemmas.List.{append_cancel_right, length-map}
-use Rattle.std.proofs.lemmas.Option.{slice_get_within, slice_get-get_or}
-use Rattle.fast_mutex.specs.Items.{Grows, items_of}
+use Rattle.std.proofs.lemmas.List.{append_cancel_right}
+use Rattle.fast_mutex.specs.Items.{items_of}
 use Rattle.mq.specs.Calls.{author}
 use Rattle.mq_model.proofs.Places.{split, same_place, other_place}
 use Rattle.mq_model.specs.Record.{Past, Record}
@@ -16,7 +15,7 @@ use Rattle.script_orders.specs.Turns.{Turned, after_turn}
 use Rattle.script_orders.specs.declared.plan.Planned.{Planned}
 use Rattle.script_laws.proofs.Course.{Course, Move}
 use Rattle.script_laws.proofs.Courses.{course-end, course-goes-on, first-move, found-here}
-use Rattle.script_laws.proofs.Joins.{all-left, all-right, all-last, both-empty, by-last, owns-last}
+use Rattle.script_laws.proofs.Joins.{all-left, all-last, both-empty, by-last, owns-last}
 use Rattle.script_laws.proofs.Runners.{AreOnCourse, Runner, ends_in, get-set-here, get-set-other, goes-on, gone, map-agree, map-set-same, programs_in, seats_in, staged, there-is}
 
 -- a move that leaves no record ---------------------------------------------------------------------------------------------
@@ -64,9 +63,9 @@ find-eager (r ∷ runners) =
     elim (first-eager r.moves) [
       | inl e ↦ inl (record { at = 0; runner = r; move = e.0; moves = e.1; has = refl; next = e.2; leaves = e.3 })
       | inr one ↦ elim (find-eager runners) [
-          | inl e ↦ inl (record { at = suc e.at; runner = e.runner; move = e.move; moves = e.moves; has = e.has; next = e.next; leaves = e.leaves })
-          | inr rest ↦ inr (later-more r runners one rest)
-        ]
+        | inl e ↦ inl (record { at = suc e.at; runner = e.runner; move = e.move; moves = e.moves; has = e.has; next = e.next; leaves = e.leaves })
+        | inr rest ↦ inr (later-more r runners one rest)
+      ]
     ]
 
 -- the next move ------------------------------------------------------------------------------------------------------------
@@ -159,14 +158,14 @@ find-next phase to past runners behind on at of =
     elim (find-eager runners) [
       | inl e ↦ inl (eager-next phase to past runners on e)
       | inr later ↦ elim (by-last behind) [
-          | inl z ↦
-              let same : to ≡ past = at ∙ ap (λ (l : Past). l ++ past) z in
-              inr (record { here = sym same; made = λ i r has. no-more phase to past runners on later same i r has r.moves refl })
-          | inr z ↦
-              let whose : IsOf (length runners) z.1 = all-last (IsOf (length runners)) z.0 z.1 (subst (λ (l : Past). All (IsOf (length runners)) l) z.2 of) in
-              let there = reached runners (author z.1) whose in
-              inl (own-next phase to past runners there.0 there.1 z.0 z.1 on later there.2 there.3 (at ∙ ap (λ (l : Past). l ++ past) z.2) there.1.moves refl)
-        ]
+        | inl z ↦
+            let same : to ≡ past = at ∙ ap (λ (l : Past). l ++ past) z in
+            inr (record { here = sym same; made = λ i r has. no-more phase to past runners on later same i r has r.moves refl })
+        | inr z ↦
+            let whose : IsOf (length runners) z.1 = all-last (IsOf (length runners)) z.0 z.1 (subst (λ (l : Past). All (IsOf (length runners)) l) z.2 of) in
+            let there = reached runners (author z.1) whose in
+            inl (own-next phase to past runners there.0 there.1 z.0 z.1 on later there.2 there.3 (at ∙ ap (λ (l : Past). l ++ past) z.2) there.1.moves refl)
+      ]
     ]
 
 -- the order ----------------------------------------------------------------------------------------------------------------
@@ -197,11 +196,11 @@ one-less (x ∷ runners) (suc i) r seat move moves has next =
 all-ended : (phases phase : ℕ) (to past : Past) (runners : List Runner) → AreOnCourse phase to past runners → AllMade to past runners → Weaves phases phase to past runners
 all-ended phases phase to past runners on all =
     let seats : seats_in runners ≡ ends_in runners = map-agree (λ (r : Runner). r.seat) (λ (r : Runner). r.end) runners (λ i r has.
-        let course : CourseOf i phase to past r [] = subst (λ (moves : List Move). CourseOf i phase to past r moves) (all.made i r has) (on i r has) in
-        course.0)
+    let course : CourseOf i phase to past r [] = subst (λ (moves : List Move). CourseOf i phase to past r moves) (all.made i r has) (on i r has) in
+    course.0)
     in
     let made : Past → List Progress → Option Stage = λ past seats.
-        Some (record { programs = programs_in runners; phases = phases; phase = phase; past = past; seats = seats })
+    Some (record { programs = programs_in runners; phases = phases; phase = phase; past = past; seats = seats })
     in
     ([], ap (λ (past : Past). made past (seats_in runners)) all.here ∙ ap (λ (seats : List Progress). made to seats) seats)
 
@@ -210,18 +209,18 @@ next-on : (phase : ℕ) (to past : Past) (runners : List Runner) → AreOnCourse
 next-on phase to past runners on n i r has =
     split (i == n.at)
     (λ e.
-        let here : i ≡ n.at = same_place i n.at e in
-        let at_it : slice_get (slice_set runners n.at (gone n.runner n.move.next n.moves)) n.at ≡ Some r = ap (λ (k : ℕ). slice_get (slice_set runners n.at (gone n.runner n.move.next n.moves)) k) (sym here) ∙ has in
-        let is : r ≡ gone n.runner n.move.next n.moves = get-set-here runners n.at (gone n.runner n.move.next n.moves) r at_it in
-        let course : CourseOf n.at phase to past n.runner (n.move ∷ n.moves) = subst (λ (moves : List Move). CourseOf n.at phase to past n.runner moves) n.next (on n.at n.runner n.has) in
-        let P : ℕ → Type 0 = λ k. Course (k + 1) phase n.runner.program to n.runner.end n.moves (n.move.own ++ n.move.found) n.move.next in
-        let Q : Runner → Type 0 = λ x. Course (i + 1) phase x.program to x.end x.moves (n.move.own ++ n.move.found) x.seat in
-        subst Q (sym is) (subst P (sym here) course.1))
+    let here : i ≡ n.at = same_place i n.at e in
+    let at_it : slice_get (slice_set runners n.at (gone n.runner n.move.next n.moves)) n.at ≡ Some r = ap (λ (k : ℕ). slice_get (slice_set runners n.at (gone n.runner n.move.next n.moves)) k) (sym here) ∙ has in
+    let is : r ≡ gone n.runner n.move.next n.moves = get-set-here runners n.at (gone n.runner n.move.next n.moves) r at_it in
+    let course : CourseOf n.at phase to past n.runner (n.move ∷ n.moves) = subst (λ (moves : List Move). CourseOf n.at phase to past n.runner moves) n.next (on n.at n.runner n.has) in
+    let P : ℕ → Type 0 = λ k. Course (k + 1) phase n.runner.program to n.runner.end n.moves (n.move.own ++ n.move.found) n.move.next in
+    let Q : Runner → Type 0 = λ x. Course (i + 1) phase x.program to x.end x.moves (n.move.own ++ n.move.found) x.seat in
+    subst Q (sym is) (subst P (sym here) course.1))
     (λ e.
-        let differ = other_place i n.at e in
-        let there : slice_get runners i ≡ Some r = sym (get-set-other runners n.at i (gone n.runner n.move.next n.moves) differ) ∙ has in
-        let P : Past → Type 0 = λ found. Course (i + 1) phase r.program to r.end r.moves (n.move.own ++ found) r.seat in
-        subst P (sym n.found) (n.others i r differ there))
+    let differ = other_place i n.at e in
+    let there : slice_get runners i ≡ Some r = sym (get-set-other runners n.at i (gone n.runner n.move.next n.moves) differ) ∙ has in
+    let P : Past → Type 0 = λ found. Course (i + 1) phase r.program to r.end r.moves (n.move.own ++ found) r.seat in
+    subst P (sym n.found) (n.others i r differ there))
 
 -- one move, and then the rest
 then-weaves : (phases phase : ℕ) (to past : Past) (runners : List Runner) → AreOnCourse phase to past runners → (n : Next phase to past runners) → Weaves phases phase to (n.move.own ++ n.move.found) (slice_set runners n.at (gone n.runner n.move.next n.moves)) → Weaves phases phase to past runners
@@ -233,12 +232,13 @@ then-weaves phases phase to past runners on n rest =
     let step = goes-on phases phase past runners n.at n.runner turned n.moves n.has goes in
     let next : List Runner = slice_set runners n.at (gone n.runner n.move.next n.moves) in
     let made : List (Vec Planned Global) → List Progress → Option Stage = λ programs seats.
-        Some (record { programs = programs; phases = phases; phase = phase; past = to; seats = seats })
-    in
-    (n.at ∷ rest.0,
-        ap (λ (o : Option Stage). option_and_then (after next_stage rest.0) o) step ∙ (rest.1
-        ∙ (ap (λ (programs : List (Vec Planned Global)). made programs (ends_in next)) (map-set-same (λ (r : Runner). r.program) runners n.at n.runner (gone n.runner n.move.next n.moves) n.has refl)
-        ∙ ap (λ (seats : List Progress). made (programs_in runners) seats) (map-set-same (λ (r : Runner). r.end) runners n.at n.runner (gone n.runner n.move.next n.moves) n.has refl))))
+    Some (record { programs = programs; phases = phases; phase = phase; past = to; seats = seats })
+    in (
+      n.at ∷ rest.0,
+      ap (λ (o : Option Stage). option_and_then (after next_stage rest.0) o) step ∙ (rest.1
+          ∙ (ap (λ (programs : List (Vec Planned Global)). made programs (ends_in next)) (map-set-same (λ (r : Runner). r.program) runners n.at n.runner (gone n.runner n.move.next n.moves) n.has refl)
+          ∙ ap (λ (seats : List Progress). made (programs_in runners) seats) (map-set-same (λ (r : Runner). r.end) runners n.at n.runner (gone n.runner n.move.next n.moves) n.has refl))),
+    )
 
 -- what is left behind the next move
 next-behind : (phase : ℕ) (to past : Past) (runners : List Runner) (behind : Past) → AreOnCourse phase to past runners → to ≡ behind ++ past → All (IsOf (length runners)) behind → (n : Next phase to past runners) →
