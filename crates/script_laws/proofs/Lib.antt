@@ -1,1 +1,4 @@
 pub mod Course
+pub mod Splitting
+pub mod Answering
+pub mod Coursing
