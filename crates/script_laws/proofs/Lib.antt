@@ -4,4 +4,6 @@ pub mod Answering
 pub mod Saying
 pub mod Closing
 pub mod Lines
+pub mod Entering
+pub mod Moving
 pub mod Coursing
