@@ -6,4 +6,5 @@ pub mod Closing
 pub mod Lines
 pub mod Entering
 pub mod Moving
+pub mod Waiting
 pub mod Coursing

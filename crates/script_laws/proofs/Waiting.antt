@@ -1,0 +1,114 @@
+-- A call that waited is two moves: the wait and its collect.
+use Rattle.std.proofs.Common.{◌≡◌, ◌≢◌, ℕ, ◌+◌, ◌<◌, ◌==◌, Bool, true, false, List, [], ◌∷◌, ◌++◌, length, append_assoc, append-nil, Option, Some, None, is_some, if◌then◌else◌, refl, ap, sym, ◌∙◌, subst, arith, eq-eqb, Vec}
+use Rattle.std.specs.List.{All}
+use Rattle.std.specs.Option.{option_map, unwrap_or}
+use Rattle.std.specs.declared.alloc.Global.{Global}
+use Rattle.fast_mutex.specs.Items.{LockId, Ticket, Grows, items_of}
+use Rattle.mq.specs.Calls.{Waited, author, bounds_in, recorded}
+use Rattle.mq.proofs.Growing.{grows-on}
+use Rattle.mq.proofs.Others.{wait-grown}
+use Rattle.mq_model.specs.Legality.{IsLegalNext, Legal, may_call, reply_to}
+use Rattle.mq_model.specs.Messages.{is_receive, is_send, priority_given}
+use Rattle.mq_model.specs.Record.{Past, Record, record_at}
+use Rattle.mq_model.specs.Waits.{answered_by, open_wait}
+use Rattle.mq_model.specs.declared.entries.Call.{Call}
+use Rattle.mq_model.specs.declared.entries.Call.TheVariants.{Collect}
+use Rattle.mq_model.specs.declared.entries.Reply.{Reply}
+use Rattle.mq_model.specs.declared.entries.Reply.TheVariants.{Collected, Waits}
+use Rattle.mq_model.proofs.Frames.{record_at-older}
+use Rattle.mq_model.proofs.Prefixes.{record_at-below}
+use Rattle.mq_state.specs.Buffers.{message_at, received_at, with_front}
+use Rattle.script_orders.specs.Progress.{Progress}
+use Rattle.script_orders.specs.Said.{said, said_of_collect, said_of_message}
+use Rattle.script_orders.specs.Scenes.{Scene}
+use Rattle.script_orders.specs.Turns.{Turned, after_turn, turned}
+use Rattle.script_orders.specs.declared.plan.Planned.{Planned}
+use Rattle.script_orders.specs.declared.plan.Step.TheVariants as steps
+use Rattle.script_text.specs.Replies.{reply_line}
+use Rattle.script_text.specs.declared.reply.Outcome.TheVariants as outcomes
+use Rattle.script_laws.proofs.Answering.{Answers, answer-kind}
+use Rattle.script_laws.proofs.Course.{Course, Goes, Move}
+use Rattle.script_laws.proofs.Lines.{IsNext, call-goes, turn-by-collect, turn-by-line}
+use Rattle.script_laws.proofs.Moving.{IsAt, Moved, Stood, at-free, further, mine-one, stood}
+use Rattle.script_laws.proofs.Saying.{message-prints}
+use Rattle.script_laws.proofs.Splitting.{Stands, stands}
+
+-- older records --------------------------------------------------------------------------------------------------------
+
+-- a record keeps its place
+pub record_at-more : (more past : Past) (k : ℕ) (r : Record) → record_at past k ≡ Some r → record_at (more ++ past) k ≡ Some r
+record_at-more [] past k r at = at
+record_at-more (x ∷ more) past k r at =
+    let old : record_at (more ++ past) k ≡ Some r = record_at-more more past k r at in
+    record_at-older (more ++ past) x k (record_at-below (more ++ past) k r old) ∙ old
+
+record_at-grown : (p k : ℕ) (r : Record) (before after : Past) → Grows author p before after [] → record_at before k ≡ Some r → record_at after k ≡ Some r
+record_at-grown p k r before after g at = ap (λ (past : Past). record_at past k) g.is ∙ record_at-more g.behind before k r at
+
+-- a journal that goes on from another is legal only where that is
+pub legal-behind : (more past : Past) → Legal (more ++ past) → Legal past
+legal-behind [] past legal = legal
+legal-behind (x ∷ more) past legal = legal-behind more past legal.0
+
+legal-grown : (p : ℕ) (before after : Past) → Grows author p before after [] → Legal after → Legal before
+legal-grown p before after g legal = legal-behind g.behind before (subst (λ (past : Past). Legal past) g.is legal)
+
+-- what is printed of a collect ------------------------------------------------------------------------------------------
+
+said-by : (b : Bool) (past : Past) (p by : ℕ) (waiting : Call) → is_receive waiting ≡ b → Answers past by waiting → said_of_collect past p by ≡ (if b then said_of_message past p by else reply_line p outcomes.Done [])
+said-by b past p by waiting kind answers =
+    let sends : unwrap_or (option_map (λ (r : Record). is_send r.entry.call) (record_at past by)) false ≡ b =
+    ap (λ (o : Option Record). unwrap_or (option_map (λ (r : Record). is_send r.entry.call) o) false) answers.at ∙ answers.kind ∙ kind
+    in
+    ap (λ (b : Bool). if b then said_of_message past p by else reply_line p outcomes.Done []) sends
+
+-- a send was admitted
+pub sent-prints : (past : Past) (p by : ℕ) (waiting : Call) → is_receive waiting ≡ false → Answers past by waiting → said_of_collect past p by ≡ reply_line p outcomes.Done []
+sent-prints past p by waiting kind answers = said-by false past p by waiting kind answers
+
+-- the line of the message that a record sent
+line-of : ℕ → Option Record → List ℕ
+line-of p o = reply_line p (outcomes.Got (record { len = length (unwrap_or (option_map (λ (r : Record). r.payload) o) []); prio = unwrap_or (option_map (λ (r : Record). priority_given r.entry.call) o) 0 })) (unwrap_or (option_map (λ (r : Record). r.payload) o) [])
+
+message-line : (past : Past) (p by : ℕ) → said_of_message past p by ≡ line-of p (record_at past by)
+unfolding line-of
+message-line past p by = refl
+
+-- a receive was given the message of the send that answered it, also as a longer journal has it
+pub received-prints : (past new : Past) (p by : ℕ) (waiting : Call) (before : List ℕ) → Grows author p past new [] → is_receive waiting ≡ true → Answers past by waiting
+    → said_of_collect past p by ≡ reply_line p (outcomes.Got (received_at new by)) (with_front (message_at new by) before)
+received-prints past new p by waiting before g kind answers =
+    let later : record_at new by ≡ Some answers.answer = record_at-grown p by answers.answer past new g answers.at in
+    let same : record_at past by ≡ record_at new by = answers.at ∙ sym later in
+    said-by true past p by waiting kind answers ∙ message-line past p by ∙ ap (line-of p) same ∙ sym (message-line new p by) ∙ message-prints new p by before
+
+-- a collect ---------------------------------------------------------------------------------------------------------------
+
+collect-answers : (found : Past) (p by : ℕ) → IsLegalNext found (recorded p Collect [] (Collected by)) → answered_by found p ≡ Some by
+collect-answers found p by legal = goes (answered_by found p) refl
+  where
+    goes : (o : Option ℕ) → answered_by found p ≡ o → answered_by found p ≡ Some by
+    goes None is =
+        let may : is_some (answered_by found p) ≡ true = legal.turn in
+        let bad : false ≡ true = rw is at may in
+        absurd (cc)
+    goes (Some b) is =
+        let replies : Collected by ≡ Collected (unwrap_or (answered_by found p) 0) = legal.reply in
+        let here : Collected by ≡ Collected b = rw is at replies in
+        let same : by ≡ b = cc in
+        is ∙ ap (λ (n : ℕ). Some n) (sym same)
+
+-- the move that collects
+pub collect-goes : (phase : ℕ) (program : Vec Planned Global) (p by : ℕ) (waited : Record) (wait : ℕ) (progress : Progress) (found : Past)
+    → Legal found → IsLegalNext found (recorded p Collect [] (Collected by))
+    → open_wait found p ≡ Some wait → record_at found wait ≡ Some waited
+    → (after_turn found phase p progress program ≡ Some (record { past = recorded p Collect [] (Collected by) ∷ found; progress = record { begun = progress.begun + 0; text = progress.text ++ said_of_collect (recorded p Collect [] (Collected by) ∷ found) p by } }))
+    × Answers (recorded p Collect [] (Collected by) ∷ found) by waited.entry.call
+collect-goes phase program p by waited wait progress found legal next waits at =
+    let r : Record = recorded p Collect [] (Collected by) in
+    let goes = call-goes found p Collect [] (Collected by) progress next in
+    let answered : answered_by found p ≡ Some by = collect-answers found p by next in
+    let answers = answer-kind found legal p wait by waited waits answered at in (
+      turn-by-collect found phase p progress program wait (record { past = r ∷ found; text = progress.text ++ said (r ∷ found) p (Collected by) }) waits goes,
+      record { answer = answers.answer; at = record_at-more (r ∷ []) found by answers.answer answers.at; kind = answers.kind },
+    )
