@@ -7,4 +7,6 @@ pub mod Lines
 pub mod Entering
 pub mod Moving
 pub mod Waiting
+pub mod Expiring
+pub mod Performing
 pub mod Coursing

@@ -4,7 +4,7 @@ use Rattle.std.specs.List.{All}
 use Rattle.std.specs.Option.{option_map, unwrap_or}
 use Rattle.std.specs.declared.alloc.Global.{Global}
 use Rattle.fast_mutex.specs.Items.{LockId, Ticket, Grows, items_of}
-use Rattle.mq.specs.Calls.{Waited, author, bounds_in, recorded}
+use Rattle.mq.specs.Calls.{Begins, Waited, author, bounds_in, recorded}
 use Rattle.mq.proofs.Growing.{grows-on}
 use Rattle.mq.proofs.Others.{wait-grown}
 use Rattle.mq_model.specs.Legality.{IsLegalNext, Legal, may_call, reply_to}
@@ -42,7 +42,7 @@ record_at-more (x ∷ more) past k r at =
     let old : record_at (more ++ past) k ≡ Some r = record_at-more more past k r at in
     record_at-older (more ++ past) x k (record_at-below (more ++ past) k r old) ∙ old
 
-record_at-grown : (p k : ℕ) (r : Record) (before after : Past) → Grows author p before after [] → record_at before k ≡ Some r → record_at after k ≡ Some r
+pub record_at-grown : (p k : ℕ) (r : Record) (before after : Past) → Grows author p before after [] → record_at before k ≡ Some r → record_at after k ≡ Some r
 record_at-grown p k r before after g at = ap (λ (past : Past). record_at past k) g.is ∙ record_at-more g.behind before k r at
 
 -- a journal that goes on from another is legal only where that is
@@ -50,7 +50,7 @@ pub legal-behind : (more past : Past) → Legal (more ++ past) → Legal past
 legal-behind [] past legal = legal
 legal-behind (x ∷ more) past legal = legal-behind more past legal.0
 
-legal-grown : (p : ℕ) (before after : Past) → Grows author p before after [] → Legal after → Legal before
+pub legal-grown : (p : ℕ) (before after : Past) → Grows author p before after [] → Legal after → Legal before
 legal-grown p before after g legal = legal-behind g.behind before (subst (λ (past : Past). Legal past) g.is legal)
 
 -- what is printed of a collect ------------------------------------------------------------------------------------------
@@ -112,3 +112,86 @@ collect-goes phase program p by waited wait progress found legal next waits at =
       turn-by-collect found phase p progress program wait (record { past = r ∷ found; text = progress.text ++ said (r ∷ found) p (Collected by) }) waits goes,
       record { answer = answers.answer; at = record_at-more (r ∷ []) found by answers.answer answers.at; kind = answers.kind },
     )
+
+-- both moves --------------------------------------------------------------------------------------------------------------
+
+-- a wait that began, and the journal that its process then left
+pub record Begun (phase : ℕ) (program : Vec Planned Global) (p : ℕ) (from : Past) (progress : Progress) (left : Past) (call : Call) (given : List ℕ) : Type 0 where
+  pub found : Past
+  pub others : Grows author p from found []
+  pub is : left ≡ recorded p call given Waits ∷ found
+  pub next : IsLegalNext found (recorded p call given Waits)
+  pub turn : after_turn found phase p progress program ≡ Some (record { past = recorded p call given Waits ∷ found; progress = further progress [] })
+
+pub wait-begins : (phase : ℕ) (program : Vec Planned Global) (from : Past) (progress : Progress) (old begun : Ticket Record) (call : Call) (given : List ℕ)
+    → IsAt old.number from old → IsNext phase program progress.begun (steps.Call call) given → Begins old begun call given → Begun phase program old.number from progress begun.left call given
+wait-begins phase program from progress old begun call given at next begins =
+    let p : ℕ = old.number in
+    let s = stood old begun from call given Waits at refl begins.calls begins.found in
+    let found : Past = s.found in
+    let r : Record = recorded p call given Waits in
+    let free : open_wait found p ≡ None = wait-grown s.others ∙ at-free p from old at in
+    let goes = call-goes found p call given Waits progress s.next in
+    record {
+      found = found;
+      others = s.others;
+      is = s.is;
+      next = s.next;
+      turn = turn-by-line found phase p progress program (steps.Call call) given (record { past = r ∷ found; text = progress.text ++ [] }) free next goes;
+    }
+
+-- a wait and its collect are two moves, where this is printed of the collect
+pub waited-moves : (phase : ℕ) (program : Vec Planned Global) (from : Past) (progress : Progress) (old new : Ticket Record) (call : Call) (given line : List ℕ) (by : ℕ)
+    → IsAt old.number from old → IsNext phase program progress.begun (steps.Call call) given → Waited old new call given by
+    → ((past : Past) → Grows author old.number past new.left [] → Answers past by call → said_of_collect past old.number by ≡ line)
+    → Moved old.number phase program from progress new line
+waited-moves phase program from progress old new call given line by at next waited prints =
+    let p : ℕ = old.number in
+    let begun : Ticket Record = waited.begun in
+    let wait : Record = recorded p call given Waits in
+    let end : Record = recorded p Collect [] (Collected by) in
+    let b = wait-begins phase program from progress old begun call given at next waited.begins in
+    let number : begun.number ≡ p = waited.begins.calls.number in
+    let grows : Grows author p begun.left new.left (end ∷ []) = subst (λ (n : ℕ). Grows author n begun.left new.left (end ∷ [])) number waited.ends.grows in
+    let grown : Grows author p (wait ∷ b.found) new.left (end ∷ []) = subst (λ (l : Past). Grows author p l new.left (end ∷ [])) b.is grows in
+    let s = stands author p end (wait ∷ b.found) new.left grown in
+    let found : Past = s.found in
+    let legal : Legal (end ∷ found) = legal-grown p (end ∷ found) new.left s.later waited.calls.legal in
+    let here : open_wait (wait ∷ b.found) p ≡ Some (length b.found) = rw (eq-eqb p p refl) refl in
+    let waits : open_wait found p ≡ Some (length b.found) = wait-grown s.others ∙ here in
+    let first_at : record_at (wait ∷ b.found) (length b.found) ≡ Some wait = rw (eq-eqb (length b.found) (length b.found) refl) refl in
+    let wait_at : record_at found (length b.found) ≡ Some wait = record_at-grown p (length b.found) wait (wait ∷ b.found) found s.others first_at in
+    let first : Progress = further progress [] in
+    let c = collect-goes phase program p by wait (length b.found) first found legal.0 legal.1 waits wait_at in
+    let said_is : said_of_collect (end ∷ found) p by ≡ line = prints (end ∷ found) s.later c.1 in
+    let text : (progress.text ++ []) ++ said_of_collect (end ∷ found) p by ≡ progress.text ++ line =
+    ap (λ (l : List ℕ). (progress.text ++ []) ++ l) said_is ∙ append_assoc progress.text [] line
+    in
+    let count : progress.begun + 1 + 0 ≡ progress.begun + 1 = omega arith in
+    let ended : open_wait (end ∷ found) p ≡ None = rw (eq-eqb p p refl) refl in
+    let to_end : Goes p phase program (record { found = found; own = end ∷ []; next = further progress line }) (wait ∷ b.found) first = record {
+      others = s.others;
+      mine = mine-one p Collect [] (Collected by);
+      eager = λ none. let bad : end ∷ [] ≡ [] = none in absurd (cc);
+      turn = c.0 ∙ ap (λ (n : ℕ). Some (record { past = end ∷ found; progress = record { begun = n; text = (progress.text ++ []) ++ said_of_collect (end ∷ found) p by } })) count
+          ∙ ap (λ (l : List ℕ). Some (record { past = end ∷ found; progress = record { begun = progress.begun + 1; text = l } })) text;
+    }
+    in
+    let to_wait : Goes p phase program (record { found = b.found; own = wait ∷ []; next = first }) from progress = record {
+      others = b.others;
+      mine = mine-one p call given Waits;
+      eager = λ none. let bad : wait ∷ [] ≡ [] = none in absurd (cc);
+      turn = b.turn;
+    }
+    in
+    record {
+      at = end ∷ found;
+      is = record {
+        number = waited.calls.number;
+        bounds = ap (λ (l : LockId). bounds_in l.fixed) waited.calls.lock ∙ at.bounds;
+        free = ap (λ (n : ℕ). open_wait new.left n) waited.calls.number ∙ wait-grown s.later ∙ ended;
+        near = s.later;
+      };
+      goes = λ to end_progress moves course.
+          (record { found = b.found; own = wait ∷ []; next = first } ∷ (record { found = found; own = end ∷ []; next = further progress line } ∷ moves), (to_wait, (to_end, course)));
+    }
