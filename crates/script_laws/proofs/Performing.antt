@@ -8,6 +8,7 @@ use Rattle.mq.specs.Calls.{Calls, Exits, Expired, Found, OneCall, ReceiveCall, S
 use Rattle.mq.specs.Says.{attributes_says, done_says, notice_says, open_says, receive_says, send_says}
 use Rattle.mq_model.proofs.Places.{clash, split}
 use Rattle.mq_model.specs.Bounds.{has_entry}
+use Rattle.mq_model.specs.Messages.{is_receive}
 use Rattle.mq_model.specs.Name.{has_name_form, is_name, is_short}
 use Rattle.mq_model.specs.Record.{Past, Record}
 use Rattle.mq_model.specs.Waits.{is_wait}
@@ -130,3 +131,98 @@ module _ (phase : ℕ) (program : Vec Planned Global) (from : Past) (progress : 
   sent-moves call given after result memory next one =
       let stay = stay-of (λ _ reply. send_says reply) (λ _. outcomes.Done) (λ _ _. after) old new call given one.reply result (send-tells after) at.bounds memory one.calls one.found one.says_so in
       stay-moves phase program from progress old new call given _ at next stay
+
+  sent-later : (call : Call) (given after : List ℕ) (result : Result (Unit {0}) Fault) → is_receive call ≡ false
+      → IsNext phase program progress.begun (steps.Call call) given → WaitedSend old new call given result → Moved old.number phase program from progress new (reply_line old.number (outcome_by (λ _. outcomes.Done) result) after)
+  sent-later call given after result kind next x =
+      let moved : Moved old.number phase program from progress new (reply_line old.number outcomes.Done after) =
+      waited-moves phase program from progress old new call given (reply_line old.number outcomes.Done []) x.by at next x.waited (λ past g answers. sent-prints past old.number x.by call kind answers)
+      in
+      subst (λ (r : Result (Unit {0}) Fault). Moved old.number phase program from progress new (reply_line old.number (outcome_by (λ _. outcomes.Done) r) after)) (sym x.is) moved
+
+  received-moves : (call : Call) (before after : List ℕ) (result : Result Received Fault) → outcome_by outcomes.Got result ≢ outcomes.Refused NoMemory
+      → IsNext phase program progress.begun (steps.Call call) [] → ReceiveCall receive_says old new call before after result → Moved old.number phase program from progress new (reply_line old.number (outcome_by outcomes.Got result) after)
+  received-moves call before after result memory next x =
+      let stay = stay-of receive_says outcomes.Got (λ past reply. filled past reply before) old new call [] x.reply result (receive-tells before) at.bounds memory x.calls x.found x.says_so in
+      let moved : Moved old.number phase program from progress new (reply_line old.number (outcome_by outcomes.Got result) (filled new.left x.reply before)) = stay-moves phase program from progress old new call [] _ at next stay in
+      subst (λ (bytes : List ℕ). Moved old.number phase program from progress new (reply_line old.number (outcome_by outcomes.Got result) bytes)) (sym x.buffer) moved
+
+  received-later : (call : Call) (before after : List ℕ) (result : Result Received Fault) → is_receive call ≡ true
+      → IsNext phase program progress.begun (steps.Call call) [] → WaitedReceive old new call before after result → Moved old.number phase program from progress new (reply_line old.number (outcome_by outcomes.Got result) after)
+  received-later call before after result kind next x =
+      let moved : Moved old.number phase program from progress new (reply_line old.number (outcomes.Got (received_at new.left x.by)) (with_front (message_at new.left x.by) before)) =
+      waited-moves phase program from progress old new call [] _ x.by at next x.waited (λ past g answers. received-prints past new.left old.number x.by call before g kind answers)
+      in
+      let filled_so : Moved old.number phase program from progress new (reply_line old.number (outcomes.Got (received_at new.left x.by)) after) =
+      subst (λ (bytes : List ℕ). Moved old.number phase program from progress new (reply_line old.number (outcomes.Got (received_at new.left x.by)) bytes)) (sym x.buffer) moved
+      in
+      subst (λ (r : Result Received Fault). Moved old.number phase program from progress new (reply_line old.number (outcome_by outcomes.Got r) after)) (sym x.is) filled_so
+
+  send-by : (d prio : ℕ) (message after : List ℕ) (result : Result (Unit {0}) Fault) → outcome_by (λ _. outcomes.Done) result ≢ outcomes.Refused NoMemory
+      → IsNext phase program progress.begun (steps.Call (MqSend d prio (length message))) message → SendCall old new d message prio result
+      → Moved old.number phase program from progress new (reply_line old.number (outcome_by (λ _. outcomes.Done) result) after)
+  send-by d prio message after result memory next (inl x) = sent-moves (MqSend d prio (length message)) message after result memory next x
+  send-by d prio message after result memory next (inr x) = sent-later (MqSend d prio (length message)) message after result refl next x
+
+  pub send-performs : (d prio : ℕ) (message after : List ℕ) (came : Outcome) → came ≢ outcomes.Refused NoMemory
+      → IsNext phase program progress.begun (steps.Call (MqSend d prio (length message))) message → Shows (λ _. outcomes.Done) (SendCall old new d message prio) came
+      → Moved old.number phase program from progress new (reply_line old.number came after)
+  send-performs d prio message after came memory next x =
+      came-as (λ _. outcomes.Done) x.result came after x.outcome (send-by d prio message after x.result (λ is. memory (x.outcome ∙ is)) next x.called)
+
+  receive-by : (d : ℕ) (before after : List ℕ) (result : Result Received Fault) → outcome_by outcomes.Got result ≢ outcomes.Refused NoMemory
+      → IsNext phase program progress.begun (steps.Call (MqReceive d (length before))) [] → WholeReceive old new d before after result
+      → Moved old.number phase program from progress new (reply_line old.number (outcome_by outcomes.Got result) after)
+  receive-by d before after result memory next (inl x) = received-moves (MqReceive d (length before)) before after result memory next x
+  receive-by d before after result memory next (inr x) = received-later (MqReceive d (length before)) before after result refl next x
+
+  pub receive-performs : (d room : ℕ) (after : List ℕ) (came : Outcome) → came ≢ outcomes.Refused NoMemory
+      → IsNext phase program progress.begun (steps.Call (MqReceive d room)) [] → Shows outcomes.Got (WholeReceive old new d (replicate room 0) after) came
+      → Moved old.number phase program from progress new (reply_line old.number came after)
+  receive-performs d room after came memory next x =
+      let same : room ≡ length (replicate room 0) = sym (length-replicate room 0) in
+      let step = next-step phase program progress.begun (steps.Call (MqReceive d room)) (steps.Call (MqReceive d (length (replicate room 0)))) [] (ap (λ (n : ℕ). steps.Call (MqReceive d n)) same) next in
+      came-as outcomes.Got x.result came after x.outcome (receive-by d (replicate room 0) after x.result (λ is. memory (x.outcome ∙ is)) step x.called)
+
+  -- with a deadline -------------------------------------------------------------------------------------------------------
+
+  timed_send-by : (d prio : ℕ) (message after : List ℕ) (until now moment : Deadline) (result : Result (Unit {0}) Fault) → now ≡ moment → outcome_by (λ _. outcomes.Done) result ≢ outcomes.Refused NoMemory
+      → IsNext phase program progress.begun (steps.Call (MqTimedSend d prio (length message) until now)) message
+      → OneCall send_says old new (MqTimedSend d prio (length message) until now) message result ⊎ WaitedSend old new (MqTimedSend d prio (length message) until now) message result
+      ⊎ Expired (λ now. now ≡ moment) old new (MqTimedSend d prio (length message) until now) message result
+      → Moved old.number phase program from progress new (reply_line old.number (outcome_by (λ _. outcomes.Done) result) after)
+  timed_send-by d prio message after until now moment result same memory next (inl x) = sent-moves (MqTimedSend d prio (length message) until now) message after result memory next x
+  timed_send-by d prio message after until now moment result same memory next (inr (inl x)) = sent-later (MqTimedSend d prio (length message) until now) message after result refl next x
+  timed_send-by d prio message after until now moment result same memory next (inr (inr x)) =
+      absurd (never-expires from old new (MqTimedSend d prio (length message) until now) message until now moment result at (send-timed d prio (length message) until now) same x)
+
+  pub timed_send-performs : (d prio : ℕ) (until moment : Deadline) (message after : List ℕ) (came : Outcome) → came ≢ outcomes.Refused NoMemory
+      → IsNext phase program progress.begun (steps.Call (MqTimedSend d prio (length message) until moment)) message → Shows (λ _. outcomes.Done) (TimedSend (λ now. now ≡ moment) old new d message prio until) came
+      → Moved old.number phase program from progress new (reply_line old.number came after)
+  timed_send-performs d prio until moment message after came memory next x =
+      let t = x.called in
+      let step = next-step phase program progress.begun (steps.Call (MqTimedSend d prio (length message) until moment)) (steps.Call (MqTimedSend d prio (length message) until t.now)) message
+      (ap (λ (now : Deadline). steps.Call (MqTimedSend d prio (length message) until now)) (sym t.moment)) next
+      in
+      came-as (λ _. outcomes.Done) x.result came after x.outcome (timed_send-by d prio message after until t.now moment x.result t.moment (λ is. memory (x.outcome ∙ is)) step t.how)
+
+  timed_receive-by : (d : ℕ) (before after : List ℕ) (until now moment : Deadline) (result : Result Received Fault) → now ≡ moment → outcome_by outcomes.Got result ≢ outcomes.Refused NoMemory
+      → IsNext phase program progress.begun (steps.Call (MqTimedReceive d (length before) until now)) []
+      → ReceiveCall receive_says old new (MqTimedReceive d (length before) until now) before after result ⊎ WaitedReceive old new (MqTimedReceive d (length before) until now) before after result
+      ⊎ Expired (λ now. now ≡ moment) old new (MqTimedReceive d (length before) until now) [] result × (after ≡ before)
+      → Moved old.number phase program from progress new (reply_line old.number (outcome_by outcomes.Got result) after)
+  timed_receive-by d before after until now moment result same memory next (inl x) = received-moves (MqTimedReceive d (length before) until now) before after result memory next x
+  timed_receive-by d before after until now moment result same memory next (inr (inl x)) = received-later (MqTimedReceive d (length before) until now) before after result refl next x
+  timed_receive-by d before after until now moment result same memory next (inr (inr x)) =
+      absurd (never-expires from old new (MqTimedReceive d (length before) until now) [] until now moment result at (receive-timed d (length before) until now) same x.0)
+
+  pub timed_receive-performs : (d room : ℕ) (until moment : Deadline) (after : List ℕ) (came : Outcome) → came ≢ outcomes.Refused NoMemory
+      → IsNext phase program progress.begun (steps.Call (MqTimedReceive d room until moment)) [] → Shows outcomes.Got (TimedReceive (λ now. now ≡ moment) old new d (replicate room 0) after until) came
+      → Moved old.number phase program from progress new (reply_line old.number came after)
+  timed_receive-performs d room until moment after came memory next x =
+      let t = x.called in
+      let same : room ≡ length (replicate room 0) = sym (length-replicate room 0) in
+      let step = next-step phase program progress.begun (steps.Call (MqTimedReceive d room until moment)) (steps.Call (MqTimedReceive d (length (replicate room 0)) until t.now)) []
+      (ap (λ (n : ℕ). steps.Call (MqTimedReceive d n until moment)) same ∙ ap (λ (now : Deadline). steps.Call (MqTimedReceive d (length (replicate room 0)) until now)) (sym t.moment)) next
+      in
+      came-as outcomes.Got x.result came after x.outcome (timed_receive-by d (replicate room 0) after until t.now moment x.result t.moment (λ is. memory (x.outcome ∙ is)) step t.how)
