@@ -1,11 +1,10 @@
 -- A send answers a receive that waits, and a receive a send that does.
-use Rattle.std.proofs.Common.{◌≡◌, ℕ, ◌<◌, ◌==◌, Bool, true, false, ◌&&◌, not, List, [], ◌∷◌, length, Option, Some, None, if◌then◌else◌, refl, sym, ◌∙◌, ap, subst, arith, eqb-true, eq-eqb, ne_eqb}
-use Rattle.std.specs.Option.{option_map, unwrap_or}
+use Rattle.std.proofs.Common.{◌≡◌, ℕ, ◌==◌, Bool, true, false, not, [], ◌∷◌, ◌++◌, length, Some, None, if◌then◌else◌, refl, sym, ◌∙◌, ap, subst, eqb-true, eq-eqb}
 use Rattle.std.proofs.lemmas.Bool.{and_parts, eqb-false}
 use Rattle.mq_model.specs.Record.{Record, Past, record_at}
 use Rattle.mq_model.specs.Messages.{is_in, is_send, is_receive, least, blocks_send, blocks_receive, blocked_sends, blocked_receives, waiting_sends, waiting_receives, ended_sends, ended_receives}
 use Rattle.mq_model.specs.Waits.{open_wait, answered_by, names_wait}
-use Rattle.mq_model.specs.Legality.{Legal, IsLegalNext}
+use Rattle.mq_model.specs.Legality.{Legal}
 use Rattle.mq_model.specs.Descriptors.{is_on}
 use Rattle.mq_model.specs.Owners.{blocked}
 use Rattle.mq_model.specs.declared.owners.WaitKind.{WaitKind}
@@ -22,6 +21,13 @@ use Rattle.mq_model.proofs.Waiters.{hands-least, admits-least}
 use Rattle.mq_model.proofs.OthersLeave.{open_wait-below}
 use Rattle.mq_model.proofs.Frames.{record_at-older}
 use Rattle.mq_model.proofs.Prefixes.{record_at-below}
+
+-- a record keeps its place
+pub record_at-more : (more past : Past) (k : ℕ) (r : Record) → record_at past k ≡ Some r → record_at (more ++ past) k ≡ Some r
+record_at-more [] past k r at = at
+record_at-more (x ∷ more) past k r at =
+    let old : record_at (more ++ past) k ≡ Some r = record_at-more more past k r at in
+    record_at-older (more ++ past) x k (record_at-below (more ++ past) k r old) ∙ old
 
 -- a call that waits in this way
 abbrev is_of : WaitKind → Call → Bool
@@ -153,9 +159,8 @@ answer-kind (s ∷ past) legal p w b r open_at answered at = split (s.entry.proc
     (λ f.
     let old : answered_by past p ≡ Some b = rw f at rest' in
     let before = answer-kind past legal.0 p w b r old_wait old old_at in
-    let same : record_at (s ∷ past) b ≡ record_at past b = record_at-older past s b (record_at-below past b before.answer before.at) in
     record {
       answer = before.answer;
-      at = same ∙ before.at;
+      at = record_at-more (s ∷ []) past b before.answer before.at;
       kind = before.kind;
     }))

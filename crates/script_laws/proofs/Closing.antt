@@ -1,5 +1,5 @@
 -- An exit closes what is held, in rising order.
-use Rattle.std.proofs.Common.{◌≡◌, ℕ, zero, suc, ◌+◌, ◌<◌, ◌≤◌, ◌==◌, Bool, true, false, not, List, [], ◌∷◌, ◌++◌, Option, Some, None, is_some, if◌then◌else◌, refl, ap, sym, ◌∙◌, subst, arith, eqb-true}
+use Rattle.std.proofs.Common.{◌≡◌, ℕ, zero, suc, ◌+◌, ◌<◌, ◌≤◌, ◌==◌, Bool, true, false, List, [], ◌∷◌, ◌++◌, Option, Some, None, is_some, refl, ap, sym, ◌∙◌, arith, eqb-true}
 use Rattle.std.specs.List.{find}
 use Rattle.std.proofs.lemmas.Bool.{eqb-false}
 use Rattle.fast_mutex.specs.Items.{Grows, items_of}
@@ -7,11 +7,9 @@ use Rattle.mq.specs.Calls.{AreInTurn, author, closes, recorded}
 use Rattle.mq.proofs.Closings.{from-closed, lowest-held}
 use Rattle.mq_model.proofs.Places.{split}
 use Rattle.mq_model.specs.Descriptors.{descriptor_numbers, held, lowest_held, numbers_from}
-use Rattle.mq_model.specs.Legality.{is_refused}
-use Rattle.mq_model.specs.Record.{Past, Record}
+use Rattle.mq_model.specs.Record.{Past}
 use Rattle.mq_model.specs.declared.bounds.Bounds.{Bounds}
 use Rattle.mq_model.specs.declared.entries.Call.TheVariants.{MqClose}
-use Rattle.mq_model.specs.declared.entries.Description.{Description}
 use Rattle.mq_model.specs.declared.entries.Reply.TheVariants.{Done}
 use Rattle.script_orders.proofs.Legality.{none-of}
 use Rattle.script_orders.specs.Scenes.{close_first, close_held}

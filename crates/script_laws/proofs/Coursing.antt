@@ -1,5 +1,5 @@
 -- The calls that a process made in a phase of a run are a course of it.
-use Rattle.std.proofs.Common.{◌≡◌, ◌≢◌, ℕ, ◌+◌, List, [], ◌∷◌, ◌++◌, length, map, Option, Some, None, refl, ap, sym, ◌∙◌, subst, append_assoc, append-nil, arith, Vec}
+use Rattle.std.proofs.Common.{◌≡◌, ◌≢◌, ℕ, ◌+◌, List, [], ◌∷◌, ◌++◌, length, map, None, refl, ap, sym, ◌∙◌, subst, append_assoc, append-nil, arith, Vec}
 use Rattle.std.specs.List.{All}
 use Rattle.std.specs.declared.alloc.Global.{Global}
 use Rattle.std.proofs.lemmas.List.Elements.{All-head, All-tail}
@@ -90,8 +90,8 @@ ran-all p phase program [] [] old new from to begun text at lines ran memory aft
     record {
       moves = [];
       course = (
-          ap (λ (n : ℕ). record { begun = n; text = text }) none ∙ ap (λ (l : List ℕ). record { begun = begun + 0; text = l }) (sym (append-nil text)),
-          grows-on at.near here,
+        ap (λ (n : ℕ). record { begun = n; text = text }) none ∙ ap (λ (l : List ℕ). record { begun = begun + 0; text = l }) (sym (append-nil text)),
+        grows-on at.near here,
       );
       free = wait-grown here ∙ free;
     }

@@ -1,5 +1,5 @@
 -- Without bounds a reply has an entry, unless memory was wanting.
-use Rattle.std.proofs.Common.{◌≡◌, ◌≢◌, ℕ, Bool, true, false, List, Option, Some, None, refl, ap, sym, ◌∙◌, subst}
+use Rattle.std.proofs.Common.{◌≡◌, ◌≢◌, ℕ, true, false, List, Option, Some, None, refl, ap, sym, ◌∙◌}
 use Rattle.mq.proofs.Replies.{unentered}
 use Rattle.mq_model.proofs.Places.{split}
 use Rattle.mq_model.specs.Bounds.{HeedsBounds, has_entry}

@@ -1,13 +1,13 @@
 -- In a phase of one moment no wait is withdrawn.
-use Rattle.std.proofs.Common.{◌≡◌, ◌≢◌, ℕ, ◌==◌, Bool, true, false, ◌&&◌, not, List, [], ◌∷◌, ◌++◌, Option, Some, None, is_none, Result, if◌then◌else◌, refl, ap, sym, ◌∙◌, subst, eq-eqb}
+use Rattle.std.proofs.Common.{◌≡◌, ℕ, true, false, ◌&&◌, not, List, [], ◌∷◌, Option, Some, is_none, Result, refl, sym, ◌∙◌, subst, eq-eqb}
 use Rattle.std.proofs.lemmas.Bool.{and_parts}
 use Rattle.fast_mutex.specs.Items.{Ticket, Grows}
-use Rattle.mq.specs.Calls.{Begins, Expired, author, recorded}
+use Rattle.mq.specs.Calls.{Expired, author, recorded}
 use Rattle.mq.proofs.Others.{deadline-grown}
 use Rattle.mq_model.proofs.Places.{split}
 use Rattle.mq_model.specs.Deadlines.{deadline_of, has_passed, is_moment, is_over}
 use Rattle.mq_model.specs.Ladder.{timed_reply}
-use Rattle.mq_model.specs.Legality.{IsLegalNext, Legal, may_call, payload_of, reply_to}
+use Rattle.mq_model.specs.Legality.{Legal, payload_of, reply_to}
 use Rattle.mq_model.specs.Record.{Past, Record}
 use Rattle.mq_model.specs.Waits.{answered_by, wait_deadline}
 use Rattle.mq_model.specs.declared.entries.Call.{Call}
@@ -18,7 +18,7 @@ use Rattle.mq_model.specs.declared.entries.Reply.TheVariants.{Opened, Queued, Ha
 use Rattle.mq_model.specs.declared.faults.Fault.{Fault}
 use Rattle.mq_model.specs.declared.faults.Fault.TheVariants.{Invalid, TimedOut}
 use Rattle.script_laws.proofs.Moving.{IsAt, stood}
-use Rattle.script_laws.proofs.Splitting.{Stands, stands}
+use Rattle.script_laws.proofs.Splitting.{stands}
 use Rattle.script_laws.proofs.Waiting.{legal-grown}
 
 -- a timed call waits only where its deadline has not passed
@@ -26,8 +26,8 @@ timed-waits : (until now : Deadline) (reply : Reply) → timed_reply until now r
 timed-waits until now Waits is = split (not (is_moment until))
     (λ yes. let bad : Refused Invalid ≡ Waits = rw yes at is in absurd (cc))
     (λ no. split (has_passed until now)
-        (λ over. let bad : Refused TimedOut ≡ Waits = rw (no, over) at is in absurd (cc))
-        (λ left. left))
+    (λ over. let bad : Refused TimedOut ≡ Waits = rw (no, over) at is in absurd (cc))
+    (λ left. left))
 timed-waits until now (Opened d c) is = absurd (cc)
 timed-waits until now (Queued n) is = absurd (cc)
 timed-waits until now (Handed w) is = absurd (cc)

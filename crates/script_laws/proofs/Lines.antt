@@ -1,5 +1,5 @@
 -- The line that a process begins next, and the turn by it.
-use Rattle.std.proofs.Common.{◌≡◌, ℕ, zero, suc, ◌+◌, ◌==◌, Bool, true, false, List, [], ◌∷◌, ◌++◌, length, length-append, append_assoc, map, Option, Some, None, is_some, slice_get, if◌then◌else◌, refl, ap, sym, ◌∙◌, arith, eq-eqb, Vec}
+use Rattle.std.proofs.Common.{◌≡◌, ℕ, ◌+◌, ◌==◌, Bool, true, false, List, [], ◌∷◌, ◌++◌, length, length-append, append_assoc, map, Option, Some, None, is_some, slice_get, if◌then◌else◌, refl, ap, sym, ◌∙◌, arith, eq-eqb, Vec}
 use Rattle.std.specs.Option.{option_map, option_and_then}
 use Rattle.std.specs.declared.alloc.Global.{Global}
 use Rattle.std.proofs.lemmas.Option.{slice_get-map}

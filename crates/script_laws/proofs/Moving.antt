@@ -1,26 +1,25 @@
 -- What a process did is moves of it: a call in one stay, one that was refused before it came to the queues, and an exit.
-use Rattle.std.proofs.Common.{◌≡◌, ◌≢◌, ℕ, ◌+◌, ◌==◌, Bool, true, false, List, [], ◌∷◌, ◌++◌, Option, Some, None, Result, Ok, Err, if◌then◌else◌, refl, ap, sym, ◌∙◌, subst, eq-eqb, Vec}
+use Rattle.std.proofs.Common.{◌≡◌, ℕ, ◌+◌, Bool, true, false, List, [], ◌∷◌, ◌++◌, Some, None, if◌then◌else◌, refl, ap, sym, ◌∙◌, subst, eq-eqb, Vec}
 use Rattle.std.specs.List.{All}
 use Rattle.std.specs.declared.alloc.Global.{Global}
 use Rattle.std.proofs.lemmas.List.Elements.{All-nil, All-cons}
-use Rattle.fast_mutex.specs.Items.{LockId, Ticket, Grows, items_of}
-use Rattle.mq.specs.Calls.{AreInTurn, Calls, Exits, Found, IsFree, Stops, author, bounds_in, bounds_of, closes, made, recorded}
+use Rattle.fast_mutex.specs.Items.{LockId, Ticket, Grows}
+use Rattle.mq.specs.Calls.{AreInTurn, Calls, Found, IsFree, author, bounds_in, bounds_of, closes, made, recorded}
 use Rattle.mq.proofs.Closings.{all-closes}
 use Rattle.mq.proofs.Growing.{grows-on}
 use Rattle.mq.proofs.Others.{wait-grown}
-use Rattle.mq_model.specs.Bounds.{HeedsBounds, has_entry}
+use Rattle.mq_model.specs.Bounds.{has_entry}
 use Rattle.mq_model.specs.Descriptors.{lowest_held}
 use Rattle.mq_model.specs.Legality.{IsLegalNext, Legal}
 use Rattle.mq_model.specs.Record.{Past, Record}
 use Rattle.mq_model.specs.Waits.{is_wait, open_wait}
-use Rattle.mq_model.specs.declared.bounds.Bounds.{Bounds}
 use Rattle.mq_model.specs.declared.entries.Call.{Call}
 use Rattle.mq_model.specs.declared.entries.Reply.{Reply}
 use Rattle.mq_model.specs.declared.faults.Fault.{Fault}
 use Rattle.script_orders.specs.Progress.{Progress}
 use Rattle.script_orders.specs.Said.{said}
-use Rattle.script_orders.specs.Scenes.{Scene, after_call, close_first}
-use Rattle.script_orders.specs.Turns.{Turned, after_turn, scene_of, turned}
+use Rattle.script_orders.specs.Scenes.{close_first}
+use Rattle.script_orders.specs.Turns.{after_turn}
 use Rattle.script_orders.specs.declared.plan.Planned.{Planned}
 use Rattle.script_orders.specs.declared.plan.Step.TheVariants as steps
 use Rattle.script_text.specs.Replies.{reply_line}

@@ -1,19 +1,18 @@
 -- What a process performed of a line of a script are moves of it.
-use Rattle.std.proofs.Common.{◌≡◌, ◌≢◌, ℕ, ◌+◌, ◌==◌, Bool, true, false, ◌&&◌, List, [], ◌∷◌, ◌++◌, length, replicate, Option, Some, None, Result, Ok, Err, inl, inr, if◌then◌else◌, refl, ap, sym, ◌∙◌, subst, Vec}
-use Rattle.std.specs.Prelude.{◌⊎◌, IsTrue, IsFalse}
+use Rattle.std.proofs.Common.{◌≡◌, ◌≢◌, ℕ, true, false, List, [], length, replicate, Option, Some, None, Result, Ok, Err, inl, inr, refl, ap, sym, ◌∙◌, subst, Vec}
+use Rattle.std.specs.Prelude.{◌⊎◌}
 use Rattle.std.specs.declared.alloc.Global.{Global}
 use Rattle.std.proofs.lemmas.List.{length-replicate}
-use Rattle.fast_mutex.specs.Items.{Ticket, Grows}
+use Rattle.fast_mutex.specs.Items.{Ticket}
 use Rattle.mq.specs.Calls.{Calls, Exits, Expired, Found, OneCall, ReceiveCall, SendCall, TimedReceive, TimedSend, WaitedReceive, WaitedSend, WholeReceive, bounds_in, bounds_of, made}
-use Rattle.mq.specs.Says.{attributes_says, done_says, notice_says, open_says, receive_says, send_says}
+use Rattle.mq.specs.Says.{receive_says, send_says}
 use Rattle.mq_model.proofs.Places.{clash, split}
-use Rattle.mq_model.specs.Bounds.{has_entry}
 use Rattle.mq_model.specs.Messages.{is_receive}
 use Rattle.mq_model.specs.Name.{has_name_form, is_name, is_short}
 use Rattle.mq_model.specs.Record.{Past, Record}
 use Rattle.mq_model.specs.Waits.{is_wait}
 use Rattle.mq_model.specs.declared.entries.Call.{Call}
-use Rattle.mq_model.specs.declared.entries.Call.TheVariants.{MqOpen, MqClose, MqUnlink, MqSend, MqReceive, MqTimedSend, MqTimedReceive, MqGetattr, MqSetattr, MqNotify, NextNotice}
+use Rattle.mq_model.specs.declared.entries.Call.TheVariants.{MqClose, MqSend, MqReceive, MqTimedSend, MqTimedReceive}
 use Rattle.mq_model.specs.declared.entries.Deadline.{Deadline}
 use Rattle.mq_model.specs.declared.entries.Received.{Received}
 use Rattle.mq_model.specs.declared.entries.Reply.{Reply}
@@ -105,11 +104,11 @@ module _ (phase : ℕ) (program : Vec Planned Global) (from : Past) (progress : 
   named-moves says shows call name after came tells memory next makes = split (is_name name)
       (λ yes. one-moves says shows call name after came tells memory (next-step phase program progress.begun (named_step name call) (steps.Call call) name (rw yes refl) next) (makes.made yes))
       (λ no. split (has_name_form name)
-          (λ form.
-          let long : is_short name ≡ false = split (is_short name) (λ t. let bad : is_name name ≡ true = rw (form, t) refl in clash (is_name name) bad no) (λ f. f) in
-          refused-moves NameTooLong name after came (next-step phase program progress.begun (named_step name call) (steps.Refusal NameTooLong) name (rw (no, form) refl) next) (makes.too_long form long))
-          (λ other.
-          refused-moves Invalid name after came (next-step phase program progress.begun (named_step name call) (steps.Refusal Invalid) name (rw (no, other) refl) next) (makes.invalid other)))
+      (λ form.
+      let long : is_short name ≡ false = split (is_short name) (λ t. let bad : is_name name ≡ true = rw (form, t) refl in clash (is_name name) bad no) (λ f. f) in
+      refused-moves NameTooLong name after came (next-step phase program progress.begun (named_step name call) (steps.Refusal NameTooLong) name (rw (no, form) refl) next) (makes.too_long form long))
+      (λ other.
+      refused-moves Invalid name after came (next-step phase program progress.begun (named_step name call) (steps.Refusal Invalid) name (rw (no, other) refl) next) (makes.invalid other)))
 
   exit-of : (result : Result (Unit {0}) Fault) (given after : List ℕ) → outcome_by (λ _. outcomes.Done) result ≢ outcomes.Refused NoMemory
       → IsNext phase program progress.begun steps.Exit given → Exits old new result → Moved old.number phase program from progress new (reply_line old.number (outcome_by (λ _. outcomes.Done) result) after)

@@ -1,6 +1,6 @@
 -- Lists that have grown, taken apart at the items that are a process's own.
-use Rattle.std.proofs.Common.{◌≡◌, ℕ, Bool, true, false, List, [], ◌∷◌, ◌++◌, refl, ap, sym, ◌∙◌, subst, eqb, eq-eqb, ne_eqb, eqb-true}
-use Rattle.std.specs.List.{All, filter}
+use Rattle.std.proofs.Common.{◌≡◌, ℕ, List, [], ◌∷◌, ◌++◌, refl, ap, sym, ◌∙◌, eqb, eq-eqb}
+use Rattle.std.specs.List.{All}
 use Rattle.std.proofs.lemmas.List.Elements.{All-head, All-tail}
 use Rattle.mq_model.proofs.Places.{split}
 use Rattle.fast_mutex.specs.Items.{Grows, items_of}

@@ -1,46 +1,33 @@
 -- A call that waited is two moves: the wait and its collect.
-use Rattle.std.proofs.Common.{◌≡◌, ◌≢◌, ℕ, ◌+◌, ◌<◌, ◌==◌, Bool, true, false, List, [], ◌∷◌, ◌++◌, length, append_assoc, append-nil, Option, Some, None, is_some, if◌then◌else◌, refl, ap, sym, ◌∙◌, subst, arith, eq-eqb, Vec}
-use Rattle.std.specs.List.{All}
+use Rattle.std.proofs.Common.{◌≡◌, ℕ, ◌+◌, Bool, true, false, List, [], ◌∷◌, ◌++◌, length, append_assoc, Option, Some, None, is_some, if◌then◌else◌, refl, ap, sym, ◌∙◌, subst, arith, eq-eqb, Vec}
 use Rattle.std.specs.Option.{option_map, unwrap_or}
 use Rattle.std.specs.declared.alloc.Global.{Global}
-use Rattle.fast_mutex.specs.Items.{LockId, Ticket, Grows, items_of}
+use Rattle.fast_mutex.specs.Items.{LockId, Ticket, Grows}
 use Rattle.mq.specs.Calls.{Begins, Waited, author, bounds_in, recorded}
-use Rattle.mq.proofs.Growing.{grows-on}
 use Rattle.mq.proofs.Others.{wait-grown}
-use Rattle.mq_model.specs.Legality.{IsLegalNext, Legal, may_call, reply_to}
+use Rattle.mq_model.specs.Legality.{IsLegalNext, Legal}
 use Rattle.mq_model.specs.Messages.{is_receive, is_send, priority_given}
 use Rattle.mq_model.specs.Record.{Past, Record, record_at}
 use Rattle.mq_model.specs.Waits.{answered_by, open_wait}
 use Rattle.mq_model.specs.declared.entries.Call.{Call}
 use Rattle.mq_model.specs.declared.entries.Call.TheVariants.{Collect}
-use Rattle.mq_model.specs.declared.entries.Reply.{Reply}
 use Rattle.mq_model.specs.declared.entries.Reply.TheVariants.{Collected, Waits}
-use Rattle.mq_model.proofs.Frames.{record_at-older}
-use Rattle.mq_model.proofs.Prefixes.{record_at-below}
 use Rattle.mq_state.specs.Buffers.{message_at, received_at, with_front}
 use Rattle.script_orders.specs.Progress.{Progress}
 use Rattle.script_orders.specs.Said.{said, said_of_collect, said_of_message}
-use Rattle.script_orders.specs.Scenes.{Scene}
-use Rattle.script_orders.specs.Turns.{Turned, after_turn, turned}
+use Rattle.script_orders.specs.Turns.{Turned, after_turn}
 use Rattle.script_orders.specs.declared.plan.Planned.{Planned}
 use Rattle.script_orders.specs.declared.plan.Step.TheVariants as steps
 use Rattle.script_text.specs.Replies.{reply_line}
 use Rattle.script_text.specs.declared.reply.Outcome.TheVariants as outcomes
-use Rattle.script_laws.proofs.Answering.{Answers, answer-kind}
-use Rattle.script_laws.proofs.Course.{Course, Goes, Move}
+use Rattle.script_laws.proofs.Answering.{Answers, answer-kind, record_at-more}
+use Rattle.script_laws.proofs.Course.{Goes}
 use Rattle.script_laws.proofs.Lines.{IsNext, call-goes, turn-by-collect, turn-by-line}
-use Rattle.script_laws.proofs.Moving.{IsAt, Moved, Stood, at-free, further, mine-one, stood}
+use Rattle.script_laws.proofs.Moving.{IsAt, Moved, at-free, further, mine-one, stood}
 use Rattle.script_laws.proofs.Saying.{message-prints}
-use Rattle.script_laws.proofs.Splitting.{Stands, stands}
+use Rattle.script_laws.proofs.Splitting.{stands}
 
 -- older records --------------------------------------------------------------------------------------------------------
-
--- a record keeps its place
-pub record_at-more : (more past : Past) (k : ℕ) (r : Record) → record_at past k ≡ Some r → record_at (more ++ past) k ≡ Some r
-record_at-more [] past k r at = at
-record_at-more (x ∷ more) past k r at =
-    let old : record_at (more ++ past) k ≡ Some r = record_at-more more past k r at in
-    record_at-older (more ++ past) x k (record_at-below (more ++ past) k r old) ∙ old
 
 pub record_at-grown : (p k : ℕ) (r : Record) (before after : Past) → Grows author p before after [] → record_at before k ≡ Some r → record_at after k ≡ Some r
 record_at-grown p k r before after g at = ap (λ (past : Past). record_at past k) g.is ∙ record_at-more g.behind before k r at
@@ -140,6 +127,11 @@ wait-begins phase program from progress old begun call given at next begins =
       turn = turn-by-line found phase p progress program (steps.Call call) given (record { past = r ∷ found; text = progress.text ++ [] }) free next goes;
     }
 
+-- the same count and text
+told-as : (begun n : ℕ) (text line : List ℕ) (past : Past) (o : Option Turned) → o ≡ Some (record { past = past; progress = record { begun = begun; text = text } }) → begun ≡ n → text ≡ line → o ≡ Some (record { past = past; progress = record { begun = n; text = line } })
+told-as begun n text line past o is count same =
+    is ∙ ap (λ (k : ℕ). Some (record { past = past; progress = record { begun = k; text = text } })) count ∙ ap (λ (l : List ℕ). Some (record { past = past; progress = record { begun = n; text = l } })) same
+
 -- a wait and its collect are two moves, where this is printed of the collect
 pub waited-moves : (phase : ℕ) (program : Vec Planned Global) (from : Past) (progress : Progress) (old new : Ticket Record) (call : Call) (given line : List ℕ) (by : ℕ)
     → IsAt old.number from old → IsNext phase program progress.begun (steps.Call call) given → Waited old new call given by
@@ -173,8 +165,7 @@ waited-moves phase program from progress old new call given line by at next wait
       others = s.others;
       mine = mine-one p Collect [] (Collected by);
       eager = λ none. let bad : end ∷ [] ≡ [] = none in absurd (cc);
-      turn = c.0 ∙ ap (λ (n : ℕ). Some (record { past = end ∷ found; progress = record { begun = n; text = (progress.text ++ []) ++ said_of_collect (end ∷ found) p by } })) count
-          ∙ ap (λ (l : List ℕ). Some (record { past = end ∷ found; progress = record { begun = progress.begun + 1; text = l } })) text;
+      turn = told-as (progress.begun + 1 + 0) (progress.begun + 1) ((progress.text ++ []) ++ said_of_collect (end ∷ found) p by) (progress.text ++ line) (end ∷ found) (after_turn found phase p first program) c.0 count text;
     }
     in
     let to_wait : Goes p phase program (record { found = b.found; own = wait ∷ []; next = first }) from progress = record {
