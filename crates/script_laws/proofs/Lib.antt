@@ -1,11 +1,21 @@
 pub mod Course
-mod Joins
-mod Courses
-mod Runners
-mod Weaving
-mod Growth
-mod Coursing
-mod Sitting
-mod Resting
-mod Beginning
-mod Phasing
+pub mod Splitting
+pub mod Answering
+pub mod Saying
+pub mod Closing
+pub mod Lines
+pub mod Entering
+pub mod Moving
+pub mod Waiting
+pub mod Expiring
+pub mod Performing
+pub mod Coursing
+pub mod Joins
+pub mod Courses
+pub mod Runners
+pub mod Weaving
+pub mod Growth
+pub mod Sitting
+pub mod Resting
+pub mod Beginning
+pub mod Phasing
