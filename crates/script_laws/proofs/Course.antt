@@ -7,7 +7,7 @@ use Rattle.mq.specs.Calls.{author}
 use Rattle.mq_model.specs.Record.{Past}
 use Rattle.script_orders.specs.Plans.{Plan, plan_of}
 use Rattle.script_orders.specs.Progress.{Progress}
-use Rattle.script_orders.specs.Turns.{Turned, after_turn}
+use Rattle.script_orders.specs.Turns.{after_turn}
 use Rattle.script_orders.specs.declared.plan.Planned.{Planned}
 
 -- a turn of a process: the journal that it found, the records that it put in front, and how far the process has come then

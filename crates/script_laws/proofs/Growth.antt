@@ -3,7 +3,7 @@ use Rattle.std.proofs.Common.{◌≡◌, inl, inr, ℕ, Bool, true, false, List,
 use Rattle.std.specs.List.{All, AllZip}
 use Rattle.std.proofs.lemmas.List.Elements.{All-head, All-tail}
 use Rattle.fast_mutex.specs.Items.{Grows, Ticket}
-use Rattle.mq.specs.Calls.{Calls, TimedReceive, TimedSend, author}
+use Rattle.mq.specs.Calls.{Calls, author}
 use Rattle.mq_model.specs.Name.{has_name_form, is_short}
 use Rattle.mq_model.specs.Record.{Past, Record}
 use Rattle.mq_model.specs.declared.entries.Call.{Call}

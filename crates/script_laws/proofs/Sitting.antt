@@ -99,7 +99,7 @@ one-runs phase calls phases n p past to program seat old new process completions
     let start : Grows author p past old.left [] = record { behind = []; is = before; mine = refl } in
     let lines : AreLines program seat.begun (map (plan phase) mine) = record { before = sits.earlier; rest = program_of (phase + 1) phases p; are = sits.are; count = sits.count } in
     let course = course-of-calls p phase program mine completions old new past to seat.begun seat.text sits.number sits.unbounded sits.free lines by_p memory start grows in
-    let free : open_wait to p ≡ None = free-at-end p mine completions old new to sits.number sits.unbounded sits.free by_p memory grows in
+    let free : open_wait to p ≡ None = free-at-end p phase program mine completions old new to seat.begun sits.number sits.unbounded sits.free lines by_p memory grows in
     let earlier : List Plan = sits.earlier ++ map (plan phase) mine in
     let are : map plan_of program.items ≡ earlier ++ program_of (phase + 1) phases p = sits.are ∙ sym (append_assoc sits.earlier (map (plan phase) mine) (program_of (phase + 1) phases p)) in
     let count : length earlier ≡ seat.begun + length mine = omega (arith, length-append sits.earlier (map (plan phase) mine), length-map mine (plan phase), sits.count) in
