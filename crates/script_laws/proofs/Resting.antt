@@ -52,9 +52,6 @@ abbrev pub AllThrough : ℕ → Past → Past → List Runner → Type 0
 AllThrough phase past to runners = (i : ℕ) (r : Runner) → slice_get runners i ≡ Some r → Through (i + 1) phase past to r
 
 module _ (phases phase : ℕ) (past to : Past) (runners : List Runner) (through : AllThrough phase past to runners) where
-  end : Stage
-  end = ended phases phase to runners
-
   count : length (programs_in runners) ≡ length runners
   count = length-map runners (λ (r : Runner). r.program)
 

@@ -70,9 +70,6 @@ find-eager (r ∷ runners) =
 
 -- the next move ------------------------------------------------------------------------------------------------------------
 
-append-empty : {A : Type 0} (xs : List A) → xs ++ [] ≡ xs
-append-empty xs = append-nil xs
-
 nothing : (a own b : Past) → [] ≡ (a ++ own) ++ b → own ≡ []
 nothing a own b e = (both-empty a own (both-empty (a ++ own) b (sym e)).0).1
 
@@ -129,7 +126,7 @@ own-next phase to past runners i runner ys r on later has is at (move ∷ moves)
     let sides : ys ++ r ∷ [] ≡ (first.0 ++ move.own) ++ course.0.others.behind = append_cancel_right (ys ++ r ∷ []) ((first.0 ++ move.own) ++ course.0.others.behind) past (sym at ∙ first.1) in
     let here : course.0.others.behind ≡ [] = found-here (i + 1) ys (first.0 ++ move.own) course.0.others.behind r is course.0.others.mine sides in
     let found : move.found ≡ past = course.0.others.is ∙ ap (λ (l : Past). l ++ past) here in
-    let more : to ≡ (first.0 ++ move.own) ++ past = first.1 ∙ ap (λ (l : Past). l ++ past) (ap (λ (l : Past). (first.0 ++ move.own) ++ l) here ∙ append-empty (first.0 ++ move.own)) in
+    let more : to ≡ (first.0 ++ move.own) ++ past = first.1 ∙ ap (λ (l : Past). l ++ past) (ap (λ (l : Past). (first.0 ++ move.own) ++ l) here ∙ append-nil (first.0 ++ move.own)) in
     record {
       at = i;
       runner = runner;

@@ -14,34 +14,34 @@ use Rattle.script_text.specs.Script.{Whole, WrittenCall}
 use Rattle.script_text.specs.declared.reply.Completion.{Completion}
 use Rattle.script_text.specs.declared.reply.Outcome.TheVariants as outcomes
 
--- the reply does not say that memory was wanting
+-- the call was not refused for want of memory
 abbrev pub HadMemory : Completion → Type 0
 HadMemory completion = completion.outcome ≢ outcomes.Refused NoMemory
 
--- no call of a phase that was run wanted for memory
+-- no call of a phase that was run was refused for want of memory
 abbrev pub IsAmplePhase : (calls : List WrittenCall) (before after : List (Ticket Record)) (text : List ℕ) → RunsPhase calls before after text → Type 0
 IsAmplePhase calls [] [] text ran = Unit {0}
 IsAmplePhase calls [] (new ∷ after) text ran = Unit {0}
 IsAmplePhase calls (old ∷ before) [] text ran = Unit {0}
 IsAmplePhase calls (old ∷ before) (new ∷ after) text ran = All HadMemory ran.0 × IsAmplePhase calls before after ran.1 ran.4
 
--- no call of phases that were run
+-- no call of phases that were run was
 abbrev pub AreAmplePhases : (phases : List (List WrittenCall)) (before after : List (Ticket Record)) (text : List ℕ) → RunsPhases phases before after text → Type 0
 AreAmplePhases [] before after text ran = Unit {0}
 AreAmplePhases (calls ∷ phases) before after text ran = IsAmplePhase calls before ran.0 ran.3 ran.5 × AreAmplePhases phases ran.1 after ran.4 ran.7
 
--- no call of a script that was run whole
+-- no call of a script that was run whole was
 abbrev pub IsAmple : {script : Whole} {replies : List ℕ} {journal : Past} → RunsWhole script replies journal → Type 0
 IsAmple {script} {replies} ran = AreAmplePhases script.phases (tickets_from ran.system 1 script.processes) ran.processes replies ran.ran
 
--- what is told of a phase that ended, with these replies
+-- what is told of a phase that ended with these replies
 abbrev pub phase_told : ℕ → List ℕ → Told
 phase_told phase text = record { stage = phase; stuck = false; text = text }
 
--- the bytes are texts of n phases one after the other, of which the first has this number, and each is one that is said of its phase
+-- the bytes are the texts of n phases one after the other, of which the first has this number, and this holds of each with its text
 abbrev pub EachPhase : (ℕ → List ℕ → Type 0) → ℕ → ℕ → List ℕ → Type 0
-EachPhase Is phase zero bytes = bytes ≡ []
-EachPhase Is phase (suc n) bytes = (text : List ℕ) × (rest : List ℕ) × Is phase text × EachPhase Is (phase + 1) n rest × (bytes ≡ text ++ rest)
+EachPhase P phase zero bytes = bytes ≡ []
+EachPhase P phase (suc n) bytes = (text : List ℕ) × (rest : List ℕ) × P phase text × EachPhase P (phase + 1) n rest × (bytes ≡ text ++ rest)
 
 -- in some order of the calls the phase ends with these replies
 abbrev pub IsTold : Stage → ℕ → List ℕ → Type 0
