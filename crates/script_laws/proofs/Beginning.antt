@@ -1,0 +1,62 @@
+-- How the processes of a script begin.
+use Rattle.std.proofs.Common.{◌≡◌, ℕ, zero, suc, ◌+◌, List, [], ◌∷◌, ◌++◌, length, map, None, replicate, refl, ap, sym, ◌∙◌, arith, Vec}
+use Rattle.std.specs.declared.alloc.Global.{Global}
+use Rattle.fast_mutex.specs.Items.{LockId, tickets_from}
+use Rattle.mq.specs.Calls.{bounds_in}
+use Rattle.script_orders.specs.Plans.{Plan, plan_of, program_of, programs_of}
+use Rattle.script_orders.specs.Stage.{fresh}
+use Rattle.script_orders.specs.declared.plan.Planned.{Planned}
+use Rattle.script_text.specs.Script.{WrittenCall}
+use Rattle.script_laws.proofs.Growth.{AllLeft}
+use Rattle.script_laws.proofs.Sitting.{AllSit}
+
+abbrev shown : Vec Planned Global → List Plan
+shown program = map plan_of program.items
+
+-- the lines of n processes from number p on
+abbrev programs_from : List (List WrittenCall) → ℕ → ℕ → List (List Plan)
+programs_from phases p zero = []
+programs_from phases p (suc n) = program_of 0 phases p ∷ programs_from phases (suc p) n
+
+one-more : (phases : List (List WrittenCall)) (p n : ℕ) → programs_from phases p (suc n) ≡ programs_from phases p n ++ program_of 0 phases (p + n) ∷ []
+one-more phases p zero = let e : p ≡ p + zero = omega arith in ap (λ (k : ℕ). program_of 0 phases k ∷ []) e
+one-more phases p (suc n) =
+    let e : suc p + n ≡ p + suc n = omega arith in
+    ap (λ (l : List (List Plan)). program_of 0 phases p ∷ l)
+    (one-more phases (suc p) n ∙ ap (λ (k : ℕ). programs_from phases (suc p) n ++ program_of 0 phases k ∷ []) e)
+
+pub in-order : (phases : List (List WrittenCall)) (n : ℕ) → programs_of phases n ≡ programs_from phases 1 n
+in-order phases zero = refl
+in-order phases (suc n) =
+    let e : n + 1 ≡ 1 + n = omega arith in
+    ap (λ (l : List (List Plan)). l ++ program_of 0 phases (n + 1) ∷ []) (in-order phases n)
+    ∙ (ap (λ (k : ℕ). programs_from phases 1 n ++ program_of 0 phases k ∷ []) e ∙ sym (one-more phases 1 n))
+
+begin-sit : (phases : List (List WrittenCall)) (lock : LockId) (p n : ℕ) (programs : List (Vec Planned Global)) → bounds_in lock.fixed ≡ None → map shown programs ≡ programs_from phases p n → AllSit 0 phases p programs (replicate n fresh) (tickets_from lock p n)
+begin-sit phases lock p zero [] unbounded are = (refl, refl)
+begin-sit phases lock p zero (program ∷ programs) unbounded are = cc
+begin-sit phases lock p (suc n) [] unbounded are = cc
+begin-sit phases lock p (suc n) (program ∷ programs) unbounded are =
+    let lines : map plan_of program.items ≡ program_of 0 phases p = cc in
+    let rest : map shown programs ≡ programs_from phases (suc p) n = cc in (
+      program,
+      programs,
+      fresh,
+      replicate n fresh,
+      refl,
+      refl,
+      record { number = refl; unbounded = unbounded; free = refl; earlier = []; are = lines; count = refl; text = refl },
+      begin-sit phases lock (suc p) n programs unbounded rest,
+    )
+
+pub all-begin : (phases : List (List WrittenCall)) (lock : LockId) (n : ℕ) (programs : List (Vec Planned Global)) → bounds_in lock.fixed ≡ None → map shown programs ≡ programs_of phases n → AllSit 0 phases 1 programs (replicate n fresh) (tickets_from lock 1 n)
+all-begin phases lock n programs unbounded are = begin-sit phases lock 1 n programs unbounded (are ∙ in-order phases n)
+
+-- with the empty journal
+pub none-left : (lock : LockId) (p n : ℕ) → AllLeft [] (tickets_from lock p n)
+none-left lock p zero = tt
+none-left lock p (suc n) = (refl, none-left lock (suc p) n)
+
+pub count-from : (phases : List (List WrittenCall)) (p n : ℕ) → length (programs_from phases p n) ≡ n
+count-from phases p zero = refl
+count-from phases p (suc n) = ap (λ (k : ℕ). suc k) (count-from phases (suc p) n)

@@ -1,0 +1,147 @@
+-- The calls that a process made in a phase of a run are a course of it.
+use Rattle.std.proofs.Common.{◌≡◌, ◌≢◌, ℕ, ◌+◌, List, [], ◌∷◌, ◌++◌, length, map, None, refl, ap, sym, ◌∙◌, subst, append_assoc, append-nil, arith, Vec}
+use Rattle.std.specs.List.{All}
+use Rattle.std.specs.declared.alloc.Global.{Global}
+use Rattle.std.proofs.lemmas.List.Elements.{All-head, All-tail}
+use Rattle.fast_mutex.specs.Items.{Ticket, Grows}
+use Rattle.mq.specs.Calls.{author, bounds_in, IsFree}
+use Rattle.mq.proofs.Growing.{grows-on}
+use Rattle.mq.proofs.Others.{wait-grown}
+use Rattle.mq_model.specs.Record.{Past, Record}
+use Rattle.mq_model.specs.Waits.{open_wait}
+use Rattle.mq_model.specs.declared.entries.Call.TheVariants.{MqOpen, MqClose, MqUnlink, MqGetattr, MqSetattr, MqNotify, NextNotice}
+use Rattle.mq_model.specs.declared.entries.Deadline.{Deadline}
+use Rattle.mq_model.specs.declared.faults.Fault.TheVariants.{NoMemory}
+use Rattle.mq.specs.Says.{attributes_says, done_says, notice_says, open_says}
+use Rattle.script_orders.specs.Plans.{given_by, plan, step_by}
+use Rattle.script_orders.specs.Progress.{Progress}
+use Rattle.script_orders.specs.declared.plan.Planned.{Planned}
+use Rattle.script_runner.specs.Buffer.{buffer_given}
+use Rattle.script_runner.specs.Runs.{Performs, RunsCalls}
+use Rattle.script_text.specs.ReplyLines.{reply_lines}
+use Rattle.script_text.specs.Replies.{reply_line}
+use Rattle.script_text.specs.Script.{WrittenCall}
+use Rattle.script_text.specs.declared.command.Command.{Command}
+use Rattle.script_text.specs.declared.command.Command.TheVariants as command
+use Rattle.script_text.specs.declared.reply.Completion.{Completion}
+use Rattle.script_text.specs.declared.reply.Outcome.{Outcome}
+use Rattle.script_text.specs.declared.reply.Outcome.TheVariants as outcomes
+use Rattle.text_io.specs.Words.{Word}
+use Rattle.script_laws.proofs.Course.{AreLines, Course, Move}
+use Rattle.script_laws.proofs.Lines.{IsNext, later-lines, next-line}
+use Rattle.script_laws.proofs.Moving.{IsAt, Moved, further}
+use Rattle.script_laws.proofs.Performing.{exit-performs, named-moves, one-moves, receive-performs, send-performs, timed_receive-performs, timed_send-performs}
+use Rattle.script_laws.proofs.Saying.{attributes-tells, done-tells, notice-tells, open-tells}
+use Rattle.script_laws.proofs.Splitting.{grows-none}
+
+-- a line ------------------------------------------------------------------------------------------------------------------
+
+performed : (phase : ℕ) (program : Vec Planned Global) (from : Past) (progress : Progress) (old new : Ticket Record) → IsAt old.number from old
+    → (moment : Deadline) (c : Command Word) (after : List ℕ) (came : Outcome) → came ≢ outcomes.Refused NoMemory
+    → IsNext phase program progress.begun (step_by moment c) (given_by c) → Performs moment c (buffer_given c) after old new came
+    → Moved old.number phase program from progress new (reply_line old.number came after)
+performed phase program from progress old new at moment (command.Open name flags attr) after came memory next does = named-moves phase program from progress old new at open_says outcomes.Opened (MqOpen flags attr) name after came (open-tells after) memory next does
+performed phase program from progress old new at moment (command.Close d) after came memory next does = one-moves phase program from progress old new at done_says (λ _. outcomes.Done) (MqClose d) [] after came (done-tells after) memory next does
+performed phase program from progress old new at moment (command.Unlink name) after came memory next does = named-moves phase program from progress old new at done_says (λ _. outcomes.Done) MqUnlink name after came (done-tells after) memory next does
+performed phase program from progress old new at moment (command.Send d prio message) after came memory next does = send-performs phase program from progress old new at d prio message after came memory next does
+performed phase program from progress old new at moment (command.Receive d room) after came memory next does = receive-performs phase program from progress old new at d room after came memory next does
+performed phase program from progress old new at moment (command.TimedSend d prio until message) after came memory next does = timed_send-performs phase program from progress old new at d prio until moment message after came memory next does
+performed phase program from progress old new at moment (command.TimedReceive d room until) after came memory next does = timed_receive-performs phase program from progress old new at d room until moment after came memory next does
+performed phase program from progress old new at moment (command.Getattr d) after came memory next does = one-moves phase program from progress old new at attributes_says outcomes.Attrs (MqGetattr d) [] after came (attributes-tells after) memory next does
+performed phase program from progress old new at moment (command.Setattr d nonblock) after came memory next does = one-moves phase program from progress old new at attributes_says outcomes.Attrs (MqSetattr d nonblock) [] after came (attributes-tells after) memory next does
+performed phase program from progress old new at moment (command.Notify d value) after came memory next does = one-moves phase program from progress old new at done_says (λ _. outcomes.Done) (MqNotify d value) [] after came (done-tells after) memory next does
+performed phase program from progress old new at moment command.Notice after came memory next does = one-moves phase program from progress old new at notice_says outcomes.Notice NextNotice [] after came (notice-tells after) memory next does
+performed phase program from progress old new at moment command.Exit after came memory next does = exit-performs phase program from progress old new at [] after came memory next does
+
+-- of the process of this number
+moved-as : (p phase : ℕ) (program : Vec Planned Global) (from : Past) (progress : Progress) (old new : Ticket Record) (call : WrittenCall) (completion : Completion)
+    → IsAt p from old → completion.outcome ≢ outcomes.Refused NoMemory
+    → IsNext phase program progress.begun (step_by call.moment call.command) (given_by call.command)
+    → Performs call.moment call.command (buffer_given call.command) completion.buffer.items old new completion.outcome
+    → Moved p phase program from progress new (reply_line p completion.outcome completion.buffer.items)
+moved-as p phase program from progress old new call completion at memory next does =
+    let near : Grows author old.number from old.left [] = subst (λ (n : ℕ). Grows author n from old.left []) (sym at.number) at.near in
+    let own : IsAt old.number from old = record { number = refl; bounds = at.bounds; free = at.free; near = near } in
+    let moved = performed phase program from progress old new own call.moment call.command completion.buffer.items completion.outcome memory next does in
+    subst (λ (n : ℕ). Moved n phase program from progress new (reply_line n completion.outcome completion.buffer.items)) at.number moved
+
+-- all lines ---------------------------------------------------------------------------------------------------------------
+
+-- what a process is after its calls
+record Ran (p phase : ℕ) (program : Vec Planned Global) (from : Past) (progress end : Progress) (new : Ticket Record) (to : Past) : Type 0 where
+  moves : List Move
+  course : Course p phase program to end moves from progress
+  free : open_wait to p ≡ None
+
+abbrev end_of : ℕ → List WrittenCall → List Completion → ℕ → List ℕ → Progress
+end_of p calls completions begun text = record { begun = begun + length calls; text = text ++ reply_lines p completions }
+
+ran-all : (p phase : ℕ) (program : Vec Planned Global) (calls : List WrittenCall) (completions : List Completion) (old new : Ticket Record) (from to : Past) (begun : ℕ) (text : List ℕ)
+    → IsAt p from old
+    → AreLines program begun (map (plan phase) calls)
+    → RunsCalls calls completions old new
+    → All (λ completion. completion.outcome ≢ outcomes.Refused NoMemory) completions
+    → Grows author p new.left to []
+    → Ran p phase program from (record { begun = begun; text = text }) (end_of p calls completions begun text) new to
+ran-all p phase program [] [] old new from to begun text at lines ran memory after =
+    let here : Grows author p old.left to [] = subst (λ (t : Ticket Record). Grows author p t.left to []) ran after in
+    let none : begun ≡ begun + 0 = omega arith in
+    let free : open_wait old.left p ≡ None = ap (λ (n : ℕ). open_wait old.left n) (sym at.number) ∙ at.free in
+    record {
+      moves = [];
+      course = (
+        ap (λ (n : ℕ). record { begun = n; text = text }) none ∙ ap (λ (l : List ℕ). record { begun = begun + 0; text = l }) (sym (append-nil text)),
+        grows-on at.near here,
+      );
+      free = wait-grown here ∙ free;
+    }
+ran-all p phase program [] (a ∷ completions) old new from to begun text at lines ran memory after = absurd ran
+ran-all p phase program (call ∷ calls) [] old new from to begun text at lines ran memory after = absurd ran
+ran-all p phase program (call ∷ calls) (completion ∷ completions) old new from to begun text at lines ran memory after =
+    let Kept : Completion → Type 0 = λ completion. completion.outcome ≢ outcomes.Refused NoMemory in
+    let mid : Ticket Record = ran.0 in
+    let line : List ℕ = reply_line p completion.outcome completion.buffer.items in
+    let moved = moved-as p phase program from (record { begun = begun; text = text }) old mid call completion at (All-head Kept completion completions memory) (next-line phase program begun call calls lines) ran.1 in
+    let rest = ran-all p phase program calls completions mid new moved.at to (begun + 1) (text ++ line) moved.is (later-lines phase program begun call calls lines) ran.2 (All-tail Kept completion completions memory) after in
+    let end : Progress = end_of p (call ∷ calls) (completion ∷ completions) begun text in
+    let count : begun + 1 + length calls ≡ begun + length (call ∷ calls) = omega arith in
+    let all : (text ++ line) ++ reply_lines p completions ≡ text ++ reply_lines p (completion ∷ completions) = append_assoc text line (reply_lines p completions) in
+    let same : end_of p calls completions (begun + 1) (text ++ line) ≡ end =
+    ap (λ (n : ℕ). record { begun = n; text = (text ++ line) ++ reply_lines p completions }) count ∙ ap (λ (l : List ℕ). record { begun = begun + length (call ∷ calls); text = l }) all
+    in
+    let course : Course p phase program to end rest.moves moved.at (further (record { begun = begun; text = text }) line) =
+    subst (λ (e : Progress). Course p phase program to e rest.moves moved.at (further (record { begun = begun; text = text }) line)) same rest.course
+    in
+    let whole = moved.goes to end rest.moves course in
+    record { moves = whole.0; course = whole.1; free = rest.free }
+
+-- The calls of process p in a phase are moves. They begin from a journal after which others alone put records in front before the
+-- process left its own last, as from that one itself
+pub course-of-calls : (p phase : ℕ) (program : Vec Planned Global) (calls : List WrittenCall) (completions : List Completion) (old new : Ticket Record) (from to : Past) (begun : ℕ) (text : List ℕ)
+    → old.number ≡ p
+    → bounds_in old.lock.fixed ≡ None
+    → IsFree old
+    → AreLines program begun (map (plan phase) calls)
+    → RunsCalls calls completions old new
+    → All (λ completion. completion.outcome ≢ outcomes.Refused NoMemory) completions
+    → Grows author p from old.left []
+    → Grows author p new.left to []
+    → (moves : List Move) × Course p phase program to (record { begun = begun + length calls; text = text ++ reply_lines p completions }) moves from (record { begun = begun; text = text })
+course-of-calls p phase program calls completions old new from to begun text number bounds free lines ran memory before after =
+    let r = ran-all p phase program calls completions old new from to begun text (record { number = number; bounds = bounds; free = free; near = before }) lines ran memory after in
+    (r.moves, r.course)
+
+-- after them it waits in no call
+pub free-at-end : (p phase : ℕ) (program : Vec Planned Global) (calls : List WrittenCall) (completions : List Completion) (old new : Ticket Record) (to : Past) (begun : ℕ)
+    → old.number ≡ p
+    → bounds_in old.lock.fixed ≡ None
+    → IsFree old
+    → AreLines program begun (map (plan phase) calls)
+    → RunsCalls calls completions old new
+    → All (λ completion. completion.outcome ≢ outcomes.Refused NoMemory) completions
+    → Grows author p new.left to []
+    → open_wait to p ≡ None
+free-at-end p phase program calls completions old new to begun number bounds free lines ran memory after =
+    let at : IsAt p old.left old = record { number = number; bounds = bounds; free = free; near = grows-none author p old.left } in
+    let r = ran-all p phase program calls completions old new old.left to begun [] at lines ran memory after in
+    r.free

@@ -1,0 +1,177 @@
+-- What a process left is an older end of what it leaves later.
+use Rattle.std.proofs.Common.{◌≡◌, inl, inr, ℕ, Bool, true, false, List, [], ◌∷◌, ◌++◌, length, Option, Result, refl, ap, sym, ◌∙◌, subst, append_assoc, length-append, arith}
+use Rattle.std.specs.List.{All, AllZip}
+use Rattle.std.proofs.lemmas.List.Elements.{All-head, All-tail}
+use Rattle.fast_mutex.specs.Items.{Grows, Ticket}
+use Rattle.mq.specs.Calls.{Calls, author}
+use Rattle.mq_model.specs.Name.{has_name_form, is_short}
+use Rattle.mq_model.specs.Record.{Past, Record}
+use Rattle.mq_model.specs.declared.entries.Call.{Call}
+use Rattle.mq_model.specs.declared.entries.Deadline.{Deadline}
+use Rattle.mq_model.specs.declared.entries.Reply.{Reply}
+use Rattle.mq_model.specs.declared.faults.Fault.{Fault}
+use Rattle.script_runner.specs.Buffer.{buffer_given}
+use Rattle.script_runner.specs.Runs.{FindsLength, MakesNamed, Performs, RunsCalls, RunsPhase, RunsPhases, calls_of}
+use Rattle.script_text.specs.Script.{WrittenCall}
+use Rattle.script_text.specs.declared.command.Command.{Command}
+use Rattle.script_text.specs.declared.command.Command.TheVariants as command
+use Rattle.script_text.specs.declared.reply.Completion.{Completion}
+use Rattle.script_text.specs.declared.reply.Outcome.{Outcome}
+use Rattle.text_io.specs.Words.{Word}
+use Rattle.script_laws.proofs.Joins.{two-ends}
+
+-- the older journal is an end of the newer
+pub record IsEnd (older newer : Past) : Type 0 where
+  pub more : Past
+  pub is : newer ≡ more ++ older
+
+pub end-same : (past : Past) → IsEnd past past
+end-same past = record { more = []; is = refl }
+
+pub end-then : (a b c : Past) → IsEnd a b → IsEnd b c → IsEnd a c
+end-then a b c x y = record { more = y.more ++ x.more; is = y.is ∙ (ap (λ (l : Past). y.more ++ l) x.is ∙ sym (append_assoc y.more x.more a)) }
+
+by-calls : (old new : Ticket Record) (own : Past) → Calls old new own → IsEnd old.left new.left
+by-calls old new own calls = record { more = calls.grows.behind; is = calls.grows.is }
+
+by-same : (old new : Ticket Record) → new ≡ old → IsEnd old.left new.left
+by-same old new e = record { more = []; is = ap (λ (t : Ticket Record). t.left) e }
+
+named-grows : {A : Type 0} (says : Reply → Option (Result A Fault)) (shows : A → Outcome) (call : Call) (name : List ℕ) (old new : Ticket Record) (came : Outcome) → MakesNamed says shows call name old new came → IsEnd old.left new.left
+named-grows says shows call name old new came named =
+    let goes : (form short : Bool) → has_name_form name ≡ form → is_short name ≡ short → IsEnd old.left new.left =
+    λ form short. elim form as (λ form. has_name_form name ≡ form → is_short name ≡ short → IsEnd old.left new.left) [
+      | false ↦ (λ f s. by-same old new (named.invalid f).0)
+      | true ↦ elim short as (λ short. has_name_form name ≡ true → is_short name ≡ short → IsEnd old.left new.left) [
+        | false ↦ (λ f s. by-same old new (named.too_long f s).0)
+        | true ↦ (λ f s. let made = named.made (rw (f, s) refl) in by-calls old new _ made.called.calls)
+      ]
+    ]
+    in
+    goes (has_name_form name) (is_short name) refl refl
+
+pub performs-grows : (moment : Deadline) (c : Command Word) (before after : List ℕ) (old new : Ticket Record) (came : Outcome) → Performs moment c before after old new came → IsEnd old.left new.left
+performs-grows moment (command.Open name flags attr) before after old new came h = named-grows _ _ _ name old new came h
+performs-grows moment (command.Close d) before after old new came h = by-calls old new _ h.called.calls
+performs-grows moment (command.Unlink name) before after old new came h = named-grows _ _ _ name old new came h
+performs-grows moment (command.Send d prio message) before after old new came h =
+    elim h.called [
+      | inl one ↦ by-calls old new _ one.calls
+      | inr waits ↦ by-calls old new _ waits.waited.calls
+    ]
+performs-grows moment (command.Receive d room) before after old new came h =
+    elim h.called [
+      | inl one ↦ by-calls old new _ one.calls
+      | inr waits ↦ by-calls old new _ waits.waited.calls
+    ]
+performs-grows moment (command.TimedSend d prio until message) before after old new came h =
+    elim h.called.how [
+      | inl one ↦ by-calls old new _ one.calls
+      | inr later ↦ elim later [
+        | inl waits ↦ by-calls old new _ waits.waited.calls
+        | inr expires ↦ by-calls old new _ expires.calls
+      ]
+    ]
+performs-grows moment (command.TimedReceive d room until) before after old new came h =
+    elim h.called.how [
+      | inl one ↦ by-calls old new _ one.calls
+      | inr later ↦ elim later [
+        | inl waits ↦ by-calls old new _ waits.waited.calls
+        | inr expires ↦ by-calls old new _ expires.0.calls
+      ]
+    ]
+performs-grows moment (command.Getattr d) before after old new came h = by-calls old new _ h.called.calls
+performs-grows moment (command.Setattr d nonblock) before after old new came h = by-calls old new _ h.called.calls
+performs-grows moment (command.Notify d value) before after old new came h = by-calls old new _ h.called.calls
+performs-grows moment command.Notice before after old new came h = by-calls old new _ h.called.calls
+performs-grows moment command.Exit before after old new came h = by-calls old new _ h.called.calls
+
+pub calls-grow : (calls : List WrittenCall) (completions : List Completion) (old new : Ticket Record) → RunsCalls calls completions old new → IsEnd old.left new.left
+calls-grow [] [] old new ran = by-same old new ran
+calls-grow [] (completion ∷ completions) old new ran = absurd ran
+calls-grow (call ∷ calls) [] old new ran = absurd ran
+calls-grow (call ∷ calls) (completion ∷ completions) old new ran =
+    end-then old.left ran.0.left new.left
+    (performs-grows call.moment call.command (buffer_given call.command) completion.buffer.items old ran.0 completion.outcome ran.1)
+    (calls-grow calls completions ran.0 new ran.2)
+
+-- what each process left is an end of the journal
+abbrev pub AreEnds : Past → List (Ticket Record) → Type 0
+AreEnds journal [] = Unit {0}
+AreEnds journal (t ∷ tickets) = IsEnd t.left journal × AreEnds journal tickets
+
+phase-ends : (journal : Past) (calls : List WrittenCall) (before after : List (Ticket Record)) (text : List ℕ) → RunsPhase calls before after text → AreEnds journal after → AreEnds journal before
+phase-ends journal calls [] [] text ran ends = tt
+phase-ends journal calls [] (new ∷ after) text ran ends = absurd ran
+phase-ends journal calls (old ∷ before) [] text ran ends = absurd ran
+phase-ends journal calls (old ∷ before) (new ∷ after) text ran ends =
+    (end-then old.left new.left journal (calls-grow (calls_of old.number calls) ran.0 old new ran.2) ends.0, phase-ends journal calls before after ran.1 ran.4 ends.1)
+
+found-ends : (journal : Past) (n : ℕ) (ended between : List (Ticket Record)) → AllZip (FindsLength n) ended between → AreEnds journal between → AreEnds journal ended
+found-ends journal n [] [] found ends = tt
+found-ends journal n [] (new ∷ between) found ends = absurd found
+found-ends journal n (old ∷ ended) [] found ends = absurd found
+found-ends journal n (old ∷ ended) (new ∷ between) found ends =
+    (end-then old.left new.left journal (by-calls old new [] found.0.calls) ends.0, found-ends journal n ended between found.1 ends.1)
+
+-- at the beginning of phases too
+pub phases-end : (journal : Past) (phases : List (List WrittenCall)) (before after : List (Ticket Record)) (text : List ℕ) → RunsPhases phases before after text → AreEnds journal after → AreEnds journal before
+phases-end journal [] before after text ran ends = subst (λ (ts : List (Ticket Record)). AreEnds journal ts) ran.0 ends
+phases-end journal (calls ∷ phases) before after text ran ends =
+    phase-ends journal calls before ran.0 ran.3 ran.5 (found-ends journal ran.2 ran.0 ran.1 ran.6 (phases-end journal phases ran.1 after ran.4 ran.7 ends))
+
+pub all-grow : (journal : Past) (tickets : List (Ticket Record)) → All (λ process. Grows author process.number process.left journal []) tickets → AreEnds journal tickets
+all-grow journal [] all = tt
+all-grow journal (t ∷ tickets) all =
+    let P : Ticket Record → Type 0 = λ process. Grows author process.number process.left journal [] in
+    let first = All-head P t tickets all in
+    (record { more = first.behind; is = first.is }, all-grow journal tickets (All-tail P t tickets all))
+
+-- the ends ---------------------------------------------------------------------------------------------------------------
+
+-- each process last left this journal
+abbrev pub AllLeft : Past → List (Ticket Record) → Type 0
+AllLeft past [] = Unit {0}
+AllLeft past (t ∷ tickets) = (t.left ≡ past) × AllLeft past tickets
+
+none-more : (w a : Past) → length (w ++ a) ≡ length a → w ++ a ≡ a
+none-more [] a e = refl
+none-more (x ∷ w) a e = let k : ⊥ = omega (arith, e, length-append w a) in absurd k
+
+-- two ends of one length are one
+end-by-length : (journal a b : Past) → IsEnd a journal → IsEnd b journal → length a ≡ length b → a ≡ b
+end-by-length journal a b x y same =
+    elim (two-ends x.more y.more a b (sym x.is ∙ y.is)) [
+      | inl e ↦ e.1 ∙ none-more e.0 b (ap (λ (l : Past). length l) (sym e.1) ∙ same)
+      | inr e ↦ sym (e.1 ∙ none-more e.0 a (ap (λ (l : Past). length l) (sym e.1) ∙ sym same))
+    ]
+
+all-one : (journal past : Past) (n : ℕ) (ended between : List (Ticket Record)) → IsEnd past journal → length past ≡ n → AllZip (FindsLength n) ended between → AreEnds journal between → AllLeft past between
+all-one journal past n [] [] end count found ends = tt
+all-one journal past n [] (new ∷ between) end count found ends = absurd found
+all-one journal past n (old ∷ ended) [] end count found ends = absurd found
+all-one journal past n (old ∷ ended) (new ∷ between) end count found ends =
+    (end-by-length journal new.left past ends.0 end (found.0.count ∙ sym count), all-one journal past n ended between end count found.1 ends.1)
+
+-- the journal that all processes have after a phase, which began with this one
+pub record Meeting (journal past : Past) (tickets : List (Ticket Record)) : Type 0 where
+  pub to : Past
+  pub from : IsEnd past to
+  pub end : IsEnd to journal
+  pub all : AllLeft to tickets
+
+pub meeting : (journal past : Past) (n : ℕ) (calls : List WrittenCall) (before ended between : List (Ticket Record)) (text : List ℕ) → IsEnd past journal → AllLeft past before → RunsPhase calls before ended text → AllZip (FindsLength n) ended between → AreEnds journal between → Meeting journal past between
+meeting journal past n calls [] [] [] text here left ran found ends = record { to = past; from = end-same past; end = here; all = tt }
+meeting journal past n calls [] [] (t ∷ between) text here left ran found ends = absurd found
+meeting journal past n calls [] (new ∷ ended) between text here left ran found ends = absurd ran
+meeting journal past n calls (old ∷ before) [] between text here left ran found ends = absurd ran
+meeting journal past n calls (old ∷ before) (new ∷ ended) [] text here left ran found ends = absurd found
+meeting journal past n calls (old ∷ before) (new ∷ ended) (t ∷ between) text here left ran found ends =
+    let one : IsEnd old.left new.left = calls-grow (calls_of old.number calls) ran.0 old new ran.2 in
+    let two : IsEnd old.left t.left = end-then old.left new.left t.left one (by-calls new t [] found.0.calls) in
+    record {
+      to = t.left;
+      from = subst (λ (l : Past). IsEnd l t.left) left.0 two;
+      end = ends.0;
+      all = (refl, all-one journal t.left n ended between ends.0 found.0.count found.1 ends.1);
+    }

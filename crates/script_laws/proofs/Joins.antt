@@ -1,0 +1,59 @@
+-- Lists that are joined of parts.
+use Rattle.std.proofs.Common.{◌≡◌, ◌⊎◌, inl, inr, ℕ, ◌==◌, true, List, [], ◌∷◌, ◌++◌, refl, ap, sym, ◌∙◌, eq-eqb}
+use Rattle.std.specs.List.{All}
+use Rattle.std.proofs.lemmas.List.Elements.{All-nil, All-cons, All-head, All-tail, filter-append}
+use Rattle.fast_mutex.specs.Items.{items_of}
+
+-- two ends of one list: the one is an end of the other
+pub two-ends : {A : Type 0} (a b x y : List A) → a ++ x ≡ b ++ y →
+    ((w : List A) × (x ≡ w ++ y) × (b ≡ a ++ w)) ⊎ ((w : List A) × (y ≡ w ++ x) × (a ≡ b ++ w))
+two-ends [] b x y h = inl (b, h, refl)
+two-ends (c ∷ a) [] x y h = inr (c ∷ a, sym h, refl)
+two-ends (c ∷ a) (d ∷ b) x y h =
+    elim (two-ends a b x y cc) [
+      | inl e ↦ inl (e.0, e.1, let s = e.2 in cc)
+      | inr e ↦ inr (e.0, e.1, let s = e.2 in cc)
+    ]
+
+-- a list is empty or has a last element
+pub by-last : {A : Type 0} (xs : List A) → (xs ≡ []) ⊎ ((ys : List A) × (r : A) × (xs ≡ ys ++ r ∷ []))
+by-last [] = inl refl
+by-last {A} (x ∷ xs) =
+    elim (by-last xs) [
+      | inl e ↦ inr ([], x, ap (λ (l : List A). x ∷ l) e)
+      | inr e ↦ inr (x ∷ e.0, e.1, ap (λ (l : List A). x ∷ l) e.2)
+    ]
+
+pub has-last : {A : Type 0} (ys : List A) (r : A) → ys ++ r ∷ [] ≡ [] → ⊥
+has-last [] r h = cc
+has-last (y ∷ ys) r h = cc
+
+pub same-last : {A : Type 0} (a b : List A) (x y : A) → a ++ x ∷ [] ≡ b ++ y ∷ [] → x ≡ y
+same-last [] [] x y h = cc
+same-last [] (d ∷ b) x y h = let e : b ++ y ∷ [] ≡ [] = cc in absurd (has-last b y e)
+same-last (c ∷ a) [] x y h = let e : a ++ x ∷ [] ≡ [] = cc in absurd (has-last a x e)
+same-last (c ∷ a) (d ∷ b) x y h = same-last a b x y cc
+
+pub all-left : {A : Type 0} (P : A → Type 0) (xs ys : List A) → All P (xs ++ ys) → All P xs
+all-left P [] ys all = All-nil P
+all-left P (x ∷ xs) ys all = All-cons P x xs (All-head P x (xs ++ ys) all) (all-left P xs ys (All-tail P x (xs ++ ys) all))
+
+pub all-right : {A : Type 0} (P : A → Type 0) (xs ys : List A) → All P (xs ++ ys) → All P ys
+all-right P [] ys all = all
+all-right P (x ∷ xs) ys all = all-right P xs ys (All-tail P x (xs ++ ys) all)
+
+pub all-last : {A : Type 0} (P : A → Type 0) (xs : List A) (x : A) → All P (xs ++ x ∷ []) → P x
+all-last P xs x all = All-head P x [] (all-right P xs (x ∷ []) all)
+
+pub both-empty : {A : Type 0} (xs ys : List A) → xs ++ ys ≡ [] → (xs ≡ []) × (ys ≡ [])
+both-empty [] ys h = (refl, h)
+both-empty (x ∷ xs) ys h = cc
+
+-- p has an item, the last
+pub owns-last : {A : Type 0} (own : A → ℕ) (p : ℕ) (xs : List A) (x : A) → own x ≡ p → items_of own p (xs ++ x ∷ []) ≡ [] → ⊥
+owns-last {A} own p xs x is none =
+    let parts = both-empty (items_of own p xs) (items_of own p (x ∷ [])) (sym (filter-append (λ y. own y == p) xs (x ∷ [])) ∙ none) in
+    let e : (own x == p) ≡ true = eq-eqb (own x) p is in
+    let one : items_of own p (x ∷ []) ≡ x ∷ [] = rw e refl in
+    let k : x ∷ [] ≡ [] = sym one ∙ parts.1 in
+    cc

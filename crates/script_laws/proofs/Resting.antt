@@ -1,0 +1,90 @@
+-- The end of a phase: no process can go on, and none waits.
+use Rattle.std.proofs.Common.{◌≡◌, ℕ, zero, suc, ◌+◌, ◌<◌, ◌==◌, Bool, true, false, ◌&&◌, not, nat_lt, List, [], length, Option, Some, None, is_some, is_none, slice_get, refl, ap, ◌∙◌, arith, if◌then◌else◌, eq-eqb, Vec}
+use Rattle.std.specs.Prelude.{◌||◌}
+use Rattle.std.specs.Option.{option_map, option_and_then}
+use Rattle.std.specs.declared.alloc.Global.{Global}
+use Rattle.std.proofs.lemmas.Bool.Decides.{nat_tests}
+use Rattle.std.proofs.lemmas.List.{length-map}
+use Rattle.std.proofs.lemmas.Option.{slice_get-map}
+use Rattle.mq_model.specs.Record.{Past}
+use Rattle.mq_model.specs.Waits.{open_wait}
+use Rattle.mq_model.specs.declared.entries.Call.TheVariants.{Collect}
+use Rattle.script_orders.specs.Progress.{Progress}
+use Rattle.script_orders.specs.Scenes.{Scene, after_call, after_step}
+use Rattle.script_orders.specs.Stage.{Stage, after_phase, in_next_phase, is_phase_over, next_stage, none_can_turn, one_waits, replies, stands_still, told, turn_of, waiting_lines, waits, with_turn}
+use Rattle.script_orders.specs.Turns.{Turned, after_line, after_turn, scene_of, turned}
+use Rattle.script_orders.specs.declared.plan.Planned.{Planned}
+use Rattle.script_orders.proofs.Turning.{turn_of-is}
+use Rattle.schedules.specs.Told.{Told}
+use Rattle.script_laws.proofs.Runners.{Runner, ends_in, programs_in, there-is}
+use Rattle.script_laws.proofs.Sitting.{Through}
+use Rattle.script_laws.proofs.Weaving.{ended}
+
+-- who does not wait, and whose next line is of a later phase, cannot go on
+no-turn : (past : Past) (phase p : ℕ) (progress : Progress) (program : Vec Planned Global) → open_wait past p ≡ None → ((planned : Planned) → slice_get program.items progress.begun ≡ Some planned → phase < planned.phase) → after_turn past phase p progress program ≡ None
+no-turn past phase p progress program free later =
+    let collects : Option Turned = option_map (turned 0 progress) (after_call (scene_of past progress) p Collect []) in
+    let begins : Option Planned → Option Turned = λ o. option_map (turned 1 progress) (option_and_then (after_line past phase p progress) o) in
+    let goes : (o : Option Planned) → slice_get program.items progress.begun ≡ o → begins o ≡ None =
+    λ (o : Option Planned). elim o as (λ o. slice_get program.items progress.begun ≡ o → begins o ≡ None) [
+      | None ↦ (λ e. refl)
+      | Some planned ↦ (λ e.
+          let more = later planned e in
+          let other : (planned.phase == phase) ≡ false = grind (arith, nat_tests) in
+          let line : Bool → Option Scene = λ b. if b then after_step (scene_of past progress) p planned.given.items planned.step else None in
+          ap (λ (b : Bool). option_map (turned 1 progress) (line b)) other)
+    ]
+    in
+    ap (λ (o : Option ℕ). if is_some o then collects else begins (slice_get program.items progress.begun)) free ∙ goes (slice_get program.items progress.begun) refl
+
+none-can : (s : Stage) (n : ℕ) → ((i : ℕ) → i < n → turn_of s i ≡ None) → none_can_turn s n ≡ true
+none-can s zero none = refl
+none-can s (suc n) none =
+    ap (λ (b : Bool). b && is_none (turn_of s n)) (none-can s n (λ i below. none i (omega (arith, below)))) ∙ ap (λ (o : Option Turned). is_none o) (none n (omega arith))
+
+none-waits : (past : Past) (n : ℕ) → ((i : ℕ) → i < n → open_wait past (i + 1) ≡ None) → one_waits past n ≡ false
+none-waits past zero none = refl
+none-waits past (suc n) none =
+    ap (λ (b : Bool). b || is_some (open_wait past (n + 1))) (none-waits past n (λ i below. none i (omega (arith, below)))) ∙ ap (λ (o : Option ℕ). is_some o) (none n (omega arith))
+
+-- all have come through the phase
+abbrev pub AllThrough : ℕ → Past → Past → List Runner → Type 0
+AllThrough phase past to runners = (i : ℕ) (r : Runner) → slice_get runners i ≡ Some r → Through (i + 1) phase past to r
+
+module _ (phases phase : ℕ) (past to : Past) (runners : List Runner) (through : AllThrough phase past to runners) where
+  count : length (programs_in runners) ≡ length runners
+  count = length-map runners (λ (r : Runner). r.program)
+
+  none-turns : (i : ℕ) → i < length (programs_in runners) → turn_of (ended phases phase to runners) i ≡ None
+  none-turns i below =
+      let there = there-is runners i (omega (arith, below, count)) in
+      let r : Runner = there.0 in
+      let has : slice_get (programs_in runners) i ≡ Some r.program = slice_get-map (λ (r : Runner). r.program) runners i ∙ ap (λ (o : Option Runner). option_map (λ (r : Runner). r.program) o) there.1 in
+      let sits : slice_get (ends_in runners) i ≡ Some r.end = slice_get-map (λ (r : Runner). r.end) runners i ∙ ap (λ (o : Option Runner). option_map (λ (r : Runner). r.end) o) there.1 in
+      let t = through i r there.1 in
+      turn_of-is (ended phases phase to runners) i r.program r.end has sits ∙ no-turn to phase (i + 1) r.end r.program t.free t.done
+
+  pub still : stands_still (ended phases phase to runners) ≡ true
+  still = none-can (ended phases phase to runners) (length (programs_in runners)) none-turns
+
+  pub waits-none : waits (ended phases phase to runners) ≡ false
+  waits-none = none-waits to (length (programs_in runners)) (λ i below.
+      let there = there-is runners i (omega (arith, below, count)) in
+      (through i there.0 there.1).free)
+
+  pub tells : told (ended phases phase to runners) ≡ record { stage = phase; stuck = false; text = replies (ends_in runners) }
+  tells =
+      let telling : Bool → Told = λ b. record { stage = phase; stuck = b; text = if b then waiting_lines (ended phases phase to runners) (length (programs_in runners)) else replies (ends_in runners) } in
+      ap telling waits-none
+
+  -- the next phase, if there is one
+  pub next-begins : phase + 1 < phases → next_stage (ended phases phase to runners) (length (programs_in runners)) ≡ Some (in_next_phase (ended phases phase to runners))
+  next-begins more =
+      let s : Stage = ended phases phase to runners in
+      let n : ℕ = length (programs_in runners) in
+      let same : (n == n) ≡ true = eq-eqb n n refl in
+      let less : nat_lt (phase + 1) phases ≡ true = grind (arith, nat_tests) in
+      let over : is_phase_over s ≡ true =
+      ap (λ (b : Bool). b && (stands_still s && not (waits s))) less ∙ (ap (λ (b : Bool). b && not (waits s)) still ∙ ap (λ (b : Bool). not b) waits-none)
+      in
+      ap (λ (b : Bool). if b then after_phase s else option_map (with_turn s n) (turn_of s n)) same ∙ ap (λ (b : Bool). if b then Some (in_next_phase s) else None) over

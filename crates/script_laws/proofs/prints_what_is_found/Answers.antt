@@ -1,0 +1,7 @@
+use Rattle.std.specs.Prelude.{length}
+use Rattle.script_laws.proofs.Phasing.{run-told, told-found}
+use Rattle.script_laws.proofs.prints_what_is_found.Goals as goal
+
+pub returns : goal.returns
+returns c = λ script replies journal from found ran ample begins all.
+    told-found from found (length script.phases) replies all (run-told script replies journal ran from ample begins)

@@ -1,0 +1,56 @@
+-- What a run of a script and the orders of its calls have to do with each other.
+use Rattle.std.specs.Prelude.{◌≡◌, ◌≢◌, ℕ, ◌+◌, zero, suc, true, false, List, [], ◌∷◌, ◌++◌}
+use Rattle.std.specs.List.{All}
+use Rattle.fast_mutex.specs.Items.{Ticket, tickets_from}
+use Rattle.mq_model.specs.Record.{Past, Record}
+use Rattle.mq_model.specs.declared.faults.Fault.TheVariants.{NoMemory}
+use Rattle.schedules.specs.Outcomes.{is_among}
+use Rattle.schedules.specs.Schedules.{LeadsToGoal}
+use Rattle.schedules.specs.Told.{Told}
+use Rattle.schedules.specs.declared.outcomes.Witnessed.{Witnessed}
+use Rattle.script_orders.specs.Stage.{Stage, next_stage, stands_still, told}
+use Rattle.script_runner.specs.Runs.{RunsPhase, RunsPhases, RunsWhole}
+use Rattle.script_text.specs.Script.{Whole, WrittenCall}
+use Rattle.script_text.specs.declared.reply.Completion.{Completion}
+use Rattle.script_text.specs.declared.reply.Outcome.TheVariants as outcomes
+
+-- the call was not refused for want of memory
+abbrev pub HadMemory : Completion → Type 0
+HadMemory completion = completion.outcome ≢ outcomes.Refused NoMemory
+
+-- no call of a phase that was run was refused for want of memory
+abbrev pub IsAmplePhase : (calls : List WrittenCall) (before after : List (Ticket Record)) (text : List ℕ) → RunsPhase calls before after text → Type 0
+IsAmplePhase calls [] [] text ran = Unit {0}
+IsAmplePhase calls [] (new ∷ after) text ran = Unit {0}
+IsAmplePhase calls (old ∷ before) [] text ran = Unit {0}
+IsAmplePhase calls (old ∷ before) (new ∷ after) text ran = All HadMemory ran.0 × IsAmplePhase calls before after ran.1 ran.4
+
+-- no call of phases that were run was
+abbrev pub AreAmplePhases : (phases : List (List WrittenCall)) (before after : List (Ticket Record)) (text : List ℕ) → RunsPhases phases before after text → Type 0
+AreAmplePhases [] before after text ran = Unit {0}
+AreAmplePhases (calls ∷ phases) before after text ran = IsAmplePhase calls before ran.0 ran.3 ran.5 × AreAmplePhases phases ran.1 after ran.4 ran.7
+
+-- no call of a script that was run whole was
+abbrev pub IsAmple : {script : Whole} {replies : List ℕ} {journal : Past} → RunsWhole script replies journal → Type 0
+IsAmple {script} {replies} ran = AreAmplePhases script.phases (tickets_from ran.system 1 script.processes) ran.processes replies ran.ran
+
+-- what is told of a phase that ended with these replies
+abbrev pub phase_told : ℕ → List ℕ → Told
+phase_told phase text = record { stage = phase; stuck = false; text = text }
+
+-- the bytes are the texts of n phases one after the other, of which the first has this number, and this holds of each with its text
+abbrev pub EachPhase : (ℕ → List ℕ → Type 0) → ℕ → ℕ → List ℕ → Type 0
+EachPhase P phase zero bytes = bytes ≡ []
+EachPhase P phase (suc n) bytes = (text : List ℕ) × (rest : List ℕ) × P phase text × EachPhase P (phase + 1) n rest × (bytes ≡ text ++ rest)
+
+-- in some order of the calls the phase ends with these replies
+abbrev pub IsTold : Stage → ℕ → List ℕ → Type 0
+IsTold from phase text = (schedule : List ℕ) × (to : Stage) × LeadsToGoal next_stage stands_still from schedule to × (told to ≡ phase_told phase text)
+
+-- in each of these phases the replies are those of some order
+abbrev pub AreTold : Stage → ℕ → ℕ → List ℕ → Type 0
+AreTold from phase n replies = EachPhase (IsTold from) phase n replies
+
+-- in each of these phases the replies are among those that were found
+abbrev pub AreFound : List Witnessed → ℕ → ℕ → List ℕ → Type 0
+AreFound found phase n replies = EachPhase (λ phase text. is_among found (phase_told phase text) ≡ true) phase n replies
