@@ -1,5 +1,5 @@
--- What a run prints of each phase is told of some order.
-use Rattle.std.proofs.Common.{◌≡◌, ℕ, zero, suc, ◌+◌, ◌≤◌, true, List, [], ◌∷◌, ◌++◌, length, map, Option, Some, replicate, ap, sym, ◌∙◌, subst, arith, append-nil, Vec}
+-- What a run prints of its phases is told of one order.
+use Rattle.std.proofs.Common.{◌≡◌, ℕ, zero, suc, ◌+◌, ◌≤◌, true, List, [], ◌∷◌, ◌++◌, length, map, Option, Some, replicate, refl, ap, sym, ◌∙◌, subst, arith, append-nil, Vec}
 use Rattle.std.specs.List.{All}
 use Rattle.std.specs.Option.{option_and_then}
 use Rattle.std.specs.declared.alloc.Global.{Global}
@@ -18,7 +18,7 @@ use Rattle.script_orders.specs.Stage.{Stage, fresh, next_stage, seats_cleared, s
 use Rattle.script_orders.specs.declared.plan.Planned.{Planned}
 use Rattle.script_runner.specs.Runs.{RunsPhases, RunsWhole}
 use Rattle.script_text.specs.Script.{Whole, WrittenCall}
-use Rattle.script_laws.specs.RunLaws.{AreAmplePhases, AreFound, AreTold, EachPhase, IsAmple, IsTold, phase_told}
+use Rattle.script_laws.specs.RunLaws.{AreAmplePhases, AreFound, AreTold, IsAmple, phase_told}
 use Rattle.script_laws.proofs.Beginning.{all-begin, count-from, in-order, none-left}
 use Rattle.script_laws.proofs.Growth.{AllLeft, AreEnds, IsEnd, all-grow, meeting, phases-end}
 use Rattle.script_laws.proofs.Joins.{all-left, all-right}
@@ -38,7 +38,7 @@ phases-told : (from : Stage) (journal : Past) (programs : List (Vec Planned Glob
     (phases : List (List WrittenCall)) (phase : ℕ) (past : Past) (seats : List Progress) (before after_all : List (Ticket Record)) (text : List ℕ) (schedule : List ℕ) (ran : RunsPhases phases before after_all text) →
     AreAmplePhases phases before after_all text ran → AllSit phase phases 1 programs seats before → AllLeft past before → IsEnd past journal → AreEnds journal after_all → total ≡ phase + length phases →
     (1 ≤ length phases → after next_stage schedule from ≡ Some (record { programs = programs; phases = total; phase = phase; past = past; seats = seats })) →
-    EachPhase (IsTold from) phase (length phases) text
+    AreTold from phase (length phases) text
 phases-told from journal programs total of [] phase past seats before after_all text schedule ran ample sit left here ends count leads = ran.1
 phases-told from journal programs total of (calls ∷ phases) phase past seats before after_all text schedule ran ample sit left here ends count leads =
     let between : List (Ticket Record) = ran.1 in
@@ -62,23 +62,25 @@ phases-told from journal programs total of (calls ∷ phases) phase past seats b
     let last : Stage = ended total phase to runners in
     let runs : after next_stage (schedule ++ woven.0) from ≡ Some last = then-after schedule woven.0 from (staged total phase past runners) last start woven.1 in
     let said : told last ≡ phase_told phase ran.3 = tells total phase past to runners through ∙ ap (λ (l : List ℕ). phase_told phase l) all.replies_are in
-    let first : IsTold from phase ran.3 = (schedule ++ woven.0, last, record { runs = runs; goal = still total phase past to runners through }, said) in
     let n : ℕ = length (programs_in runners) in
     let next : List (Vec Planned Global) → Option Stage = λ programs.
     Some (record { programs = programs; phases = total; phase = phase + 1; past = to; seats = seats_cleared (ends_in runners) })
     in
-    let goes : 1 ≤ length phases → after next_stage ((schedule ++ woven.0) ++ n ∷ []) from ≡ next programs = λ some.
-    then-after (schedule ++ woven.0) (n ∷ []) from last _ runs (ap (λ (o : Option Stage). option_and_then (after next_stage []) o) (next-begins total phase past to runners through (omega (arith, some, count))))
+    let goes : 1 ≤ length phases → after next_stage (n ∷ []) last ≡ next programs = λ some.
+    ap (λ (o : Option Stage). option_and_then (after next_stage []) o) (next-begins total phase past to runners through (omega (arith, some, count)))
     ∙ ap next all.programs_are
     in (
+      schedule ++ woven.0,
+      last,
       ran.3,
       ran.4,
-      first,
-      phases-told from journal programs total of phases (phase + 1) to (seats_cleared (ends_in runners)) between after_all ran.4 ((schedule ++ woven.0) ++ n ∷ []) ran.7 ample.1 all.sit met.all met.end ends (omega (arith, count)) goes,
+      record { runs = runs; goal = still total phase past to runners through },
+      said,
+      phases-told last journal programs total of phases (phase + 1) to (seats_cleared (ends_in runners)) between after_all ran.4 (n ∷ []) ran.7 ample.1 all.sit met.all met.end ends (omega (arith, count)) goes,
       ran.8,
     )
 
--- of a run: what is printed of each phase is told of some order
+-- of a run: what is printed of its phases is told of one order
 pub run-told : (script : Whole) (text : List ℕ) (journal : Past) (ran : RunsWhole script text journal) (from : Stage) → IsAmple ran → Begins script from → AreTold from 0 (length script.phases) text
 run-told script text journal ran from ample begins =
     let shown : Vec Planned Global → List Plan = λ program. map plan_of program.items in
@@ -95,14 +97,19 @@ run-told script text journal ran from ample begins =
     phases-told from journal from.programs from.phases of script.phases 0 [] seats (tickets_from ran.system 1 script.processes) ran.processes text [] ran.ran ample sit
     (none-left ran.system 1 script.processes) (record { more = journal; is = sym (append-nil journal) }) (all-grow journal ran.processes ran.grows) (omega (arith, begins.phases)) (λ some. start)
 
--- what holds of each text of a phase
-each-weaker : (P Q : ℕ → List ℕ → Type 0) → ((phase : ℕ) (text : List ℕ) → P phase text → Q phase text) → (phase n : ℕ) (bytes : List ℕ) → EachPhase P phase n bytes → EachPhase Q phase n bytes
-each-weaker P Q weaker phase zero bytes each = each
-each-weaker P Q weaker phase (suc n) bytes each =
-    (each.0, each.1, weaker phase each.0 each.2, each-weaker P Q weaker (phase + 1) n each.1 each.3, each.4)
+-- where every order from a first stage on was tried, also what is told from a stage on to which one of them leads
+told-from : (first from : Stage) (schedule : List ℕ) (found : List Witnessed) (phase n : ℕ) (text : List ℕ) →
+    AreAll next_stage stands_still told first found → after next_stage schedule first ≡ Some from → AreTold from phase n text → AreFound found phase n text
+told-from first from schedule found phase zero text all leads are = are
+told-from first from schedule found phase (suc n) text all leads are =
+    let runs : after next_stage (schedule ++ are.0) first ≡ Some are.1 = then-after schedule are.0 first from are.1 leads are.4.runs in (
+      are.2,
+      are.3,
+      ap (λ (x : Told). is_among found x) (sym are.5) ∙ all (schedule ++ are.0) are.1 (record { runs = runs; goal = are.4.goal }),
+      told-from first are.1 (schedule ++ are.0) found (phase + 1) n are.3 all runs are.6,
+      are.7,
+    )
 
 -- where every order was tried
 pub told-found : (from : Stage) (found : List Witnessed) (n : ℕ) (text : List ℕ) → AreAll next_stage stands_still told from found → AreTold from 0 n text → AreFound found 0 n text
-told-found from found n text all each =
-    each-weaker (IsTold from) (λ phase text. is_among found (phase_told phase text) ≡ true)
-    (λ phase text t. ap (λ (x : Told). is_among found x) (sym t.3) ∙ all t.0 t.1 t.2) 0 n text each
+told-found from found n text all are = told-from from from [] found 0 n text all refl are

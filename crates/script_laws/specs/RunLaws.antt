@@ -38,19 +38,21 @@ IsAmple {script} {replies} ran = AreAmplePhases script.phases (tickets_from ran.
 abbrev pub phase_told : ℕ → List ℕ → Told
 phase_told phase text = record { stage = phase; stuck = false; text = text }
 
--- the bytes are the texts of n phases one after the other, of which the first has this number, and this holds of each with its text
-abbrev pub EachPhase : (ℕ → List ℕ → Type 0) → ℕ → ℕ → List ℕ → Type 0
-EachPhase P phase zero bytes = bytes ≡ []
-EachPhase P phase (suc n) bytes = (text : List ℕ) × (rest : List ℕ) × P phase text × EachPhase P (phase + 1) n rest × (bytes ≡ text ++ rest)
-
--- in some order of the calls the phase ends with these replies
-abbrev pub IsTold : Stage → ℕ → List ℕ → Type 0
-IsTold from phase text = (schedule : List ℕ) × (to : Stage) × LeadsToGoal next_stage stands_still from schedule to × (told to ≡ phase_told phase text)
-
--- in each of these phases the replies are those of some order
+-- in one order of the calls from this stage on, n phases end one after the other with these replies; the first of them has this number
 abbrev pub AreTold : Stage → ℕ → ℕ → List ℕ → Type 0
-AreTold from phase n replies = EachPhase (IsTold from) phase n replies
+AreTold from phase zero replies = replies ≡ []
+AreTold from phase (suc n) replies =
+    (schedule : List ℕ) × (to : Stage) × (text : List ℕ) × (rest : List ℕ)
+    × LeadsToGoal next_stage stands_still from schedule to
+    × (told to ≡ phase_told phase text)
+    × AreTold to (phase + 1) n rest
+    × (replies ≡ text ++ rest)
 
--- in each of these phases the replies are among those that were found
+-- these are the replies of n phases, each of which is among what was found
 abbrev pub AreFound : List Witnessed → ℕ → ℕ → List ℕ → Type 0
-AreFound found phase n replies = EachPhase (λ phase text. is_among found (phase_told phase text) ≡ true) phase n replies
+AreFound found phase zero replies = replies ≡ []
+AreFound found phase (suc n) replies =
+    (text : List ℕ) × (rest : List ℕ)
+    × (is_among found (phase_told phase text) ≡ true)
+    × AreFound found (phase + 1) n rest
+    × (replies ≡ text ++ rest)

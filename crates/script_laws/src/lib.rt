@@ -11,8 +11,8 @@ ghost use Rattle.script_orders.specs.Stage.{Stage, next_stage, stands_still, tol
 ghost use Rattle.script_runner.specs.Runs.{RunsWhole};
 ghost use Rattle.script_laws.specs.RunLaws.{AreFound, AreTold, IsAmple};
 
-/// What a run prints of each phase is what is told of the phase after some order of the calls, from where the processes of the script
-/// begin. No call of the run may have been refused for want of memory.
+/// What a run prints is what is told, phase after phase, in one order of the calls, from where the processes of the script begin. No call
+/// of the run may have been refused for want of memory.
 pub fn prints_outcomes()
     ensures { (script : Whole) (replies : List ℕ) (journal : Past) (from : Stage)
         (ran : RunsWhole script replies journal) → IsAmple ran → Begins script from →
