@@ -57,8 +57,9 @@ impl<L: Look<Guarded>> Approach<L> {
         L::bell(&self.walk)
     }
 
-    /// Takes at most so many atomic steps, none of which waits, and stops once it is inside. No call promises that steps lead
-    /// inside; where nobody else is under way five do, and with others it is worth letting them run before the next try.
+    /// Takes at most so many atomic steps, none of which waits. It stops once it is inside, and beyond the fifth at a step that did not move
+    /// it. No call promises that steps lead inside; where nobody else is under way five do, and with others it is worth letting them run
+    /// before the next try.
     #[inline(always)]
     pub fn advance(self, mq: &Mq<L>, steps: u32) -> Result<Arrived<L>, Approach<L>>
         requires made { self.lock ≡ mq.now }
@@ -92,7 +93,8 @@ impl<L: Look<Guarded>> Approach<L> {
         on_its_way.go_on(mq, steps - HASTE)
     }
 
-    // The same, step by step. It stands apart, so that the way of an entry that meets nobody has no more than that needs.
+    // The same, step by step. To look again and again for what was not there would take the words of the lock from who is inside. It stands
+    // apart, so that the way of an entry that meets nobody has no more than that needs.
     #[inline(never)]
     fn go_on(self, mq: &Mq<L>, steps: u32) -> Result<Arrived<L>, Approach<L>>
         requires made { self.lock ≡ mq.now }
@@ -108,7 +110,11 @@ impl<L: Look<Guarded>> Approach<L> {
             if L::is_admitted(&walk) {
                 break;
             }
-            walk = mq.lock().step(walk).0;
+            let (next, has_moved) = mq.lock().step(walk);
+            walk = next;
+            if !has_moved {
+                break;
+            }
         }
         if !L::is_admitted(&walk) {
             return Err(Approach {
