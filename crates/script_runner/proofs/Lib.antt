@@ -1,3 +1,4 @@
+pub mod Agreeing
 pub mod AtOnce
 pub mod Blocking
 pub mod KnownBytes

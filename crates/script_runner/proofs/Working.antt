@@ -7,6 +7,7 @@ use Rattle.fast_mutex.specs.Items.{LockId, Ticket, tickets_from}
 use Rattle.mq_model.specs.Record.{Record}
 use Rattle.script_runner.specs.Buffer.{buffer_given}
 use Rattle.text_io.specs.Words.{Word}
+use Rattle.script_runner.specs.Meeting.{RunsAndMeets}
 use Rattle.script_runner.specs.Phase.{AllWorkOff, calls_in, text_in}
 use Rattle.script_runner.specs.Runs.{IsReady, Performs, RunsCalls, RunsPhase, RunsPhases, calls_of}
 use Rattle.script_text.specs.ReplyLines.{reply_lines}
@@ -81,14 +82,23 @@ phase-done calls shares workers before after text off dealt processes back is =
     (phase-ran calls shares workers off (recursion_from_All (λ (share : Share (Ticket Record)). calls_in share.turns.items ≡ calls_of share.process.number calls) shares dealt))
 
 -- one more phase after the others
-RunsPhases-push : (phases : List (List WrittenCall)) (calls : List WrittenCall) (before mid after : List (Ticket Record)) (text more : List ℕ) → RunsPhases phases before mid text → RunsPhase calls mid after more → RunsPhases (phases ++ calls ∷ []) before after (text ++ more)
+RunsPhases-push : (phases : List (List WrittenCall)) (calls : List WrittenCall) (before mid after : List (Ticket Record)) (text more : List ℕ) → RunsPhases phases before mid text → RunsAndMeets calls mid after more → RunsPhases (phases ++ calls ∷ []) before after (text ++ more)
 RunsPhases-push [] calls before mid after text more ran last =
-    let P : List (Ticket Record) → Type 0 = λ m. RunsPhase calls m after more in
-    (after, more, [], subst P ran.0 last, (refl, refl), ap (λ t. t ++ more) ran.1 ∙ sym (append-nil more))
-RunsPhases-push (c ∷ phases) calls before mid after text more ran last =
-    (ran.0, ran.1, ran.2 ++ more, ran.3, RunsPhases-push phases calls ran.0 mid after ran.2 more ran.4 last, ap (λ t. t ++ more) ran.5 ∙ append_assoc ran.1 ran.2 more)
+    let P : List (Ticket Record) → Type 0 = λ m. RunsPhase calls m last.ended more in
+    (last.ended, after, last.met.n, more, [], subst P ran.0 last.ran, last.met.found, (refl, refl), ap (λ t. t ++ more) ran.1 ∙ sym (append-nil more))
+RunsPhases-push (c ∷ phases) calls before mid after text more ran last = (
+  ran.0,
+  ran.1,
+  ran.2,
+  ran.3,
+  ran.4 ++ more,
+  ran.5,
+  ran.6,
+  RunsPhases-push phases calls ran.1 mid after ran.4 more ran.7 last,
+  ap (λ t. t ++ more) ran.8 ∙ append_assoc ran.3 ran.4 more,
+)
 
-pub phases-more : (phases : List (Vec (ScriptCall (Bor Word)) Global)) (i : ℕ) (d : Vec (ScriptCall (Bor Word)) Global) (before mid after : List (Ticket Record)) (text more : List ℕ) → i < length phases → RunsPhases (said_phases (take i phases)) before mid text → RunsPhase (said_calls (get_or phases i d).items) mid after more → RunsPhases (said_phases (take (i + 1) phases)) before after (text ++ more)
+pub phases-more : (phases : List (Vec (ScriptCall (Bor Word)) Global)) (i : ℕ) (d : Vec (ScriptCall (Bor Word)) Global) (before mid after : List (Ticket Record)) (text more : List ℕ) → i < length phases → RunsPhases (said_phases (take i phases)) before mid text → RunsAndMeets (said_calls (get_or phases i d).items) mid after more → RunsPhases (said_phases (take (i + 1) phases)) before after (text ++ more)
 phases-more phases i d before mid after text more low ran last =
     let said : Vec (ScriptCall (Bor Word)) Global → List WrittenCall = λ phase. said_calls phase.items in
     let P : List (List WrittenCall) → Type 0 = λ ps. RunsPhases ps before after (text ++ more) in

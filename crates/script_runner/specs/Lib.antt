@@ -1,6 +1,7 @@
 pub use Rattle.script_text.specs.Replies
 pub use Rattle.script_text.specs.Script
 pub mod Buffer
+pub mod Meeting
 pub mod Members
 pub mod Phase
 pub mod RunFault

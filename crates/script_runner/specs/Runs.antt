@@ -1,9 +1,9 @@
 -- What the calls of a script leave. A process shows its ticket: its lock, its number, and the journal that it last left.
-use Rattle.std.specs.Prelude.{◌≡◌, ◌≤◌, ◌==◌, ◌++◌, ℕ, List, [], ◌∷◌, codes, filter, length, IsFalse, IsSome, IsTrue, Option, Result, Ok, Err}
-use Rattle.std.specs.List.{All}
+use Rattle.std.specs.Prelude.{◌≡◌, ◌≤◌, ◌==◌, ◌++◌, ℕ, List, [], ◌∷◌, codes, filter, length, IsFalse, IsSome, IsTrue, Option, None, Result, Ok, Err}
+use Rattle.std.specs.List.{All, AllZip}
 use Rattle.std.specs.Io.KnownBytes as known
 use Rattle.fast_mutex.specs.Items.{LockId, Ticket, Grows, tickets_from}
-use Rattle.mq.specs.Calls.{Calls, IsFree, Exits, OneCall, SendCall, TimedReceive, TimedSend, WholeReceive, author, recorded}
+use Rattle.mq.specs.Calls.{Calls, IsFree, Exits, OneCall, SendCall, TimedReceive, TimedSend, WholeReceive, author, bounds_in, recorded}
 use Rattle.mq.specs.Says.{attributes_says, done_says, notice_says, open_says}
 use Rattle.mq_model.specs.Legality.{Legal}
 use Rattle.mq_model.specs.Name.{has_name_form, is_name, is_short}
@@ -110,12 +110,18 @@ RunsPhase calls (old ∷ before) (new ∷ after) text =
     × RunsPhase calls before after rest
     × (text ≡ reply_lines old.number completions ++ rest)
 
--- phases were run one after the other
+-- the process came in once more and left no record: the journal that it found has so many entries
+pub record FindsLength (n : ℕ) (old new : Ticket Record) : Type 0 where
+  pub calls : Calls old new []
+  pub count : length new.left ≡ n
+
+-- phases were run one after the other. After each, all processes find a journal of one length
 abbrev pub RunsPhases : List (List WrittenCall) → List (Ticket Record) → List (Ticket Record) → List ℕ → Type 0
 RunsPhases [] before after text = (after ≡ before) × (text ≡ [])
 RunsPhases (calls ∷ phases) before after text =
-    (between : List (Ticket Record)) × (first : List ℕ) × (rest : List ℕ)
-    × RunsPhase calls before between first
+    (ended : List (Ticket Record)) × (between : List (Ticket Record)) × (n : ℕ) × (first : List ℕ) × (rest : List ℕ)
+    × RunsPhase calls before ended first
+    × AllZip (FindsLength n) ended between
     × RunsPhases phases between after rest
     × (text ≡ first ++ rest)
 
@@ -123,12 +129,13 @@ RunsPhases (calls ∷ phases) before after text =
 abbrev pub last_line : List ℕ
 last_line = codes "history ok" ++ 10 ∷ []
 
--- A script was run whole, with these replies and this journal, which is legal. Its processes are those of one system, which has as many
--- as the script says. They began with the empty journal and ran the phases. The journal begins with what each process last left and has
--- no further record of it: so of each process it has just the records that its calls left, and of no other one any
+-- A script was run whole, with these replies and this journal, which is legal. Its processes are those of one system without bounds, which
+-- has as many as the script says. They began with the empty journal and ran the phases. The journal begins with what each process last
+-- left and has no further record of it: so of each process it has just the records that its calls left, and of no other one any
 pub record RunsWhole (script : Whole) (replies : List ℕ) (journal : Past) : Type 0 where
   pub system : LockId
   pub count : system.count ≡ script.processes
+  pub unbounded : bounds_in system.fixed ≡ None
   pub processes : List (Ticket Record)
   pub ran : RunsPhases script.phases (tickets_from system 1 script.processes) processes replies
   pub legal : Legal journal

@@ -6,6 +6,7 @@ mod deal;
 mod fault;
 mod gate;
 mod journal;
+mod meeting;
 mod noted;
 mod noting;
 mod peers;

@@ -2,14 +2,16 @@
 ghost use Rattle.std.specs.Prelude.{◌≡◌, ◌≤◌, ◌++◌, [], ℕ, List, IfErr, IfOk, vec_len};
 ghost use Rattle.std.specs.List.{All};
 ghost use Rattle.mq_model.specs.Legality.{Legal};
+ghost use Rattle.script_runner.specs.Meeting.{RunsAndMeets};
 ghost use Rattle.script_runner.specs.Notes.{lines_of};
 ghost use Rattle.script_runner.specs.RunFault.{IsUnwritten};
-ghost use Rattle.script_runner.specs.Runs.{IsReady, RunsPhase, RunsPhases, RunsWhole};
+ghost use Rattle.script_runner.specs.Runs.{IsReady, RunsPhases, RunsWhole};
 ghost use Rattle.script_text.specs.Script.{said_calls, said_phases, said_script};
 
-use crate::deal::{processes_of, shares_of};
+use crate::deal::shares_of;
 use crate::fault::RunFault;
 use crate::gate::Gate;
+use crate::meeting::meet;
 use crate::noted::{Noted, note_all};
 use crate::phase::make_calls;
 use crate::settling::settled;
@@ -88,7 +90,7 @@ where
     Ok(processes)
 }
 
-// Runs a phase.
+// Runs a phase, after which the processes have met.
 fn run_noted_phase<'s, L, S, G>(
     rt: &'s S,
     alloc: Global,
@@ -109,13 +111,13 @@ where
     ensures ready { IfOk result (λ after. All (IsReady mq.now) after.items) }
     ensures count { IfOk result (λ after. vec_len after ≡ vec_len processes) }
     ensures ran { IfOk result (λ after. (replies : List ℕ) ×
-        RunsPhase (said_calls calls.now) processes.items after.items replies ×
+        RunsAndMeets (said_calls calls.now) processes.items after.items replies ×
         (lines_of noted.new.items ≡ lines_of noted.old.items ++ replies)) }
 {
     let shares = shares_of(alloc, processes, calls)?;
     let workers = make_calls(rt, alloc, mq, gate, shares)?;
     note_all(alloc, noted, &workers)?;
     let workers = settled(rt, alloc, mq, workers)?;
-    let processes = processes_of(alloc, workers)?;
+    let processes = meet(rt, alloc, mq, workers)?;
     Ok(processes)
 }

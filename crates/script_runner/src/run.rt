@@ -7,15 +7,17 @@ ghost use Rattle.script_runner.specs.RunFault.{IsLate, IsUnwritten, StopsAt};
 ghost use Rattle.fast_mutex.specs.Items.{Ticket};
 ghost use Rattle.text_io.specs.Output.{AppendsTooLittle};
 ghost use Rattle.mq_model.specs.Record.{Record};
+ghost use Rattle.script_runner.specs.Meeting.{RunsAndMeets};
 ghost use Rattle.script_runner.specs.Runs.{IsReady, RunsPhase, RunsPhases, RunsScript, RunsWhole, last_line};
 ghost use Rattle.script_runner.specs.Stops.{RunsFront, StopsAfterPhase, StopsBlocked, StopsInDeadlock, StopsInPhase, StopsInWrite};
 ghost use Rattle.script_runner.specs.Stands.{ComesToAStand};
 ghost use Rattle.script_text.specs.Script.{Whole, said_calls, said_phases, said_script, script_written};
 ghost use Rattle.script_runner.specs.declared.fault.RunFault.TheVariants.{BadCall, Deadlock, Input, NoMemory, Output};
 
-use crate::deal::{processes_of, shares_of};
+use crate::deal::shares_of;
 use crate::fault::RunFault;
 use crate::gate::Gate;
+use crate::meeting::meet;
 use crate::phase::run_phase;
 use crate::text::text_of;
 use fast_mutex::Look;
@@ -224,7 +226,7 @@ where
     ensures ready { IfOk result (λ after. All (IsReady mq.now) after.items) }
     ensures count { IfOk result (λ after. vec_len after ≡ vec_len processes) }
     ensures ran { IfOk result (λ after. (text : List ℕ) ×
-        RunsPhase (said_calls calls.now) processes.items after.items text ×
+        RunsAndMeets (said_calls calls.now) processes.items after.items text ×
         Appends (W.contents output.old) (W.contents output.new) text) }
 {
     let (processes, text) = run_replied(rt, alloc, mq, gate, processes, calls)?;
@@ -232,7 +234,7 @@ where
     Ok(processes)
 }
 
-// Runs a phase, and gives the processes after it and the text of their replies.
+// Runs a phase, and gives the processes after it, which have met, and the text of their replies.
 pub(crate) fn run_replied<'s, L, S, G>(
     rt: &'s S,
     alloc: Global,
@@ -254,12 +256,12 @@ where
     ensures ready { IfOk result (λ after. All (IsReady mq.now) after.0.items) }
     ensures count { IfOk result (λ after. vec_len after.0 ≡ vec_len processes) }
     ensures ran { IfOk result (λ after.
-        RunsPhase (said_calls calls.now) processes.items after.0.items after.1.items) }
+        RunsAndMeets (said_calls calls.now) processes.items after.0.items after.1.items) }
 {
     let shares = shares_of(alloc, processes, calls)?;
     let workers = run_phase(rt, alloc, mq, gate, shares)?;
     let text = text_of(alloc, workers.as_slice())?;
-    let processes = processes_of(alloc, workers)?;
+    let processes = meet(rt, alloc, mq, workers)?;
     Ok((processes, text))
 }
 

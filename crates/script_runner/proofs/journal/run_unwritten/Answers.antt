@@ -37,6 +37,7 @@ returns-clause-done g c =
       record {
         system = mq;
         count = c.in-Ok.ensures.count;
+        unbounded = c.in-Ok.ensures.bounds;
         processes = after;
         ran = phases;
         legal = c.in-Ok-finish.ensures.legal;

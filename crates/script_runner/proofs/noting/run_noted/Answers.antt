@@ -39,6 +39,7 @@ returns-clause-done g c =
     record {
       system = mq;
       count = c.in-Ok.ensures.count;
+      unbounded = c.in-Ok.ensures.bounds;
       processes = after;
       ran = rw replies phases;
       legal = c.in-Ok-finish.ensures.legal;

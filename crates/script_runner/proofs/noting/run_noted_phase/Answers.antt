@@ -5,9 +5,10 @@ use Rattle.script_runner.specs.Notes.{lines_of}
 use Rattle.script_runner.specs.Phase.{AllWorkOff, AreReady, text_in}
 use Rattle.script_runner.specs.Runs.{IsReady}
 use Rattle.script_text.specs.Script.{said_calls}
+use Rattle.script_runner.proofs.Agreeing.{met-count, met-ready, workers-made}
 use Rattle.script_runner.proofs.Standing.{all-made, all-through}
 use Rattle.script_runner.proofs.Taking.{all-unmap}
-use Rattle.script_runner.proofs.Working.{all-ready, phase-done, same-lengths}
+use Rattle.script_runner.proofs.Working.{phase-done, same-lengths}
 use Rattle.script_runner.proofs.noting.run_noted_phase.Goals as goal
 
 pub make_calls-requires-after_bounds : goal.make_calls-requires-after_bounds
@@ -21,28 +22,40 @@ settled-requires g c =
     let ready : AreReady mq shares = record { all = all-unmap (IsReady mq) (λ share. share.process) shares (All-same (IsReady mq) (map (λ share. share.process) shares) c.args.processes.items c.in_ok-shares.ensures.processes c.requires) } in
     all-made mq shares c.in_ok-workers.workers.items c.in_ok-workers.ensures ready
 
+pub meet-requires : goal.meet-requires
+meet-requires g c =
+    let mq = c.args.mq.now in let shares = c.in_ok-shares.shares.items in let workers = c.in_ok-workers-2.workers.items in
+    let off : AllWorkOff shares workers = subst (λ ws. AllWorkOff shares ws) (sym c.in_ok-workers-2.ensures.through.0) (all-through shares c.in_ok-workers.workers.items c.in_ok-workers.ensures c.in_ok-workers-2.ensures.through.1) in
+    let ready = all-unmap (IsReady mq) (λ share. share.process) shares (All-same (IsReady mq) (map (λ share. share.process) shares) c.args.processes.items c.in_ok-shares.ensures.processes c.requires) in
+    workers-made mq shares workers off ready
+
 pub returns-clause-ready : goal.returns-clause-ready
 returns-clause-ready g c =
     let mq = c.args.mq.now in let shares = c.in_ok-shares.shares.items in let workers = c.in_ok-workers-2.workers.items in
     let off : AllWorkOff shares workers = subst (λ ws. AllWorkOff shares ws) (sym c.in_ok-workers-2.ensures.through.0) (all-through shares c.in_ok-workers.workers.items c.in_ok-workers.ensures c.in_ok-workers-2.ensures.through.1) in
     let ready = all-unmap (IsReady mq) (λ share. share.process) shares (All-same (IsReady mq) (map (λ share. share.process) shares) c.args.processes.items c.in_ok-shares.ensures.processes c.requires) in
-    All-same (IsReady mq) _ (map (λ worked. worked.process) workers) c.in_ok-processes.ensures (all-ready mq shares workers off ready)
+    met-ready mq shares workers c.in_ok-processes.processes.items off ready c.in_ok-processes.ensures
 
 pub returns-clause-count : goal.returns-clause-count
 returns-clause-count g c =
-    let shares = c.in_ok-shares.shares.items in let workers = c.in_ok-workers-2.workers.items in
+    let shares = c.in_ok-shares.shares.items in let workers = c.in_ok-workers-2.workers.items in let ended = map (λ worked. worked.process) workers in
     let off : AllWorkOff shares workers = subst (λ ws. AllWorkOff shares ws) (sym c.in_ok-workers-2.ensures.through.0) (all-through shares c.in_ok-workers.workers.items c.in_ok-workers.ensures c.in_ok-workers-2.ensures.through.1) in
     let same : length c.in_ok-processes.processes.items ≡ length c.args.processes.items =
-    same-lengths shares workers c.args.processes.items c.in_ok-processes.processes.items off c.in_ok-shares.ensures.processes c.in_ok-processes.ensures in
+    met-count ended c.in_ok-processes.processes.items c.in_ok-processes.ensures
+    ∙ same-lengths shares workers c.args.processes.items ended off c.in_ok-shares.ensures.processes refl in
     grind (arith, common_steps)
 
 pub returns-clause-ran : goal.returns-clause-ran
 returns-clause-ran g c =
-    let shares = c.in_ok-shares.shares.items in let workers = c.in_ok-workers-2.workers.items in
+    let shares = c.in_ok-shares.shares.items in let workers = c.in_ok-workers-2.workers.items in let ended = map (λ worked. worked.process) workers in
     let off : AllWorkOff shares workers = subst (λ ws. AllWorkOff shares ws) (sym c.in_ok-workers-2.ensures.through.0) (all-through shares c.in_ok-workers.workers.items c.in_ok-workers.ensures c.in_ok-workers-2.ensures.through.1) in
     let noted : lines_of c.note_all.new.noted.items ≡ lines_of c.args.noted.now.items ++ text_in c.in_ok-workers.workers.items =
     rw (sym c.deref.ensures.value) c.in_ok-note_all.ensures in (
       text_in workers,
-      phase-done (said_calls c.args.calls.now) shares workers c.args.processes.items c.in_ok-processes.processes.items (text_in workers) off c.in_ok-shares.ensures.calls c.in_ok-shares.ensures.processes c.in_ok-processes.ensures refl,
+      record {
+        ended = ended;
+        ran = phase-done (said_calls c.args.calls.now) shares workers c.args.processes.items ended (text_in workers) off c.in_ok-shares.ensures.calls c.in_ok-shares.ensures.processes refl refl;
+        met = c.in_ok-processes.ensures;
+      },
       noted ∙ ap (λ ws. lines_of c.args.noted.now.items ++ text_in ws) (sym c.in_ok-workers-2.ensures.through.0),
     )

@@ -1,7 +1,7 @@
 use Rattle.std.proofs.Common.{◌≡◌, ◌++◌, ◌∙◌, ap, append_assoc, get_or, Vec, Global, Bor}
 use Rattle.text_io.specs.Words.{Word}
+use Rattle.script_runner.specs.Meeting.{RunsAndMeets}
 use Rattle.script_runner.specs.Notes.{lines_of}
-use Rattle.script_runner.specs.Runs.{RunsPhase}
 use Rattle.script_text.specs.Script.{said_calls}
 use Rattle.script_text.specs.declared.line.ScriptCall.{ScriptCall}
 use Rattle.script_runner.proofs.Working.{phases-more}
@@ -14,7 +14,7 @@ loop-calls-preserved g c =
     let item : d ≡ get_or phases i d = c.calls-item.is in
     let calls : c.as_slice.result.now ≡ (get_or phases i d).items = c.as_slice.ensures.value ∙ ap (λ (v : Vec (ScriptCall (Bor Word)) Global). v.items) item in
     let after = c.in_ok-processes.processes.items in
-    let last : RunsPhase (said_calls (get_or phases i d).items) c.loop-calls.processes.items after now.ran.0 = rw calls at now.ran.1 in
+    let last : RunsAndMeets (said_calls (get_or phases i d).items) c.loop-calls.processes.items after now.ran.0 = rw calls at now.ran.1 in
     record {
       ready = now.ready;
       count = now.count ∙ was.count;

@@ -1,13 +1,14 @@
-use Rattle.std.proofs.Common.{arith, ◌≡◌, length, map, sym}
+use Rattle.std.proofs.Common.{arith, ◌≡◌, ◌∙◌, length, map, refl, sym}
 use Rattle.std.proofs.lemmas.Grind.{common_steps}
 use Rattle.std.proofs.lemmas.List.Elements.{All-same}
 use Rattle.script_runner.specs.Phase.{EndsEarly, text_in}
 use Rattle.script_runner.specs.Runs.{IsReady}
 use Rattle.script_text.specs.Script.{said_calls}
 use Rattle.script_runner.specs.declared.fault.RunFault.TheVariants.{Deadlock}
+use Rattle.script_runner.proofs.Agreeing.{met-count, met-ready, workers-made}
 use Rattle.script_runner.proofs.Standing.{early-unwritten, phase-stands, unwritten-same}
 use Rattle.script_runner.proofs.Taking.{all-unmap}
-use Rattle.script_runner.proofs.Working.{all-ready, phase-done, same-lengths}
+use Rattle.script_runner.proofs.Working.{phase-done, same-lengths}
 use Rattle.script_runner.proofs.run.run_replied.Goals as goal
 
 pub run_phase-requires-after_bounds : goal.run_phase-requires-after_bounds
@@ -15,23 +16,36 @@ run_phase-requires-after_bounds g c κs within =
     let mq = c.args.mq.now in let shares = c.in_ok-shares.shares.items in
     record { all = all-unmap (IsReady mq) (λ share. share.process) shares (All-same (IsReady mq) (map (λ share. share.process) shares) c.args.processes.items c.in_ok-shares.ensures.processes c.requires) }
 
+pub meet-requires : goal.meet-requires
+meet-requires g c =
+    let mq = c.args.mq.now in let shares = c.in_ok-shares.shares.items in
+    let ready = all-unmap (IsReady mq) (λ share. share.process) shares (All-same (IsReady mq) (map (λ share. share.process) shares) c.args.processes.items c.in_ok-shares.ensures.processes c.requires) in
+    workers-made mq shares c.in_ok-workers.workers.items c.in_ok-workers.ensures.through ready
+
 pub returns-clause-ready : goal.returns-clause-ready
 returns-clause-ready g c =
-    let mq = c.args.mq.now in let shares = c.in_ok-shares.shares.items in let workers = c.in_ok-workers.workers.items in
+    let mq = c.args.mq.now in let shares = c.in_ok-shares.shares.items in
     let ready = all-unmap (IsReady mq) (λ share. share.process) shares (All-same (IsReady mq) (map (λ share. share.process) shares) c.args.processes.items c.in_ok-shares.ensures.processes c.requires) in
-    All-same (IsReady mq) _ (map (λ worked. worked.process) workers) c.in_ok-processes.ensures (all-ready mq shares workers c.in_ok-workers.ensures.through ready)
+    met-ready mq shares c.in_ok-workers.workers.items c.in_ok-processes.processes.items c.in_ok-workers.ensures.through ready c.in_ok-processes.ensures
 
 pub returns-clause-count : goal.returns-clause-count
 returns-clause-count g c =
+    let workers = c.in_ok-workers.workers.items in let ended = map (λ worked. worked.process) workers in
     let same : length c.in_ok-processes.processes.items ≡ length c.args.processes.items =
-    same-lengths c.in_ok-shares.shares.items c.in_ok-workers.workers.items c.args.processes.items c.in_ok-processes.processes.items c.in_ok-workers.ensures.through c.in_ok-shares.ensures.processes c.in_ok-processes.ensures in
+    met-count ended c.in_ok-processes.processes.items c.in_ok-processes.ensures
+    ∙ same-lengths c.in_ok-shares.shares.items workers c.args.processes.items ended c.in_ok-workers.ensures.through c.in_ok-shares.ensures.processes refl in
     grind (arith, common_steps)
 
 pub returns-clause-ran : goal.returns-clause-ran
 returns-clause-ran g c =
     let shares = c.in_ok-shares.shares.items in let workers = c.in_ok-workers.workers.items in let text = c.in_ok-text.text.items in
+    let ended = map (λ worked. worked.process) workers in
     let is : text ≡ text_in workers = rw c.as_slice.ensures.value at c.in_ok-text.ensures in
-    phase-done (said_calls c.args.calls.now) shares workers c.args.processes.items c.in_ok-processes.processes.items text c.in_ok-workers.ensures.through c.in_ok-shares.ensures.calls c.in_ok-shares.ensures.processes c.in_ok-processes.ensures is
+    record {
+      ended = ended;
+      ran = phase-done (said_calls c.args.calls.now) shares workers c.args.processes.items ended text c.in_ok-workers.ensures.through c.in_ok-shares.ensures.calls c.in_ok-shares.ensures.processes refl is;
+      met = c.in_ok-processes.ensures;
+    }
 
 pub returns-in_err-workers-clause-deadlock : goal.returns-in_err-workers-clause-deadlock
 returns-in_err-workers-clause-deadlock g c = λ lines failed.

@@ -2,6 +2,7 @@ use Rattle.std.proofs.Common.{◌≡◌, ◌++◌, ◌∙◌, ap, sym, subst, Er
 use Rattle.std.specs.Io.KnownBytes.{Appends}
 use Rattle.std.specs.List.{take-map}
 use Rattle.text_io.specs.Words.{Word}
+use Rattle.script_runner.specs.Meeting.{RunsAndMeets}
 use Rattle.script_runner.specs.Runs.{RunsPhase, RunsPhases}
 use Rattle.script_runner.specs.Stands.{ComesToAStand}
 use Rattle.script_text.specs.Script.{said_calls, said_phases}
@@ -18,7 +19,7 @@ loop-calls-preserved g c =
     let phases = c.args.phases.now in let i = c.loop-calls.calls-index in let d = c.calls-item.result in
     let item : d ≡ get_or phases i d = c.calls-item.is in
     let calls : c.as_slice.result.now ≡ (get_or phases i d).items = c.as_slice.ensures.value ∙ ap (λ (v : Vec (ScriptCall (Bor Word)) Global). v.items) item in
-    let last : RunsPhase (said_calls (get_or phases i d).items) c.loop-calls.processes.items c.in_ok-processes.processes.items now.ran.0 = rw calls at now.ran.1 in
+    let last : RunsAndMeets (said_calls (get_or phases i d).items) c.loop-calls.processes.items c.in_ok-processes.processes.items now.ran.0 = rw calls at now.ran.1 in
     record {
       ready = now.ready;
       count = now.count ∙ was.count;
