@@ -1,11 +1,10 @@
 -- Processes that came in once more.
-use Rattle.std.proofs.Common.{◌≡◌, ◌∙◌, ℕ, List, [], ◌∷◌, All, length, map, sym}
+use Rattle.std.proofs.Common.{◌≡◌, ◌∙◌, ℕ, List, [], ◌∷◌, All, length, map}
 use Rattle.std.specs.List.{AllZip}
 use Rattle.std.proofs.lemmas.List.Elements.{All-nil, All-cons, All-head, All-tail, All-weaker}
 use Rattle.std.proofs.lemmas.Slice.Zip.{AllZip-long}
 use Rattle.fast_mutex.specs.Items.{LockId, Ticket}
 use Rattle.mq.proofs.Others.{wait-grown}
-use Rattle.mq.specs.Calls.{Calls}
 use Rattle.mq_model.specs.Record.{Record}
 use Rattle.script_runner.specs.Meeting.{AllLook, Meet}
 use Rattle.script_runner.specs.Phase.{AllWorkOff}
