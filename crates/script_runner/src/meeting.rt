@@ -133,9 +133,8 @@ fn find_as_blocked<L: Look<Guarded>, R: Wait>(
     match processes.split_first_mut() {
         None => true,
         Some((first, others)) => {
-            let count = first.journal_len(rt, mq);
-            let finds = finds_blocked(rt, mq, first, blocked, count);
-            all_find_blocked(rt, mq, others, blocked, count) && finds
+            let (count, are) = find_blocked(rt, mq, first, blocked);
+            all_find_blocked(rt, mq, others, blocked, count) && are
         }
     }
 }
@@ -156,27 +155,28 @@ fn all_find_blocked<L: Look<Guarded>, R: Wait>(
     match processes.split_first_mut() {
         None => true,
         Some((process, others)) => {
-            let finds = finds_blocked(rt, mq, process, blocked, count);
+            let (found, are) = find_blocked(rt, mq, process, blocked);
+            let finds = are && found == count;
             all_find_blocked(rt, mq, others, blocked, count) && finds
         }
     }
 }
 
-// Whether a process finds so many entries, and in them these processes blocked. It asks how many there are before and after, since where
-// it finds as many it has found the same journal.
-fn finds_blocked<L: Look<Guarded>, R: Wait>(
+// How many entries a process finds, and whether these processes are blocked in them: where it finds as many before and after that question,
+// it has asked of the same journal.
+fn find_blocked<L: Look<Guarded>, R: Wait>(
     rt: &R,
     mq: &Mq<L>,
     process: &mut Process<L>,
     blocked: &[u32],
-    count: u64,
-) -> bool
+) -> (u64, bool)
     requires { process.old.lock ≡ mq.now }
     ensures looked { Calls process.old process.new [] }
-    ensures agree { result ≡ true → FindsBlocked blocked.now count process.old process.new }
+    ensures agree { result.1 ≡ true →
+        FindsBlocked blocked.now result.0 process.old process.new }
 {
-    let before = process.journal_len(rt, mq);
+    let count = process.journal_len(rt, mq);
     let are_blocked = process.are_blocked(rt, mq, blocked);
-    let after = process.journal_len(rt, mq);
-    before == count && are_blocked && after == count
+    let same = process.journal_len(rt, mq) == count;
+    (count, are_blocked && same)
 }
