@@ -1,30 +1,27 @@
 -- Phases whose calls ended, or came to a stand.
 use Rattle.std.proofs.Common.{◌≡◌, ◌≢◌, ◌<◌, ◌+◌, ◌++◌, ◌∷◌, ◌∙◌, [], ℕ, List, All, refl, ap, sym, get_or, length, map, subst, take, Result, Ok, Err, IfErr, IfOk, append_assoc, append-nil, Option, None, Some}
 use Rattle.std.specs.List.{AllByRecursion as ByRecursion, AllZip}
-use Rattle.std.proofs.lemmas.List.{take_more}
-use Rattle.std.proofs.lemmas.List.Elements.{All-nil, All-cons, recursion_from_All}
+use Rattle.std.proofs.lemmas.List.{length-map, take_more}
+use Rattle.std.proofs.lemmas.List.Elements.{All-nil, All-cons, All-head, All-tail, recursion_from_All}
+use Rattle.std.proofs.lemmas.Slice.Zip.{AllZip-long}
 use Rattle.std.specs.Result.{IsErrAnd}
 use Rattle.fast_mutex.specs.Items.{LockId, Ticket}
-use Rattle.mq.proofs.Growing.{calls-on}
-use Rattle.mq.proofs.Others.{call-grown, wait-grown}
-use Rattle.mq.specs.Calls.{Calls}
 use Rattle.mq_model.specs.Record.{Record}
-use Rattle.mq_model.specs.declared.entries.Call.{Call}
-use Rattle.mq_model.specs.declared.entries.Deadline.{Deadline}
-use Rattle.text_io.specs.Words.{Word}
 use Rattle.script_text.specs.Script.{WrittenCall}
-use Rattle.script_text.specs.declared.command.Command.{Command}
-use Rattle.script_text.specs.declared.command.Command.TheVariants as command
 use Rattle.script_runner.specs.Members.{AllGive, AllHaveShares}
 use Rattle.script_runner.specs.Phase.{AllEnd, AllWorkOff, AreReady, Ends, EndsEarly, EndsInDeadlock, WorksOff, calls_in}
-use Rattle.script_runner.specs.Runs.{Blocks, IsReady, RunsCalls, WaitsFor, calls_of}
-use Rattle.script_runner.specs.Stands.{AllConfirm, BlocksIn, ComesToAStand, Confirms, EndsIn, EndsPhase, EndsStuck, FindsBlocked, blocked_lines, blocked_processes, line_in, process_in}
+use Rattle.script_runner.specs.Meeting.{MeetBlocked}
+use Rattle.script_runner.specs.Runs.{FindsLength, IsReady, RunsCalls, calls_of}
+use Rattle.script_runner.specs.Stands.{ComesToAStand, EndsIn, EndsPhase, EndsStuck, blocked_lines, blocked_processes, line_in, process_in}
 use Rattle.script_runner.specs.declared.phase.Member.{Member}
-use Rattle.script_runner.specs.RunFault.{IsLate, IsUnwritten}
+use Rattle.script_runner.specs.RunFault.{IsLate, IsUnwritten, fault_of}
 use Rattle.script_runner.specs.declared.fault.RunFault.{RunFault}
 use Rattle.script_runner.specs.declared.fault.RunFault.TheVariants.{BadCall, Deadlock, Input, NoMemory, Output}
+use Rattle.script_runner.specs.declared.stop.Stop.{Stop}
+use Rattle.script_runner.specs.declared.stop.Stop.TheVariants as stops
 use Rattle.script_runner.specs.declared.turns.Share.{Share}
 use Rattle.script_runner.specs.declared.turns.Worked.{Worked}
+use Rattle.script_runner.proofs.Agreeing.{blocked-are, blocked-met, found-looks, look-made}
 
 -- what each member gave is the end of its share
 pub all-end : {L S W I : Type 0} (shares : List (Share (Ticket Record))) (members : List (Member L S W I)) (workers : List (Worked (Ticket Record))) → AllHaveShares shares members → AllGive members workers → AllEnd shares workers
@@ -62,98 +59,9 @@ all-through (s ∷ shares) (w ∷ workers) ends none =
     let parts = no-line w.blocked (blocked_lines workers) none in
     (works-off s w ends.0 parts.0, all-through shares workers ends.1 parts.1)
 
--- a wait that lasts
-lasts : {old mid new : Ticket Record} {call : Call} {given : List ℕ} → WaitsFor old mid call given → Calls mid new [] → WaitsFor old new call given
-lasts w later = record {
-  calls = calls-on (λ _. []) w.calls later;
-  still = rw (later.number, wait-grown later.grows) w.still;
-  waits = rw later.number (call-grown later.grows ∙ w.waits);
-}
-
-blocks-later : (moment : Deadline) (c : Command Word) (before : List ℕ) (old mid new : Ticket Record) → Blocks moment c before old mid → Calls mid new [] → Blocks moment c before old new
-blocks-later moment (command.Send d prio message) before old mid new w later = lasts w later
-blocks-later moment (command.Receive d room) before old mid new w later = lasts w later
-blocks-later moment (command.TimedSend d prio until message) before old mid new w later = lasts w later
-blocks-later moment (command.TimedReceive d room until) before old mid new w later = lasts w later
-blocks-later moment (command.Open name flags attr) before old mid new w later = absurd w
-blocks-later moment (command.Close d) before old mid new w later = absurd w
-blocks-later moment (command.Unlink name) before old mid new w later = absurd w
-blocks-later moment (command.Getattr d) before old mid new w later = absurd w
-blocks-later moment (command.Setattr d nonblock) before old mid new w later = absurd w
-blocks-later moment (command.Notify d value) before old mid new w later = absurd w
-blocks-later moment command.Notice before old mid new w later = absurd w
-blocks-later moment command.Exit before old mid new w later = absurd w
-
-in-later : {calls : List WrittenCall} {old mid new : Ticket Record} {line : ℕ} → BlocksIn calls old mid line → Calls mid new [] → BlocksIn calls old new line
-in-later {calls} {old} {mid} {new} {line} b later = record {
-  made = b.made;
-  call = b.call;
-  later = b.later;
-  are = b.are;
-  line_is = b.line_is;
-  completions = b.completions;
-  mid = b.mid;
-  ran = b.ran;
-  blocks = blocks-later b.call.moment b.call.command _ b.mid mid new b.blocks later;
-}
-
--- a worker that confirmed has ended as before
-confirmed-ends : (processes : List ℕ) (share : Share (Ticket Record)) (worked confirmed : Worked (Ticket Record)) → Ends share worked → Confirms processes worked confirmed → Ends share confirmed
-confirmed-ends processes share worked confirmed e c = by worked.blocked refl
-  where
-    by : (o : Option ℕ) → worked.blocked ≡ o → Ends share confirmed
-    by None none =
-        let ran : RunsCalls (calls_in share.turns.items) worked.completions.items share.process worked.process = rw none at e.ends in
-        record {
-          same = record { lock = c.same.lock ∙ e.same.lock; number = c.same.number ∙ e.same.number };
-          free = λ _. rw (c.kept none) (e.free none);
-          ends = rw (c.blocked, none, c.completions, c.kept none) ran;
-        }
-    by (Some line) some =
-        let waits : BlocksIn (calls_in share.turns.items) share.process worked.process line = rw some at e.ends in
-        record {
-          same = record { lock = c.same.lock ∙ e.same.lock; number = c.same.number ∙ e.same.number };
-          free = λ none. absurd (let bad : Some line ≡ None = sym some ∙ sym c.blocked ∙ none in cc);
-          ends = rw (c.blocked, some) (in-later waits (c.calls (rw some refl)));
-        }
-
-all-confirmed : (processes : List ℕ) (shares : List (Share (Ticket Record))) (workers confirmed : List (Worked (Ticket Record))) → AllEnd shares workers → AllConfirm processes workers confirmed → AllEnd shares confirmed
-all-confirmed processes [] [] [] ends c = tt
-all-confirmed processes [] [] (k ∷ confirmed) ends c = absurd c
-all-confirmed processes [] (w ∷ workers) confirmed ends c = absurd ends
-all-confirmed processes (s ∷ shares) [] confirmed ends c = absurd ends
-all-confirmed processes (s ∷ shares) (w ∷ workers) [] ends c = absurd c
-all-confirmed processes (s ∷ shares) (w ∷ workers) (k ∷ confirmed) ends c = (confirmed-ends processes s w k ends.0 c.0, all-confirmed processes shares workers confirmed ends.1 c.1)
-
-all-found : (processes : List ℕ) (workers confirmed : List (Worked (Ticket Record))) → AllConfirm processes workers confirmed → All (FindsBlocked processes) confirmed
-all-found processes [] [] c = All-nil (FindsBlocked processes)
-all-found processes [] (k ∷ confirmed) c = absurd c
-all-found processes (w ∷ workers) [] c = absurd c
-all-found processes (w ∷ workers) (k ∷ confirmed) c = All-cons (FindsBlocked processes) k confirmed c.0.found (all-found processes workers confirmed c.1)
-
-same-lines : (processes : List ℕ) (workers confirmed : List (Worked (Ticket Record))) → AllConfirm processes workers confirmed → blocked_lines confirmed ≡ blocked_lines workers
-same-lines processes [] [] c = refl
-same-lines processes [] (k ∷ confirmed) c = absurd c
-same-lines processes (w ∷ workers) [] c = absurd c
-same-lines processes (w ∷ workers) (k ∷ confirmed) c = rw (c.0.blocked, same-lines processes workers confirmed c.1) refl
-
-same-processes : (processes : List ℕ) (workers confirmed : List (Worked (Ticket Record))) → AllConfirm processes workers confirmed → blocked_processes confirmed ≡ blocked_processes workers
-same-processes processes [] [] c = refl
-same-processes processes [] (k ∷ confirmed) c = absurd c
-same-processes processes (w ∷ workers) [] c = absurd c
-same-processes processes (w ∷ workers) (k ∷ confirmed) c = rw (c.0.blocked, c.0.same.number, same-processes processes workers confirmed c.1) refl
-
 -- the phase of these shares came to a stand
-pub in-deadlock : (shares : List (Share (Ticket Record))) (workers confirmed : List (Worked (Ticket Record))) (lines : List ℕ) → AllEnd shares workers → AllConfirm (blocked_processes workers) workers confirmed → lines ≡ blocked_lines workers → lines ≢ [] → EndsInDeadlock shares lines
-in-deadlock shares workers confirmed lines ends c are some =
-    let processes = blocked_processes workers in
-    record {
-      ended = confirmed;
-      each = all-confirmed processes shares workers confirmed ends c;
-      are = same-lines processes workers confirmed c ∙ sym are;
-      some = some;
-      found = rw (same-processes processes workers confirmed c) (all-found processes workers confirmed c);
-    }
+pub in-deadlock : (shares : List (Share (Ticket Record))) (workers : List (Worked (Ticket Record))) (lines : List ℕ) (after : List (Ticket Record)) → AllEnd shares workers → MeetBlocked (blocked_processes workers) (map (λ worked. worked.process) workers) after → lines ≡ blocked_lines workers → lines ≢ [] → EndsInDeadlock shares lines after
+in-deadlock shares workers lines after ends met are some = record { ended = workers; each = ends; are = sym are; some = some; met = met }
 
 -- shares of these calls came to a stand: the phase did
 each-ends : (calls : List WrittenCall) (shares : List (Share (Ticket Record))) (ended : List (Worked (Ticket Record))) → AllEnd shares ended → ByRecursion (λ (share : Share (Ticket Record)). calls_in share.turns.items ≡ calls_of share.process.number calls) shares
@@ -165,14 +73,40 @@ each-ends calls (s ∷ shares) (w ∷ ended) ends dealt =
     let P : List WrittenCall → Type 0 = λ cs. EndsIn w.blocked cs w.completions.items s.process w.process in
     (record { same = ends.0.same; ends = subst P dealt.0 ends.0.ends }, each-ends calls shares ended ends.1 dealt.1)
 
-pub phase-stands : (calls : List WrittenCall) (shares : List (Share (Ticket Record))) (before : List (Ticket Record)) (lines : List ℕ) → EndsInDeadlock shares lines → All (λ share. calls_in share.turns.items ≡ calls_of share.process.number calls) shares → map (λ share. share.process) shares ≡ before → ComesToAStand calls before lines
-phase-stands calls shares before lines stuck dealt processes = record {
-  ended = stuck.ended;
-  each = rw (sym processes) (each-ends calls shares stuck.ended stuck.each (recursion_from_All (λ (share : Share (Ticket Record)). calls_in share.turns.items ≡ calls_of share.process.number calls) shares dealt));
-  are = stuck.are;
-  some = stuck.some;
-  found = stuck.found;
-}
+pub phase-stands : (calls : List WrittenCall) (shares : List (Share (Ticket Record))) (before : List (Ticket Record)) (lines : List ℕ) (after : List (Ticket Record)) → EndsInDeadlock shares lines after → All (λ share. calls_in share.turns.items ≡ calls_of share.process.number calls) shares → map (λ share. share.process) shares ≡ before → ComesToAStand calls before lines after
+phase-stands calls shares before lines after stuck dealt processes =
+    let blocked = blocked_processes stuck.ended in let ended = map (λ (w : Worked (Ticket Record)). w.process) stuck.ended in
+    record {
+      ended = stuck.ended;
+      each = rw (sym processes) (each-ends calls shares stuck.ended stuck.each (recursion_from_All (λ (share : Share (Ticket Record)). calls_in share.turns.items ≡ calls_of share.process.number calls) shares dealt));
+      are = stuck.are;
+      some = stuck.some;
+      n = stuck.met.n;
+      met = blocked-met blocked stuck.met.n ended after stuck.met.found;
+      blocked = blocked-are blocked stuck.met.n ended after stuck.met.found;
+    }
+
+-- the processes come back: they are of the same system, and as many
+ended-made : (mq : LockId) (calls : List WrittenCall) (before : List (Ticket Record)) (ended : List (Worked (Ticket Record))) → AllZip (EndsPhase calls) before ended → All (IsReady mq) before → All (λ (p : Ticket Record). p.lock ≡ mq) (map (λ (w : Worked (Ticket Record)). w.process) ended)
+ended-made mq calls [] [] each ready = All-nil (λ (p : Ticket Record). p.lock ≡ mq)
+ended-made mq calls [] (w ∷ ended) each ready = absurd each
+ended-made mq calls (b ∷ before) [] each ready = absurd each
+ended-made mq calls (b ∷ before) (w ∷ ended) each ready =
+    let was = All-head (IsReady mq) b before ready in
+    All-cons (λ (p : Ticket Record). p.lock ≡ mq) w.process (map (λ (w : Worked (Ticket Record)). w.process) ended) (each.0.same.lock ∙ was.made)
+    (ended-made mq calls before ended each.1 (All-tail (IsReady mq) b before ready))
+
+pub stand-made : (mq : LockId) (calls : List WrittenCall) (before : List (Ticket Record)) (lines : List ℕ) (after : List (Ticket Record)) → ComesToAStand calls before lines after → All (IsReady mq) before → All (λ process. process.lock ≡ mq) after
+stand-made mq calls before lines after stands ready =
+    let ended = map (λ (w : Worked (Ticket Record)). w.process) stands.ended in
+    look-made mq ended after (found-looks stands.n ended after stands.met) (ended-made mq calls before stands.ended stands.each ready)
+
+pub stand-count : (calls : List WrittenCall) (before : List (Ticket Record)) (lines : List ℕ) (after : List (Ticket Record)) → ComesToAStand calls before lines after → length after ≡ length before
+stand-count calls before lines after stands =
+    let ended = map (λ (w : Worked (Ticket Record)). w.process) stands.ended in
+    AllZip-long (FindsLength stands.n) ended after stands.met
+    ∙ length-map stands.ended (λ (w : Worked (Ticket Record)). w.process)
+    ∙ AllZip-long (EndsPhase calls) before stands.ended stands.each
 
 -- one worker more
 lines-push : (workers : List (Worked (Ticket Record))) (worked : Worked (Ticket Record)) → blocked_lines (workers ++ worked ∷ []) ≡ blocked_lines workers ++ line_in worked.blocked
@@ -195,19 +129,15 @@ processes-more workers i d o low is =
     ∙ ap (λ b. blocked_processes (take i workers) ++ process_in b (get_or workers i d).process.number) is
 
 -- why a phase ended early
-pub ends-early : (shares : List (Share (Ticket Record))) (workers : List (Worked (Ticket Record))) → AllEnd shares workers → (fault : RunFault) → EndsStuck workers fault → EndsEarly shares fault
-ends-early shares workers ends NoMemory stuck = tt
-ends-early shares workers ends (Deadlock lines) stuck = in-deadlock shares workers stuck.0 lines.items ends stuck.1 stuck.2 stuck.3
-ends-early shares workers ends (BadCall line) stuck = absurd stuck
-ends-early shares workers ends Input stuck = absurd stuck
-ends-early shares workers ends Output stuck = absurd stuck
+pub ends-early : (shares : List (Share (Ticket Record))) (workers : List (Worked (Ticket Record))) → AllEnd shares workers → (stop : Stop (Ticket Record)) → EndsStuck workers stop → EndsEarly shares stop
+ends-early shares workers ends stops.NoMemory stuck = tt
+ends-early shares workers ends (stops.Stuck after lines) stuck = in-deadlock shares workers lines.items after.items ends stuck.0 stuck.1 stuck.2
+ends-early shares workers ends stops.Output stuck = absurd stuck
 
-pub early-unwritten : (shares : List (Share (Ticket Record))) (fault : RunFault) → EndsEarly shares fault → IsUnwritten fault
-early-unwritten shares NoMemory early = tt
-early-unwritten shares (Deadlock lines) early = tt
-early-unwritten shares (BadCall line) early = absurd early
-early-unwritten shares Input early = absurd early
-early-unwritten shares Output early = absurd early
+pub early-unwritten : (shares : List (Share (Ticket Record))) (stop : Stop (Ticket Record)) → EndsEarly shares stop → IsUnwritten (fault_of stop)
+early-unwritten shares stops.NoMemory early = tt
+early-unwritten shares (stops.Stuck after lines) early = tt
+early-unwritten shares stops.Output early = absurd early
 
 -- a fault before the writing comes after the reading
 unwritten-late : (fault : RunFault) → IsUnwritten fault → IsLate fault
@@ -225,9 +155,13 @@ pub if-err : {A E : Type 0} (P Q : E → Type 0) (r : Result A E) → ((e : E) �
 if-err P Q (Ok x) weaker has = tt
 if-err P Q (Err e) weaker has = weaker e has
 
-pub unwritten-same : {A : Type 0} (r : Result A RunFault) (fault : RunFault) → IsErrAnd r (λ e. e ≡ fault) → IsUnwritten fault → IfErr r IsUnwritten
-unwritten-same (Ok x) fault same is = absurd same
-unwritten-same (Err e) fault same is = rw same is
+pub stop-same : {A : Type 0} (r : Result A (Stop (Ticket Record))) (stop : Stop (Ticket Record)) → IsErrAnd r (λ e. e ≡ stop) → IsUnwritten (fault_of stop) → IfErr r (λ e. IsUnwritten (fault_of e))
+stop-same (Ok x) stop same is = absurd same
+stop-same (Err e) stop same is = rw same is
+
+pub unwritten-same : {A : Type 0} (r : Result A RunFault) (stop : Stop (Ticket Record)) → IsErrAnd r (λ e. e ≡ fault_of stop) → IsUnwritten (fault_of stop) → IfErr r IsUnwritten
+unwritten-same (Ok x) stop same is = absurd same
+unwritten-same (Err e) stop same is = rw same is
 
 pub late-same : {A : Type 0} (r : Result A RunFault) (fault : RunFault) → IsErrAnd r (λ e. e ≡ fault) → IsUnwritten fault → IfErr r IsLate
 late-same (Ok x) fault same is = absurd same

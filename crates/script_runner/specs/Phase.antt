@@ -4,12 +4,13 @@ use Rattle.std.specs.List.{All, AllZip}
 use Rattle.fast_mutex.specs.Items.{LockId, Ticket}
 use Rattle.mq.specs.Calls.{IsFree}
 use Rattle.mq_model.specs.Record.{Record}
+use Rattle.script_runner.specs.Meeting.{MeetBlocked}
 use Rattle.script_runner.specs.Runs.{IsReady, IsSameProcess, RunsCalls}
-use Rattle.script_runner.specs.Stands.{EndsIn, FindsBlocked, blocked_lines, blocked_processes}
+use Rattle.script_runner.specs.Stands.{EndsIn, blocked_lines, blocked_processes}
 use Rattle.script_text.specs.ReplyLines.{reply_lines}
 use Rattle.script_text.specs.Script.{WrittenCall, said_call}
-use Rattle.script_runner.specs.declared.fault.RunFault.{RunFault}
-use Rattle.script_runner.specs.declared.fault.RunFault.TheVariants.{Deadlock, NoMemory}
+use Rattle.script_runner.specs.declared.stop.Stop.{Stop}
+use Rattle.script_runner.specs.declared.stop.Stop.TheVariants.{NoMemory, Output, Stuck}
 use Rattle.script_runner.specs.declared.turns.Share.{Share}
 use Rattle.script_runner.specs.declared.turns.Turn.{Turn}
 use Rattle.script_runner.specs.declared.turns.Worked.{Worked}
@@ -46,16 +47,16 @@ pub record WorksOff (share : Share (Ticket Record)) (worked : Worked (Ticket Rec
 abbrev pub AllWorkOff : List (Share (Ticket Record)) → List (Worked (Ticket Record)) → Type 0
 AllWorkOff shares workers = AllZip WorksOff shares workers
 
--- the phase of these shares came to a stand, in the calls of these lines
-pub record EndsInDeadlock (shares : List (Share (Ticket Record))) (lines : List ℕ) : Type 0 where
+-- the phase of these shares came to a stand, in the calls of these lines, and then all processes met
+pub record EndsInDeadlock (shares : List (Share (Ticket Record))) (lines : List ℕ) (after : List (Ticket Record)) : Type 0 where
   pub ended : List (Worked (Ticket Record))
   pub each : AllEnd shares ended
   pub are : blocked_lines ended ≡ lines
   pub some : lines ≢ []
-  pub found : All (FindsBlocked (blocked_processes ended)) ended
+  pub met : MeetBlocked (blocked_processes ended) (map (λ worked. worked.process) ended) after
 
 -- why the phase of these shares ended early
-abbrev pub EndsEarly : List (Share (Ticket Record)) → RunFault → Type 0
+abbrev pub EndsEarly : List (Share (Ticket Record)) → Stop (Ticket Record) → Type 0
 EndsEarly shares NoMemory = Unit {0}
-EndsEarly shares (Deadlock lines) = EndsInDeadlock shares lines.items
-EndsEarly shares other = ⊥
+EndsEarly shares (Stuck after lines) = EndsInDeadlock shares lines.items after.items
+EndsEarly shares Output = ⊥

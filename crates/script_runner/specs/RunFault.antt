@@ -8,6 +8,8 @@ use Rattle.script_text.specs.declared.fault.ScriptFault.{ScriptFault}
 use Rattle.script_text.specs.declared.fault.ScriptFault.TheVariants as script
 use Rattle.script_runner.specs.declared.fault.RunFault.{RunFault}
 use Rattle.script_runner.specs.declared.fault.RunFault.TheVariants.{BadCall, Deadlock, Input, Output, NoMemory}
+use Rattle.script_runner.specs.declared.stop.Stop.{Stop}
+use Rattle.script_runner.specs.declared.stop.Stop.TheVariants as stop
 
 -- one line for each line of the script whose call waits, with a line feed between them
 abbrev pub wait_text : ℕ → List ℕ
@@ -43,6 +45,12 @@ of_read_fault read.NoMemory = NoMemory
 abbrev pub of_script_fault : ScriptFault → RunFault
 of_script_fault (script.BadCall line) = BadCall line
 of_script_fault script.NoMemory = NoMemory
+
+-- why a run ends whose phases ended early
+abbrev pub fault_of : {P : Type 0} → Stop P → RunFault
+fault_of stop.Output = Output
+fault_of stop.NoMemory = NoMemory
+fault_of (stop.Stuck processes lines) = Deadlock lines
 
 -- a fault that comes after the reading
 abbrev pub IsLate : RunFault → Type 0

@@ -1,8 +1,11 @@
 -- Where a run that ends early has stopped, and what is then written.
-use Rattle.std.specs.Prelude.{◌≡◌, ◌<◌, ◌++◌, ◌∷◌, ◌⊎◌, ℕ, List, Option, length, take}
+use Rattle.std.specs.Prelude.{◌≡◌, ◌≤◌, ◌<◌, ◌++◌, [], ◌∷◌, ◌⊎◌, ℕ, List, Option, None, length, take}
+use Rattle.std.specs.List.{All}
 use Rattle.std.specs.Io.KnownBytes as known
-use Rattle.fast_mutex.specs.Items.{LockId, Ticket, tickets_from}
-use Rattle.mq_model.specs.Record.{Record}
+use Rattle.fast_mutex.specs.Items.{Grows, LockId, Ticket, tickets_from}
+use Rattle.mq.specs.Calls.{author, bounds_in}
+use Rattle.mq_model.specs.Legality.{Legal}
+use Rattle.mq_model.specs.Record.{Past, Record}
 use Rattle.script_text.specs.Script.{WrittenCall, Whole}
 use Rattle.script_runner.specs.Runs.{RunsPhase, RunsPhases, last_line}
 use Rattle.script_runner.specs.Stands.{ComesToAStand}
@@ -53,7 +56,7 @@ pub record StopsInWrite (script : Whole) (old new : Option (List ℕ)) : Type 0 
 
 -- phases were run from the first on, and their replies are written and nothing else. The next phase came to a stand in the calls of
 -- these lines
-pub record StopsBlocked (phases : List (List WrittenCall)) (before : List (Ticket Record)) (lines : List ℕ) (old new : Option (List ℕ)) : Type 0 where
+pub record StopsBlocked (phases : List (List WrittenCall)) (before : List (Ticket Record)) (lines : List ℕ) (after : List (Ticket Record)) (old new : Option (List ℕ)) : Type 0 where
   pub first : List (List WrittenCall)
   pub last : List WrittenCall
   pub later : List (List WrittenCall)
@@ -61,10 +64,16 @@ pub record StopsBlocked (phases : List (List WrittenCall)) (before : List (Ticke
   pub between : List (Ticket Record)
   pub replies : List ℕ
   pub ran : RunsPhases first before between replies
-  pub stands : ComesToAStand last between lines
+  pub stands : ComesToAStand last between lines after
   pub written : known.Appends old new replies
 
--- a script was run up to a phase that came to a stand
+-- a script was run up to a phase that came to a stand. There is one legal journal, as after a whole run
 pub record StopsInDeadlock (script : Whole) (lines : List ℕ) (old new : Option (List ℕ)) : Type 0 where
   pub system : LockId
-  pub stops : StopsBlocked script.phases (tickets_from system 1 script.processes) lines old new
+  pub unbounded : bounds_in system.fixed ≡ None
+  pub processes : List (Ticket Record)
+  pub stops : StopsBlocked script.phases (tickets_from system 1 script.processes) lines processes old new
+  pub journal : Past
+  pub legal : Legal journal
+  pub authors : All (λ r. (1 ≤ author r) × (author r ≤ script.processes)) journal
+  pub grows : All (λ process. Grows author process.number process.left journal []) processes

@@ -13,6 +13,7 @@ mod peers;
 mod phase;
 mod run;
 mod settling;
+mod stop;
 mod text;
 mod turns;
 mod waiting;

@@ -9,10 +9,10 @@ ghost use Rattle.script_text.specs.Grammar.{said};
 ghost use Rattle.script_text.specs.Replies.{HasMessage};
 
 use crate::calls::perform;
-use crate::fault::RunFault;
 use crate::gate::Gate;
 use crate::peers::{Peer, leave, leave_all, peers_of};
 use crate::settling::settled;
+use crate::stop::Stop;
 use crate::turns::{Share, Turn, Worked};
 use fast_mutex::Look;
 use mq::{Guarded, Mq, Process};
@@ -39,15 +39,15 @@ enum Member<'s, L: Look<Guarded>> {
     Busy(PromisedHandle<Worked<Process<L>>, Works<'s, L>>),
 }
 
-/// Runs a phase, and joins all its threads. `RunFault::NoMemory`: memory or a thread was refused. Those threads that were started
-/// have then run to their end. `RunFault::Deadlock`: some processes wait for ever, in the calls of these lines.
+/// Runs a phase, and joins all its threads. `Stop::NoMemory`: memory or a thread was refused. Those threads that were started
+/// have then run to their end. `Stop::Stuck`: some processes wait for ever, in the calls of these lines.
 pub fn run_phase<'s, L: Look<Guarded> + Sync, R: Threads + Wait + Clock + Sync, G: Gate + Sync>(
     rt: &'s R,
     alloc: Global,
     mq: &'s Mq<L>,
     gate: &'s G,
     shares: Vec<Share<'s, Process<L>>>,
-) -> Result<Vec<Worked<Process<L>>>, RunFault>
+) -> Result<Vec<Worked<Process<L>>>, Stop<Process<L>>>
 where
     L::Seat: Send,
     L::Walk: Send,

@@ -1,10 +1,11 @@
 //! A script, from its bytes to the bytes of its replies.
-ghost use Rattle.std.specs.Prelude.{◌≡◌, ◌≤◌, ◌+◌, ◌↔◌, ℕ, List, IfErr, IfOk, IsErr, IsErrOf, IsOk, OnErr, OnOk, Some, Ok, Err, Vec, length, take, vec_len};
+ghost use Rattle.std.specs.Prelude.{◌≡◌, ◌≤◌, ◌+◌, ◌↔◌, [], ℕ, List, IfErr, IfOk, IsErr, IsErrOf, IsOk, OnErr, OnOk, Some, Ok, Err, Vec, length, take, vec_len};
 ghost use Rattle.std.specs.Io.KnownBytes.{Appends, Consumes};
 ghost use Rattle.std.specs.List.{All};
 ghost use Rattle.mq_model.specs.Legality.{Legal};
-ghost use Rattle.script_runner.specs.RunFault.{IsLate, IsUnwritten, StopsAt};
-ghost use Rattle.fast_mutex.specs.Items.{Ticket};
+ghost use Rattle.mq.specs.Calls.{author};
+ghost use Rattle.script_runner.specs.RunFault.{IsLate, IsUnwritten, StopsAt, fault_of};
+ghost use Rattle.fast_mutex.specs.Items.{Grows, Ticket};
 ghost use Rattle.text_io.specs.Output.{AppendsTooLittle};
 ghost use Rattle.mq_model.specs.Record.{Record};
 ghost use Rattle.script_runner.specs.Meeting.{RunsAndMeets};
@@ -13,12 +14,14 @@ ghost use Rattle.script_runner.specs.Stops.{RunsFront, StopsAfterPhase, StopsBlo
 ghost use Rattle.script_runner.specs.Stands.{ComesToAStand};
 ghost use Rattle.script_text.specs.Script.{Whole, said_calls, said_phases, said_script, script_written};
 ghost use Rattle.script_runner.specs.declared.fault.RunFault.TheVariants.{BadCall, Deadlock, Input, NoMemory, Output};
+ghost use Rattle.script_runner.specs.declared.stop.Stop.TheVariants as stop;
 
 use crate::deal::shares_of;
 use crate::fault::RunFault;
 use crate::gate::Gate;
 use crate::meeting::meet;
 use crate::phase::run_phase;
+use crate::stop::Stop;
 use crate::text::text_of;
 use fast_mutex::Look;
 use mq::{Guarded, Mq, Process, verdict};
@@ -150,11 +153,31 @@ where
         return Err(RunFault::NoMemory);
     };
     let phases = script.phases.as_slice();
-    let processes = run_written_phases(rt, alloc, &mq, output, gate, processes, phases)?;
+    match run_written_phases(rt, alloc, &mq, output, gate, processes, phases) {
+        Ok(processes) => Ok(journal_of(mq, processes)),
+        Err(Stop::Output) => Err(RunFault::Output),
+        Err(Stop::NoMemory) => Err(RunFault::NoMemory),
+        Err(Stop::Stuck { processes, lines }) => {
+            // The one journal in which they wait is legal.
+            let _ = journal_of(mq, processes);
+            Err(RunFault::Deadlock(lines))
+        }
+    }
+}
+
+// The journal of the system of which these are all processes.
+fn journal_of<L: Look<Guarded>>(mq: Mq<L>, processes: Vec<Process<L>>) -> Journal
+    requires made { All (λ process. process.lock ≡ mq) processes.items }
+    requires all { vec_len processes ≡ mq.count }
+    ensures legal { Legal result.records }
+    ensures authors { All (λ r. (1 ≤ author r) × (author r ≤ mq.count)) result.records }
+    ensures grows { All (λ process. Grows author process.number process.left result.records [])
+        processes.items }
+{
     let Ok(journal) = mq.finish(processes) else {
         unreachable!()
     };
-    Ok(journal)
+    journal
 }
 
 // Runs phases one after the other and writes the replies of each.
@@ -166,7 +189,7 @@ fn run_written_phases<'s, L, S, W, G>(
     gate: &'s G,
     mut processes: Vec<Process<L>>,
     phases: &'s [Vec<ScriptCall<&'s [u8]>>],
-) -> Result<Vec<Process<L>>, RunFault>
+) -> Result<Vec<Process<L>>, Stop<Process<L>>>
 where
     L: Look<Guarded> + Sync,
     L::Seat: Send,
@@ -175,16 +198,19 @@ where
     W: Write,
     G: Gate + Sync,
     requires { All (IsReady mq.now) processes.items }
-    ensures fault { IfErr result IsLate }
-    ensures no_memory { IsErrOf result NoMemory →
+    ensures no_memory { IsErrOf result stop.NoMemory →
         RunsFront (said_phases phases.now) processes.items (W.contents output.old)
         (W.contents output.new) }
-    ensures output { IsErrOf result Output →
+    ensures output { IsErrOf result stop.Output →
         StopsInPhase (said_phases phases.now) processes.items (W.contents output.old)
         (W.contents output.new) }
-    ensures deadlock { (lines : Vec ℕ Global) → IsErrOf result (Deadlock lines) →
-        StopsBlocked (said_phases phases.now) processes.items lines.items (W.contents output.old)
-        (W.contents output.new) }
+    ensures deadlock { (after : Vec (Ticket Record) Global) (lines : Vec ℕ Global) →
+        IsErrOf result (stop.Stuck after lines) →
+        StopsBlocked (said_phases phases.now) processes.items lines.items after.items
+        (W.contents output.old) (W.contents output.new) }
+    ensures back { (after : Vec (Ticket Record) Global) (lines : Vec ℕ Global) →
+        IsErrOf result (stop.Stuck after lines) → All (λ process. process.lock ≡ mq.now)
+        after.items × (vec_len after ≡ vec_len processes) }
     ensures ready { IfOk result (λ after. All (IsReady mq.now) after.items) }
     ensures count { IfOk result (λ after. vec_len after ≡ vec_len processes) }
     ensures ran { IfOk result (λ after. (replies : List ℕ) ×
@@ -206,7 +232,7 @@ fn run_written<'s, L, S, W, G>(
     gate: &'s G,
     processes: Vec<Process<L>>,
     calls: &[ScriptCall<&'s [u8]>],
-) -> Result<Vec<Process<L>>, RunFault>
+) -> Result<Vec<Process<L>>, Stop<Process<L>>>
 where
     L: Look<Guarded> + Sync,
     L::Seat: Send,
@@ -215,12 +241,13 @@ where
     W: Write,
     G: Gate + Sync,
     requires { All (IsReady mq.now) processes.items }
-    ensures fault { IfErr result IsLate }
-    ensures no_memory { IsErrOf result NoMemory → W.contents output.new ≡ W.contents output.old }
-    ensures deadlock { (lines : Vec ℕ Global) → IsErrOf result (Deadlock lines) →
-        ComesToAStand (said_calls calls.now) processes.items lines.items ×
+    ensures no_memory { IsErrOf result stop.NoMemory →
+        W.contents output.new ≡ W.contents output.old }
+    ensures deadlock { (after : Vec (Ticket Record) Global) (lines : Vec ℕ Global) →
+        IsErrOf result (stop.Stuck after lines) →
+        ComesToAStand (said_calls calls.now) processes.items lines.items after.items ×
         (W.contents output.new ≡ W.contents output.old) }
-    ensures output { IsErrOf result Output → (after : List (Ticket Record)) × (text : List ℕ) ×
+    ensures output { IsErrOf result stop.Output → (after : List (Ticket Record)) × (text : List ℕ) ×
         RunsPhase (said_calls calls.now) processes.items after text ×
         AppendsTooLittle (W.contents output.old) (W.contents output.new) text }
     ensures ready { IfOk result (λ after. All (IsReady mq.now) after.items) }
@@ -242,7 +269,7 @@ pub(crate) fn run_replied<'s, L, S, G>(
     gate: &'s G,
     processes: Vec<Process<L>>,
     calls: &[ScriptCall<&'s [u8]>],
-) -> Result<(Vec<Process<L>>, Vec<u8>), RunFault>
+) -> Result<(Vec<Process<L>>, Vec<u8>), Stop<Process<L>>>
 where
     L: Look<Guarded> + Sync,
     L::Seat: Send,
@@ -250,9 +277,10 @@ where
     S: Threads + Wait + Clock + Sync,
     G: Gate + Sync,
     requires { All (IsReady mq.now) processes.items }
-    ensures fault { IfErr result IsUnwritten }
-    ensures deadlock { (lines : Vec ℕ Global) → IsErrOf result (Deadlock lines) →
-        ComesToAStand (said_calls calls.now) processes.items lines.items }
+    ensures fault { IfErr result (λ stop. IsUnwritten (fault_of stop)) }
+    ensures deadlock { (after : Vec (Ticket Record) Global) (lines : Vec ℕ Global) →
+        IsErrOf result (stop.Stuck after lines) →
+        ComesToAStand (said_calls calls.now) processes.items lines.items after.items }
     ensures ready { IfOk result (λ after. All (IsReady mq.now) after.0.items) }
     ensures count { IfOk result (λ after. vec_len after.0 ≡ vec_len processes) }
     ensures ran { IfOk result (λ after.

@@ -1,25 +1,24 @@
 //! The end of a phase: whether all processes are through, or some wait for ever.
-ghost use Rattle.std.specs.Prelude.{◌≡◌, [], IfErr, IfOk, true};
-ghost use Rattle.std.specs.List.{All, AllZip, list_all};
-ghost use Rattle.mq.specs.Blocked.{is_blocked};
-ghost use Rattle.mq.specs.Calls.{Calls};
-ghost use Rattle.script_runner.specs.Stands.{AllConfirm, Confirms, EndsStuck, blocked_lines, blocked_processes};
+ghost use Rattle.std.specs.Prelude.{◌≡◌, [], IfErr, IfOk};
+ghost use Rattle.std.specs.List.{All};
+ghost use Rattle.script_runner.specs.Stands.{EndsStuck, blocked_lines, blocked_processes};
 
-use crate::fault::RunFault;
+use crate::meeting::meet_blocked;
+use crate::stop::Stop;
 use crate::turns::Worked;
 use fast_mutex::Look;
 use mq::{Guarded, Mq, Process};
 use std::alloc::{AllocError, Global};
 use std::sync::Wait;
 
-/// The workers, where all are through with their calls. `RunFault::Deadlock`: some wait for ever, in the calls of these lines.
-/// `RunFault::NoMemory`: a growth was refused.
+/// The workers, where all are through with their calls. `Stop::Stuck`: some wait for ever, in the calls of these lines.
+/// `Stop::NoMemory`: a growth was refused.
 pub fn settled<L: Look<Guarded>, R: Wait>(
     rt: &R,
     alloc: Global,
     mq: &Mq<L>,
     workers: Vec<Worked<Process<L>>>,
-) -> Result<Vec<Worked<Process<L>>>, RunFault>
+) -> Result<Vec<Worked<Process<L>>>, Stop<Process<L>>>
     requires { All (λ worked. worked.process.lock ≡ mq.now) workers.items }
     ensures through { IfOk result (λ same. (same.items ≡ workers.items) ×
         (blocked_lines workers.items ≡ [])) }
@@ -29,9 +28,9 @@ pub fn settled<L: Look<Guarded>, R: Wait>(
     if lines.is_empty() {
         return Ok(workers);
     }
-    let processes = blocked_of(alloc, &workers)?;
-    confirm(rt, alloc, mq, workers, &processes)?;
-    Err(RunFault::Deadlock(lines))
+    let blocked = blocked_of(alloc, &workers)?;
+    let processes = meet_blocked(rt, alloc, mq, workers, &blocked)?;
+    Err(Stop::Stuck { processes, lines })
 }
 
 // The lines of the calls that wait.
@@ -66,67 +65,4 @@ fn blocked_of<L: Look<Guarded>>(
         }
     }
     Ok(processes)
-}
-
-// Each of the workers that wait asks whether these processes are blocked, until they are. They are at the first question: each worker
-// found that before it stopped, and the others make no further call.
-fn confirm<L: Look<Guarded>, R: Wait>(
-    rt: &R,
-    alloc: Global,
-    mq: &Mq<L>,
-    workers: Vec<Worked<Process<L>>>,
-    processes: &[u32],
-) -> Result<Vec<Worked<Process<L>>>, AllocError>
-    requires { All (λ worked. worked.process.lock ≡ mq.now) workers.items }
-    ensures { IfOk result (λ confirmed. AllConfirm processes.now workers.items confirmed.items) }
-{
-    let mut confirmed = Vec::with_capacity(alloc, workers.len())?;
-    for worked in workers {
-        confirmed.push(confirm_one(rt, mq, worked, processes))?;
-    }
-    Ok(confirmed)
-}
-
-fn confirm_one<L: Look<Guarded>, R: Wait>(
-    rt: &R,
-    mq: &Mq<L>,
-    worked: Worked<Process<L>>,
-    processes: &[u32],
-) -> Worked<Process<L>>
-    requires { worked.process.lock ≡ mq.now }
-    ensures { Confirms processes.now worked result }
-{
-    let Worked {
-        mut process,
-        completions,
-        blocked,
-    } = worked;
-    if blocked.is_some() {
-        await_blocked(rt, mq, &mut process, processes);
-    }
-    Worked {
-        process,
-        completions,
-        blocked,
-    }
-}
-
-// Asks whether these processes are blocked, until they are.
-fn await_blocked<L: Look<Guarded>, R: Wait>(
-    rt: &R,
-    mq: &Mq<L>,
-    process: &mut Process<L>,
-    processes: &[u32],
-)
-    requires { process.old.lock ≡ mq.now }
-    ensures calls { Calls process.old process.new [] }
-    ensures blocked { list_all (is_blocked process.new.left) processes.now ≡ true }
-{
-    let mut are_blocked = process.are_blocked(rt, mq, processes);
-    'questions: for _ in rt.forever() {
-        if are_blocked {
-            break;
-        }
-        are_blocked = process.are_blocked(rt, mq, processes);
-    }
 }

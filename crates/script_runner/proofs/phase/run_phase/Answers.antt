@@ -18,4 +18,4 @@ pub returns-clause-fault : goal.returns-clause-fault
 returns-clause-fault g c =
     let shares = c.args.shares.items in let workers = c.in_ok-workers.workers.items in
     let ends : AllEnd shares workers = c.in_ok-workers.ensures in
-    if-err (EndsStuck workers) (EndsEarly shares) c.settled.result (λ fault stuck. ends-early shares workers ends fault stuck) c.settled.ensures.fault
+    if-err (EndsStuck workers) (EndsEarly shares) c.settled.result (λ stop stuck. ends-early shares workers ends stop stuck) c.settled.ensures.fault

@@ -4,9 +4,9 @@ use Rattle.std.proofs.lemmas.List.Elements.{All-same}
 use Rattle.script_runner.specs.Phase.{EndsEarly, text_in}
 use Rattle.script_runner.specs.Runs.{IsReady}
 use Rattle.script_text.specs.Script.{said_calls}
-use Rattle.script_runner.specs.declared.fault.RunFault.TheVariants.{Deadlock}
+use Rattle.script_runner.specs.declared.stop.Stop.TheVariants.{Stuck}
 use Rattle.script_runner.proofs.Agreeing.{met-count, met-ready, workers-made}
-use Rattle.script_runner.proofs.Standing.{early-unwritten, phase-stands, unwritten-same}
+use Rattle.script_runner.proofs.Standing.{early-unwritten, phase-stands, stop-same}
 use Rattle.script_runner.proofs.Taking.{all-unmap}
 use Rattle.script_runner.proofs.Working.{phase-done, same-lengths}
 use Rattle.script_runner.proofs.run.run_replied.Goals as goal
@@ -48,12 +48,12 @@ returns-clause-ran g c =
     }
 
 pub returns-in_err-workers-clause-deadlock : goal.returns-in_err-workers-clause-deadlock
-returns-in_err-workers-clause-deadlock g c = λ lines failed.
+returns-in_err-workers-clause-deadlock g c = λ after lines failed.
     let shares = c.in_ok-shares.shares.items in
-    let fault : c.in_err-workers.field-0.0 ≡ Deadlock lines = sym (rw failed at c.from_residual-in_err-workers.ensures.1) in
-    let early : EndsEarly shares (Deadlock lines) = rw fault at c.in_err-workers.ensures.fault in
-    phase-stands (said_calls c.args.calls.now) shares c.args.processes.items lines.items early c.in_ok-shares.ensures.calls c.in_ok-shares.ensures.processes
+    let stop : c.in_err-workers.field-0.0 ≡ Stuck after lines = sym (rw failed at c.from_residual-in_err-workers.ensures.1) in
+    let early : EndsEarly shares (Stuck after lines) = rw stop at c.in_err-workers.ensures.fault in
+    phase-stands (said_calls c.args.calls.now) shares c.args.processes.items lines.items after.items early c.in_ok-shares.ensures.calls c.in_ok-shares.ensures.processes
 
 pub returns-in_err-workers-clause-fault : goal.returns-in_err-workers-clause-fault
 returns-in_err-workers-clause-fault g c =
-    unwritten-same c.from_residual-in_err-workers.result c.in_err-workers.field-0.0 c.from_residual-in_err-workers.ensures.1 (early-unwritten c.in_ok-shares.shares.items c.in_err-workers.field-0.0 c.in_err-workers.ensures.fault)
+    stop-same c.from_residual-in_err-workers.result c.in_err-workers.field-0.0 c.from_residual-in_err-workers.ensures.1 (early-unwritten c.in_ok-shares.shares.items c.in_err-workers.field-0.0 c.in_err-workers.ensures.fault)

@@ -1,4 +1,5 @@
-use Rattle.std.proofs.Common.{◌≡◌, ◌++◌, ◌∙◌, ap, sym, subst, Err, drop, get_or, suc, take, Vec, Global, Bor}
+use Rattle.std.proofs.Common.{arith, ◌≡◌, ◌++◌, ◌∙◌, ap, sym, subst, Err, drop, get_or, length, suc, take, vec_len, Vec, Global, Bor}
+use Rattle.std.proofs.lemmas.Grind.{common_steps}
 use Rattle.std.specs.Io.KnownBytes.{Appends}
 use Rattle.std.specs.List.{take-map}
 use Rattle.text_io.specs.Words.{Word}
@@ -6,9 +7,10 @@ use Rattle.script_runner.specs.Meeting.{RunsAndMeets}
 use Rattle.script_runner.specs.Runs.{RunsPhase, RunsPhases}
 use Rattle.script_runner.specs.Stands.{ComesToAStand}
 use Rattle.script_text.specs.Script.{said_calls, said_phases}
-use Rattle.script_runner.specs.declared.fault.RunFault.TheVariants.{Deadlock, NoMemory, Output}
+use Rattle.script_runner.specs.declared.stop.Stop.TheVariants.{NoMemory, Output, Stuck}
 use Rattle.script_text.specs.declared.line.ScriptCall.{ScriptCall}
 use Rattle.script_runner.proofs.KnownBytes.{Appends-then}
+use Rattle.script_runner.proofs.Standing.{stand-count, stand-made}
 use Rattle.script_runner.proofs.Stopping.{appends-into, phases-split}
 use Rattle.script_runner.proofs.Working.{phases-more}
 use Rattle.script_runner.proofs.run.run_written_phases.Goals as goal
@@ -33,8 +35,8 @@ loop-calls-preserved g c =
 pub returns-in_err-processes-clause-no_memory : goal.returns-in_err-processes-clause-no_memory
 returns-in_err-processes-clause-no_memory g c = λ failed.
     let was = c.loop-calls.invariant in let phases = c.args.phases.now in let i = c.loop-calls.calls-index in
-    let fault : c.in_err-processes.field-0.0 ≡ NoMemory = sym (rw failed at c.from_residual.ensures.1) in
-    let same = c.run_written.ensures.no_memory (c.in_err-processes.was ∙ ap Err fault) in
+    let stop : c.in_err-processes.field-0.0 ≡ NoMemory = sym (rw failed at c.from_residual.ensures.1) in
+    let same = c.run_written.ensures.no_memory (c.in_err-processes.was ∙ ap Err stop) in
     let front = take-map (λ (phase : Vec (ScriptCall (Bor Word)) Global). said_calls phase.items) i phases in
     record {
       count = i;
@@ -47,8 +49,8 @@ returns-in_err-processes-clause-no_memory g c = λ failed.
 pub returns-in_err-processes-clause-output : goal.returns-in_err-processes-clause-output
 returns-in_err-processes-clause-output g c = λ failed.
     let was = c.loop-calls.invariant in let phases = c.args.phases.now in let i = c.loop-calls.calls-index in let d = c.calls-item.result in
-    let fault : c.in_err-processes.field-0.0 ≡ Output = sym (rw failed at c.from_residual.ensures.1) in
-    let stopped = c.run_written.ensures.output (c.in_err-processes.was ∙ ap Err fault) in
+    let stop : c.in_err-processes.field-0.0 ≡ Output = sym (rw failed at c.from_residual.ensures.1) in
+    let stopped = c.run_written.ensures.output (c.in_err-processes.was ∙ ap Err stop) in
     let calls : c.as_slice.result.now ≡ (get_or phases i d).items = c.as_slice.ensures.value ∙ ap (λ (v : Vec (ScriptCall (Bor Word)) Global). v.items) c.calls-item.is in
     let last : RunsPhase (said_calls (get_or phases i d).items) c.loop-calls.processes.items stopped.0 stopped.1 = rw calls at stopped.2 in
     record {
@@ -66,12 +68,12 @@ returns-in_err-processes-clause-output g c = λ failed.
     }
 
 pub returns-in_err-processes-clause-deadlock : goal.returns-in_err-processes-clause-deadlock
-returns-in_err-processes-clause-deadlock g c = λ lines failed.
+returns-in_err-processes-clause-deadlock g c = λ after lines failed.
     let was = c.loop-calls.invariant in let phases = c.args.phases.now in let i = c.loop-calls.calls-index in let d = c.calls-item.result in
-    let fault : c.in_err-processes.field-0.0 ≡ Deadlock lines = sym (rw failed at c.from_residual.ensures.1) in
-    let stuck = c.run_written.ensures.deadlock lines (c.in_err-processes.was ∙ ap Err fault) in
+    let stop : c.in_err-processes.field-0.0 ≡ Stuck after lines = sym (rw failed at c.from_residual.ensures.1) in
+    let stuck = c.run_written.ensures.deadlock after lines (c.in_err-processes.was ∙ ap Err stop) in
     let calls : c.as_slice.result.now ≡ (get_or phases i d).items = c.as_slice.ensures.value ∙ ap (λ (v : Vec (ScriptCall (Bor Word)) Global). v.items) c.calls-item.is in
-    let stands : ComesToAStand (said_calls (get_or phases i d).items) c.loop-calls.processes.items lines.items = rw calls at stuck.0 in
+    let stands : ComesToAStand (said_calls (get_or phases i d).items) c.loop-calls.processes.items lines.items after.items = rw calls at stuck.0 in
     record {
       first = said_phases (take i phases);
       last = said_calls (get_or phases i d).items;
@@ -83,3 +85,13 @@ returns-in_err-processes-clause-deadlock g c = λ lines failed.
       stands = stands;
       written = subst (λ known. Appends (g.W.Write.contents c.args.output.now) known was.ran.0) (sym stuck.1) was.ran.2;
     }
+
+pub returns-in_err-processes-clause-back : goal.returns-in_err-processes-clause-back
+returns-in_err-processes-clause-back g c = λ after lines failed.
+    let was = c.loop-calls.invariant in let before = c.loop-calls.processes.items in
+    let stop : c.in_err-processes.field-0.0 ≡ Stuck after lines = sym (rw failed at c.from_residual.ensures.1) in
+    let stuck = c.run_written.ensures.deadlock after lines (c.in_err-processes.was ∙ ap Err stop) in
+    let calls = said_calls c.as_slice.result.now in
+    let as_many : length after.items ≡ length before = stand-count calls before lines.items after.items stuck.0 in
+    let count : vec_len after ≡ vec_len c.loop-calls.processes = grind (arith, common_steps) in
+    (stand-made c.args.mq.now calls before lines.items after.items stuck.0 was.ready, count ∙ was.count)
