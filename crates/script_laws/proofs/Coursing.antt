@@ -4,7 +4,7 @@ use Rattle.std.specs.List.{All}
 use Rattle.std.specs.declared.alloc.Global.{Global}
 use Rattle.std.proofs.lemmas.List.Elements.{All-head, All-tail}
 use Rattle.fast_mutex.specs.Items.{Ticket, Grows}
-use Rattle.mq.specs.Calls.{author, bounds_in, IsFree}
+use Rattle.mq.specs.Calls.{author}
 use Rattle.mq.proofs.Growing.{grows-on}
 use Rattle.mq.proofs.Others.{wait-grown}
 use Rattle.mq_model.specs.Record.{Past, Record}
@@ -27,12 +27,12 @@ use Rattle.script_text.specs.declared.reply.Completion.{Completion}
 use Rattle.script_text.specs.declared.reply.Outcome.{Outcome}
 use Rattle.script_text.specs.declared.reply.Outcome.TheVariants as outcomes
 use Rattle.text_io.specs.Words.{Word}
+use Rattle.script_laws.specs.RunLaws.{HadMemory}
 use Rattle.script_laws.proofs.Course.{AreLines, Course, Move}
 use Rattle.script_laws.proofs.Lines.{IsNext, later-lines, next-line}
-use Rattle.script_laws.proofs.Moving.{IsAt, Moved, further}
+use Rattle.script_laws.proofs.Moving.{Came, IsAt, Moved}
 use Rattle.script_laws.proofs.Performing.{exit-performs, named-moves, one-moves, receive-performs, send-performs, timed_receive-performs, timed_send-performs}
 use Rattle.script_laws.proofs.Saying.{attributes-tells, done-tells, notice-tells, open-tells}
-use Rattle.script_laws.proofs.Splitting.{grows-none}
 
 -- a line ------------------------------------------------------------------------------------------------------------------
 
@@ -67,81 +67,53 @@ moved-as p phase program from progress old new call completion at memory next do
 
 -- all lines ---------------------------------------------------------------------------------------------------------------
 
--- what a process is after its calls
-record Ran (p phase : ℕ) (program : Vec Planned Global) (from : Past) (progress end : Progress) (new : Ticket Record) (to : Past) : Type 0 where
-  moves : List Move
-  course : Course p phase program to end moves from progress
-  free : open_wait to p ≡ None
-
 abbrev end_of : ℕ → List WrittenCall → List Completion → ℕ → List ℕ → Progress
 end_of p calls completions begun text = record { begun = begun + length calls; text = text ++ reply_lines p completions }
 
-ran-all : (p phase : ℕ) (program : Vec Planned Global) (calls : List WrittenCall) (completions : List Completion) (old new : Ticket Record) (from to : Past) (begun : ℕ) (text : List ℕ)
+-- The calls of process p in a phase are moves. They begin from a journal after which others alone put records in front before the
+-- process left its own last, as from that one itself
+pub came-through : (p phase : ℕ) (program : Vec Planned Global) (calls : List WrittenCall) (completions : List Completion) (old new : Ticket Record) (from : Past) (begun : ℕ) (text : List ℕ)
     → IsAt p from old
     → AreLines program begun (map (plan phase) calls)
     → RunsCalls calls completions old new
-    → All (λ completion. completion.outcome ≢ outcomes.Refused NoMemory) completions
-    → Grows author p new.left to []
-    → Ran p phase program from (record { begun = begun; text = text }) (end_of p calls completions begun text) new to
-ran-all p phase program [] [] old new from to begun text at lines ran memory after =
-    let here : Grows author p old.left to [] = subst (λ (t : Ticket Record). Grows author p t.left to []) ran after in
-    let none : begun ≡ begun + 0 = omega arith in
-    let free : open_wait old.left p ≡ None = ap (λ (n : ℕ). open_wait old.left n) (sym at.number) ∙ at.free in
+    → All HadMemory completions
+    → Came p phase program from (record { begun = begun; text = text }) new (record { begun = begun + length calls; text = text ++ reply_lines p completions })
+came-through p phase program [] [] old new from begun text at lines ran memory =
+    let none : begun + 0 ≡ begun = omega arith in
+    let same : end_of p [] [] begun text ≡ record { begun = begun; text = text } =
+    ap (λ (n : ℕ). record { begun = n; text = text ++ [] }) none ∙ ap (λ (l : List ℕ). record { begun = begun; text = l }) (append-nil text)
+    in
     record {
-      moves = [];
-      course = (
-        ap (λ (n : ℕ). record { begun = n; text = text }) none ∙ ap (λ (l : List ℕ). record { begun = begun + 0; text = l }) (sym (append-nil text)),
-        grows-on at.near here,
-      );
-      free = wait-grown here ∙ free;
+      at = from;
+      is = subst (λ (t : Ticket Record). IsAt p from t) (sym ran) at;
+      goes = λ to end moves course. (moves, subst (λ (e : Progress). Course p phase program to end moves from e) same course);
     }
-ran-all p phase program [] (a ∷ completions) old new from to begun text at lines ran memory after = absurd ran
-ran-all p phase program (call ∷ calls) [] old new from to begun text at lines ran memory after = absurd ran
-ran-all p phase program (call ∷ calls) (completion ∷ completions) old new from to begun text at lines ran memory after =
-    let Kept : Completion → Type 0 = λ completion. completion.outcome ≢ outcomes.Refused NoMemory in
+came-through p phase program [] (a ∷ completions) old new from begun text at lines ran memory = absurd ran
+came-through p phase program (call ∷ calls) [] old new from begun text at lines ran memory = absurd ran
+came-through p phase program (call ∷ calls) (completion ∷ completions) old new from begun text at lines ran memory =
     let mid : Ticket Record = ran.0 in
     let line : List ℕ = reply_line p completion.outcome completion.buffer.items in
-    let moved = moved-as p phase program from (record { begun = begun; text = text }) old mid call completion at (All-head Kept completion completions memory) (next-line phase program begun call calls lines) ran.1 in
-    let rest = ran-all p phase program calls completions mid new moved.at to (begun + 1) (text ++ line) moved.is (later-lines phase program begun call calls lines) ran.2 (All-tail Kept completion completions memory) after in
+    let moved = moved-as p phase program from (record { begun = begun; text = text }) old mid call completion at (All-head HadMemory completion completions memory) (next-line phase program begun call calls lines) ran.1 in
+    let rest = came-through p phase program calls completions mid new moved.at (begun + 1) (text ++ line) moved.is (later-lines phase program begun call calls lines) ran.2 (All-tail HadMemory completion completions memory) in
     let end : Progress = end_of p (call ∷ calls) (completion ∷ completions) begun text in
-    let count : begun + 1 + length calls ≡ begun + length (call ∷ calls) = omega arith in
-    let all : (text ++ line) ++ reply_lines p completions ≡ text ++ reply_lines p (completion ∷ completions) = append_assoc text line (reply_lines p completions) in
-    let same : end_of p calls completions (begun + 1) (text ++ line) ≡ end =
-    ap (λ (n : ℕ). record { begun = n; text = (text ++ line) ++ reply_lines p completions }) count ∙ ap (λ (l : List ℕ). record { begun = begun + length (call ∷ calls); text = l }) all
+    let count : begun + length (call ∷ calls) ≡ begun + 1 + length calls = omega arith in
+    let all : text ++ reply_lines p (completion ∷ completions) ≡ (text ++ line) ++ reply_lines p completions = sym (append_assoc text line (reply_lines p completions)) in
+    let same : end ≡ end_of p calls completions (begun + 1) (text ++ line) =
+    ap (λ (n : ℕ). record { begun = n; text = text ++ reply_lines p (completion ∷ completions) }) count ∙ ap (λ (l : List ℕ). record { begun = begun + 1 + length calls; text = l }) all
     in
-    let course : Course p phase program to end rest.moves moved.at (further (record { begun = begun; text = text }) line) =
-    subst (λ (e : Progress). Course p phase program to e rest.moves moved.at (further (record { begun = begun; text = text }) line)) same rest.course
-    in
-    let whole = moved.goes to end rest.moves course in
-    record { moves = whole.0; course = whole.1; free = rest.free }
+    record {
+      at = rest.at;
+      is = rest.is;
+      goes = λ to last moves course.
+          let later = rest.goes to last moves (subst (λ (e : Progress). Course p phase program to last moves rest.at e) same course) in
+          moved.goes to last later.0 later.1;
+    }
 
--- The calls of process p in a phase are moves. They begin from a journal after which others alone put records in front before the
--- process left its own last, as from that one itself
-pub course-of-calls : (p phase : ℕ) (program : Vec Planned Global) (calls : List WrittenCall) (completions : List Completion) (old new : Ticket Record) (from to : Past) (begun : ℕ) (text : List ℕ)
-    → old.number ≡ p
-    → bounds_in old.lock.fixed ≡ None
-    → IsFree old
-    → AreLines program begun (map (plan phase) calls)
-    → RunsCalls calls completions old new
-    → All (λ completion. completion.outcome ≢ outcomes.Refused NoMemory) completions
-    → Grows author p from old.left []
-    → Grows author p new.left to []
-    → (moves : List Move) × Course p phase program to (record { begun = begun + length calls; text = text ++ reply_lines p completions }) moves from (record { begun = begun; text = text })
-course-of-calls p phase program calls completions old new from to begun text number bounds free lines ran memory before after =
-    let r = ran-all p phase program calls completions old new from to begun text (record { number = number; bounds = bounds; free = free; near = before }) lines ran memory after in
-    (r.moves, r.course)
+-- where others alone put records in front afterwards, they are a whole course
+pub course-of-calls : (p phase : ℕ) (program : Vec Planned Global) (from to : Past) (progress end : Progress) (new : Ticket Record)
+    → Came p phase program from progress new end → Grows author p new.left to [] → (moves : List Move) × Course p phase program to end moves from progress
+course-of-calls p phase program from to progress end new came after = came.goes to end [] (refl, grows-on came.is.near after)
 
--- after them it waits in no call
-pub free-at-end : (p phase : ℕ) (program : Vec Planned Global) (calls : List WrittenCall) (completions : List Completion) (old new : Ticket Record) (to : Past) (begun : ℕ)
-    → old.number ≡ p
-    → bounds_in old.lock.fixed ≡ None
-    → IsFree old
-    → AreLines program begun (map (plan phase) calls)
-    → RunsCalls calls completions old new
-    → All (λ completion. completion.outcome ≢ outcomes.Refused NoMemory) completions
-    → Grows author p new.left to []
-    → open_wait to p ≡ None
-free-at-end p phase program calls completions old new to begun number bounds free lines ran memory after =
-    let at : IsAt p old.left old = record { number = number; bounds = bounds; free = free; near = grows-none author p old.left } in
-    let r = ran-all p phase program calls completions old new old.left to begun [] at lines ran memory after in
-    r.free
+-- after them the process waits in no call
+pub free-at-end : (p : ℕ) (at to : Past) (new : Ticket Record) → IsAt p at new → Grows author p new.left to [] → open_wait to p ≡ None
+free-at-end p at to new is after = wait-grown after ∙ (ap (λ (n : ℕ). open_wait new.left n) (sym is.number) ∙ is.free)

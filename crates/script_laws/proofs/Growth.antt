@@ -31,7 +31,7 @@ end-same past = record { more = []; is = refl }
 pub end-then : (a b c : Past) → IsEnd a b → IsEnd b c → IsEnd a c
 end-then a b c x y = record { more = y.more ++ x.more; is = y.is ∙ (ap (λ (l : Past). y.more ++ l) x.is ∙ sym (append_assoc y.more x.more a)) }
 
-by-calls : (old new : Ticket Record) (own : Past) → Calls old new own → IsEnd old.left new.left
+pub by-calls : (old new : Ticket Record) (own : Past) → Calls old new own → IsEnd old.left new.left
 by-calls old new own calls = record { more = calls.grows.behind; is = calls.grows.is }
 
 by-same : (old new : Ticket Record) → new ≡ old → IsEnd old.left new.left
@@ -100,25 +100,40 @@ abbrev pub AreEnds : Past → List (Ticket Record) → Type 0
 AreEnds journal [] = Unit {0}
 AreEnds journal (t ∷ tickets) = IsEnd t.left journal × AreEnds journal tickets
 
-phase-ends : (journal : Past) (calls : List WrittenCall) (before after : List (Ticket Record)) (text : List ℕ) → RunsPhase calls before after text → AreEnds journal after → AreEnds journal before
-phase-ends journal calls [] [] text ran ends = tt
-phase-ends journal calls [] (new ∷ after) text ran ends = absurd ran
-phase-ends journal calls (old ∷ before) [] text ran ends = absurd ran
-phase-ends journal calls (old ∷ before) (new ∷ after) text ran ends =
-    (end-then old.left new.left journal (calls-grow (calls_of old.number calls) ran.0 old new ran.2) ends.0, phase-ends journal calls before after ran.1 ran.4 ends.1)
+-- what each process left is an older end of what it left later
+abbrev pub AllGrown : List (Ticket Record) → List (Ticket Record) → Type 0
+AllGrown before after = AllZip (λ old new. IsEnd old.left new.left) before after
 
-found-ends : (journal : Past) (n : ℕ) (ended between : List (Ticket Record)) → AllZip (FindsLength n) ended between → AreEnds journal between → AreEnds journal ended
-found-ends journal n [] [] found ends = tt
-found-ends journal n [] (new ∷ between) found ends = absurd found
-found-ends journal n (old ∷ ended) [] found ends = absurd found
-found-ends journal n (old ∷ ended) (new ∷ between) found ends =
-    (end-then old.left new.left journal (by-calls old new [] found.0.calls) ends.0, found-ends journal n ended between found.1 ends.1)
+ends-before : (journal : Past) (before after : List (Ticket Record)) → AllGrown before after → AreEnds journal after → AreEnds journal before
+ends-before journal [] [] grown ends = tt
+ends-before journal [] (new ∷ after) grown ends = absurd grown
+ends-before journal (old ∷ before) [] grown ends = absurd grown
+ends-before journal (old ∷ before) (new ∷ after) grown ends =
+    (end-then old.left new.left journal grown.0 ends.0, ends-before journal before after grown.1 ends.1)
+
+found-grow : (n : ℕ) (ended between : List (Ticket Record)) → AllZip (FindsLength n) ended between → AllGrown ended between
+found-grow n [] [] found = tt
+found-grow n [] (new ∷ between) found = absurd found
+found-grow n (old ∷ ended) [] found = absurd found
+found-grow n (old ∷ ended) (new ∷ between) found = (by-calls old new [] found.0.calls, found-grow n ended between found.1)
+
+pub phase-grows : (calls : List WrittenCall) (before after : List (Ticket Record)) (text : List ℕ) → RunsPhase calls before after text → AllGrown before after
+phase-grows calls [] [] text ran = tt
+phase-grows calls [] (new ∷ after) text ran = absurd ran
+phase-grows calls (old ∷ before) [] text ran = absurd ran
+phase-grows calls (old ∷ before) (new ∷ after) text ran =
+    (calls-grow (calls_of old.number calls) ran.0 old new ran.2, phase-grows calls before after ran.1 ran.4)
+
+-- before a phase, after which all processes came in once more
+pub phase-ends : (journal : Past) (n : ℕ) (before ended between : List (Ticket Record)) → AllGrown before ended → AllZip (FindsLength n) ended between → AreEnds journal between → AreEnds journal before
+phase-ends journal n before ended between grown found ends =
+    ends-before journal before ended grown (ends-before journal ended between (found-grow n ended between found) ends)
 
 -- at the beginning of phases too
 pub phases-end : (journal : Past) (phases : List (List WrittenCall)) (before after : List (Ticket Record)) (text : List ℕ) → RunsPhases phases before after text → AreEnds journal after → AreEnds journal before
 phases-end journal [] before after text ran ends = subst (λ (ts : List (Ticket Record)). AreEnds journal ts) ran.0 ends
 phases-end journal (calls ∷ phases) before after text ran ends =
-    phase-ends journal calls before ran.0 ran.3 ran.5 (found-ends journal ran.2 ran.0 ran.1 ran.6 (phases-end journal phases ran.1 after ran.4 ran.7 ends))
+    phase-ends journal ran.2 before ran.0 ran.1 (phase-grows calls before ran.0 ran.3 ran.5) ran.6 (phases-end journal phases ran.1 after ran.4 ran.7 ends)
 
 pub all-grow : (journal : Past) (tickets : List (Ticket Record)) → All (λ process. Grows author process.number process.left journal []) tickets → AreEnds journal tickets
 all-grow journal [] all = tt
@@ -160,18 +175,17 @@ pub record Meeting (journal past : Past) (tickets : List (Ticket Record)) : Type
   pub end : IsEnd to journal
   pub all : AllLeft to tickets
 
-pub meeting : (journal past : Past) (n : ℕ) (calls : List WrittenCall) (before ended between : List (Ticket Record)) (text : List ℕ) → IsEnd past journal → AllLeft past before → RunsPhase calls before ended text → AllZip (FindsLength n) ended between → AreEnds journal between → Meeting journal past between
-meeting journal past n calls [] [] [] text here left ran found ends = record { to = past; from = end-same past; end = here; all = tt }
-meeting journal past n calls [] [] (t ∷ between) text here left ran found ends = absurd found
-meeting journal past n calls [] (new ∷ ended) between text here left ran found ends = absurd ran
-meeting journal past n calls (old ∷ before) [] between text here left ran found ends = absurd ran
-meeting journal past n calls (old ∷ before) (new ∷ ended) [] text here left ran found ends = absurd found
-meeting journal past n calls (old ∷ before) (new ∷ ended) (t ∷ between) text here left ran found ends =
-    let one : IsEnd old.left new.left = calls-grow (calls_of old.number calls) ran.0 old new ran.2 in
-    let two : IsEnd old.left t.left = end-then old.left new.left t.left one (by-calls new t [] found.0.calls) in
+pub meeting : (journal past : Past) (n : ℕ) (before ended between : List (Ticket Record)) → IsEnd past journal → AllLeft past before → AllGrown before ended → AllZip (FindsLength n) ended between → AreEnds journal between → Meeting journal past between
+meeting journal past n [] [] [] here left grown found ends = record { to = past; from = end-same past; end = here; all = tt }
+meeting journal past n [] [] (t ∷ between) here left grown found ends = absurd found
+meeting journal past n [] (new ∷ ended) between here left grown found ends = absurd grown
+meeting journal past n (old ∷ before) [] between here left grown found ends = absurd grown
+meeting journal past n (old ∷ before) (new ∷ ended) [] here left grown found ends = absurd found
+meeting journal past n (old ∷ before) (new ∷ ended) (t ∷ between) here left grown found ends =
+    let one : IsEnd old.left t.left = end-then old.left new.left t.left grown.0 (by-calls new t [] found.0.calls) in
     record {
       to = t.left;
-      from = subst (λ (l : Past). IsEnd l t.left) left.0 two;
+      from = subst (λ (l : Past). IsEnd l t.left) left.0 one;
       end = ends.0;
       all = (refl, all-one journal t.left n ended between ends.0 found.0.count found.1 ends.1);
     }

@@ -19,3 +19,6 @@ pub mod Sitting
 pub mod Resting
 pub mod Beginning
 pub mod Phasing
+pub mod Halting
+pub mod Halted
+pub mod Standing

@@ -1,6 +1,6 @@
 -- The line that a process begins next, and the turn by it.
-use Rattle.std.proofs.Common.{◌≡◌, ℕ, ◌+◌, ◌==◌, Bool, true, false, List, [], ◌∷◌, ◌++◌, length, length-append, append_assoc, map, Option, Some, None, is_some, slice_get, if◌then◌else◌, refl, ap, sym, ◌∙◌, arith, eq-eqb, Vec}
-use Rattle.std.specs.Option.{option_map, option_and_then}
+use Rattle.std.proofs.Common.{◌≡◌, ℕ, suc, ◌+◌, ◌==◌, Bool, true, false, List, [], ◌∷◌, ◌++◌, length, length-append, append_assoc, map, Option, Some, None, is_some, slice_get, if◌then◌else◌, refl, ap, sym, ◌∙◌, arith, eq-eqb, Vec}
+use Rattle.std.specs.Option.{option_map, option_and_then, unwrap_or}
 use Rattle.std.specs.declared.alloc.Global.{Global}
 use Rattle.std.proofs.lemmas.Option.{slice_get-map}
 use Rattle.mq.specs.Calls.{recorded}
@@ -16,6 +16,7 @@ use Rattle.script_orders.specs.Plans.{Plan, given_by, plan, plan_of, step_by}
 use Rattle.script_orders.specs.Progress.{Progress}
 use Rattle.script_orders.specs.Said.{said}
 use Rattle.script_orders.specs.Scenes.{Scene, after_call, after_step}
+use Rattle.script_orders.specs.Stage.{line_of}
 use Rattle.script_orders.specs.Turns.{Turned, after_line, after_turn, scene_of, turned}
 use Rattle.script_orders.specs.declared.plan.Planned.{Planned}
 use Rattle.script_orders.specs.declared.plan.Step.{Step}
@@ -46,13 +47,26 @@ planned-is phase program begun call (Some planned) has is =
       brings = ap (λ (x : Plan). x.given) same;
     }
 
-pub next-line : (phase : ℕ) (program : Vec Planned Global) (begun : ℕ) (call : WrittenCall) (calls : List WrittenCall) → AreLines program begun (map (plan phase) (call ∷ calls)) → IsNext phase program begun (step_by call.moment call.command) (given_by call.command)
-next-line phase program begun call calls lines =
+plan-there : (phase : ℕ) (program : Vec Planned Global) (begun : ℕ) (call : WrittenCall) (calls : List WrittenCall) → AreLines program begun (map (plan phase) (call ∷ calls)) → option_map plan_of (slice_get program.items begun) ≡ Some (plan phase call)
+plan-there phase program begun call calls lines =
     let rest : List Plan = map (plan phase) calls ++ lines.rest in
     let here : slice_get (map plan_of program.items) begun ≡ slice_get (lines.before ++ plan phase call ∷ rest) (length lines.before) =
     ap (λ (xs : List Plan). slice_get xs begun) lines.are ∙ ap (λ (n : ℕ). slice_get (lines.before ++ plan phase call ∷ rest) n) (sym lines.count)
     in
-    planned-is phase program begun call (slice_get program.items begun) refl (sym (slice_get-map plan_of program.items begun) ∙ here ∙ at-length lines.before rest (plan phase call))
+    sym (slice_get-map plan_of program.items begun) ∙ here ∙ at-length lines.before rest (plan phase call)
+
+pub next-line : (phase : ℕ) (program : Vec Planned Global) (begun : ℕ) (call : WrittenCall) (calls : List WrittenCall) → AreLines program begun (map (plan phase) (call ∷ calls)) → IsNext phase program begun (step_by call.moment call.command) (given_by call.command)
+next-line phase program begun call calls lines = planned-is phase program begun call (slice_get program.items begun) refl (plan-there phase program begun call calls lines)
+
+line-in : (o : Option Planned) (x : Plan) → option_map plan_of o ≡ Some x → unwrap_or (option_map (λ (planned : Planned). planned.line) o) 0 ≡ x.line
+line-in None x is = absurd (cc)
+line-in (Some planned) x is = let same : plan_of planned ≡ x = cc in ap (λ (y : Plan). y.line) same
+
+-- the line that was begun last is that of the call
+pub line-begun : (phase : ℕ) (program : Vec Planned Global) (begun : ℕ) (call : WrittenCall) (calls : List WrittenCall) → AreLines program begun (map (plan phase) (call ∷ calls)) → line_of program (begun + 1) ≡ call.line
+line-begun phase program begun call calls lines =
+    let next : begun + 1 ≡ suc begun = omega arith in
+    ap (λ (n : ℕ). line_of program n) next ∙ line-in (slice_get program.items begun) (plan phase call) (plan-there phase program begun call calls lines)
 
 pub later-lines : (phase : ℕ) (program : Vec Planned Global) (begun : ℕ) (call : WrittenCall) (calls : List WrittenCall) → AreLines program begun (map (plan phase) (call ∷ calls)) → AreLines program (begun + 1) (map (plan phase) calls)
 later-lines phase program begun call calls lines = record {

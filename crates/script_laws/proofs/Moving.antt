@@ -43,11 +43,15 @@ at-free p at process is = sym (wait-grown is.near) ∙ ap (λ (n : ℕ). open_wa
 abbrev pub further : Progress → List ℕ → Progress
 further progress line = record { begun = progress.begun + 1; text = progress.text ++ line }
 
--- The process began its next line and came to its end, and this is printed of it: each course that goes on from there is one from here
-pub record Moved (p phase : ℕ) (program : Vec Planned Global) (from : Past) (progress : Progress) (new : Ticket Record) (line : List ℕ) : Type 0 where
+-- The process has come so far, and can make a call: each course that goes on from there is one from here
+pub record Came (p phase : ℕ) (program : Vec Planned Global) (from : Past) (progress : Progress) (new : Ticket Record) (next : Progress) : Type 0 where
   pub at : Past
   pub is : IsAt p at new
-  pub goes : (to : Past) (end : Progress) (moves : List Move) → Course p phase program to end moves at (further progress line) → (all : List Move) × Course p phase program to end all from progress
+  pub goes : (to : Past) (end : Progress) (moves : List Move) → Course p phase program to end moves at next → (all : List Move) × Course p phase program to end all from progress
+
+-- it began its next line and came to its end, and this is printed of it
+abbrev pub Moved : ℕ → ℕ → Vec Planned Global → Past → Progress → Ticket Record → List ℕ → Type 0
+Moved p phase program from progress new line = Came p phase program from progress new (further progress line)
 
 -- by one move
 pub moved-once : (p phase : ℕ) (program : Vec Planned Global) (from : Past) (progress : Progress) (new : Ticket Record) (line : List ℕ) (found own : Past)

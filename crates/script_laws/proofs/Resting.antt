@@ -21,7 +21,7 @@ use Rattle.script_laws.proofs.Sitting.{Through}
 use Rattle.script_laws.proofs.Weaving.{ended}
 
 -- who does not wait, and whose next line is of a later phase, cannot go on
-no-turn : (past : Past) (phase p : ℕ) (progress : Progress) (program : Vec Planned Global) → open_wait past p ≡ None → ((planned : Planned) → slice_get program.items progress.begun ≡ Some planned → phase < planned.phase) → after_turn past phase p progress program ≡ None
+pub no-turn : (past : Past) (phase p : ℕ) (progress : Progress) (program : Vec Planned Global) → open_wait past p ≡ None → ((planned : Planned) → slice_get program.items progress.begun ≡ Some planned → phase < planned.phase) → after_turn past phase p progress program ≡ None
 no-turn past phase p progress program free later =
     let collects : Option Turned = option_map (turned 0 progress) (after_call (scene_of past progress) p Collect []) in
     let begins : Option Planned → Option Turned = λ o. option_map (turned 1 progress) (option_and_then (after_line past phase p progress) o) in
@@ -37,6 +37,12 @@ no-turn past phase p progress program free later =
     in
     ap (λ (o : Option ℕ). if is_some o then collects else begins (slice_get program.items progress.begun)) free ∙ goes (slice_get program.items progress.begun) refl
 
+pub has-program : (runners : List Runner) (i : ℕ) (r : Runner) → slice_get runners i ≡ Some r → slice_get (programs_in runners) i ≡ Some r.program
+has-program runners i r has = slice_get-map (λ (r : Runner). r.program) runners i ∙ ap (λ (o : Option Runner). option_map (λ (r : Runner). r.program) o) has
+
+pub has-end : (runners : List Runner) (i : ℕ) (r : Runner) → slice_get runners i ≡ Some r → slice_get (ends_in runners) i ≡ Some r.end
+has-end runners i r has = slice_get-map (λ (r : Runner). r.end) runners i ∙ ap (λ (o : Option Runner). option_map (λ (r : Runner). r.end) o) has
+
 none-can : (s : Stage) (n : ℕ) → ((i : ℕ) → i < n → turn_of s i ≡ None) → none_can_turn s n ≡ true
 none-can s zero none = refl
 none-can s (suc n) none =
@@ -47,6 +53,14 @@ none-waits past zero none = refl
 none-waits past (suc n) none =
     ap (λ (b : Bool). b || is_some (open_wait past (n + 1))) (none-waits past n (λ i below. none i (omega (arith, below)))) ∙ ap (λ (o : Option ℕ). is_some o) (none n (omega arith))
 
+-- where each has no turn the machine stands still
+pub still-where : (phases phase : ℕ) (to : Past) (runners : List Runner) → ((i : ℕ) (r : Runner) → slice_get runners i ≡ Some r → after_turn to phase (i + 1) r.end r.program ≡ None) → stands_still (ended phases phase to runners) ≡ true
+still-where phases phase to runners none = none-can (ended phases phase to runners) (length (programs_in runners)) (λ i below.
+    let count : length (programs_in runners) ≡ length runners = length-map runners (λ (r : Runner). r.program) in
+    let there = there-is runners i (omega (arith, below, count)) in
+    let r : Runner = there.0 in
+    turn_of-is (ended phases phase to runners) i r.program r.end (has-program runners i r there.1) (has-end runners i r there.1) ∙ none i r there.1)
+
 -- all have come through the phase
 abbrev pub AllThrough : ℕ → Past → Past → List Runner → Type 0
 AllThrough phase past to runners = (i : ℕ) (r : Runner) → slice_get runners i ≡ Some r → Through (i + 1) phase past to r
@@ -55,17 +69,8 @@ module _ (phases phase : ℕ) (past to : Past) (runners : List Runner) (through 
   count : length (programs_in runners) ≡ length runners
   count = length-map runners (λ (r : Runner). r.program)
 
-  none-turns : (i : ℕ) → i < length (programs_in runners) → turn_of (ended phases phase to runners) i ≡ None
-  none-turns i below =
-      let there = there-is runners i (omega (arith, below, count)) in
-      let r : Runner = there.0 in
-      let has : slice_get (programs_in runners) i ≡ Some r.program = slice_get-map (λ (r : Runner). r.program) runners i ∙ ap (λ (o : Option Runner). option_map (λ (r : Runner). r.program) o) there.1 in
-      let sits : slice_get (ends_in runners) i ≡ Some r.end = slice_get-map (λ (r : Runner). r.end) runners i ∙ ap (λ (o : Option Runner). option_map (λ (r : Runner). r.end) o) there.1 in
-      let t = through i r there.1 in
-      turn_of-is (ended phases phase to runners) i r.program r.end has sits ∙ no-turn to phase (i + 1) r.end r.program t.free t.done
-
   pub still : stands_still (ended phases phase to runners) ≡ true
-  still = none-can (ended phases phase to runners) (length (programs_in runners)) none-turns
+  still = still-where phases phase to runners (λ i r has. no-turn to phase (i + 1) r.end r.program (through i r has).free (through i r has).done)
 
   pub waits-none : waits (ended phases phase to runners) ≡ false
   waits-none = none-waits to (length (programs_in runners)) (λ i below.

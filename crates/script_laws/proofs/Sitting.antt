@@ -19,8 +19,9 @@ use Rattle.script_text.specs.Script.{WrittenCall}
 use Rattle.script_text.specs.declared.reply.Completion.{Completion}
 use Rattle.script_laws.specs.RunLaws.{HadMemory, IsAmplePhase}
 use Rattle.script_laws.proofs.Course.{AreLines, Course, Move}
-use Rattle.script_laws.proofs.Coursing.{course-of-calls, free-at-end}
+use Rattle.script_laws.proofs.Coursing.{came-through, course-of-calls, free-at-end}
 use Rattle.script_laws.proofs.Growth.{AllLeft}
+use Rattle.script_laws.proofs.Moving.{IsAt}
 use Rattle.script_laws.proofs.Runners.{Runner, ends_in, programs_in, seats_in}
 
 -- Process p sits at the beginning of a phase with its next line that of the phase. These are the phases from that one on
@@ -98,8 +99,10 @@ one-runs phase calls phases n p past to program seat old new process completions
     let grows : Grows author p new.left to [] = subst (λ (l : Past). Grows author p new.left l []) after grown in
     let start : Grows author p past old.left [] = record { behind = []; is = before; mine = refl } in
     let lines : AreLines program seat.begun (map (plan phase) mine) = record { before = sits.earlier; rest = program_of (phase + 1) phases p; are = sits.are; count = sits.count } in
-    let course = course-of-calls p phase program mine completions old new past to seat.begun seat.text sits.number sits.unbounded sits.free lines by_p memory start grows in
-    let free : open_wait to p ≡ None = free-at-end p phase program mine completions old new to seat.begun sits.number sits.unbounded sits.free lines by_p memory grows in
+    let at : IsAt p past old = record { number = sits.number; bounds = sits.unbounded; free = sits.free; near = start } in
+    let came = came-through p phase program mine completions old new past seat.begun seat.text at lines by_p memory in
+    let course = course-of-calls p phase program past to seat (end_of p calls seat completions) new came grows in
+    let free : open_wait to p ≡ None = free-at-end p came.at to new came.is grows in
     let earlier : List Plan = sits.earlier ++ map (plan phase) mine in
     let are : map plan_of program.items ≡ earlier ++ program_of (phase + 1) phases p = sits.are ∙ sym (append_assoc sits.earlier (map (plan phase) mine) (program_of (phase + 1) phases p)) in
     let count : length earlier ≡ seat.begun + length mine = omega (arith, length-append sits.earlier (map (plan phase) mine), length-map mine (plan phase), sits.count) in

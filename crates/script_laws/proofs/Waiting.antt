@@ -105,27 +105,28 @@ collect-goes phase program p by waited wait progress found legal next waits at =
 -- a wait that began, and the journal that its process then left
 pub record Begun (phase : ℕ) (program : Vec Planned Global) (p : ℕ) (from : Past) (progress : Progress) (left : Past) (call : Call) (given : List ℕ) : Type 0 where
   pub found : Past
-  pub others : Grows author p from found []
   pub is : left ≡ recorded p call given Waits ∷ found
-  pub next : IsLegalNext found (recorded p call given Waits)
-  pub turn : after_turn found phase p progress program ≡ Some (record { past = recorded p call given Waits ∷ found; progress = further progress [] })
+  pub goes : Goes p phase program (record { found = found; own = recorded p call given Waits ∷ []; next = further progress [] }) from progress
+
+-- the move that begins it
+pub wait-goes : (phase : ℕ) (program : Vec Planned Global) (p : ℕ) (from found : Past) (progress : Progress) (call : Call) (given : List ℕ)
+    → open_wait from p ≡ None → Grows author p from found [] → IsNext phase program progress.begun (steps.Call call) given → IsLegalNext found (recorded p call given Waits)
+    → Goes p phase program (record { found = found; own = recorded p call given Waits ∷ []; next = further progress [] }) from progress
+wait-goes phase program p from found progress call given free others next legal =
+    let r : Record = recorded p call given Waits in
+    let goes = call-goes found p call given Waits progress legal in
+    record {
+      others = others;
+      mine = mine-one p call given Waits;
+      eager = λ none. let bad : r ∷ [] ≡ [] = none in absurd (cc);
+      turn = turn-by-line found phase p progress program (steps.Call call) given (record { past = r ∷ found; text = progress.text ++ [] }) (wait-grown others ∙ free) next goes;
+    }
 
 pub wait-begins : (phase : ℕ) (program : Vec Planned Global) (from : Past) (progress : Progress) (old begun : Ticket Record) (call : Call) (given : List ℕ)
     → IsAt old.number from old → IsNext phase program progress.begun (steps.Call call) given → Begins old begun call given → Begun phase program old.number from progress begun.left call given
 wait-begins phase program from progress old begun call given at next begins =
-    let p : ℕ = old.number in
     let s = stood old begun from call given Waits at refl begins.calls begins.found in
-    let found : Past = s.found in
-    let r : Record = recorded p call given Waits in
-    let free : open_wait found p ≡ None = wait-grown s.others ∙ at-free p from old at in
-    let goes = call-goes found p call given Waits progress s.next in
-    record {
-      found = found;
-      others = s.others;
-      is = s.is;
-      next = s.next;
-      turn = turn-by-line found phase p progress program (steps.Call call) given (record { past = r ∷ found; text = progress.text ++ [] }) free next goes;
-    }
+    record { found = s.found; is = s.is; goes = wait-goes phase program old.number from s.found progress call given (at-free old.number from old at) s.others next s.next }
 
 -- the same count and text
 told-as : (begun n : ℕ) (text line : List ℕ) (past : Past) (o : Option Turned) → o ≡ Some (record { past = past; progress = record { begun = begun; text = text } }) → begun ≡ n → text ≡ line → o ≡ Some (record { past = past; progress = record { begun = n; text = line } })
@@ -168,13 +169,6 @@ waited-moves phase program from progress old new call given line by at next wait
       turn = told-as (progress.begun + 1 + 0) (progress.begun + 1) ((progress.text ++ []) ++ said_of_collect (end ∷ found) p by) (progress.text ++ line) (end ∷ found) (after_turn found phase p first program) c.0 count text;
     }
     in
-    let to_wait : Goes p phase program (record { found = b.found; own = wait ∷ []; next = first }) from progress = record {
-      others = b.others;
-      mine = mine-one p call given Waits;
-      eager = λ none. let bad : wait ∷ [] ≡ [] = none in absurd (cc);
-      turn = b.turn;
-    }
-    in
     record {
       at = end ∷ found;
       is = record {
@@ -184,5 +178,5 @@ waited-moves phase program from progress old new call given line by at next wait
         near = s.later;
       };
       goes = λ to end_progress moves course.
-          (record { found = b.found; own = wait ∷ []; next = first } ∷ (record { found = found; own = end ∷ []; next = further progress line } ∷ moves), (to_wait, (to_end, course)));
+          (record { found = b.found; own = wait ∷ []; next = first } ∷ (record { found = found; own = end ∷ []; next = further progress line } ∷ moves), (b.goes, (to_end, course)));
     }

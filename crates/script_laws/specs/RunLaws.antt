@@ -38,15 +38,20 @@ IsAmple {script} {replies} ran = AreAmplePhases script.phases (tickets_from ran.
 abbrev pub phase_told : ℕ → List ℕ → Told
 phase_told phase text = record { stage = phase; stuck = false; text = text }
 
--- in one order of the calls from this stage on, n phases end one after the other with these replies; the first of them has this number
-abbrev pub AreTold : Stage → ℕ → ℕ → List ℕ → Type 0
-AreTold from phase zero replies = replies ≡ []
-AreTold from phase (suc n) replies =
+-- in one order of the calls from this stage on, n phases end one after the other with these replies; the first of them has this number.
+-- GoesOn then holds of the stage that they lead to and of the number of the next phase
+abbrev pub AreToldBefore : (Stage → ℕ → Type 0) → Stage → ℕ → ℕ → List ℕ → Type 0
+AreToldBefore GoesOn from phase zero replies = (replies ≡ []) × GoesOn from phase
+AreToldBefore GoesOn from phase (suc n) replies =
     (schedule : List ℕ) × (to : Stage) × (text : List ℕ) × (rest : List ℕ)
     × LeadsToGoal next_stage stands_still from schedule to
     × (told to ≡ phase_told phase text)
-    × AreTold to (phase + 1) n rest
+    × AreToldBefore GoesOn to (phase + 1) n rest
     × (replies ≡ text ++ rest)
+
+-- n phases end so, and nothing is said of what comes then
+abbrev pub AreTold : Stage → ℕ → ℕ → List ℕ → Type 0
+AreTold from phase n replies = AreToldBefore (λ to next. Unit {0}) from phase n replies
 
 -- these are the replies of n phases, each of which is among what was found
 abbrev pub AreFound : List Witnessed → ℕ → ℕ → List ℕ → Type 0

@@ -1,15 +1,17 @@
 //! What a run of a script and every order of its calls have to do with each other. Each function does nothing: its contract is the law.
 #![tactic(auto)]
 
-ghost use Rattle.std.specs.Prelude.{ℕ, List, length};
+ghost use Rattle.std.specs.Prelude.{◌≡◌, ℕ, true, List, Option, length};
 ghost use Rattle.mq_model.specs.Record.{Past};
-ghost use Rattle.schedules.specs.Outcomes.{AreAll};
+ghost use Rattle.schedules.specs.Outcomes.{AreAll, is_among};
 ghost use Rattle.schedules.specs.declared.outcomes.Witnessed.{Witnessed};
 ghost use Rattle.script_text.specs.Script.{Whole};
 ghost use Rattle.script_orders.specs.Orders.{Begins};
 ghost use Rattle.script_orders.specs.Stage.{Stage, next_stage, stands_still, told};
 ghost use Rattle.script_runner.specs.Runs.{RunsWhole};
+ghost use Rattle.script_runner.specs.Stops.{StopsInDeadlock};
 ghost use Rattle.script_laws.specs.RunLaws.{AreFound, AreTold, IsAmple};
+ghost use Rattle.script_laws.specs.StandLaws.{ComesToStand, IsAmpleStop, stand_told};
 
 /// What a run prints is what is told, phase after phase, in one order of the calls, from where the processes of the script begin. No call
 /// of the run may have been refused for want of memory.
@@ -25,4 +27,23 @@ pub fn prints_what_is_found()
         (found : List Witnessed) (ran : RunsWhole script replies journal) → IsAmple ran →
         Begins script from → AreAll next_stage stands_still told from found →
         AreFound found 0 (length script.phases) replies }
+{}
+
+/// Where a run came to a stand, so does one order of the calls, from where the processes of the script begin: what the run prints of
+/// the phases before is told of them, and the next one comes to a stand in the calls of the same lines. No call of the run may have
+/// been refused for want of memory.
+pub fn tells_deadlocks()
+    ensures { (script : Whole) (lines : List ℕ) (old new : Option (List ℕ)) (from : Stage)
+        (stop : StopsInDeadlock script lines old new) → IsAmpleStop stop → Begins script from →
+        ComesToStand from 0 (length stop.stops.first) stop.stops.replies lines }
+{}
+
+/// Where every order of the calls was tried, what a run prints of each phase before its stand is among what was found, and so is the
+/// stand in the calls of the same lines.
+pub fn finds_deadlocks()
+    ensures { (script : Whole) (lines : List ℕ) (old new : Option (List ℕ)) (from : Stage)
+        (found : List Witnessed) (stop : StopsInDeadlock script lines old new) → IsAmpleStop stop →
+        Begins script from → AreAll next_stage stands_still told from found →
+        AreFound found 0 (length stop.stops.first) stop.stops.replies
+        × (is_among found (stand_told (length stop.stops.first) lines) ≡ true) }
 {}
