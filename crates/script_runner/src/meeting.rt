@@ -43,11 +43,7 @@ fn find_one_length<L: Look<Guarded>, R: Wait>(rt: &R, mq: &Mq<L>, processes: &mu
 }
 
 // Whether all find as many entries as the first one.
-fn find_as_many<L: Look<Guarded>, R: Wait>(
-    rt: &R,
-    mq: &Mq<L>,
-    processes: &mut [Process<L>],
-) -> bool
+fn find_as_many<L: Look<Guarded>, R: Wait>(rt: &R, mq: &Mq<L>, processes: &mut [Process<L>]) -> bool
     requires { All (λ process. process.lock ≡ mq.now) processes.old }
     ensures looked { AllLook processes.old processes.new }
     ensures agree { result ≡ true → Meet processes.old processes.new }

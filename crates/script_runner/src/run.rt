@@ -171,8 +171,7 @@ fn journal_of<L: Look<Guarded>>(mq: Mq<L>, processes: Vec<Process<L>>) -> Journa
     requires all { vec_len processes ≡ mq.count }
     ensures legal { Legal result.records }
     ensures authors { All (λ r. (1 ≤ author r) × (author r ≤ mq.count)) result.records }
-    ensures grows {
-        All (λ process. Grows author process.number process.left result.records [])
+    ensures grows { All (λ process. Grows author process.number process.left result.records [])
         processes.items }
 {
     let Ok(journal) = mq.finish(processes) else {
