@@ -11,12 +11,10 @@ use Rattle.script_text.specs.Script.{WrittenCall}
 use Rattle.script_runner.specs.Members.{AllGive, AllHaveShares}
 use Rattle.script_runner.specs.Phase.{AllEnd, AllWorkOff, AreReady, Ends, EndsEarly, EndsInDeadlock, WorksOff, calls_in}
 use Rattle.script_runner.specs.Meeting.{MeetBlocked}
-use Rattle.script_runner.specs.Runs.{FindsLength, IsReady, RunsCalls, calls_of}
+use Rattle.script_runner.specs.Runs.{FindsLength, IsReady, calls_of}
 use Rattle.script_runner.specs.Stands.{ComesToAStand, EndsIn, EndsPhase, EndsStuck, blocked_lines, blocked_processes, line_in, process_in}
 use Rattle.script_runner.specs.declared.phase.Member.{Member}
-use Rattle.script_runner.specs.RunFault.{IsLate, IsUnwritten, fault_of}
-use Rattle.script_runner.specs.declared.fault.RunFault.{RunFault}
-use Rattle.script_runner.specs.declared.fault.RunFault.TheVariants.{BadCall, Deadlock, Input, NoMemory, Output}
+use Rattle.script_runner.specs.RunFault.{IsUnwritten, fault_of}
 use Rattle.script_runner.specs.declared.stop.Stop.{Stop}
 use Rattle.script_runner.specs.declared.stop.Stop.TheVariants as stops
 use Rattle.script_runner.specs.declared.turns.Share.{Share}
@@ -139,14 +137,6 @@ early-unwritten shares stops.NoMemory early = tt
 early-unwritten shares (stops.Stuck after lines) early = tt
 early-unwritten shares stops.Output early = absurd early
 
--- a fault before the writing comes after the reading
-unwritten-late : (fault : RunFault) → IsUnwritten fault → IsLate fault
-unwritten-late NoMemory is = tt
-unwritten-late (Deadlock lines) is = tt
-unwritten-late (BadCall line) is = absurd is
-unwritten-late Input is = absurd is
-unwritten-late Output is = absurd is
-
 pub if-ok : {A E : Type 0} (P Q : A → Type 0) (r : Result A E) → ((x : A) → P x → Q x) → IfOk r P → IfOk r Q
 if-ok P Q (Ok x) weaker has = weaker x has
 if-ok P Q (Err e) weaker has = tt
@@ -158,20 +148,3 @@ if-err P Q (Err e) weaker has = weaker e has
 pub stop-same : {A : Type 0} (r : Result A (Stop (Ticket Record))) (stop : Stop (Ticket Record)) → IsErrAnd r (λ e. e ≡ stop) → IsUnwritten (fault_of stop) → IfErr r (λ e. IsUnwritten (fault_of e))
 stop-same (Ok x) stop same is = absurd same
 stop-same (Err e) stop same is = rw same is
-
-pub unwritten-same : {A : Type 0} (r : Result A RunFault) (stop : Stop (Ticket Record)) → IsErrAnd r (λ e. e ≡ fault_of stop) → IsUnwritten (fault_of stop) → IfErr r IsUnwritten
-unwritten-same (Ok x) stop same is = absurd same
-unwritten-same (Err e) stop same is = rw same is
-
-pub late-same : {A : Type 0} (r : Result A RunFault) (fault : RunFault) → IsErrAnd r (λ e. e ≡ fault) → IsUnwritten fault → IfErr r IsLate
-late-same (Ok x) fault same is = absurd same
-late-same (Err e) fault same is = unwritten-late e (rw same is)
-
--- an end before the writing is no output fault
-pub never-output : {A : Type 0} (r : Result A RunFault) → IfErr r IsUnwritten → r ≡ Err Output → ⊥
-never-output (Ok x) is same = cc
-never-output (Err NoMemory) is same = cc
-never-output (Err (Deadlock lines)) is same = cc
-never-output (Err (BadCall line)) is same = absurd is
-never-output (Err Input) is same = absurd is
-never-output (Err Output) is same = absurd is

@@ -1,4 +1,4 @@
-use Rattle.std.proofs.Common.{◌≡◌, All, true}
+use Rattle.std.proofs.Common.{◌≡◌, true}
 use Rattle.script_runner.specs.Meeting.{AllLook, MeetBlocked}
 use Rattle.script_runner.proofs.meeting.find_one_stand.Given as goal
 
