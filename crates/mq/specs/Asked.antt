@@ -46,6 +46,11 @@ abbrev pub is_withdrawn : Reply → Bool
 is_withdrawn (Withdrawn wait) = true
 is_withdrawn _ = false
 
+-- a message was got at once
+abbrev pub gets_message : Reply → Bool
+gets_message (Got place admitted notified) = true
+gets_message _ = false
+
 -- the replies that a call may be given
 abbrev pub may_reply : Call → Reply → Bool
 may_reply (MqOpen flags attr) reply = is_opened reply

@@ -1,18 +1,15 @@
 -- What holds of each kind of calls.
-use Rattle.std.proofs.Common.{◌≡◌, ◌≢◌, Bool, true, false, Option, Some, None, Result, Ok, Err, refl, ap, sym, ◌∙◌, pos}
+use Rattle.std.proofs.Common.{◌≡◌, ◌≢◌, Bool, true, false, [], Option, Some, None, Result, Ok, Err, refl, ap, sym, ◌∙◌}
 use Rattle.mq_model.specs.Record.{Past}
 use Rattle.mq_model.specs.Waits.{is_wait}
-use Rattle.mq_model.specs.Messages.{is_receive}
-use Rattle.mq_model.specs.declared.entries.Call.{Call}
-use Rattle.mq_model.specs.declared.entries.Call.TheVariants.{MqOpen, MqClose, MqUnlink, MqSend, MqReceive, MqGetattr, MqSetattr, MqNotify, NextNotice, Collect, MqTimedSend, MqTimedReceive, Withdraw}
 use Rattle.mq_model.specs.declared.entries.Reply.{Reply}
 use Rattle.mq_model.specs.declared.entries.Reply.TheVariants.{Opened, Queued, Handed, Waits, Got, Collected, Attrs, Notice, Done, Refused, Withdrawn}
 use Rattle.mq_model.specs.declared.faults.Fault.{Fault}
 use Rattle.mq_model.specs.declared.entries.Received.{Received}
-use Rattle.mq_model.specs.declared.entries.Status.{Status}
 use Rattle.mq_state.specs.Buffers.{received_at}
 use Rattle.mq.specs.Says.{open_says, done_says, attributes_says, notice_says, start_send_says, start_receive_says}
-use Rattle.mq.specs.Kinds.{IsKind, IsOf, open_kind, done_kind, attributes_kind, notice_kind, send_kind, receive_kind}
+use Rattle.mq.specs.Asked.{gets_message}
+use Rattle.mq.specs.Kinds.{IsKind, open_kind, done_kind, attributes_kind, notice_kind, send_kind, receive_kind}
 
 -- a call that says nothing of a wait does not wait
 never-waits : {R : Type 0} (says : Reply → Option R) → says Waits ≡ None → (reply : Reply) (returned : R) → says reply ≡ Some returned → is_wait reply ≡ false
@@ -28,12 +25,11 @@ never-waits says none (Notice v) returned e = refl
 never-waits says none Done returned e = refl
 never-waits says none (Refused f) returned e = refl
 
-never-kind : {R : Type 0} (says : Reply → Option R) (replies : Reply → Bool) → says Waits ≡ None → IsKind (record { says = λ past. says; replies = replies; waiting = None; fills = false })
+never-kind : {R : Type 0} (says : Reply → Option R) (replies : Reply → Bool) → says Waits ≡ None → IsKind (record { says = λ past. says; replies = replies; waiting = None })
 never-kind says replies none = record {
   waits = λ past reply returned e waits. absurd waits;
   over = λ past reply returned e over. never-waits says none reply returned e;
-  fills = λ bad. absurd (cc);
-  alone = λ _ past reply. refl;
+  alone = λ past reply none. refl;
 }
 
 pub open-is_kind : IsKind open_kind
@@ -86,33 +82,16 @@ pub send-is_kind : IsKind send_kind
 send-is_kind = record {
   waits = λ past. send-waits;
   over = λ past. send-over;
-  fills = λ bad. absurd (cc);
-  alone = λ _ past reply. refl;
+  alone = λ past reply none. refl;
 }
 
-no_status : Status
-no_status = record { nonblock = false; maxmsg = pos 0; msgsize = pos 0; curmsgs = pos 0 }
-
--- a call that may be given just the replies of a receive is one
-receives : (call : Call) → IsOf receive_kind call → is_receive call ≡ true
-receives (MqReceive d room) of = refl
-receives (MqTimedReceive d room until now) of = refl
-receives (MqOpen flags attr) of = of (Opened 0 false) refl
-receives (MqClose d) of = of Done refl
-receives MqUnlink of = of Done refl
-receives (MqSend d prio len) of = of (Queued None) refl
-receives (MqTimedSend d prio len until now) of = of (Queued None) refl
-receives (MqGetattr d) of = of (Attrs no_status) refl
-receives (MqSetattr d nonblock) of = of (Attrs no_status) refl
-receives (MqNotify d value) of = of Done refl
-receives NextNotice of = of (Notice None) refl
-receives Collect of = of (Collected 0) refl
-receives (Withdraw now) of = of (Withdrawn 0) refl
+receive-alone : (past : Past) (reply : Reply) → gets_message reply ≡ false → start_receive_says past reply ≡ start_receive_says [] reply
+receive-alone past (Got m a n) none = absurd (cc)
+receive-alone past reply none = refl
 
 pub receive-is_kind : IsKind receive_kind
 receive-is_kind = record {
   waits = receive-waits;
   over = receive-over;
-  fills = λ _. receives;
-  alone = λ bad. absurd (cc);
+  alone = receive-alone;
 }

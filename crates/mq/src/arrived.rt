@@ -65,7 +65,7 @@ impl<L: Look<Guarded>> Arrived<L> {
         requires brings { Brings call given.now (length buf.old) }
         requires kind { IsOf A.kind call }
         ensures call { let kind = A.kind in
-            IsCall kind.fills kind.says self result.0 call given.now buf.old buf.new result.1 }
+            IsCall kind.says self result.0 call given.now buf.old buf.new result.1 }
         ensures waits { let kind = A.kind in IsWaiting kind.waiting result.1 →
             WaitsIn result.0 call }
         ensures free { let kind = A.kind in IsOver kind.waiting result.1 → IsFree result.0 }

@@ -145,7 +145,7 @@ impl<L: Look<Guarded>> Process<L> {
         requires brings { Brings call given.now (length buf.old) }
         requires kind { IsOf A.kind call }
         ensures call { let kind = A.kind in
-            IsCall kind.fills kind.says self.old self.new call given.now buf.old buf.new result }
+            IsCall kind.says self.old self.new call given.now buf.old buf.new result }
         ensures waits { let kind = A.kind in IsWaiting kind.waiting result → WaitsIn self.new call }
         ensures free { let kind = A.kind in IsOver kind.waiting result → IsFree self.new }
         ensures begun { IsSome (waiting_room self.new.left self.new.number) →

@@ -32,7 +32,8 @@ pub returns-clause-call : goal.returns-clause-call
 returns-clause-call g c =
     let came = came-in c.begin-inside.ensures.came c.self.view_is c.requires.made in
     let is = asked c.ask-reply.ensures.made.entry c.ask-reply.ensures.made.no_entry in
-    rw (c.process_of.ensures, c.depart_after-seat.ensures.left) (is-call c.args.buf.now c.ask-reply.new.buf g.A.Returned.kind c.ask-reply.result g.met.A.Returned.is_kind c.requires.kind c.requires.brings.1
+    rw (c.process_of.ensures, c.depart_after-seat.ensures.left) (is-call c.args.call c.args.buf.now c.ask-reply.new.buf g.A.Returned.kind c.ask-reply.result g.met.A.Returned.is_kind c.requires.brings.1
+    (replied c.ask-reply.ensures.made.entry (may-be-refused c.args.call c.args.given.now _ c.requires.brings))
     (came-made c.args.call c.args.given.now c.ask-reply.result came c.requires.made is c.depart_after-seat.ensures.legal)
     (came-found c.args.call c.args.given.now c.ask-reply.result came c.requires.made is c.ask-reply.ensures.made.full)
     c.of_reply-returned.ensures
