@@ -1,5 +1,5 @@
 -- What a call of a kind is.
-use Rattle.std.proofs.Common.{◌≡◌, ℕ, List, [], true, false, Some, refl, sym, ◌∙◌}
+use Rattle.std.proofs.Common.{◌≡◌, ℕ, List, true, false, Some, refl, sym, ◌∙◌}
 use Rattle.fast_mutex.specs.Items.{Ticket}
 use Rattle.mq_model.specs.Record.{Record}
 use Rattle.mq_model.specs.Messages.{is_receive}
