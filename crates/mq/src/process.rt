@@ -8,6 +8,16 @@ ghost use Rattle.mq.specs.Calls.{ticket_of};
 ghost use Rattle.mq.specs.Asked.{is_done, is_attributes};
 ghost use Rattle.mq.specs.Says.{done_says, attributes_says};
 
+// What a process comes to that enters with its seat, makes this of its stay, leaves, and wakes who sleeps until then.
+macro_rules! in_one_stay {
+    ($process:ident, $rt:ident, $mq:ident, |$arrived:ident| $made:expr) => {{
+        let $arrived = arrive($rt, $mq, &mut $process.seat, $process.waits);
+        let (process, made) = $made;
+        *$process = process.settled($mq);
+        made
+    }};
+}
+
 mod blocked;
 mod exits;
 mod messages;
@@ -151,10 +161,7 @@ impl<L: Look<Guarded>> Process<L> {
         ensures begun { IsSome (waiting_room self.new.left self.new.number) →
             WaitsIn self.new call }
     {
-        let arrived = arrive(rt, mq, &mut self.seat, self.waits);
-        let (process, returned) = arrived.make(mq, call, given, buf);
-        *self = process.settled(mq);
-        returned
+        in_one_stay!(self, rt, mq, |arrived| arrived.make(mq, call, given, buf))
     }
 
     /// Opens the queue of that name (`mq_open`) and gives the lowest free descriptor. Refused with `Exists`, `NoEntry`, `Invalid`,

@@ -32,10 +32,7 @@ impl<L: Look<Guarded>> Process<L> {
         ensures wait { waiting_room self.new.left self.new.number ≡
             waiting_room self.old.left self.old.number }
     {
-        let arrived = arrive(rt, mq, &mut self.seat, self.waits);
-        let (process, blocked) = arrived.are_blocked(mq, processes);
-        *self = process.settled(mq);
-        blocked
+        in_one_stay!(self, rt, mq, |arrived| arrived.are_blocked(mq, processes))
     }
 
     /// Whether no process can make a call any more, asked as [`Process::are_blocked`] is: no open wait is answered or has a
@@ -49,10 +46,7 @@ impl<L: Look<Guarded>> Process<L> {
         ensures wait { waiting_room self.new.left self.new.number ≡
             waiting_room self.old.left self.old.number }
     {
-        let arrived = arrive(rt, mq, &mut self.seat, self.waits);
-        let (process, nobody) = arrived.nobody_can_call(mq);
-        *self = process.settled(mq);
-        nobody
+        in_one_stay!(self, rt, mq, |arrived| arrived.nobody_can_call(mq))
     }
 
     /// For how many more entries, beside those that end the open waits, and payload bytes the journal has room; `None` without
@@ -64,10 +58,7 @@ impl<L: Look<Guarded>> Process<L> {
         ensures wait { waiting_room self.new.left self.new.number ≡
             waiting_room self.old.left self.old.number }
     {
-        let arrived = arrive(rt, mq, &mut self.seat, self.waits);
-        let (process, room) = arrived.room(mq);
-        *self = process.settled(mq);
-        room
+        in_one_stay!(self, rt, mq, |arrived| arrived.room(mq))
     }
 
     /// How many entries the journal has. Asked once inside the lock, of the journal found, which it leaves as it was; the process that
@@ -79,10 +70,7 @@ impl<L: Look<Guarded>> Process<L> {
         ensures wait { waiting_room self.new.left self.new.number ≡
             waiting_room self.old.left self.old.number }
     {
-        let arrived = arrive(rt, mq, &mut self.seat, self.waits);
-        let (process, count) = arrived.journal_len(mq);
-        *self = process.settled(mq);
-        count
+        in_one_stay!(self, rt, mq, |arrived| arrived.journal_len(mq))
     }
 
     /// Begins a send with a deadline at the moment `now`, without waiting for its admission: true where the queue or a waiting

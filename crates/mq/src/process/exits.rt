@@ -19,9 +19,6 @@ impl<L: Look<Guarded>> Process<L> {
         ensures call { Exits self.old self.new result }
         ensures free { IsFree self.new }
     {
-        let arrived = arrive(rt, mq, &mut self.seat, self.waits);
-        let (process, closed) = arrived.exit(mq);
-        *self = process.settled(mq);
-        closed
+        in_one_stay!(self, rt, mq, |arrived| arrived.exit(mq))
     }
 }

@@ -44,10 +44,13 @@ impl<L: Look<Guarded>> Process<L> {
         ensures free { result ≢ Ok false → IsFree self.new }
     {
         let len = bytes.len() as u64;
-        let arrived = arrive(rt, mq, &mut self.seat, self.waits);
-        let (process, sent) = arrived.make(mq, Call::MqSend { d, prio, len }, bytes, &mut []);
-        *self = process.settled(mq);
-        sent
+        let call = Call::MqSend { d, prio, len };
+        in_one_stay!(
+            self,
+            rt,
+            mq,
+            |arrived| arrived.make(mq, call, bytes, &mut [])
+        )
     }
 
     /// Receives the oldest message of the highest priority into the front of the buffer, or begins to wait for one: `None`, and
@@ -68,10 +71,8 @@ impl<L: Look<Guarded>> Process<L> {
         ensures free { result ≢ Ok None → IsFree self.new }
     {
         let room = buf.len() as u64;
-        let arrived = arrive(rt, mq, &mut self.seat, self.waits);
-        let (process, got) = arrived.make(mq, Call::MqReceive { d, room }, &[], buf);
-        *self = process.settled(mq);
-        got
+        let call = Call::MqReceive { d, room };
+        in_one_stay!(self, rt, mq, |arrived| arrived.make(mq, call, &[], buf))
     }
 
     /// Ends the open wait, if it is answered, and gives what it came to: a message that was received lies in the front of the
@@ -89,10 +90,7 @@ impl<L: Look<Guarded>> Process<L> {
         ensures fits { IfSome result (λ outcome. FitsIn outcome (length buf.old)) }
         ensures told { self.old.told ≡ true → IsSome result }
     {
-        let arrived = arrive(rt, mq, &mut self.seat, self.waits);
-        let (process, outcome) = arrived.collect(mq, buf);
-        *self = process.settled(mq);
-        outcome
+        in_one_stay!(self, rt, mq, |arrived| arrived.collect(mq, buf))
     }
 
     /// Whether the open wait is answered, by one look from outside the lock, which never waits. Where it is true, the next
@@ -175,9 +173,13 @@ impl<L: Look<Guarded>> Process<L> {
         ensures free { IsFree self.new }
     {
         let len = bytes.len() as u64;
-        let arrived = arrive(rt, mq, &mut self.seat, self.waits);
-        let (process, sent) = arrived.make(mq, Call::MqSend { d, prio, len }, bytes, &mut []);
-        *self = process.settled(mq);
+        let call = Call::MqSend { d, prio, len };
+        let sent = in_one_stay!(
+            self,
+            rt,
+            mq,
+            |arrived| arrived.make(mq, call, bytes, &mut [])
+        );
         match sent {
             Ok(true) => Ok(()),
             Ok(false) => {
@@ -204,9 +206,8 @@ impl<L: Look<Guarded>> Process<L> {
         ensures free { IsFree self.new }
     {
         let room = buf.len() as u64;
-        let arrived = arrive(rt, mq, &mut self.seat, self.waits);
-        let (process, got) = arrived.make(mq, Call::MqReceive { d, room }, &[], buf);
-        *self = process.settled(mq);
+        let call = Call::MqReceive { d, room };
+        let got = in_one_stay!(self, rt, mq, |arrived| arrived.make(mq, call, &[], buf));
         match got {
             Ok(Some(received)) => Ok(received),
             Ok(None) => match self.await_outcome(rt, mq, buf) {

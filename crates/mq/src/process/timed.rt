@@ -46,10 +46,7 @@ impl<L: Look<Guarded>> Process<L> {
         ensures fits { IfSome result (λ outcome. FitsIn outcome (length buf.old)) }
         ensures free { IsFree self.new }
     {
-        let arrived = arrive(rt, mq, &mut self.seat, self.waits);
-        let (process, outcome) = arrived.end_wait(mq, buf, now);
-        *self = process.settled(mq);
-        outcome
+        in_one_stay!(self, rt, mq, |arrived| arrived.end_wait(mq, buf, now))
     }
 
     // Looks until the wait is answered, or its deadline has passed: then it gives that moment.
