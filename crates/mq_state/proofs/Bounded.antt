@@ -5,15 +5,13 @@ use Rattle.std.specs.Result.{is_err}
 use Rattle.mq_model.proofs.Places.{split}
 use Rattle.std.proofs.lemmas.Bool.Decides.{nat_tests}
 use Rattle.mq_model.specs.Record.{Record, Past, Shown, payload_bytes}
-use Rattle.mq_model.specs.Bounds.{open_waits, exceeds, finds_full, has_entry, HeedsBounds}
-use Rattle.mq_model.specs.Legality.{Appends, reply_to, is_refused}
+use Rattle.mq_model.specs.Bounds.{open_waits, exceeds, entries_needed, bytes_needed, finds_full, has_entry, HeedsBounds}
+use Rattle.mq_model.specs.Legality.{Appends, reply_to, is_refused, payload_of}
 use Rattle.mq_model.specs.Notices.{notified}
 use Rattle.mq_model.specs.Ladder.{timed_reply}
 use Rattle.mq_model.specs.declared.bounds.Bounds.{Bounds}
 use Rattle.mq_model.specs.declared.entries.Call.{Call}
-use Rattle.mq_model.specs.declared.entries.Call.TheVariants.{MqOpen, MqClose, MqUnlink, MqSend, MqReceive, MqGetattr, MqSetattr, MqNotify, NextNotice, Collect, MqTimedSend, MqTimedReceive, Withdraw}
-use Rattle.mq_model.specs.declared.entries.Deadline.{Deadline}
-use Rattle.mq_model.specs.Messages.{is_receive}
+use Rattle.mq_model.specs.declared.entries.Call.TheVariants.{MqSend, MqTimedSend, MqTimedReceive}
 use Rattle.mq_model.specs.declared.entries.Reply.{Reply}
 use Rattle.mq_model.specs.declared.entries.Reply.TheVariants.{Waits, Refused}
 use Rattle.mq_model.specs.declared.entries.Registration.{Registration}
@@ -28,8 +26,8 @@ use Rattle.mq_state.specs.Tables.{notices_brought}
 use Rattle.mq_slots.specs.Held.{Held}
 use Rattle.mq_state.specs.QueueShown.{QueueShown}
 use Rattle.mq_state.specs.Pool.{IsPooled, PoolWithin}
-use Rattle.mq_state.specs.Requests.{IsGiven, is_settled}
-use Rattle.mq_state.specs.Kept.{HasRoomWithin, HasNotices, IsKeptBy, IsCalled, IsRoomRefused, NeedsJust}
+use Rattle.mq_state.specs.Requests.{without_deadline}
+use Rattle.mq_state.specs.Kept.{HasRoomWithin, HasNotices, IsKeptBy, IsCalled, IsRoomRefused}
 use Rattle.mq_state.specs.declared.tables.Tables.{Tables}
 
 -- the tables count the open waits
@@ -89,10 +87,6 @@ brought-one (Some n) reply p = one (is_some (notified reply) && n.process == p)
 
 -- a call that is refused for want of room ---------------------------------------------------------------------------------
 
--- what is full, by the needs of the call
-pub full-by : (o : Option Bounds) (past : Past) (p : ℕ) (call : Call) (given : List ℕ) (k m : ℕ) → NeedsJust k m past p call given → finds_full o past p call given ≡ exceeds o (length past + open_waits past + k) (payload_bytes past + m)
-full-by o past p call given k m needs = λ i. exceeds o (length past + open_waits past + needs.entries_are i) (payload_bytes past + needs.bytes_are i)
-
 no-fault : (a b : Fault) → Refused a ≡ Refused b → a ≡ b
 no-fault a b e = cc
 
@@ -114,15 +108,12 @@ wants-memory o past p call given none = record {
 }
 
 -- the reply of a call that is refused for want of room
-pub room-refused : (o : Option Bounds) (past : Past) (p : ℕ) (call : Call) (given : List ℕ) (k m : ℕ) (fault : Fault) (result : Result (Unit {0}) Fault) → NeedsJust k m past p call given →
+pub room-refused : (o : Option Bounds) (past : Past) (p : ℕ) (call : Call) (given : List ℕ) (k m : ℕ) (fault : Fault) (result : Result (Unit {0}) Fault) → finds_full o past p call given ≡ exceeds o (length past + open_waits past + k) (payload_bytes past + m) →
     IsRoomRefused o (length past + open_waits past + k) (payload_bytes past + m) result → result ≡ Err fault → IsUnentered o past p call given fault
-room-refused o past p call given k m fault result needs room is = split (exceeds o (length past + open_waits past + k) (payload_bytes past + m))
+room-refused o past p call given k m fault result full room is = split (exceeds o (length past + open_waits past + k) (payload_bytes past + m))
     (λ e. let same : JournalFull ≡ fault = as_err JournalFull fault (room.full e) is in subst (IsUnentered o past p call given) same (full-journal o past p call given (full ∙ e)))
     (λ e. other (room.room e) e)
   where
-    full : finds_full o past p call given ≡ exceeds o (length past + open_waits past + k) (payload_bytes past + m)
-    full = full-by o past p call given k m needs
-
     as_err : (f g : Fault) → result ≡ Err f → result ≡ Err g → f ≡ g
     as_err f g a b = cc
 
@@ -141,13 +132,13 @@ pub record IsEntered (o : Option Bounds) (past : Past) (p : ℕ) (call : Call) (
   pub entry : has_entry reply ≡ true
 
 -- the reply to a call that has its room
-pub room-given : (o : Option Bounds) (past : Past) (p : ℕ) (call : Call) (given : List ℕ) (reply : Reply) (k m : ℕ) (result : Result (Unit {0}) Fault) → NeedsJust k m past p call given →
+pub room-given : (o : Option Bounds) (past : Past) (p : ℕ) (call : Call) (given : List ℕ) (reply : Reply) (k m : ℕ) (result : Result (Unit {0}) Fault) → finds_full o past p call given ≡ exceeds o (length past + open_waits past + k) (payload_bytes past + m) →
     IsRoomRefused o (length past + open_waits past + k) (payload_bytes past + m) result → result ≡ Ok tt → reply ≡ reply_to past p call given → IsEntered o past p call given reply
-room-given o past p call given reply k m result needs room is answers =
+room-given o past p call given reply k m result full room is answers =
     let other = replies-other past p call given reply answers in
     let left = replies-room past p call given reply answers in
     record {
-      heeds = record { full = (λ f. absurd (left f), λ f. absurd (let bad : Ok tt ≡ Err JournalFull = sym is ∙ room.full (sym (full-by o past p call given k m needs) ∙ f) in cc)); memory = λ _ want. other want };
+      heeds = record { full = (λ f. absurd (left f), λ f. absurd (let bad : Ok tt ≡ Err JournalFull = sym is ∙ room.full (sym full ∙ f) in cc)); memory = λ _ want. other want };
       entry = other-entry reply other left;
     }
 
@@ -156,19 +147,13 @@ pub not-both : {X E : Type 0} (r : Result X E) → IsOk r → is_err r ≡ true 
 not-both (Ok x) ok err = absurd (let bad : false ≡ true = err in cc)
 not-both (Err e) ok err = absurd (let bad : false ≡ true = ok in cc)
 
--- a send that is refused without its deadline is refused with it
-pub still-refused : (until now : Deadline) (reply : Reply) → is_refused reply ≡ true → is_refused (timed_reply until now reply) ≡ true
-still-refused until now (Refused f) e = refl
-still-refused until now Waits e = absurd (let bad : false ≡ true = e in cc)
-still-refused until now reply e = e
-
 -- what the calls of the tables ensure --------------------------------------------------------------------------------------
 
 -- a call that is refused for want of room
-pub called-refused : (j j' : Shown) (t : Tables) (p : ℕ) (call : Call) (given : List ℕ) (k m : ℕ) (fault : Fault) (result : Result (Unit {0}) Fault) → NeedsJust k m j.records p call given →
+pub called-refused : (j j' : Shown) (t : Tables) (p : ℕ) (call : Call) (given : List ℕ) (k m : ℕ) (fault : Fault) (result : Result (Unit {0}) Fault) → finds_full t.bounds j.records p call given ≡ exceeds t.bounds (length j.records + open_waits j.records + k) (payload_bytes j.records + m) →
     IsRoomRefused t.bounds (length j.records + open_waits j.records + k) (payload_bytes j.records + m) result → result ≡ Err fault → j'.records ≡ j.records → j.byte_room ≤ j'.byte_room → IsKeptBy j' t → IsPooled None t → IsCalled j j' t t p call given (Refused fault)
-called-refused j j' t p call given k m fault result needs room is same no_less kept pool =
-    let x = room-refused t.bounds j.records p call given k m fault result needs room is in
+called-refused j j' t p call given k m fault result full room is same no_less kept pool =
+    let x = room-refused t.bounds j.records p call given k m fault result full room is in
     record {
       entry = λ e. absurd (let bad : true ≡ false = sym e ∙ x.no_entry in cc);
       no_entry = λ _. same;
@@ -196,11 +181,11 @@ called-wanting j j' t t' p call given none same no_less kept n bounds =
     }
 
 -- one that gets its reply: `between` is the journal with room made
-pub called : (j between j' : Shown) (t t' : Tables) (p : ℕ) (call : Call) (given : List ℕ) (reply : Reply) (k m : ℕ) (result : Result (Unit {0}) Fault) → NeedsJust k m j.records p call given →
+pub called : (j between j' : Shown) (t t' : Tables) (p : ℕ) (call : Call) (given : List ℕ) (reply : Reply) (k m : ℕ) (result : Result (Unit {0}) Fault) → finds_full t.bounds j.records p call given ≡ exceeds t.bounds (length j.records + open_waits j.records + k) (payload_bytes j.records + m) →
     IsRoomRefused t.bounds (length j.records + open_waits j.records + k) (payload_bytes j.records + m) result → result ≡ Ok tt → reply ≡ reply_to j.records p call given → between.records ≡ j.records →
     Appends between.records j'.records p call given reply → IsKeptBy j' t' → IsPooled None t' → t'.n ≡ t.n → t'.bounds ≡ t.bounds → IsCalled j j' t t' p call given reply
-called j between j' t t' p call given reply k m result needs room is answers same appends kept pool n bounds =
-    let x = room-given t.bounds j.records p call given reply k m result needs room is answers in
+called j between j' t t' p call given reply k m result full room is answers same appends kept pool n bounds =
+    let x = room-given t.bounds j.records p call given reply k m result full room is answers in
     record {
       entry = λ _. subst (λ (past : Past). Appends past j'.records p call given reply) same appends;
       no_entry = λ e. absurd (let bad : true ≡ false = sym x.entry ∙ e in cc);
@@ -235,29 +220,25 @@ refused-full o entries bytes result fault said room is same other = split (excee
     by (inl ok) = absurd (let bad : Ok tt ≡ Err fault = sym ok ∙ is in cc)
     by (inr want) = absurd (other (let a : result ≡ Err NoMemory = want.0 in let b : fault ≡ said = no-fault fault said same in cc))
 
--- what receives and sends need
-pub receive-needs : (past : Past) (p : ℕ) (call : Call) → is_receive call ≡ true → NeedsJust 2 0 past p call []
-receive-needs past p (MqReceive d room) e = record { entries_are = refl; bytes_are = refl }
-receive-needs past p (MqTimedReceive d room until now) e = record { entries_are = refl; bytes_are = refl }
-receive-needs past p (MqOpen flags attr) e = absurd (let bad : false ≡ true = e in cc)
-receive-needs past p (MqClose d) e = absurd (let bad : false ≡ true = e in cc)
-receive-needs past p MqUnlink e = absurd (let bad : false ≡ true = e in cc)
-receive-needs past p (MqSend d prio len) e = absurd (let bad : false ≡ true = e in cc)
-receive-needs past p (MqTimedSend d prio len until now) e = absurd (let bad : false ≡ true = e in cc)
-receive-needs past p (MqGetattr d) e = absurd (let bad : false ≡ true = e in cc)
-receive-needs past p (MqSetattr d nonblock) e = absurd (let bad : false ≡ true = e in cc)
-receive-needs past p (MqNotify d value) e = absurd (let bad : false ≡ true = e in cc)
-receive-needs past p NextNotice e = absurd (let bad : false ≡ true = e in cc)
-receive-needs past p Collect e = absurd (let bad : false ≡ true = e in cc)
-receive-needs past p (Withdraw now) e = absurd (let bad : false ≡ true = e in cc)
+-- what a call needs room for, by its reply without its deadline
+pub needs : (o : Option Bounds) (past : Past) (p : ℕ) (call : Call) (given : List ℕ) (plain : Reply) (k m : ℕ) → plain ≡ reply_to past p (without_deadline call) given → k ≡ entries_needed call → m ≡ length (payload_of call plain given) →
+    finds_full o past p call given ≡ exceeds o (length past + open_waits past + k) (payload_bytes past + m)
+needs o past p call given plain k m is entries bytes = λ i. exceeds o (length past + open_waits past + sym entries i) (payload_bytes past + (kept call is ∙ sym bytes) i)
+  where
+    paid : (reply : Reply) → (if is_refused reply then 0 else length given) ≡ length (if is_refused reply then [] else given)
+    paid reply = split (is_refused reply) (λ t. rw t refl) (λ f. rw f refl)
 
--- what a call needs that neither sends nor receives
-pub settled-needs : (past : Past) (p : ℕ) (call : Call) (given : List ℕ) → is_settled call ≡ true → IsGiven call given → NeedsJust 1 (length given) past p call given
-settled-needs past p (MqOpen flags attr) given e is = record { entries_are = refl; bytes_are = refl }
-settled-needs past p MqUnlink given e is = record { entries_are = refl; bytes_are = refl }
-settled-needs past p (MqClose d) given e is = record { entries_are = refl; bytes_are = sym (ap length is) }
-settled-needs past p (MqGetattr d) given e is = record { entries_are = refl; bytes_are = sym (ap length is) }
-settled-needs past p (MqSetattr d nonblock) given e is = record { entries_are = refl; bytes_are = sym (ap length is) }
-settled-needs past p (MqNotify d value) given e is = record { entries_are = refl; bytes_are = sym (ap length is) }
-settled-needs past p NextNotice given e is = record { entries_are = refl; bytes_are = sym (ap length is) }
-settled-needs past p call given e is = absurd (cc)
+    kept : (call : Call) → plain ≡ reply_to past p (without_deadline call) given → bytes_needed past p call given ≡ length (payload_of call plain given)
+    kept (MqSend d prio len) is = ap (λ (r : Reply). if is_refused r then 0 else length given) (sym is) ∙ paid plain
+    kept (MqTimedSend d prio len until now) is = ap (λ (r : Reply). if is_refused r then 0 else length given) (sym is) ∙ paid plain
+    kept call is = refl
+
+-- a deadline keeps no more
+pub keeps-less : (past : Past) (p : ℕ) (call : Call) (given : List ℕ) (plain reply : Reply) → plain ≡ reply_to past p (without_deadline call) given → reply ≡ reply_to past p call given → length (payload_of call reply given) ≤ length (payload_of call plain given)
+keeps-less past p (MqTimedSend d prio len until now) given plain reply is answers = subst (λ (r : Reply). length (if is_refused r then [] else given) ≤ length (if is_refused plain then [] else given)) (sym (answers ∙ ap (timed_reply until now) (sym is))) (less plain)
+  where
+    less : (plain : Reply) → length (if is_refused (timed_reply until now plain) then [] else given) ≤ length (if is_refused plain then [] else given)
+    less Waits = split (is_refused (timed_reply until now Waits)) (λ t. rw t (omega arith)) (λ f. rw f (omega arith))
+    less other = omega arith
+keeps-less past p (MqTimedReceive d room until now) given plain reply is answers = omega arith
+keeps-less past p call given plain reply is answers = subst (λ (r : Reply). length (payload_of call r given) ≤ length (payload_of call plain given)) (is ∙ sym answers) (omega arith)

@@ -17,7 +17,7 @@ use Rattle.mq_model.specs.declared.entries.Reply.TheVariants.{Opened, Queued, Ha
 use Rattle.mq_model.proofs.Places.{split, find-in, is_in-filter}
 use Rattle.mq_model.proofs.Cases.{Says, SendSays, ReceiveSays, MayReceive, BestReply, reply_says}
 use Rattle.mq_model.proofs.Waiters.{admits-least}
-use Rattle.mq_model.proofs.LegalReplies.{legal_says}
+use Rattle.mq_model.proofs.LegalReplies.{legal_says, got_says}
 use Rattle.mq_model.proofs.Frames.{record_at-older, attributes-older}
 use Rattle.mq_model.proofs.Steps.{if_in-inside}
 use Rattle.mq_model.proofs.Presence.{sent_to, present-admitted}
@@ -213,11 +213,11 @@ received-fits past legal p call m a n says receives =
     (sent-fits past legal x.0.queue m (admitted-sent past x.0.queue m (present-admitted past x.0.queue m inside)))
     x.1.roomy
 
-pub reply-fits : (past : Past) → Legal past → (p : ℕ) (call : Call) (reply : Reply) → reply ≡ reply_to past p call [] → is_receive call ≡ true → Fits past reply (room_of call)
-reply-fits past legal p call reply is receives = by reply (subst (Says past p call) (sym is) (reply_says past p call []))
+pub reply-fits : (past : Past) → Legal past → (p : ℕ) (call : Call) (reply : Reply) (given : List ℕ) → reply ≡ reply_to past p call given → Fits past reply (room_of call)
+reply-fits past legal p call reply given is = by reply (subst (Says past p call) (sym is) (reply_says past p call given))
   where
     by : (reply : Reply) → Says past p call reply → Fits past reply (room_of call)
-    by (Got m a n) says = received-fits past legal p call m a n says receives
+    by (Got m a n) says = received-fits past legal p call m a n says (got_says past p call m a n says).3.0
     by (Opened e c) says = tt
     by (Queued n) says = tt
     by (Handed w) says = tt

@@ -3,7 +3,7 @@ use Rattle.mq_model.specs.Record.{Past, Shown, payload_bytes}
 use Rattle.mq_model.specs.Legality.{Legal, Appends}
 use Rattle.mq_model.specs.Waits.{open_wait}
 use Rattle.mq_model.specs.declared.entries.Call.{Call}
-use Rattle.mq_model.specs.Bounds.{has_entry, exceeds, entries_needed, bytes_needed, HeedsBounds}
+use Rattle.mq_model.specs.Bounds.{has_entry, exceeds, HeedsBounds}
 use Rattle.mq_model.specs.declared.faults.Fault.{Fault}
 use Rattle.mq_model.specs.declared.faults.Fault.TheVariants.{NoMemory, JournalFull}
 use Rattle.mq_model.specs.declared.bounds.Bounds.{Bounds}
@@ -124,8 +124,3 @@ pub record IsRoomRefused (bounds : Option Bounds) (entries bytes : ℕ) (result 
 -- a reply that refuses, but not for want of memory, took no room for bytes
 abbrev pub SparesBytes : Shown → Shown → Reply → Type 0
 SparesBytes j j' reply = (fault : Fault) → reply ≡ Refused fault → fault ≢ NoMemory → j'.byte_room ≡ j.byte_room
-
--- a call needs room for just so many entries and payload bytes
-pub record NeedsJust (entries bytes : ℕ) (past : Past) (p : ℕ) (call : Call) (given : List ℕ) : Type 0 where
-  pub entries_are : entries_needed call ≡ entries
-  pub bytes_are : bytes_needed past p call given ≡ bytes

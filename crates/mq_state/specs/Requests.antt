@@ -1,5 +1,5 @@
 -- What a call brings, and how long a buffer it wants filled.
-use Rattle.std.specs.Prelude.{ℕ, ◌≡◌, Bool, true, false, List, [], length, IsTrue}
+use Rattle.std.specs.Prelude.{ℕ, ◌≡◌, List, [], length, IsTrue}
 use Rattle.mq_model.specs.Name.{is_name}
 use Rattle.mq_model.specs.declared.entries.Call.{Call}
 use Rattle.mq_model.specs.declared.entries.Call.TheVariants.{MqOpen, MqUnlink, MqSend, MqReceive, Collect, MqTimedSend, MqTimedReceive, Withdraw}
@@ -19,12 +19,8 @@ IsGiven _ given = given ≡ []
 abbrev pub Brings : Call → List ℕ → ℕ → Type 0
 Brings call given room = (room_of call ≡ room) × IsGiven call given
 
--- a call that neither sends nor receives, and ends no wait
-abbrev pub is_settled : Call → Bool
-is_settled (MqSend d prio len) = false
-is_settled (MqTimedSend d prio len until now) = false
-is_settled (MqReceive d most) = false
-is_settled (MqTimedReceive d most until now) = false
-is_settled Collect = false
-is_settled (Withdraw now) = false
-is_settled _ = true
+-- the same call without its deadline
+abbrev pub without_deadline : Call → Call
+without_deadline (MqTimedSend d prio len until now) = MqSend d prio len
+without_deadline (MqTimedReceive d room until now) = MqReceive d room
+without_deadline call = call

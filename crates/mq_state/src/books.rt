@@ -17,6 +17,7 @@ ghost use Rattle.mq_model.specs.Messages.{is_send, is_receive};
 
 use crate::buffers;
 use crate::collected::{Collected, received};
+use crate::prefixes::Prefix;
 use crate::tables::Tables;
 use mq_model::bounds::Bounds;
 use mq_model::entries::{Attr, Call, Deadline, OpenFlags, Reply, Status};
@@ -290,7 +291,7 @@ impl Books {
         let by = tables.answer(p)?;
         let call = waiting_call(journal, tables, p);
         let outcome = outcome(journal, call, by, buf);
-        tables.collect(journal, p, by);
+        tables.end_wait(journal, p, Call::Collect);
         Some(outcome)
     }
 
@@ -310,7 +311,12 @@ impl Books {
         ensures bounds { self.new.bounds ≡ self.old.bounds }
     {
         let Shelf { journal, tables } = &mut *self.shelf;
-        tables.withdraw(journal, p, now)
+        let call = Call::Withdraw { now };
+        if !tables.may_call(&Prefix::whole(journal), p, call) {
+            return false;
+        }
+        tables.end_wait(journal, p, call);
+        true
     }
 
     /// The lowest descriptor that process p holds.

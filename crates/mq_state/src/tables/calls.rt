@@ -2,25 +2,26 @@
 ghost use Rattle.std.specs.Prelude.{◌≡◌, ◌≢◌, ◌<◌, ◌≤◌, ◌+◌, ◌-◌, ◌^◌, IfOk, IfSome, IsSome, OnOk, OnErr, Err, IsTrue, Some, None, true, false, ℕ, length, [], ◌∷◌, is_some, vec_len, vec_capacity, if◌then◌else◌};
 ghost use Rattle.mq_model.specs.Name.{is_name};
 ghost use Rattle.mq_model.specs.Names.{creates};
-ghost use Rattle.mq_model.specs.Waits.{open_wait, answered_by};
-ghost use Rattle.mq_model.specs.Legality.{Appends, reply_to, may_call, is_payload, payload_of, is_refused, Legal, IsLegalNext};
+ghost use Rattle.mq_model.specs.Legality.{Appends, reply_to, may_call, is_payload, payload_of, IsLegalNext};
 ghost use Rattle.std.specs.Option.{option_map};
 ghost use Rattle.mq_model.specs.Owners.{waits_count, answer_in, wait_in, lowest_held_in};
 ghost use Rattle.mq_model.specs.Messages.{is_send, is_receive};
 ghost use Rattle.mq_model.specs.OwnersNoted.{noted};
-ghost use Rattle.mq_state.specs.Buffers.{filled, room_of, length_sent};
+ghost use Rattle.mq_state.specs.Buffers.{filled};
 ghost use Rattle.mq_state.specs.Tables.{entry_queue, HasRoomToRegister, BringsOrder, CreatesWithin};
 ghost use Rattle.mq_model.specs.Record.{payload_bytes};
-ghost use Rattle.mq_model.specs.Bounds.{open_waits, exceeds};
+ghost use Rattle.mq_model.specs.Bounds.{open_waits, exceeds, entries_needed};
 ghost use Rattle.mq_state.specs.Inboxes.{room_in};
 ghost use Rattle.mq_state.specs.Pool.{IsPooled};
-ghost use Rattle.mq_state.specs.Kept.{AreThoseOf, SaysSame, IsKeptBy, HasEntryRoom, MayCall, IsCalled, IsRoomRefused, NeedsJust, SparesBytes};
-ghost use Rattle.mq_state.specs.Requests.{Brings, IsGiven, is_settled};
+ghost use Rattle.mq_state.specs.Kept.{AreThoseOf, SaysSame, IsKeptBy, HasEntryRoom, MayCall, IsCalled, IsRoomRefused, SparesBytes};
+ghost use Rattle.mq_state.specs.Requests.{Brings, without_deadline};
+ghost use Rattle.mq_state.specs.Room.{ends_wait};
 
 use crate::prefixes::Prefix;
+use crate::tables::facts::by_deadline;
 use crate::tables::{Tables, admitted_priority, queue_of, waiting};
 use crate::{buffers, notices, queues};
-use mq_model::entries::{Call, Deadline, Entry, Reply};
+use mq_model::entries::{Call, Entry, Reply};
 use mq_model::faults::Fault;
 use mq_model::journals::Journal;
 use mq_model::{bounds, ladder, owners};
@@ -43,14 +44,19 @@ pub(crate) fn payload_of(call: Call, reply: Reply, given: &[u8]) -> &[u8]
     }
 }
 
-// How many bytes of its message a send with this reply keeps.
+// How many entries a call needs room for: its own, and of one that may wait also the one that ends the wait.
 #[inline(always)]
-fn bytes_kept(reply: Reply, bytes: &[u8]) -> usize
-    ensures { result ≡ (if is_refused reply then 0 else length bytes.now) }
+fn entries_needed(call: Call) -> usize
+    ensures value { result ≡ entries_needed call }
+    ensures few { result ≤ 2 }
 {
-    match reply {
-        Reply::Refused(_) => 0,
-        _ => bytes.len(),
+    match call {
+        Call::MqSend { .. }
+        | Call::MqReceive { .. }
+        | Call::MqTimedSend { .. }
+        | Call::MqTimedReceive { .. } => 2,
+        Call::Collect | Call::Withdraw { .. } => 0,
+        _ => 1,
     }
 }
 
@@ -274,44 +280,49 @@ impl Tables {
             buf.new ≡ filled journal.old.records result buf.old }
         ensures refused { is_send call ≡ true → SparesBytes journal.old journal.new result }
     {
-        match call {
-            Call::MqSend { d, prio, .. } => self.send(journal, p, d, given, prio),
-            Call::MqReceive { d, .. } => self.receive(journal, p, d, buf),
-            Call::MqTimedSend {
-                d,
-                prio,
-                len: _,
-                until,
-                now,
-            } => self.timed_send(journal, p, d, given, prio, until, now),
-            Call::MqTimedReceive {
-                d,
-                room: _,
-                until,
-                now,
-            } => self.timed_receive(journal, p, d, buf, until, now),
-            _ => self.settle(journal, p, call, given),
-        }
+        let past = Prefix::whole(journal);
+        let plain = self.plain_reply(&past, p, call, given);
+        let q = self.entry_queue(&past, p, call, given);
+        self.settle(journal, p, call, plain, given, buf, q)
     }
 
-    // Settles a call that neither sends nor receives: makes room for its entry, and for what it creates or registers, and appends it.
-    fn settle(&mut self, journal: &mut Journal, p: u32, call: Call, given: &[u8]) -> Reply
+    // Settles a call on queue q, whose reply without its deadline is this: makes room for its entry, for the bytes that it keeps, and for
+    // what it creates or registers, fills the buffer where it gets a message, and appends its entry.
+    #[inline(always)]
+    fn settle(
+        &mut self,
+        journal: &mut Journal,
+        p: u32,
+        call: Call,
+        plain: Reply,
+        given: &[u8],
+        buf: &mut [u8],
+        q: u64,
+    ) -> Reply
+        requires queue { q ≡ entry_queue journal.old.records p call given.now }
         requires may_call { MayCall journal.old self.old p }
-        requires settled { is_settled call ≡ true }
-        requires given { IsGiven call given.now }
-        ensures { IsCalled journal.old journal.new self.old self.new p call given.now result }
+        requires brings { Brings call given.now (length buf.old) }
+        requires replies { plain ≡
+            reply_to journal.old.records p (without_deadline call) given.now }
+        ensures called { IsCalled journal.old journal.new self.old self.new p call
+            given.now result }
+        ensures buffer { is_receive call ≡ true →
+            buf.new ≡ filled journal.old.records result buf.old }
+        ensures refused { is_send call ≡ true → SparesBytes journal.old journal.new result }
     {
-        if let Err(fault) = self.make_room(journal, 1, given.len(), given.len()) {
+        let reply = by_deadline(call, plain);
+        let most = payload_of(call, plain, given).len();
+        let kept = payload_of(call, reply, given).len();
+        if let Err(fault) = self.make_room(journal, entries_needed(call), most, kept) {
             return Reply::Refused(fault);
         }
-        let reply = self.reply_to(&Prefix::whole(journal), p, call, given);
         if self.make_notice_room(p, call, reply).is_err() {
             return Reply::Refused(Fault::NoMemory);
         }
         let Ok(fresh) = self.fresh_slots(call, reply) else {
             return Reply::Refused(Fault::NoMemory);
         };
-        let q = self.entry_queue(&Prefix::whole(journal), p, call, given);
+        buffers::fill(journal, reply, buf);
         let entry = Entry {
             process: p,
             call,
@@ -319,6 +330,89 @@ impl Tables {
         };
         self.record(journal, entry, given, q, fresh);
         reply
+    }
+
+    /// A send of a message (`mq_send`). Most are queued and notify nobody: these the compiler knows apart from the others.
+    #[inline(always)]
+    pub fn send(&mut self, journal: &mut Journal, p: u32, d: u32, bytes: &[u8], prio: u32) -> Reply
+        requires { MayCall journal.old self.old p }
+        ensures called { IsCalled journal.old journal.new self.old self.new p
+            (Call.MqSend d prio (length bytes.now)) bytes.now result }
+        ensures refused { SparesBytes journal.old journal.new result }
+    {
+        let len = bytes.len() as u64;
+        let past = Prefix::whole(journal);
+        let held = self.held(&past, p, d);
+        let q = queue_of(&past, held);
+        match self.reply_to_send(&past, held, prio, len) {
+            Reply::Queued { notified: None } => {
+                let call = Call::MqSend { d, prio, len };
+                let reply = Reply::Queued { notified: None };
+                self.settle(journal, p, call, reply, bytes, &mut [], q)
+            }
+            _ => self.other_send(journal, p, d, bytes, prio),
+        }
+    }
+
+    // Between a send and `make`, so that there is no place for the call and the reply of that where it is not called.
+    #[inline(always)]
+    fn other_send(
+        &mut self,
+        journal: &mut Journal,
+        p: u32,
+        d: u32,
+        bytes: &[u8],
+        prio: u32,
+    ) -> Reply
+        requires { MayCall journal.old self.old p }
+        ensures called { IsCalled journal.old journal.new self.old self.new p
+            (Call.MqSend d prio (length bytes.now)) bytes.now result }
+        ensures refused { SparesBytes journal.old journal.new result }
+    {
+        let len = bytes.len() as u64;
+        self.make(journal, p, Call::MqSend { d, prio, len }, bytes, &mut [])
+    }
+
+    /// A receive (`mq_receive`). Most get a message, admit none and notify nobody: these the compiler knows apart from the others.
+    #[inline(always)]
+    pub fn receive(&mut self, journal: &mut Journal, p: u32, d: u32, buf: &mut [u8]) -> Reply
+        requires { MayCall journal.old self.old p }
+        ensures called { IsCalled journal.old journal.new self.old self.new p
+            (Call.MqReceive d (length buf.old)) [] result }
+        ensures buffer { buf.new ≡ filled journal.old.records result buf.old }
+    {
+        let room = buf.len() as u64;
+        let past = Prefix::whole(journal);
+        let held = self.held(&past, p, d);
+        let q = queue_of(&past, held);
+        match self.reply_to_receive(&past, held, room) {
+            Reply::Got {
+                place,
+                admitted: None,
+                notified: None,
+            } => {
+                let call = Call::MqReceive { d, room };
+                let reply = Reply::Got {
+                    place,
+                    admitted: None,
+                    notified: None,
+                };
+                self.settle(journal, p, call, reply, &[], buf, q)
+            }
+            _ => self.other_receive(journal, p, d, buf),
+        }
+    }
+
+    // Between a receive and `make`, in the same way.
+    #[inline(always)]
+    fn other_receive(&mut self, journal: &mut Journal, p: u32, d: u32, buf: &mut [u8]) -> Reply
+        requires { MayCall journal.old self.old p }
+        ensures called { IsCalled journal.old journal.new self.old self.new p
+            (Call.MqReceive d (length buf.old)) [] result }
+        ensures buffer { buf.new ≡ filled journal.old.records result buf.old }
+    {
+        let room = buf.len() as u64;
+        self.make(journal, p, Call::MqReceive { d, room }, &[], buf)
     }
 
     // An order for so many messages: with bounds a spare one.
@@ -340,6 +434,7 @@ impl Tables {
     }
 
     // The slots of the queue that an open creates, if it creates one, and a place for the queue.
+    #[inline(always)]
     pub(crate) fn fresh_slots(
         &mut self,
         call: Call,
@@ -374,6 +469,7 @@ impl Tables {
 
     // Makes room for the notice of the registration that a call of process p makes: for one from each queue, since at most
     // one registration stands on each.
+    #[inline(always)]
     pub(crate) fn make_notice_room(
         &mut self,
         p: u32,
@@ -401,250 +497,6 @@ impl Tables {
         }
     }
 
-    // Settles a send, which would keep `most` bytes if its deadline, where it has one, did not refuse it: makes room for its entry and,
-    // where nothing refuses it, for the bytes of its message, and appends it.
-    #[inline(always)]
-    fn settle_send(
-        &mut self,
-        journal: &mut Journal,
-        p: u32,
-        call: Call,
-        reply: Reply,
-        bytes: &[u8],
-        most: usize,
-        q: u64,
-    ) -> Reply
-        requires queue { q ≡ entry_queue journal.old.records p call bytes.now }
-        requires may_call { MayCall journal.old self.old p }
-        requires sends { is_send call ≡ true }
-        requires length { length_sent call ≡ length bytes.now }
-        requires replies { reply ≡ reply_to journal.old.records p call bytes.now }
-        requires needs { NeedsJust 2 most journal.old.records p call bytes.now }
-        requires most { most ≤ length bytes.now }
-        requires kept { length (payload_of call reply bytes.now) ≤ most }
-        ensures called { IsCalled journal.old journal.new self.old self.new p call
-            bytes.now result }
-        ensures refused { SparesBytes journal.old journal.new result }
-    {
-        let kept = payload_of(call, reply, bytes);
-        if let Err(fault) = self.make_room(journal, 2, most, kept.len()) {
-            return Reply::Refused(fault);
-        }
-        let entry = Entry {
-            process: p,
-            call,
-            reply,
-        };
-        self.record(journal, entry, bytes, q, None);
-        reply
-    }
-
-    /// A send of a message (`mq_send`). Most are queued and notify nobody: these the compiler knows apart from the others.
-    #[inline(always)]
-    pub fn send(&mut self, journal: &mut Journal, p: u32, d: u32, bytes: &[u8], prio: u32) -> Reply
-        requires { MayCall journal.old self.old p }
-        ensures called { IsCalled journal.old journal.new self.old self.new p
-            (Call.MqSend d prio (length bytes.now)) bytes.now result }
-        ensures refused { SparesBytes journal.old journal.new result }
-    {
-        let len = bytes.len() as u64;
-        let past = Prefix::whole(journal);
-        let held = self.held(&past, p, d);
-        let q = queue_of(&past, held);
-        match self.reply_to_send(&past, held, prio, len) {
-            Reply::Queued { notified: None } => {
-                let call = Call::MqSend { d, prio, len };
-                let reply = Reply::Queued { notified: None };
-                self.settle_send(journal, p, call, reply, bytes, bytes.len(), q)
-            }
-            _ => self.other_send(journal, p, d, bytes, prio),
-        }
-    }
-
-    // Between a send and `any_send`, so that there is no place for the reply of that where it is not called.
-    #[inline(always)]
-    fn other_send(
-        &mut self,
-        journal: &mut Journal,
-        p: u32,
-        d: u32,
-        bytes: &[u8],
-        prio: u32,
-    ) -> Reply
-        requires { MayCall journal.old self.old p }
-        ensures called { IsCalled journal.old journal.new self.old self.new p
-            (Call.MqSend d prio (length bytes.now)) bytes.now result }
-        ensures refused { SparesBytes journal.old journal.new result }
-    {
-        self.any_send(journal, p, d, bytes, prio)
-    }
-
-    // Any send without a deadline, apart.
-    fn any_send(&mut self, journal: &mut Journal, p: u32, d: u32, bytes: &[u8], prio: u32) -> Reply
-        requires { MayCall journal.old self.old p }
-        ensures called { IsCalled journal.old journal.new self.old self.new p
-            (Call.MqSend d prio (length bytes.now)) bytes.now result }
-        ensures refused { SparesBytes journal.old journal.new result }
-    {
-        let len = bytes.len() as u64;
-        let past = Prefix::whole(journal);
-        let held = self.held(&past, p, d);
-        let q = queue_of(&past, held);
-        let reply = self.reply_to_send(&past, held, prio, len);
-        let call = Call::MqSend { d, prio, len };
-        let most = bytes_kept(reply, bytes);
-        self.settle_send(journal, p, call, reply, bytes, most, q)
-    }
-
-    /// A send with a deadline (`mq_timedsend`).
-    pub fn timed_send(
-        &mut self,
-        journal: &mut Journal,
-        p: u32,
-        d: u32,
-        bytes: &[u8],
-        prio: u32,
-        until: Deadline,
-        now: Deadline,
-    ) -> Reply
-        requires { MayCall journal.old self.old p }
-        ensures called { IsCalled journal.old journal.new self.old self.new p
-            (Call.MqTimedSend d prio (length bytes.now) until now) bytes.now result }
-        ensures refused { SparesBytes journal.old journal.new result }
-    {
-        let len = bytes.len() as u64;
-        let past = Prefix::whole(journal);
-        let held = self.held(&past, p, d);
-        let q = queue_of(&past, held);
-        let plain = self.reply_to_send(&past, held, prio, len);
-        let reply = ladder::timed(until, now, plain);
-        let call = Call::MqTimedSend {
-            d,
-            prio,
-            len,
-            until,
-            now,
-        };
-        self.settle_send(journal, p, call, reply, bytes, bytes_kept(plain, bytes), q)
-    }
-
-    // Settles a receive: makes room for its entry, fills the front of the buffer where it gets a message, and appends it.
-    #[inline(always)]
-    fn settle_receive(
-        &mut self,
-        journal: &mut Journal,
-        p: u32,
-        call: Call,
-        reply: Reply,
-        buf: &mut [u8],
-        q: u64,
-    ) -> Reply
-        requires queue { q ≡ entry_queue journal.old.records p call [] }
-        requires may_call { MayCall journal.old self.old p }
-        requires receives { is_receive call ≡ true }
-        requires room { room_of call ≡ length buf.old }
-        requires replies { reply ≡ reply_to journal.old.records p call [] }
-        ensures called { IsCalled journal.old journal.new self.old self.new p call [] result }
-        ensures buffer { buf.new ≡ filled journal.old.records result buf.old }
-    {
-        if let Err(fault) = self.make_room(journal, 2, 0, 0) {
-            return Reply::Refused(fault);
-        }
-        buffers::fill(journal, reply, buf);
-        let entry = Entry {
-            process: p,
-            call,
-            reply,
-        };
-        self.record(journal, entry, &[], q, None);
-        reply
-    }
-
-    /// A receive (`mq_receive`). Most get a message, admit none and notify nobody: these the compiler knows apart from the others.
-    #[inline(always)]
-    pub fn receive(&mut self, journal: &mut Journal, p: u32, d: u32, buf: &mut [u8]) -> Reply
-        requires { MayCall journal.old self.old p }
-        ensures called { IsCalled journal.old journal.new self.old self.new p
-            (Call.MqReceive d (length buf.old)) [] result }
-        ensures buffer { buf.new ≡ filled journal.old.records result buf.old }
-    {
-        let room = buf.len() as u64;
-        let past = Prefix::whole(journal);
-        let held = self.held(&past, p, d);
-        let q = queue_of(&past, held);
-        match self.reply_to_receive(&past, held, room) {
-            Reply::Got {
-                place,
-                admitted: None,
-                notified: None,
-            } => {
-                let reply = Reply::Got {
-                    place,
-                    admitted: None,
-                    notified: None,
-                };
-                self.settle_receive(journal, p, Call::MqReceive { d, room }, reply, buf, q)
-            }
-            _ => self.other_receive(journal, p, d, buf),
-        }
-    }
-
-    // Between a receive and `any_receive`, in the same way.
-    #[inline(always)]
-    fn other_receive(&mut self, journal: &mut Journal, p: u32, d: u32, buf: &mut [u8]) -> Reply
-        requires { MayCall journal.old self.old p }
-        ensures called { IsCalled journal.old journal.new self.old self.new p
-            (Call.MqReceive d (length buf.old)) [] result }
-        ensures buffer { buf.new ≡ filled journal.old.records result buf.old }
-    {
-        self.any_receive(journal, p, d, buf)
-    }
-
-    // Any receive without a deadline, apart.
-    fn any_receive(&mut self, journal: &mut Journal, p: u32, d: u32, buf: &mut [u8]) -> Reply
-        requires { MayCall journal.old self.old p }
-        ensures called { IsCalled journal.old journal.new self.old self.new p
-            (Call.MqReceive d (length buf.old)) [] result }
-        ensures buffer { buf.new ≡ filled journal.old.records result buf.old }
-    {
-        let room = buf.len() as u64;
-        let past = Prefix::whole(journal);
-        let held = self.held(&past, p, d);
-        let q = queue_of(&past, held);
-        let reply = self.reply_to_receive(&past, held, room);
-        self.settle_receive(journal, p, Call::MqReceive { d, room }, reply, buf, q)
-    }
-
-    /// A receive with a deadline (`mq_timedreceive`).
-    pub fn timed_receive(
-        &mut self,
-        journal: &mut Journal,
-        p: u32,
-        d: u32,
-        buf: &mut [u8],
-        until: Deadline,
-        now: Deadline,
-    ) -> Reply
-        requires { MayCall journal.old self.old p }
-        ensures called { IsCalled journal.old journal.new self.old self.new p (Call.MqTimedReceive d
-            (length buf.old) until now) [] result }
-        ensures buffer { buf.new ≡ filled journal.old.records result buf.old }
-    {
-        let room = buf.len() as u64;
-        let past = Prefix::whole(journal);
-        let held = self.held(&past, p, d);
-        let q = queue_of(&past, held);
-        let found = self.reply_to_receive(&past, held, room);
-        let reply = ladder::timed(until, now, found);
-        let call = Call::MqTimedReceive {
-            d,
-            room,
-            until,
-            now,
-        };
-        self.settle_receive(journal, p, call, reply, buf, q)
-    }
-
     /// The open wait of process p with the place of the entry that answers it, if one does.
     pub fn answer(&self, p: u32) -> Option<u64>
         ensures { result ≡ answer_in self.now.owners.items p }
@@ -669,58 +521,27 @@ impl Tables {
         owners::lowest_held(&self.owners, p)
     }
 
-    /// The end of the open wait of process p, which the entry at a place answers.
-    pub fn collect(&mut self, journal: &mut Journal, p: u32, by: u64)
+    /// The end of the open wait of process p, by a collect or a withdrawal that it may make now.
+    pub fn end_wait(&mut self, journal: &mut Journal, p: u32, call: Call)
         requires kept { IsKeptBy journal.old self.old }
         requires pool { IsPooled None self.old }
         requires process { (1 ≤ p) × (p ≤ self.old.n) }
-        requires answered { answered_by journal.old.records p ≡ Some by }
-        ensures appends { Appends journal.old.records journal.new.records p Call.Collect []
-            (Reply.Collected by) }
+        requires ends { ends_wait call ≡ true }
+        requires turn { IsTrue (may_call journal.old.records p call) }
+        ensures appends { Appends journal.old.records journal.new.records p call []
+            (reply_to journal.old.records p call []) }
         ensures kept { IsKeptBy journal.new self.new }
         ensures pool { IsPooled None self.new }
         ensures n { self.new.n ≡ self.old.n }
         ensures bounds { self.new.bounds ≡ self.old.bounds }
     {
-        let q = journal.len();
+        let past = Prefix::whole(journal);
         let entry = Entry {
             process: p,
-            call: Call::Collect,
-            reply: Reply::Collected { by },
-        };
-        self.record(journal, entry, &[], q, None);
-    }
-
-    /// Ends the open wait of process p without an answer, where a timed call began it, no entry answers it, and its deadline has passed
-    /// at the moment `now`.
-    pub fn withdraw(&mut self, journal: &mut Journal, p: u32, now: Deadline) -> bool
-        requires kept { IsKeptBy journal.old self.old }
-        requires pool { IsPooled None self.old }
-        requires process { (1 ≤ p) × (p ≤ self.old.n) }
-        ensures value { result ≡ may_call journal.old.records p (Call.Withdraw now) }
-        ensures entry { IsTrue result → IfSome (open_wait journal.old.records p) (λ wait.
-            Appends journal.old.records journal.new.records p (Call.Withdraw now) []
-            (Reply.Withdrawn wait)) }
-        ensures waited { IsTrue result → IsSome (open_wait journal.old.records p) }
-        ensures none { result ≡ false → journal.new ≡ journal.old }
-        ensures kept { IsKeptBy journal.new self.new }
-        ensures pool { IsPooled None self.new }
-        ensures n { self.new.n ≡ self.old.n }
-        ensures bounds { self.new.bounds ≡ self.old.bounds }
-    {
-        let Some(wait) = owners::wait(&self.owners, p) else {
-            return false;
-        };
-        if self.answer(p).is_some() || !ladder::is_over(wait.until, now) {
-            return false;
-        }
-        let entry = Entry {
-            process: p,
-            call: Call::Withdraw { now },
-            reply: Reply::Withdrawn { wait: wait.place },
+            call,
+            reply: self.plain_reply(&past, p, call, &[]),
         };
         let q = journal.len();
         self.record(journal, entry, &[], q, None);
-        true
     }
 }
