@@ -153,13 +153,7 @@ impl Tables {
     }
 
     // The reply to a call of process p without its deadline, a name being that of an open or an unlink.
-    pub(crate) fn plain_reply(
-        &self,
-        journal: &Prefix<'_>,
-        p: u32,
-        call: Call,
-        name: &[u8],
-    ) -> Reply
+    pub(crate) fn plain_reply(&self, journal: &Prefix<'_>, p: u32, call: Call, name: &[u8]) -> Reply
         requires { AreThoseOf journal.now.records self.now }
         ensures { result ≡ reply_to journal.now.records p (without_deadline call) name.now }
     {
