@@ -415,25 +415,7 @@ impl Tables {
         self.make(journal, p, Call::MqReceive { d, room }, &[], buf)
     }
 
-    // An order for so many messages: with bounds a spare one.
-    fn order_for(&mut self, cap: u32) -> Result<Slots, AllocError>
-        requires some { 1 ≤ cap }
-        requires few { cap ≤ 4096 }
-        requires pool { IsPooled None self.old }
-        requires place { vec_len self.old.queues < 64 }
-        ensures empty { IfOk result (λ o. o.messages ≡ []) }
-        ensures roomy { IfOk result (λ o. cap ≤ o.cap) }
-        ensures pool { IfOk result (λ o. IsPooled (Some o) self.new) }
-        ensures memory { OnErr result (self.new.bounds ≡ None) }
-        ensures same { self.new ≡ record self.old { spares = self.new.spares } }
-    {
-        match self.bounds {
-            None => Slots::new(self.alloc, cap),
-            Some(_) => Ok(self.spares.pop().unwrap()),
-        }
-    }
-
-    // The slots of the queue that an open creates, if it creates one, and a place for the queue.
+    // The slots of the queue that an open creates, if it creates one, with bounds spare ones, and a place for the queue.
     #[inline(always)]
     pub(crate) fn fresh_slots(
         &mut self,
@@ -458,10 +440,14 @@ impl Tables {
                     created: true,
                 },
             ) => {
-                let cap = queues::slots_for(ladder::attributes_given(call));
                 self.queues.reserve(1)?;
-                let slots = self.order_for(cap)?;
-                Ok(Some(slots))
+                match self.bounds {
+                    None => {
+                        let cap = queues::slots_for(ladder::attributes_given(call));
+                        Ok(Some(Slots::new(self.alloc, cap)?))
+                    }
+                    Some(_) => Ok(Some(self.spares.pop().unwrap())),
+                }
             }
             _ => Ok(None),
         }

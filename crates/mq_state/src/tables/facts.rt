@@ -43,7 +43,7 @@ fn registration_place(registration: Option<Registration>) -> Option<u64>
 
 // The reply to a call, by that to the same call without its deadline: this counts only where the call would wait.
 #[inline(always)]
-pub(crate) fn by_deadline(call: Call, plain: Reply) -> Reply
+pub(super) fn by_deadline(call: Call, plain: Reply) -> Reply
     ensures { (past : Past) (p : ℕ) (name : List ℕ) →
         plain ≡ reply_to past p (without_deadline call) name → result ≡ reply_to past p call name }
 {
@@ -58,7 +58,7 @@ pub(crate) fn by_deadline(call: Call, plain: Reply) -> Reply
 impl Tables {
     // What process p holds under descriptor d: a queue that exists.
     #[inline(always)]
-    pub(crate) fn held(&self, journal: &Prefix<'_>, p: u32, d: u32) -> Option<Description>
+    pub(super) fn held(&self, journal: &Prefix<'_>, p: u32, d: u32) -> Option<Description>
         requires mirror { Mirrors journal.now self.now }
         requires legal { Legal journal.now.records }
         ensures held { result ≡ held journal.now.records p d }
@@ -68,7 +68,7 @@ impl Tables {
     }
 
     // The queue that a name is bound to.
-    pub(crate) fn bound(&self, journal: &Prefix<'_>, name: &[u8]) -> Option<u64>
+    pub(super) fn bound(&self, journal: &Prefix<'_>, name: &[u8]) -> Option<u64>
         requires mirror { Mirrors journal.now self.now }
         ensures { result ≡ bound_queue journal.now.records name.now }
     {
@@ -94,7 +94,7 @@ impl Tables {
 impl Tables {
     // The reply to a send on a descriptor that is this.
     #[inline(always)]
-    pub(crate) fn reply_to_send(
+    pub(super) fn reply_to_send(
         &self,
         journal: &Prefix<'_>,
         held: Option<Description>,
@@ -124,7 +124,7 @@ impl Tables {
 
     // The reply to a receive on a descriptor that is this.
     #[inline(always)]
-    pub(crate) fn reply_to_receive(
+    pub(super) fn reply_to_receive(
         &self,
         journal: &Prefix<'_>,
         held: Option<Description>,
@@ -153,7 +153,7 @@ impl Tables {
     }
 
     // The reply to a call of process p without its deadline, a name being that of an open or an unlink.
-    pub(crate) fn plain_reply(&self, journal: &Prefix<'_>, p: u32, call: Call, name: &[u8]) -> Reply
+    pub(super) fn plain_reply(&self, journal: &Prefix<'_>, p: u32, call: Call, name: &[u8]) -> Reply
         requires { AreThoseOf journal.now.records self.now }
         ensures { result ≡ reply_to journal.now.records p (without_deadline call) name.now }
     {
