@@ -1,44 +1,42 @@
 -- The message that an entry takes out of a queue is the one that is received next, and what it lets in was sent after those that
 -- are there.
 use Rattle.std.proofs.Common.{◌≡◌, ℕ, ◌<◌, ◌==◌, true, false, ◌&&◌, ◌||◌, not, inl, inr, List, [], ◌∷◌, length, Option, Some, None, refl, sym, ◌∙◌, ap, subst, arith, eqb-true, eq-eqb}
-use Rattle.std.specs.Prelude.{nat_le}
+use Rattle.std.specs.Prelude.{nat_le, int_le, pos}
 use Rattle.std.specs.List.{Contains}
 use Rattle.std.specs.Option.{option_map}
 use Rattle.std.proofs.lemmas.Bool.{and_parts}
 use Rattle.std.proofs.lemmas.Bool.Decides.{nat_tests}
 use Rattle.mq_model.specs.Record.{Past}
+use Rattle.mq_model.specs.Names.{attributes}
 use Rattle.mq_model.specs.Descriptors.{is_on}
-use Rattle.mq_model.specs.Messages.{is_in, is_accepted, blocks_send, blocked_sends, ended_sends, waiting_sends, present, best, priority, priority_given}
+use Rattle.mq_model.specs.Messages.{is_in, is_full, is_accepted, blocks_send, blocked_sends, ended_sends, waiting_sends, present, best, priority, priority_given}
 use Rattle.mq_model.specs.Legality.{Legal}
 use Rattle.mq_model.specs.declared.entries.Call.{Call}
-use Rattle.mq_model.specs.declared.entries.Call.TheVariants.{MqSend, MqTimedSend}
+use Rattle.mq_model.specs.declared.entries.Call.TheVariants.{MqUnlink, MqSend, MqTimedSend}
 use Rattle.mq_model.specs.declared.entries.Reply.{Reply}
-use Rattle.mq_model.specs.declared.entries.Reply.TheVariants.{Queued, Waits, Got}
-use Rattle.mq_model.proofs.Places.{split, is_in-filter, find-in}
+use Rattle.mq_model.specs.declared.entries.Reply.TheVariants.{Queued, Waits, Got, Done}
+use Rattle.mq_model.proofs.Places.{split, is_in-filter}
 use Rattle.mq_model.proofs.Cases.{Says}
-use Rattle.mq_model.proofs.LegalReplies.{legal_says, got_says}
+use Rattle.mq_model.proofs.LegalReplies.{legal_says}
 use Rattle.mq_model.proofs.NamedWaits.{least-in}
-use Rattle.mq_model.proofs.Steps.{blocked_sends-below}
-use Rattle.mq_model.proofs.Presence.{GotFacts, priority-older, present-admitted, present-below, present-once}
+use Rattle.mq_model.proofs.Steps.{blocked_sends-below, without}
+use Rattle.mq_model.proofs.Presence.{priority-older, present-admitted, present-below, without-fewer}
 use Rattle.mq_laws.proofs.SendingOrder.{accepted-older}
+use Rattle.mq_slots.specs.Messages.{without as without_place}
 use Rattle.mq_slots.proofs.Placing.{contains-cons}
 use Rattle.mq_state.specs.Order.{best_slot}
+use Rattle.mq_state.specs.Moves.{line_move}
 use Rattle.mq_state.specs.QueueShown.{QueueShown}
-use Rattle.mq_state.specs.Queues.{queue_in, slot_of, slots_of, reregistered, IsNewest, IsNewestOf, IsNextAt, IsInOrder, QueuesMirror, IsInOrderIn}
+use Rattle.mq_state.specs.Queues.{queue_in, slot_of, slots_of, AllowsIn, LineMirror, QueuesMirror}
 use Rattle.mq_state.proofs.QueueLines.{queue_in-place}
-use Rattle.mq_state.proofs.QueuesKeep.{GotOn, EntryOn}
-use Rattle.mq_state.proofs.QueuesNoted.{line-of}
+use Rattle.mq_state.proofs.Moving.{EntryOn}
+use Rattle.mq_state.proofs.QueuesKeep.{int-room, length-slots_of, slots_of-without}
 use Rattle.mq_state.proofs.Reading.{best-slots}
 
 -- priorities -------------------------------------------------------------------------------------------------------------
 
 low : (prio : ℕ) → nat_le 32768 prio ≡ false → prio < 32768
 low prio e = grind (arith, nat_tests)
-
-low-queued : (past : Past) (p : ℕ) (call : Call) (n : Option ℕ) → Says past p call (Queued n) → priority_given call < 32768
-low-queued past p (MqSend d prio len) n says = low prio says.2.prio_allowed
-low-queued past p (MqTimedSend d prio len until now) n says = low prio says.2.prio_allowed
-low-queued past p call n says = omega arith
 
 low-blocked : (past : Past) (p : ℕ) (call : Call) (reply : Reply) → Says past p call reply → blocks_send call reply ≡ true → priority_given call < 32768
 low-blocked past p (MqSend d prio len) Waits says b = low prio says.2.prio_allowed
@@ -84,38 +82,43 @@ waiting-newest past legal q w m waits there =
 line-slots : (past : Past) (queues : List QueueShown) → QueuesMirror past queues → (q : ℕ) (y : QueueShown) → queue_in queues q ≡ Some y → y.slots ≡ slots_of past (present past q)
 line-slots past queues m q y found = (m.lines q y found).slots ∙ ap (λ k. slots_of past (present past k)) (queue_in-place queues q y found)
 
-next-at : (past : Past) (p : ℕ) (call : Call) (k : ℕ) (a n : Option ℕ) (q : ℕ) (slots : List (ℕ × ℕ)) → Says past p call (Got k a n) → GotFacts past q k a → slots ≡ slots_of past (present past q) → option_map (λ s. s.1) (best_slot slots) ≡ Some k
-next-at past p call k a n q slots says facts is =
-    let got = got_says past p call k a n says in
-    let there = (find-in _ (present past got.2.queue) k got.6).0 in
-    let same : got.2.queue ≡ q = present-once past got.2.queue q k there facts.inside in
-    ap (λ xs. option_map (λ (s : ℕ × ℕ). s.1) (best_slot xs)) is ∙ best-slots past q ∙ ap (best past) (sym same) ∙ got.6
+next-at : (past : Past) (q k : ℕ) (slots : List (ℕ × ℕ)) → best past q ≡ Some k → slots ≡ slots_of past (present past q) → option_map (λ s. s.1) (best_slot slots) ≡ Some k
+next-at past q k slots next is = ap (λ xs. option_map (λ (s : ℕ × ℕ). s.1) (best_slot xs)) is ∙ best-slots past q ∙ next
 
-admitted-newest : (past : Past) → Legal past → (q prio k : ℕ) (a : Option ℕ) (y : QueueShown) → GotOn past q prio k a → y.slots ≡ slots_of past (present past q) → IsNewestOf a prio y
-admitted-newest past legal q prio k None y on is = tt
-admitted-newest past legal q prio k (Some w) y on is =
+-- a queue that is not full has room for one more
+room-for : (past : Past) (x : QueueShown) (q : ℕ) → LineMirror past x → x.place ≡ q → is_full past q ≡ false → length x.slots < x.cap
+room-for past x q m place free =
+    let roomy : int_le (attributes past q).maxmsg (pos x.cap) ≡ true = ap (λ k. int_le (attributes past k).maxmsg (pos x.cap)) (sym place) ∙ m.room in
+    let full : int_le (attributes past q).maxmsg (pos (length x.slots)) ≡ false = ap (λ n. int_le (attributes past q).maxmsg (pos n)) (ap length m.slots ∙ length-slots_of past (present past x.place) ∙ ap (λ k. length (present past k)) place) ∙ free in
+    int-room (attributes past q).maxmsg x.cap (length x.slots) roomy full
+
+-- what an entry takes out of its queue is the message that is received next, and what it lets in may come into the line
+pub line-allows : (past : Past) → Legal past → (queues : List QueueShown) → QueuesMirror past queues → (p : ℕ) (call : Call) (reply : Reply) (payload : List ℕ) (q : ℕ) → EntryOn past p call payload reply q → AllowsIn queues q (line_move past call reply)
+line-allows past legal queues m p call (Queued n) payload q on x found =
+    let slots = line-slots past queues m q x found in
+    record {
+      room = room-for past x q (m.lines q x found) (queue_in-place queues q x found) on.free;
+      low = on.low;
+      newest = λ s there. present-below past q s.1 (slot-in past (present past q) s (subst (λ xs. Contains xs s) slots there));
+    }
+line-allows past legal queues m p call (Got k None n) payload q on x found = next-at past q k x.slots on.next (line-slots past queues m q x found)
+line-allows past legal queues m p call (Got k (Some w) n) payload q on x found =
+    let slots = line-slots past queues m q x found in
     let waits = least-in (waiting_sends past q) w (sym on.facts.admitted) in
     let blocked = (is_in-filter (λ v. not (is_in (ended_sends past) v)) (blocked_sends past q) w waits).0 in
-    record {
-      low = rw (on.prio_is w refl) (blocked-low past legal q w blocked);
-      newest = λ m there. waiting-newest past legal q w m.1 waits (slot-in past (present past q) m (subst (λ xs. Contains xs m) is there));
-    }
-
-pub line-order : (past : Past) → Legal past → (queues : List QueueShown) → QueuesMirror past queues → (p : ℕ) (call : Call) (reply : Reply) (payload : List ℕ) (q prio : ℕ) → Says past p call reply → EntryOn past p call payload reply q prio →
-    IsInOrderIn queues q (length past) (record { process = p; call = call; reply = reply }) prio
-line-order past legal queues m p call (Queued n) payload q prio says on x found =
-    let y = line-of q (length past) (record { process = p; call = call; reply = Queued n }) queues x found in
-    let slots = line-slots past queues m q y.0 y.1 in
-    subst (IsNewest (priority_given call) (length past)) (sym y.2) (record {
-      low = low-queued past p call n says;
-      newest = λ s there. present-below past q s.1 (slot-in past (present past q) s (subst (λ xs. Contains xs s) slots there));
-    })
-line-order past legal queues m p call (Got k a n) payload q prio says on x found =
-    let y = line-of q (length past) (record { process = p; call = call; reply = Got k a n }) queues x found in
-    let slots = line-slots past queues m q y.0 y.1 in
-    let z : QueueShown = reregistered q (length past) (record { process = p; call = call; reply = Got k a n }) y.0 in
-    let next : IsNextAt k z = next-at past p call k a n q y.0.slots says on.facts slots in
-    let newest : IsNewestOf a prio z = admitted-newest past legal q prio k a z on slots in
-    let both : IsInOrder (length past) call (Got k a n) prio z = (next, newest) in
-    subst (IsInOrder (length past) call (Got k a n) prio) (sym y.2) both
-line-order past legal queues m p call reply payload q prio says on x found = tt
+    let left : without_place k x.slots ≡ slots_of past (without k (present past q)) = ap (without_place k) slots ∙ slots_of-without past k (present past q) in (
+      next-at past q k x.slots on.next slots,
+      record {
+        room =
+            let fewer = without-fewer k (present past q) on.facts.inside in
+            let kept : length (without_place k x.slots) ≡ length (without k (present past q)) = ap length left ∙ length-slots_of past (without k (present past q)) in
+            let all : length x.slots ≡ length (present past q) = ap length slots ∙ length-slots_of past (present past q) in
+            let few = (m.lines q x found).few in
+            omega (arith, fewer, kept, all, few);
+        low = blocked-low past legal q w blocked;
+        newest = λ s there. waiting-newest past legal q w s.1 waits (is_in-filter (λ j. not (k == j)) (present past q) s.1 (slot-in past (without k (present past q)) s (subst (λ xs. Contains xs s) left there))).0;
+      },
+    )
+line-allows past legal queues m p MqUnlink Done payload q on x found = tt
+line-allows past legal queues m p call Done payload q on x found = tt
+line-allows past legal queues m p call reply payload q on x found = tt

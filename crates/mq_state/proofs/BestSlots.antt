@@ -8,12 +8,7 @@ use Rattle.mq_model.proofs.Places.{split, clash}
 use Rattle.mq_slots.specs.Messages.{GoesFirst, IsBest, without}
 use Rattle.mq_slots.proofs.Pushing.{same_pair}
 use Rattle.mq_slots.proofs.Placing.{contains-cons, contains-later, contains-here}
-use Rattle.mq_model.specs.declared.entries.Call.{Call}
-use Rattle.mq_model.specs.declared.entries.Reply.{Reply}
-use Rattle.mq_model.specs.declared.entries.Reply.TheVariants.{Got}
 use Rattle.mq_state.specs.Order.{goes_first, best_slot}
-use Rattle.mq_state.specs.QueueShown.{QueueShown}
-use Rattle.mq_state.specs.Queues.{without_slot, IsNewest, IsNextAt, IsInOrder}
 
 all-of : (s : ℕ × ℕ → Bool) (xs : List (ℕ × ℕ)) → ((m : ℕ × ℕ) → Contains xs m → s m ≡ true) → list_all s xs ≡ true
 all-of s [] all = refl
@@ -77,18 +72,3 @@ popped xs ys (Some m) place none best others at =
     let is : Some m.1 ≡ Some place = ap (option_map (λ (x : ℕ × ℕ). x.1)) (sym (best-is xs m best)) ∙ at in
     let same : m.1 ≡ place = cc in
     others ∙ ap (λ k. without k xs) same
-
--- what is left behind a pop ----------------------------------------------------------------------------------------------
-
-left-there : (place : ℕ) (xs : List (ℕ × ℕ)) (m : ℕ × ℕ) → Contains (without place xs) m → Contains xs m
-left-there place [] m there = there
-left-there place (x ∷ xs) m there = split (x.1 == place)
-    (λ t. contains-later x xs m (left-there place xs m (rw t at there)))
-    (λ n. elim (contains-cons x (without place xs) m (rw n at there)) [ inl e ↦ rw e (contains-here x xs) | inr rest ↦ contains-later x xs m (left-there place xs m rest) ])
-
--- the send that a receive admits is the newest after it too
-pub newest-left : (here : ℕ) (call : Call) (reply : Reply) (prio : ℕ) (x y : QueueShown) (place w : ℕ) (n : Option ℕ) → reply ≡ Got place (Some w) n → IsInOrder here call reply prio x → ((k : ℕ) → IsNextAt k x → y ≡ without_slot k x) → IsNewest prio w y
-newest-left here call reply prio x y place w n is ordered left =
-    let order : IsInOrder here call (Got place (Some w) n) prio x = subst (λ z. IsInOrder here call z prio x) is ordered in
-    let newest = order.1 in
-    subst (IsNewest prio w) (sym (left place order.0)) (record { low = newest.low; newest = λ m there. newest.newest m (left-there place x.slots m there) })

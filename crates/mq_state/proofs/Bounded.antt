@@ -77,9 +77,9 @@ room-grows (Some b) j j' has is entries bytes =
     (omega (arith, long, enough, entries), omega (arith, more, most, bytes))
 
 -- an entry brings a process one notice at most
-pub brought-one : (o : Option Registration) (reply : Reply) (p : ℕ) → notices_brought o reply p ≤ 1
-brought-one None reply p = omega arith
-brought-one (Some n) reply p = one (is_some (notified reply) && n.process == p)
+pub brought-one : (o : Option Registration) (notified : Bool) (p : ℕ) → notices_brought o notified p ≤ 1
+brought-one None notified p = omega arith
+brought-one (Some n) notified p = one (notified && n.process == p)
   where
     one : (b : Bool) → (if b then 1 else 0) ≤ 1
     one true = omega arith

@@ -1,5 +1,6 @@
 pub mod BestSlots
 pub mod QueueLines
+pub mod Moving
 pub mod QueuesKeep
 pub mod QueuesNoted
 pub mod Rising

@@ -5,31 +5,32 @@ use Rattle.std.specs.List.{filter}
 use Rattle.std.proofs.lemmas.List.Sums.{sum_by-cons, sum_by_push, count_by-le-length}
 use Rattle.mq_model.specs.Record.{Past}
 use Rattle.mq_model.specs.Notices.{registration_of, registration_after, only_if, or_else, unless, ends, notified}
-use Rattle.mq_model.specs.Legality.{Legal, IsLegalNext}
+use Rattle.mq_model.specs.Legality.{Legal}
 use Rattle.mq_model.specs.declared.owners.Owner.{Owner}
 use Rattle.mq_model.specs.declared.entries.Entry.{Entry}
 use Rattle.mq_model.specs.declared.entries.Attr.{Attr}
 use Rattle.mq_model.specs.declared.entries.Registration.{Registration}
 use Rattle.mq_model.specs.declared.entries.Call.{Call}
-use Rattle.mq_model.specs.declared.entries.Call.TheVariants.{MqOpen, MqClose, MqUnlink, MqSend, MqReceive, MqGetattr, MqSetattr, MqNotify, NextNotice, Collect, MqTimedSend, MqTimedReceive, Withdraw}
+use Rattle.mq_model.specs.declared.entries.Call.TheVariants.{MqNotify}
 use Rattle.mq_model.specs.declared.entries.Reply.{Reply}
-use Rattle.mq_model.specs.declared.entries.Reply.TheVariants.{Opened, Queued, Handed, Waits, Got, Collected, Attrs, Notice, Done, Refused, Withdrawn}
+use Rattle.mq_model.specs.declared.entries.Reply.TheVariants.{Queued, Got, Done}
 use Rattle.mq_model.proofs.Places.{split}
-use Rattle.mq_model.proofs.LegalReplies.{legal_says}
 use Rattle.mq_model.proofs.NoticeSteps.{made-of}
 use Rattle.std.proofs.lemmas.Bool.{eqb-false}
 use Rattle.mq_slots.specs.Held.{Held}
+use Rattle.mq_state.specs.declared.moves.LineMove.{LineMove}
+use Rattle.mq_state.specs.declared.moves.Moves.{Moves}
 use Rattle.mq_state.specs.QueueShown.{QueueShown}
 use Rattle.mq_state.specs.InboxShown.{InboxShown}
 use Rattle.mq_state.specs.Inboxes.{room_in}
 use Rattle.mq_model.specs.Ladder.{is_of}
 use Rattle.mq_state.specs.WaitBits.{wait_bits, waits_noted}
-use Rattle.mq_state.specs.Queues.{queue_in, with_waiting, registration_in, registrations_in, changed, without_queue, reregistered, renewed, released, may_free, noted_queues, fresh, is_named_in, QueuesMirror}
+use Rattle.mq_state.specs.Queues.{queue_in, with_waiting, registration_in, registrations_in, changed, without_queue, reregistered, renewed, released, noted_queues, fresh, is_named_in, QueuesMirror}
 use Rattle.mq_model.specs.Owners.{is_held_in}
-use Rattle.mq_state.specs.Tables.{HasNoticeRoom, HasRoomToRegister, entry_queue, notices_brought, with_fresh}
-use Rattle.mq_state.proofs.QueuesKeep.{rec, renewed-registration}
+use Rattle.mq_state.specs.Tables.{HasNoticeRoom, HasRoomToRegister, notices_brought, with_fresh}
+use Rattle.mq_state.proofs.Moving.{EntryOn, notifies-alive, notifies-registered}
 use Rattle.mq_state.proofs.Reading.{registration-read}
-use Rattle.mq_state.proofs.TablesKeep.{IsNotified, queued-notified, got-notified, notifies-alive}
+use Rattle.mq_state.proofs.TablesKeep.{notified-of}
 
 abbrev one_if : Bool → ℕ
 one_if b = cond b 1 0
@@ -134,50 +135,55 @@ unfolding registrations_in
 registrations-fresh None given here queues p = refl
 registrations-fresh (Some o) given here queues p = let e = sum_by_push (λ (y : QueueShown). one_if (is_of p y.registration)) queues (fresh here o.cap given) in omega (arith, e)
 
+-- what is changed in one line leaves the registrations of all
+lines-registrations : (q here : ℕ) (e : Entry) (m : LineMove) (queues : List QueueShown) (p : ℕ) → registrations_in (map (reregistered q here e) (changed (renewed m) queues q)) p ≡ registrations_in (map (reregistered q here e) queues) p
+lines-registrations q here e m [] p = refl
+lines-registrations q here e m (x ∷ queues) p = split (x.place == q)
+    (λ t. rw t (registrations-cons (reregistered q here e (renewed m x)) (map (reregistered q here e) queues) p ∙ sym (registrations-cons (reregistered q here e x) (map (reregistered q here e) queues) p)))
+    (λ n. rw n (registrations-cons (reregistered q here e x) (map (reregistered q here e) (changed (renewed m) queues q)) p
+    ∙ ap (λ k. one_if (is_of p (registration_after (q == x.place) here e x.registration)) + k) (lines-registrations q here e m queues p)
+    ∙ sym (registrations-cons (reregistered q here e x) (map (reregistered q here e) queues) p)))
+
 -- but for the registrations that the entry makes and ends no process has more
-noted-fewer : (brought : Option Held) (given : Attr) (owners : List Owner) (here : ℕ) (e : Entry) (q prio : ℕ) (queues : List QueueShown) (p : ℕ) → registrations_in (with_fresh brought given here (noted_queues owners here e q prio queues)) p ≤ registrations_in (map (reregistered q here e) queues) p
-noted-fewer brought given owners here e q prio queues p =
-    let lines : List QueueShown = map (reregistered q here e) queues in
-    let a = registrations-fresh brought given here (noted_queues owners here e q prio queues) p in
-    let b = registrations-released owners (may_free e.call e.reply) (changed (renewed here e.call e.reply prio) lines q) q p in
-    let c = registrations-changed (renewed here e.call e.reply prio) lines q p (λ x. renewed-registration here e.call e.reply prio x) in
+noted-fewer : (brought : Option Held) (given : Attr) (owners : List Owner) (here : ℕ) (e : Entry) (q : ℕ) (moves : Moves) (queues : List QueueShown) (p : ℕ) → registrations_in (with_fresh brought given here (noted_queues owners here e q moves queues)) p ≤ registrations_in (map (reregistered q here e) queues) p
+noted-fewer brought given owners here e q moves queues p =
+    let a = registrations-fresh brought given here (noted_queues owners here e q moves queues) p in
+    let b = registrations-released owners moves.freed (map (reregistered q here e) (changed (renewed moves.line) queues q)) q p in
+    let c = lines-registrations q here e moves.line queues p in
     omega (arith, a, b, c)
 
 -- there is room after each entry ------------------------------------------------------------------------------------------
 
-brings-none : (o : Option Registration) (reply : Reply) (p : ℕ) → notified reply ≡ None → notices_brought o reply p ≡ 0
-brings-none None reply p e = refl
-brings-none (Some n) reply p e = rw e refl
-
-brings-one : (n : Registration) (reply : Reply) (p j : ℕ) → notified reply ≡ Some j → notices_brought (Some n) reply p ≡ (if n.process == p then 1 else 0)
-brings-one n reply p j e = rw e refl
+brings-none : (o : Option Registration) (p : ℕ) → notices_brought o false p ≡ 0
+brings-none None p = refl
+brings-none (Some n) p = refl
 
 -- what a process keeps of its room, where the entry brings notices to the registered process
-abbrev KeepsRoom : List QueueShown → List InboxShown → List InboxShown → ℕ → Reply → Type 0
-KeepsRoom queues inboxes after q reply = (p : ℕ) → room_in inboxes p ≤ room_in after p + notices_brought (registration_in queues q) reply p
+abbrev KeepsRoom : List QueueShown → List InboxShown → List InboxShown → ℕ → Bool → Type 0
+KeepsRoom queues inboxes after q notified = (p : ℕ) → room_in inboxes p ≤ room_in after p + notices_brought (registration_in queues q) notified p
 
 -- after an entry that notifies nobody, and makes no registration of process p
-quiet-room : (here : ℕ) (e : Entry) (queues : List QueueShown) (inboxes after : List InboxShown) (q : ℕ) → HasNoticeRoom queues inboxes → KeepsRoom queues inboxes after q e.reply → notified e.reply ≡ None → (p : ℕ) → MakesNone here e p →
+quiet-room : (here : ℕ) (e : Entry) (queues : List QueueShown) (inboxes after : List InboxShown) (q : ℕ) → HasNoticeRoom queues inboxes → KeepsRoom queues inboxes after q false → (p : ℕ) → MakesNone here e p →
     registrations_in (map (reregistered q here e) queues) p ≤ room_in after p
-quiet-room here e queues inboxes after q has kept is p none =
+quiet-room here e queues inboxes after q has kept p none =
     let fewer = map-fewer q here e queues p none in
-    let brought = brings-none (registration_in queues q) e.reply p is in
+    let brought = brings-none (registration_in queues q) p in
     omega (arith, fewer, has p, kept p, brought)
 
-notified-room : (here : ℕ) (e : Entry) (queues : List QueueShown) (inboxes after : List InboxShown) (q : ℕ) → HasNoticeRoom queues inboxes → KeepsRoom queues inboxes after q e.reply → ((p : ℕ) → MakesNone here e p) → (n : Registration) → registration_in queues q ≡ Some n → notified e.reply ≡ Some n.place → (p : ℕ) →
+notified-room : (here : ℕ) (e : Entry) (queues : List QueueShown) (inboxes after : List InboxShown) (q : ℕ) → HasNoticeRoom queues inboxes → KeepsRoom queues inboxes after q true → ((p : ℕ) → MakesNone here e p) → (n : Registration) → registration_in queues q ≡ Some n → notified e.reply ≡ Some n.place → (p : ℕ) →
     registrations_in (map (reregistered q here e) queues) p ≤ room_in after p
 notified-room here e queues inboxes after q has kept none n stands is p =
-    let brought : notices_brought (registration_in queues q) e.reply p ≡ (if n.process == p then 1 else 0) = ap (λ o. notices_brought o e.reply p) stands ∙ brings-one n e.reply p n.place is in
+    let brought : notices_brought (registration_in queues q) true p ≡ (if n.process == p then 1 else 0) = ap (λ o. notices_brought o true p) stands in
     split (n.process == p)
     (λ t. let same : n.process ≡ p = eqb-true _ _ t in
     let ended : registrations_in (map (reregistered q here e) queues) p + 1 ≤ registrations_in queues p = subst (λ k. registrations_in (map (reregistered q here e) queues) k + 1 ≤ registrations_in queues k) same (map-notified q here e queues n none stands is) in
-    let one : notices_brought (registration_in queues q) e.reply p ≡ 1 = rw t at brought in
+    let one : notices_brought (registration_in queues q) true p ≡ 1 = rw t at brought in
     omega (arith, ended, has p, kept p, one))
-    (λ f. let zero : notices_brought (registration_in queues q) e.reply p ≡ 0 = rw f at brought in
+    (λ f. let zero : notices_brought (registration_in queues q) true p ≡ 0 = rw f at brought in
     let fewer = map-fewer q here e queues p (none p) in
     omega (arith, fewer, has p, kept p, zero))
 
-registered-room : (past : Past) (p d v : ℕ) (queues : List QueueShown) (inboxes after : List InboxShown) (q : ℕ) → HasNoticeRoom queues inboxes → KeepsRoom queues inboxes after q Done → length queues ≤ room_in inboxes p → (k : ℕ) →
+registered-room : (past : Past) (p d v : ℕ) (queues : List QueueShown) (inboxes after : List InboxShown) (q : ℕ) → HasNoticeRoom queues inboxes → KeepsRoom queues inboxes after q false → length queues ≤ room_in inboxes p → (k : ℕ) →
     registrations_in (map (reregistered q (length past) (record { process = p; call = MqNotify d (Some v); reply = Done })) queues) k ≤ room_in after k
 registered-room past p d v queues inboxes after q has kept room k =
     let e : Entry = record { process = p; call = MqNotify d (Some v); reply = Done } in
@@ -186,74 +192,42 @@ registered-room past p d v queues inboxes after q has kept room k =
     let all = few (map (reregistered q (length past) e) queues) k in
     let long : length (map (reregistered q (length past) e) queues) ≡ length queues = length-map queues (reregistered q (length past) e) in
     let here : room_in inboxes p ≡ room_in inboxes k = ap (room_in inboxes) same in
-    let brought = brings-none (registration_in queues q) Done k refl in
+    let brought = brings-none (registration_in queues q) k in
     omega (arith, all, long, room, here, kept k, brought))
-    (λ f. quiet-room (length past) e queues inboxes after q has kept refl k (λ n made same. let by = (made-of p (length past) (MqNotify d (Some v)) Done n made).1 in eqb-false _ _ f (sym by ∙ same)))
+    (λ f. quiet-room (length past) e queues inboxes after q has kept k (λ n made same. let by = (made-of p (length past) (MqNotify d (Some v)) Done n made).1 in eqb-false _ _ f (sym by ∙ same)))
 
--- a call that is done, and makes no registration
-makes-none : (here p : ℕ) (call : Call) → ((d v : ℕ) → call ≢ MqNotify d (Some v)) → (k : ℕ) → MakesNone here (record { process = p; call = call; reply = Done }) k
-makes-none here p (MqNotify d (Some v)) other k n e = absurd (other d v refl)
-makes-none here p (MqNotify d None) other k n e = absurd (cc)
-makes-none here p (MqOpen flags attr) other k n e = absurd (cc)
-makes-none here p (MqClose d) other k n e = absurd (cc)
-makes-none here p MqUnlink other k n e = absurd (cc)
-makes-none here p (MqSend d prio len) other k n e = absurd (cc)
-makes-none here p (MqTimedSend d prio len until now) other k n e = absurd (cc)
-makes-none here p (MqReceive d room) other k n e = absurd (cc)
-makes-none here p (MqTimedReceive d room until now) other k n e = absurd (cc)
-makes-none here p (MqGetattr d) other k n e = absurd (cc)
-makes-none here p (MqSetattr d nonblock) other k n e = absurd (cc)
-makes-none here p NextNotice other k n e = absurd (cc)
-makes-none here p Collect other k n e = absurd (cc)
-makes-none here p (Withdraw now) other k n e = absurd (cc)
-
-done-room : (past : Past) (p : ℕ) (call : Call) (queues : List QueueShown) (inboxes after : List InboxShown) (q : ℕ) → HasNoticeRoom queues inboxes → KeepsRoom queues inboxes after q Done → HasRoomToRegister queues inboxes p call Done → (k : ℕ) →
+done-room : (past : Past) (p : ℕ) (call : Call) (queues : List QueueShown) (inboxes after : List InboxShown) (q : ℕ) → HasNoticeRoom queues inboxes → KeepsRoom queues inboxes after q false → HasRoomToRegister queues inboxes p call Done → (k : ℕ) →
     registrations_in (map (reregistered q (length past) (record { process = p; call = call; reply = Done })) queues) k ≤ room_in after k
 done-room past p (MqNotify d (Some v)) queues inboxes after q has kept room k = registered-room past p d v queues inboxes after q has kept (room refl) k
-done-room past p call queues inboxes after q has kept room k = quiet-room (length past) (record { process = p; call = call; reply = Done }) queues inboxes after q has kept refl k (makes-none (length past) p call (λ d v e. cc) k)
+done-room past p call queues inboxes after q has kept room k = quiet-room (length past) (record { process = p; call = call; reply = Done }) queues inboxes after q has kept k (λ n e. absurd (let bad : None ≡ Some n = e in cc))
 
-lines-room : (past : Past) → Legal past → (queues : List QueueShown) → QueuesMirror past queues → (p : ℕ) (call : Call) (reply : Reply) (payload : List ℕ) → IsLegalNext past (rec p call reply payload) → (inboxes after : List InboxShown) →
-    HasNoticeRoom queues inboxes → KeepsRoom queues inboxes after (entry_queue past p call payload) reply → HasRoomToRegister queues inboxes p call reply → (k : ℕ) →
-    registrations_in (map (reregistered (entry_queue past p call payload) (length past) (record { process = p; call = call; reply = reply })) queues) k ≤ room_in after k
-lines-room past legal queues m p call reply payload next inboxes after has kept room k = by reply next kept room
+lines-room : (past : Past) → Legal past → (queues : List QueueShown) → QueuesMirror past queues → (p : ℕ) (call : Call) (reply : Reply) (payload : List ℕ) (q : ℕ) → EntryOn past p call payload reply q → (inboxes after : List InboxShown) →
+    HasNoticeRoom queues inboxes → KeepsRoom queues inboxes after q (is_some (notified reply)) → HasRoomToRegister queues inboxes p call reply → (k : ℕ) →
+    registrations_in (map (reregistered q (length past) (record { process = p; call = call; reply = reply })) queues) k ≤ room_in after k
+lines-room past legal queues m p call reply payload q on inboxes after has kept room k = by reply on kept room
   where
-    q : ℕ
-    q = entry_queue past p call payload
-
-    notified-by : (reply : Reply) → IsLegalNext past (rec p call reply payload) → KeepsRoom queues inboxes after q reply → (j : ℕ) → notified reply ≡ Some j → ((n : Registration) → registration_of (length past) p call reply ≢ Some n) → IsNotified past q j →
+    notified-by : (reply : Reply) → EntryOn past p call payload reply q → KeepsRoom queues inboxes after q true → (j : ℕ) → notified reply ≡ Some j → ((n : Registration) → registration_of (length past) p call reply ≢ Some n) →
         registrations_in (map (reregistered q (length past) (record { process = p; call = call; reply = reply })) queues) k ≤ room_in after k
-    notified-by reply next kept j is none x =
-        let stands : registration_in queues q ≡ Some x.registration = registration-read past queues m q (notifies-alive past legal p call reply payload next (ap is_some is)) ∙ x.stands in
+    notified-by reply on kept j is none =
+        let x = notified-of past q j (notifies-registered past p call reply payload q on j is) in
+        let stands : registration_in queues q ≡ Some x.registration = registration-read past queues m q (notifies-alive past legal p call reply payload q on (ap is_some is)) ∙ x.stands in
         notified-room (length past) (record { process = p; call = call; reply = reply }) queues inboxes after q has kept (λ i n made same. none n made) x.registration stands (is ∙ ap Some (sym x.place)) k
 
-    quiet : (reply : Reply) → KeepsRoom queues inboxes after q reply → notified reply ≡ None → ((n : Registration) → registration_of (length past) p call reply ≢ Some n) →
+    by : (reply : Reply) → EntryOn past p call payload reply q → KeepsRoom queues inboxes after q (is_some (notified reply)) → HasRoomToRegister queues inboxes p call reply →
         registrations_in (map (reregistered q (length past) (record { process = p; call = call; reply = reply })) queues) k ≤ room_in after k
-    quiet reply kept is none = quiet-room (length past) (record { process = p; call = call; reply = reply }) queues inboxes after q has kept is k (λ n made same. none n made)
-
-    by : (reply : Reply) → IsLegalNext past (rec p call reply payload) → KeepsRoom queues inboxes after q reply → HasRoomToRegister queues inboxes p call reply →
-        registrations_in (map (reregistered q (length past) (record { process = p; call = call; reply = reply })) queues) k ≤ room_in after k
-    by (Queued (Some j)) next kept room = notified-by (Queued (Some j)) next kept j refl (λ n e. cc) (queued-notified past p call j payload (legal_says past (rec p call (Queued (Some j)) payload) next))
-    by (Queued None) next kept room = quiet (Queued None) kept refl (λ n e. cc)
-    by (Got i a (Some j)) next kept room = notified-by (Got i a (Some j)) next kept j refl (λ n e. cc) (got-notified past p call i a j payload (legal_says past (rec p call (Got i a (Some j)) payload) next))
-    by (Got i a None) next kept room = quiet (Got i a None) kept refl (λ n e. cc)
-    by Done next kept room = done-room past p call queues inboxes after q has kept room k
-    by (Opened d c) next kept room = quiet (Opened d c) kept refl (λ n e. cc)
-    by (Handed w) next kept room = quiet (Handed w) kept refl (λ n e. cc)
-    by Waits next kept room = quiet Waits kept refl (λ n e. cc)
-    by (Collected b) next kept room = quiet (Collected b) kept refl (λ n e. cc)
-    by (Withdrawn b) next kept room = quiet (Withdrawn b) kept refl (λ n e. cc)
-    by (Attrs s) next kept room = quiet (Attrs s) kept refl (λ n e. cc)
-    by (Notice v) next kept room = quiet (Notice v) kept refl (λ n e. cc)
-    by (Refused f) next kept room = quiet (Refused f) kept refl (λ n e. cc)
+    by (Queued (Some j)) on kept room = notified-by (Queued (Some j)) on kept j refl (λ n e. cc)
+    by (Got i a (Some j)) on kept room = notified-by (Got i a (Some j)) on kept j refl (λ n e. cc)
+    by Done on kept room = done-room past p call queues inboxes after q has kept room k
+    by reply on kept room = quiet-room (length past) (record { process = p; call = call; reply = reply }) queues inboxes after q has kept k (λ n e. absurd (let bad : None ≡ Some n = e in cc))
 
 -- the tables after an entry have room for the notice of each registration, where there was room for the one that it makes
-pub notice-room-keeps : (past : Past) → Legal past → (queues : List QueueShown) → QueuesMirror past queues → (p : ℕ) (call : Call) (reply : Reply) (payload : List ℕ) → IsLegalNext past (rec p call reply payload) → (inboxes after : List InboxShown) →
-    HasNoticeRoom queues inboxes → KeepsRoom queues inboxes after (entry_queue past p call payload) reply → HasRoomToRegister queues inboxes p call reply →
-    (brought : Option Held) (given : Attr) (owners : List Owner) (prio : ℕ) →
-    HasNoticeRoom (with_fresh brought given (length past) (noted_queues owners (length past) (record { process = p; call = call; reply = reply }) (entry_queue past p call payload) prio queues)) after
-notice-room-keeps past legal queues m p call reply payload next inboxes after has kept room brought given owners prio k =
-    let lines = lines-room past legal queues m p call reply payload next inboxes after has kept room k in
-    let fewer = noted-fewer brought given owners (length past) (record { process = p; call = call; reply = reply }) (entry_queue past p call payload) prio queues k in
+pub notice-room-keeps : (past : Past) → Legal past → (queues : List QueueShown) → QueuesMirror past queues → (p : ℕ) (call : Call) (reply : Reply) (payload : List ℕ) (q : ℕ) → EntryOn past p call payload reply q → (inboxes after : List InboxShown) →
+    HasNoticeRoom queues inboxes → KeepsRoom queues inboxes after q (is_some (notified reply)) → HasRoomToRegister queues inboxes p call reply →
+    (brought : Option Held) (given : Attr) (owners : List Owner) (moves : Moves) →
+    HasNoticeRoom (with_fresh brought given (length past) (noted_queues owners (length past) (record { process = p; call = call; reply = reply }) q moves queues)) after
+notice-room-keeps past legal queues m p call reply payload q on inboxes after has kept room brought given owners moves k =
+    let lines = lines-room past legal queues m p call reply payload q on inboxes after has kept room k in
+    let fewer = noted-fewer brought given owners (length past) (record { process = p; call = call; reply = reply }) q moves queues k in
     omega (arith, lines, fewer)
 
 -- a registration has room for its notice

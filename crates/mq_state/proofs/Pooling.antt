@@ -7,15 +7,13 @@ use Rattle.mq_model.specs.declared.entries.Attr.{Attr}
 use Rattle.mq_model.proofs.Places.{split}
 use Rattle.mq_model.specs.declared.bounds.Bounds.{Bounds}
 use Rattle.mq_model.specs.declared.entries.Entry.{Entry}
-use Rattle.mq_model.specs.declared.entries.Call.{Call}
-use Rattle.mq_model.specs.declared.entries.Reply.{Reply}
 use Rattle.mq_slots.specs.Held.{Held}
+use Rattle.mq_state.specs.declared.moves.LineMove.{LineMove}
 use Rattle.mq_state.specs.QueueShown.{QueueShown}
 use Rattle.mq_model.specs.declared.owners.Owner.{Owner}
 use Rattle.mq_state.specs.WaitBits.{wait_bits, waits_noted}
 use Rattle.mq_state.specs.Queues.{changed, with_waiting, reregistered, renewed, without_queue, fresh}
 use Rattle.mq_state.specs.Pool.{Pool, PoolWith, PoolWithin, IsSpare, emptied, order_count}
-use Rattle.mq_state.proofs.QueuesKeep.{renewed-cap}
 use Rattle.mq_state.proofs.QueueLines.{position-here, position-nowhere}
 
 abbrev Wide : QueueShown → Type 0
@@ -58,8 +56,8 @@ pool-kept f same queues q pool = record {
   spares_fit = pool.spares_fit;
 }
 
-pub pool-changed : {m a b : ℕ} {spares : List Held} (here : ℕ) (call : Call) (reply : Reply) (prio : ℕ) (queues : List QueueShown) (q : ℕ) → Pool m queues spares a b → Pool m (changed (renewed here call reply prio) queues q) spares a b
-pool-changed here call reply prio queues q pool = pool-kept (renewed here call reply prio) (renewed-cap here call reply prio) queues q pool
+pub pool-changed : {m a b : ℕ} {spares : List Held} (move : LineMove) (queues : List QueueShown) (q : ℕ) → Pool m queues spares a b → Pool m (changed (renewed move) queues q) spares a b
+pool-changed move queues q pool = pool-kept (renewed move) (λ x. refl) queues q pool
 
 -- who waits is noted
 pub pool-waiting : {m a b : ℕ} {spares : List Held} (moved : Option ℕ) (owners : List Owner) (queues : List QueueShown) → Pool m queues spares a b → Pool m (waits_noted moved owners queues) spares a b

@@ -8,10 +8,7 @@ use Rattle.std.proofs.lemmas.List.Quantifiers.{position-Some}
 use Rattle.std.proofs.lemmas.Iterator.Adapters.{position_from-zero}
 use Rattle.mq_model.proofs.Places.{split, clash}
 use Rattle.mq_state.specs.QueueShown.{QueueShown}
-use Rattle.mq_state.specs.Queues.{queue_in, changed, renewed, touches_line, reregistered, without_queue}
-use Rattle.mq_model.specs.declared.entries.Call.{Call}
-use Rattle.mq_model.specs.declared.entries.Reply.{Reply}
-use Rattle.mq_model.specs.declared.entries.Reply.TheVariants.{Queued, Got, Done}
+use Rattle.mq_state.specs.Queues.{queue_in, changed, reregistered, without_queue}
 use Rattle.mq_model.specs.Notices.{registration_after}
 use Rattle.mq_model.specs.declared.entries.Entry.{Entry}
 use Rattle.mq_model.specs.declared.entries.Registration.{Registration}
@@ -68,21 +65,11 @@ pub changed-None : (f : QueueShown → QueueShown) (queues : List QueueShown) (q
 unfolding queue_in
 changed-None f queues q e = changed-none f queues q (queue_in-None queues q e)
 
-changed-same : (f : QueueShown → QueueShown) (queues : List QueueShown) (q : ℕ) → ((x : QueueShown) → f x ≡ x) → queues ≡ changed f queues q
+pub changed-same : (f : QueueShown → QueueShown) (queues : List QueueShown) (q : ℕ) → ((x : QueueShown) → f x ≡ x) → queues ≡ changed f queues q
 changed-same f [] q same = refl
 changed-same f (x ∷ queues) q same = split (x.place == q)
     (λ t. rw t (ap (λ y. y ∷ queues) (sym (same x))))
     (λ n. rw n (ap (λ rest. x ∷ rest) (changed-same f queues q same)))
-
-renewed-same : (here : ℕ) (call : Call) (reply : Reply) (prio : ℕ) → touches_line reply ≡ false → (x : QueueShown) → renewed here call reply prio x ≡ x
-renewed-same here call (Queued notified) prio none x = absurd (cc)
-renewed-same here call (Got place admitted notified) prio none x = absurd (cc)
-renewed-same here call Done prio none x = absurd (cc)
-renewed-same here call _ prio none x = refl
-
--- an entry that touches no line leaves that of its queue
-pub changed-untouched : (here : ℕ) (call : Call) (reply : Reply) (prio : ℕ) (queues : List QueueShown) (q : ℕ) → touches_line reply ≡ false → queues ≡ changed (renewed here call reply prio) queues q
-changed-untouched here call reply prio queues q none = changed-same (renewed here call reply prio) queues q (renewed-same here call reply prio none)
 
 find-changed : (f : QueueShown → QueueShown) (queues : List QueueShown) (q k : ℕ) → ((x : QueueShown) → (f x).place ≡ x.place) →
     find (λ x. x.place == k) (changed f queues q) ≡ (if q == k then option_map f (find (λ x. x.place == k) queues) else find (λ x. x.place == k) queues)
@@ -154,6 +141,30 @@ queue_in-place [] q x e = absurd (cc)
 queue_in-place (y ∷ queues) q x e = split (y.place == q)
     (λ t. let here : Some y ≡ Some x = rw t at e in let same : y ≡ x = cc in ap (λ (z : QueueShown). z.place) (sym same) ∙ eqb-true _ _ t)
     (λ n. queue_in-place queues q x (rw n at e))
+
+mapped : {X Y : Type 0} (f : X → Y) (o : Option X) (y : Y) → option_map f o ≡ Some y → (x : X) × (o ≡ Some x) × (f x ≡ y)
+mapped f None y e = absurd (let bad : None ≡ Some y = e in cc)
+mapped f (Some x) y e = (x, refl, let same : f x ≡ y = cc in same)
+
+-- the line of queue q changed, any other as it was
+abbrev pub changed_line : (QueueShown → QueueShown) → ℕ → QueueShown → QueueShown
+changed_line f q x = if q == x.place then f x else x
+
+-- which line one was, before that of a queue was changed
+pub changed-from : (f : QueueShown → QueueShown) (queues : List QueueShown) (q k : ℕ) (y : QueueShown) → ((x : QueueShown) → (f x).place ≡ x.place) → queue_in (changed f queues q) k ≡ Some y → (x : QueueShown) × (queue_in queues k ≡ Some x) × (changed_line f q x ≡ y)
+changed-from f queues q k y stays found = split (q == k)
+    (λ t. let from = mapped f (queue_in queues k) y (rw t at there) in (from.0, from.1, here from.0 from.1 true t (f from.0) refl ∙ from.2))
+    (λ n. let from : queue_in queues k ≡ Some y = rw n at there in (y, from, here y from false n y refl))
+  where
+    there : (if q == k then option_map f (queue_in queues k) else queue_in queues k) ≡ Some y
+    there = sym (queue_in-changed f queues q k stays) ∙ found
+
+    here : (x : QueueShown) → queue_in queues k ≡ Some x → (b : Bool) → (q == k) ≡ b → (z : QueueShown) → (if b then f x else x) ≡ z → changed_line f q x ≡ z
+    here x is b test z e = ap (λ (t : Bool). if t then f x else x) (ap (λ (j : ℕ). q == j) (queue_in-place queues k x is) ∙ test) ∙ e
+
+-- which line one was, before all were mapped
+pub map-from : (f : QueueShown → QueueShown) (queues : List QueueShown) (q : ℕ) (y : QueueShown) → ((x : QueueShown) → (f x).place ≡ x.place) → queue_in (map f queues) q ≡ Some y → (x : QueueShown) × (queue_in queues q ≡ Some x) × (f x ≡ y)
+map-from f queues q y stays found = mapped f (queue_in queues q) y (sym (queue_in-map f queues q stays) ∙ found)
 
 pub queue_in-inside : (queues : List QueueShown) (q : ℕ) (x : QueueShown) → queue_in queues q ≡ Some x → is_in (map (λ x. x.place) queues) q ≡ true
 unfolding queue_in

@@ -6,111 +6,61 @@ use Rattle.std.specs.Option.{option_map}
 use Rattle.std.proofs.lemmas.Bool.{eqb-false}
 use Rattle.std.proofs.lemmas.Grind.{common_steps}
 use Rattle.mq_model.specs.Record.{Record, Past}
-use Rattle.mq_model.specs.Names.{creates, unlinks, bound_queue, attributes, attributes_given}
-use Rattle.mq_model.specs.Descriptors.{held, created, after_setattr, with_nonblock, alive, is_named, is_held, is_place, is_on, called_queue, opened_queue}
-use Rattle.mq_model.specs.Messages.{is_in, present, is_full}
+use Rattle.mq_model.specs.Names.{creates, bound_queue, attributes, attributes_given}
+use Rattle.mq_model.specs.Descriptors.{held, created, after_setattr, with_nonblock, alive, is_named, is_held, is_place, is_on, called_queue}
+use Rattle.mq_model.specs.Messages.{is_in, present}
 use Rattle.mq_model.specs.Notices.{registered, registration_after, only_if, registration_of, or_else}
-use Rattle.mq_model.specs.Legality.{Legal, IsLegalNext}
+use Rattle.mq_model.specs.Legality.{Legal}
 use Rattle.mq_model.specs.Owners.{OwnersMirror, is_held_in}
 use Rattle.mq_model.specs.declared.entries.Attr.{Attr}
-use Rattle.mq_model.specs.declared.entries.OpenFlags.{OpenFlags}
 use Rattle.mq_model.specs.declared.entries.Entry.{Entry}
 use Rattle.mq_model.specs.declared.entries.Registration.{Registration}
 use Rattle.mq_model.specs.declared.entries.Description.{Description}
 use Rattle.mq_model.specs.declared.entries.Call.{Call}
-use Rattle.mq_model.specs.declared.entries.Call.TheVariants.{MqOpen, MqClose, MqUnlink, MqSend, MqReceive, MqGetattr, MqSetattr, MqNotify, NextNotice, Collect, MqTimedSend, MqTimedReceive, Withdraw}
+use Rattle.mq_model.specs.declared.entries.Call.TheVariants.{MqClose, MqUnlink, MqSetattr, MqNotify}
 use Rattle.mq_model.specs.declared.entries.Reply.{Reply}
-use Rattle.mq_model.specs.declared.entries.Reply.TheVariants.{Opened, Queued, Handed, Waits, Got, Collected, Attrs, Notice, Done, Refused, Withdrawn}
+use Rattle.mq_model.specs.declared.entries.Reply.TheVariants.{Opened, Attrs, Done}
 use Rattle.mq_model.specs.declared.owners.Owner.{Owner}
 use Rattle.mq_model.proofs.Places.{split}
-use Rattle.mq_model.proofs.Cases.{Says}
-use Rattle.mq_model.proofs.LegalReplies.{legal_says}
-use Rattle.mq_model.proofs.OpenReplies.{OpenedFacts, opened-says}
 use Rattle.mq_model.proofs.HeldQueues.{bound-created, called-alive}
 use Rattle.mq_model.proofs.Waiters.{in-filter}
-use Rattle.mq_model.proofs.Presence.{without-fewer, sent_to, admitted-to, present-admitted}
+use Rattle.mq_model.proofs.Presence.{sent_to, admitted-to, present-admitted}
 use Rattle.mq_model.proofs.Alive.{is_needed, is_held-table, named-same, named-created, named-newest, named-unlinked, bound-named, alive-same_queues, alive-opened, alive-new, alive-closed, alive-unlinked}
-use Rattle.mq_model.proofs.Steps.{without}
 use Rattle.mq_model.proofs.Frames.{attributes-older}
-use Rattle.mq_slots.specs.Messages.{without as without_place}
+use Rattle.mq_state.specs.declared.moves.LineMove.{LineMove}
+use Rattle.mq_state.specs.declared.moves.LineMove.TheVariants.{Rests}
+use Rattle.mq_state.specs.Moves.{done_move, line_move, frees, may_free, moves_of}
 use Rattle.mq_state.specs.QueueShown.{QueueShown}
-use Rattle.mq_state.specs.Queues.{queue_in, is_named_in, changed, without_queue, renewed, HasRoom, reregistered, may_free, noted_queues, fresh, slots_of, LineMirror, QueuesMirror, HasRoomIn}
-use Rattle.mq_state.proofs.QueueLines.{queue_in-changed, places-changed, queue_in-map, places-map, queue_in-place, inside-queue_in, queue_in-without, places-without, queue_in-push, places-push}
-use Rattle.mq_state.proofs.QueuesKeep.{rec, alive-below, in-reverse, line-alive, EntryOn, registration-on, renewed-registration, renewed-place, int-room, renewed-cap, renewed-attributes, renewed-few, line_after, presence, same-slots, slots_of-without, length-slots_of}
-
-renewed-named : (here : ℕ) (call : Call) (reply : Reply) (prio : ℕ) (x : QueueShown) → unlinks call reply ≡ false → (renewed here call reply prio x).named ≡ x.named
-renewed-named here MqUnlink Done prio x e = absurd (let bad : true ≡ false = e in cc)
-renewed-named here call Done prio x e = refl
-renewed-named here call (Got m None n) prio x e = refl
-renewed-named here call (Got m (Some w) n) prio x e = refl
-renewed-named here call reply prio x e = refl
+use Rattle.mq_state.specs.Queues.{queue_in, is_named_in, changed, without_queue, renewed, named_after, slots_after, Allows, AllowsIn, reregistered, noted_queues, fresh, slots_of, LineMirror, QueuesMirror}
+use Rattle.mq_state.proofs.QueueLines.{changed_line, changed-from, map-from, places-changed, places-map, queue_in-place, inside-queue_in, queue_in-without, places-without, queue_in-push, places-push}
+use Rattle.mq_state.proofs.Moving.{rec, OpenedOn, DoneOn, EntryOn}
+use Rattle.mq_state.proofs.QueuesKeep.{alive-below, reverse-cons, in-reverse, eqb-swap, line-alive, registration-on, slots-few, presence, same-slots}
 
 unbound-of : (o : Option ℕ) → not (is_some o) ≡ true → o ≡ None
 unbound-of None e = refl
 unbound-of (Some x) e = absurd (let bad : false ≡ true = e in cc)
 
-named-quiet : (past : Past) (p : ℕ) (call : Call) (reply : Reply) (payload : List ℕ) (q prio k : ℕ) → k < length past → (x : QueueShown) → x.named ≡ is_named past k → creates call reply ≡ false → unlinks call reply ≡ false →
-    (if q == k then (renewed (length past) call reply prio x).named else x.named) ≡ is_named (rec p call reply payload ∷ past) k
-named-quiet past p call reply payload q prio k lt x is c u =
-    let now : is_named (rec p call reply payload ∷ past) k ≡ is_named past k = named-same past (rec p call reply payload) k c u lt in
-    split (q == k) (λ t. rw (t, now) (renewed-named (length past) call reply prio x u ∙ is)) (λ n. rw (n, now) is)
+still : {X : Type 0} (b : Bool) (x : X) → x ≡ (if b then x else x)
+still true x = refl
+still false x = refl
 
--- whether the line's queue is named after the entry
-named-keeps : (past : Past) (p : ℕ) (call : Call) (reply : Reply) (payload : List ℕ) (q prio : ℕ) → IsLegalNext past (rec p call reply payload) → EntryOn past p call payload reply q prio → (k : ℕ) → k < length past →
-    (x : QueueShown) → x.named ≡ is_named past k → (if q == k then (renewed (length past) call reply prio x).named else x.named) ≡ is_named (rec p call reply payload ∷ past) k
-named-keeps past p MqUnlink Done payload q prio next on k lt x is =
-    let now : is_named (rec p MqUnlink Done payload ∷ past) k ≡ (if k == q then false else is_named past k) = named-unlinked past (rec p MqUnlink Done payload) k q refl on lt in
-    split (q == k)
-    (λ t. rw (t, now) (rw (eq-eqb k q (sym (eqb-true _ _ t))) refl))
-    (λ n. rw (n, now) (rw (ne_eqb k q (λ e. eqb-false _ _ n (sym e))) is))
-named-keeps past p (MqOpen flags attr) (Opened d true) payload q prio next on k lt x is =
-    let facts : OpenedFacts past p payload d true = opened-says past p flags attr payload d true next.reply in
-    let now : is_named (rec p (MqOpen flags attr) (Opened d true) payload ∷ past) k ≡ is_named past k = named-created past (rec p (MqOpen flags attr) (Opened d true) payload) k refl (unbound-of (bound_queue past payload) facts.new) lt in
-    split (q == k) (λ t. rw (t, now) is) (λ n. rw (n, now) is)
-named-keeps past p call (Opened d true) payload q prio next on k lt x is = named-quiet past p call (Opened d true) payload q prio k lt x is refl refl
-named-keeps past p call (Opened d false) payload q prio next on k lt x is = named-quiet past p call (Opened d false) payload q prio k lt x is refl refl
-named-keeps past p call (Queued m) payload q prio next on k lt x is = named-quiet past p call (Queued m) payload q prio k lt x is refl refl
-named-keeps past p call (Handed w) payload q prio next on k lt x is = named-quiet past p call (Handed w) payload q prio k lt x is refl refl
-named-keeps past p call Waits payload q prio next on k lt x is = named-quiet past p call Waits payload q prio k lt x is refl refl
-named-keeps past p call (Got m a n) payload q prio next on k lt x is = named-quiet past p call (Got m a n) payload q prio k lt x is refl refl
-named-keeps past p call (Collected b) payload q prio next on k lt x is = named-quiet past p call (Collected b) payload q prio k lt x is refl refl
-named-keeps past p call (Withdrawn b) payload q prio next on k lt x is = named-quiet past p call (Withdrawn b) payload q prio k lt x is refl refl
-named-keeps past p call (Attrs s) payload q prio next on k lt x is = named-quiet past p call (Attrs s) payload q prio k lt x is refl refl
-named-keeps past p call (Notice v) payload q prio next on k lt x is = named-quiet past p call (Notice v) payload q prio k lt x is refl refl
-named-keeps past p call Done payload q prio next on k lt x is = named-quiet past p call Done payload q prio k lt x is refl refl
-named-keeps past p call (Refused f) payload q prio next on k lt x is = named-quiet past p call (Refused f) payload q prio k lt x is refl refl
+done-named : (past : Past) (p : ℕ) (call : Call) (payload : List ℕ) (q : ℕ) → DoneOn past p call payload q → (k : ℕ) → k < length past → is_named (rec p call Done payload ∷ past) k ≡ (if q == k then named_after (done_move call) (is_named past k) else is_named past k)
+done-named past p MqUnlink payload q on k lt = named-unlinked past (rec p MqUnlink Done payload) k q refl on lt ∙ ap (λ b. if b then false else is_named past k) (eqb-swap k q)
+done-named past p call payload q on k lt = named-same past (rec p call Done payload) k refl refl lt ∙ still (q == k) (is_named past k)
+
+-- which queues are named after the entry
+named-keeps : (past : Past) (p : ℕ) (call : Call) (reply : Reply) (payload : List ℕ) (q : ℕ) → EntryOn past p call payload reply q → (k : ℕ) → k < length past →
+    is_named (rec p call reply payload ∷ past) k ≡ (if q == k then named_after (line_move past call reply) (is_named past k) else is_named past k)
+named-keeps past p call Done payload q on k lt = done-named past p call payload q on k lt
+named-keeps past p call (Opened d true) payload q on k lt = named-created past (rec p call (Opened d true) payload) k (rw on.is refl) (unbound-of (bound_queue past payload) on.facts.new) lt ∙ still (q == k) (is_named past k)
+named-keeps past p call reply payload q on k lt = named-same past (rec p call reply payload) k refl refl lt ∙ still (q == k) (is_named past k)
 
 -- the registration of the line after the entry
-registered-keeps : (past : Past) (p : ℕ) (call : Call) (reply : Reply) (payload : List ℕ) (q prio k : ℕ) → EntryOn past p call payload reply q prio → (before : Option Registration) → before ≡ registered past k →
-    registration_after (q == k) (length past) (record { process = p; call = call; reply = reply }) before ≡ registered (rec p call reply payload ∷ past) k
-registered-keeps past p call reply payload q prio k on before is =
-    registration-on (q == k) (is_on past (record { process = p; call = call; reply = reply }) k) (length past) p call reply before (λ d v c e. notify-on call reply on d v c e)
-    ∙ ap (registration_after (is_on past (record { process = p; call = call; reply = reply }) k) (length past) (record { process = p; call = call; reply = reply })) is
-  where
-    notify-on : (call : Call) (reply : Reply) → EntryOn past p call payload reply q prio → (d : ℕ) (v : Option ℕ) → call ≡ MqNotify d v → reply ≡ Done → (q == k) ≡ is_on past (record { process = p; call = call; reply = reply }) k
-    notify-on (MqNotify e w) Done on d v c is = rw on refl
-    notify-on (MqOpen flags attr) reply on d v c is = absurd (cc)
-    notify-on (MqClose e) reply on d v c is = absurd (cc)
-    notify-on MqUnlink reply on d v c is = absurd (cc)
-    notify-on (MqSend e prio len) reply on d v c is = absurd (cc)
-    notify-on (MqTimedSend e prio len until now) reply on d v c is = absurd (cc)
-    notify-on (MqReceive e room) reply on d v c is = absurd (cc)
-    notify-on (MqTimedReceive e room until now) reply on d v c is = absurd (cc)
-    notify-on (MqGetattr e) reply on d v c is = absurd (cc)
-    notify-on (MqSetattr e nonblock) reply on d v c is = absurd (cc)
-    notify-on NextNotice reply on d v c is = absurd (cc)
-    notify-on Collect reply on d v c is = absurd (cc)
-    notify-on (Withdraw now) reply on d v c is = absurd (cc)
-    notify-on (MqNotify e w) (Opened x y) on d v c is = absurd (cc)
-    notify-on (MqNotify e w) (Queued x) on d v c is = absurd (cc)
-    notify-on (MqNotify e w) (Handed x) on d v c is = absurd (cc)
-    notify-on (MqNotify e w) Waits on d v c is = absurd (cc)
-    notify-on (MqNotify e w) (Got x y z) on d v c is = absurd (cc)
-    notify-on (MqNotify e w) (Collected x) on d v c is = absurd (cc)
-    notify-on (MqNotify e w) (Withdrawn x) on d v c is = absurd (cc)
-    notify-on (MqNotify e w) (Attrs x) on d v c is = absurd (cc)
-    notify-on (MqNotify e w) (Notice x) on d v c is = absurd (cc)
-    notify-on (MqNotify e w) (Refused x) on d v c is = absurd (cc)
+registered-keeps : (past : Past) (p : ℕ) (call : Call) (reply : Reply) (payload : List ℕ) (q k : ℕ) → EntryOn past p call payload reply q →
+    registration_after (q == k) (length past) (record { process = p; call = call; reply = reply }) (registered past k) ≡ registered (rec p call reply payload ∷ past) k
+registered-keeps past p call reply payload q k on =
+    registration-on (q == k) (is_on past (record { process = p; call = call; reply = reply }) k) (length past) p call reply (registered past k)
+    (λ d v c e. let at : called_queue past p (MqNotify d v) ≡ Some q = rw (c, e) at on in rw (c, at) refl)
 
 when-true : {X : Type 0} (b : Bool) (x y : X) → b ≡ true → (if b then x else y) ≡ x
 when-true b x y e = rw e refl
@@ -118,93 +68,75 @@ when-true b x y e = rw e refl
 when-false : {X : Type 0} (b : Bool) (x y : X) → b ≡ false → (if b then x else y) ≡ y
 when-false b x y e = rw e refl
 
+-- one line of the table, before a queue is given back
+abbrev line_after : ℕ → ℕ → Entry → LineMove → QueueShown → QueueShown
+line_after q here e m x = reregistered q here e (changed_line (renewed m) q x)
+
 -- a line of the table stays that of its queue
-line-keeps : (past : Past) → Legal past → (p : ℕ) (call : Call) (reply : Reply) (payload : List ℕ) (q prio : ℕ) → IsLegalNext past (rec p call reply payload) → EntryOn past p call payload reply q prio →
-    (x : QueueShown) → LineMirror past x → x.place < length past → (q ≡ x.place → HasRoom reply (reregistered q (length past) (record { process = p; call = call; reply = reply }) x)) →
-    LineMirror (rec p call reply payload ∷ past) (line_after q (length past) (record { process = p; call = call; reply = reply }) prio x)
-line-keeps past legal p call reply payload q prio next on x m lt room =
-    let e : Entry = record { process = p; call = call; reply = reply } in
-    let r : Record = rec p call reply payload in
-    let there = presence past legal p call reply payload q prio (legal_says past r next) on in
-    let y : QueueShown = reregistered q (length past) e x in
-    let named = named-keeps past p call reply payload q prio next on x.place lt y m.named in
-    let stands = registered-keeps past p call reply payload q prio x.place on x.registration m.registration in
-    let same_attributes : attributes (r ∷ past) x.place ≡ attributes past x.place = attributes-older past r x.place lt in
-    let P : QueueShown → Type 0 = λ z. LineMirror (r ∷ past) z in
+line-keeps : (past : Past) → Legal past → (p : ℕ) (call : Call) (reply : Reply) (payload : List ℕ) (q : ℕ) → EntryOn past p call payload reply q →
+    (x : QueueShown) → LineMirror past x → x.place < length past → (q ≡ x.place → Allows (line_move past call reply) x) →
+    LineMirror (rec p call reply payload ∷ past) (line_after q (length past) (record { process = p; call = call; reply = reply }) (line_move past call reply) x)
+line-keeps past legal p call reply payload q on x m lt allows =
+    let there = presence past legal p call reply payload q on in
     split (q == x.place)
     (λ t. let here : q ≡ x.place = eqb-true _ _ t in
-    let z : QueueShown = renewed (length past) call reply prio y in
-    let place : z.place ≡ x.place = renewed-place (length past) call reply prio y in
-    let line : LineMirror (r ∷ past) z = record {
-      named = sym (when-true (q == x.place) z.named y.named t) ∙ named ∙ ap (is_named (r ∷ past)) (sym place);
-      registration = renewed-registration (length past) call reply prio y ∙ stands ∙ ap (registered (r ∷ past)) (sym place);
-      slots = there.here y (m.slots ∙ ap (λ k. slots_of past (present past k)) (sym here)) (rw here lt) ∙ ap (λ k. slots_of (r ∷ past) (present (r ∷ past) k)) (here ∙ sym place);
-      room = ap (λ k. int_le (attributes (r ∷ past) k).maxmsg (pos z.cap)) place
-          ∙ ap (λ n. int_le (attributes (r ∷ past) x.place).maxmsg (pos n)) (renewed-cap (length past) call reply prio y)
-          ∙ ap (λ (a : Attr). int_le a.maxmsg (pos y.cap)) same_attributes ∙ m.room;
-      few = subst (λ n. length z.slots ≤ n) (sym (renewed-cap (length past) call reply prio y)) (renewed-few (length past) call reply prio y (room here) m.few);
-      attributes = renewed-attributes (length past) call reply prio y ∙ m.attributes ∙ sym same_attributes ∙ ap (attributes (r ∷ past)) (sym place);
-    } in
-    subst P (sym (when-true (q == x.place) z y t)) line)
-    (λ n. let ne : q ≢ x.place = eqb-false _ _ n in
-    let z : QueueShown = renewed (length past) call reply prio y in
-    let line : LineMirror (r ∷ past) y = record {
-      named = sym (when-false (q == x.place) z.named y.named n) ∙ named;
-      registration = stands;
-      slots = same-slots past r x.place x m.slots (there.elsewhere x.place lt (λ e. ne (sym e)));
-      room = ap (λ (a : Attr). int_le a.maxmsg (pos x.cap)) same_attributes ∙ m.room;
-      few = m.few;
-      attributes = m.attributes ∙ sym same_attributes;
-    } in
-    subst P (sym (when-false (q == x.place) z y n)) line)
+    subst (λ y. LineMirror r (reregistered q (length past) e y)) (sym (when-true (q == x.place) (renewed move x) x t))
+    (line (named_after move x.named) (slots_after move x.slots)
+    (ap (named_after move) m.named ∙ sym (named ∙ when-true (q == x.place) (named_after move (is_named past x.place)) (is_named past x.place) t))
+    (ap (slots_after move) m.slots ∙ subst (λ k. slots_after move (slots_of past (present past k)) ≡ slots_of r (present r k)) here there.here)
+    (slots-few move x (allows here) m.few)))
+    (λ n. subst (λ y. LineMirror r (reregistered q (length past) e y)) (sym (when-false (q == x.place) (renewed move x) x n))
+    (line x.named x.slots
+    (m.named ∙ sym (named ∙ when-false (q == x.place) (named_after move (is_named past x.place)) (is_named past x.place) n))
+    (m.slots ∙ same-slots past (rec p call reply payload) x.place (there.elsewhere x.place (λ same. eqb-false _ _ n (sym same))))
+    m.few))
+  where
+    r : Past
+    r = rec p call reply payload ∷ past
+
+    e : Entry
+    e = record { process = p; call = call; reply = reply }
+
+    move : LineMove
+    move = line_move past call reply
+
+    named : is_named (rec p call reply payload ∷ past) x.place ≡ (if q == x.place then named_after (line_move past call reply) (is_named past x.place) else is_named past x.place)
+    named = named-keeps past p call reply payload q on x.place lt
+
+    same : attributes (rec p call reply payload ∷ past) x.place ≡ attributes past x.place
+    same = attributes-older past (rec p call reply payload) x.place lt
+
+    line : (named : Bool) (slots : List (ℕ × ℕ)) → named ≡ is_named (rec p call reply payload ∷ past) x.place → slots ≡ slots_of (rec p call reply payload ∷ past) (present (rec p call reply payload ∷ past) x.place) → length slots ≤ x.cap →
+        LineMirror (rec p call reply payload ∷ past) (record { place = x.place; named = named; registration = registration_after (q == x.place) (length past) (record { process = p; call = call; reply = reply }) x.registration; slots = slots; cap = x.cap; attributes = x.attributes; waiting = x.waiting })
+    line named slots named_is slots_are few = record {
+      named = named_is;
+      registration = ap (registration_after (q == x.place) (length past) (record { process = p; call = call; reply = reply })) m.registration ∙ registered-keeps past p call reply payload q x.place on;
+      slots = slots_are;
+      room = ap (λ (a : Attr). int_le a.maxmsg (pos x.cap)) same ∙ m.room;
+      few = few;
+      attributes = m.attributes ∙ sym same;
+    }
 
 -- which queues the table has ---------------------------------------------------------------------------------------------
 
 -- the table before a queue is given back
-abbrev lines_after : ℕ → ℕ → Entry → ℕ → List QueueShown → List QueueShown
-lines_after q here e prio queues = changed (renewed here e.call e.reply prio) (map (reregistered q here e) queues) q
+abbrev lines_after : ℕ → ℕ → Entry → LineMove → List QueueShown → List QueueShown
+lines_after q here e m queues = map (reregistered q here e) (changed (renewed m) queues q)
 
-lines-places : (q here : ℕ) (e : Entry) (prio : ℕ) (queues : List QueueShown) → map (λ x. x.place) (lines_after q here e prio queues) ≡ map (λ x. x.place) queues
-lines-places q here e prio queues =
-    places-changed (renewed here e.call e.reply prio) (map (reregistered q here e) queues) q (λ x. renewed-place here e.call e.reply prio x)
-    ∙ places-map (reregistered q here e) queues (λ x. refl)
+lines-places : (q here : ℕ) (e : Entry) (m : LineMove) (queues : List QueueShown) → map (λ x. x.place) (lines_after q here e m queues) ≡ map (λ x. x.place) queues
+lines-places q here e m queues = places-map (reregistered q here e) (changed (renewed m) queues q) (λ x. refl) ∙ places-changed (renewed m) queues q (λ x. refl)
 
-line-from : (q here : ℕ) (e : Entry) (prio : ℕ) (queues : List QueueShown) (k : ℕ) (y : QueueShown) → queue_in (lines_after q here e prio queues) k ≡ Some y → (x : QueueShown) × (queue_in queues k ≡ Some x) × (y ≡ line_after q here e prio x)
-line-from q here e prio queues k y found = by (queue_in queues k) refl (sym at ∙ found)
-  where
-    at : queue_in (lines_after q here e prio queues) k ≡ (if q == k then option_map (renewed here e.call e.reply prio) (option_map (reregistered q here e) (queue_in queues k)) else option_map (reregistered q here e) (queue_in queues k))
-    at = queue_in-changed (renewed here e.call e.reply prio) (map (reregistered q here e) queues) q k (λ x. renewed-place here e.call e.reply prio x)
-        ∙ ap (λ o. if q == k then option_map (renewed here e.call e.reply prio) o else o) (queue_in-map (reregistered q here e) queues k (λ x. refl))
-
-    by : (o : Option QueueShown) → queue_in queues k ≡ o → (if q == k then option_map (renewed here e.call e.reply prio) (option_map (reregistered q here e) (queue_in queues k)) else option_map (reregistered q here e) (queue_in queues k)) ≡ Some y →
-        (x : QueueShown) × (queue_in queues k ≡ Some x) × (y ≡ line_after q here e prio x)
-    by None is g = absurd (split (q == k) (λ t. let bad : None ≡ Some y = rw (t, is) at g in cc) (λ n. let bad : None ≡ Some y = rw (n, is) at g in cc))
-    by (Some x) is g =
-        let place : x.place ≡ k = queue_in-place queues k x is in
-        let same_test : (q == x.place) ≡ (q == k) = ap (λ j. q == j) place in (
-          x,
-          is,
-          split (q == k)
-              (λ t. let here_is : Some (renewed here e.call e.reply prio (reregistered q here e x)) ≡ Some y = sym (when-true (q == k) (option_map (renewed here e.call e.reply prio) (option_map (reregistered q here e) (Some x))) (option_map (reregistered q here e) (Some x)) t) ∙ ap (λ o. if q == k then option_map (renewed here e.call e.reply prio) (option_map (reregistered q here e) o) else option_map (reregistered q here e) o) (sym is) ∙ g in
-              let same : renewed here e.call e.reply prio (reregistered q here e x) ≡ y = cc in
-              sym same ∙ sym (when-true (q == x.place) (renewed here e.call e.reply prio (reregistered q here e x)) (reregistered q here e x) (same_test ∙ t)))
-              (λ n. let here_is : Some (reregistered q here e x) ≡ Some y = sym (when-false (q == k) (option_map (renewed here e.call e.reply prio) (option_map (reregistered q here e) (Some x))) (option_map (reregistered q here e) (Some x)) n) ∙ ap (λ o. if q == k then option_map (renewed here e.call e.reply prio) (option_map (reregistered q here e) o) else option_map (reregistered q here e) o) (sym is) ∙ g in
-              let same : reregistered q here e x ≡ y = cc in
-              sym same ∙ sym (when-false (q == x.place) (renewed here e.call e.reply prio (reregistered q here e x)) (reregistered q here e x) (same_test ∙ n))),
-        )
-
--- the entry's queue has room for the message that it lets in
 -- all lines of the table, before a queue is given back
-lines-keep : (past : Past) → Legal past → (queues : List QueueShown) → QueuesMirror past queues → (p : ℕ) (call : Call) (reply : Reply) (payload : List ℕ) (q prio : ℕ) → IsLegalNext past (rec p call reply payload) → EntryOn past p call payload reply q prio →
-    HasRoomIn queues q (length past) (record { process = p; call = call; reply = reply }) →
-    (k : ℕ) (y : QueueShown) → queue_in (lines_after q (length past) (record { process = p; call = call; reply = reply }) prio queues) k ≡ Some y → LineMirror (rec p call reply payload ∷ past) y
-lines-keep past legal queues m p call reply payload q prio next on room k y found =
+lines-keep : (past : Past) → Legal past → (queues : List QueueShown) → QueuesMirror past queues → (p : ℕ) (call : Call) (reply : Reply) (payload : List ℕ) (q : ℕ) → EntryOn past p call payload reply q → AllowsIn queues q (line_move past call reply) →
+    (k : ℕ) (y : QueueShown) → queue_in (lines_after q (length past) (record { process = p; call = call; reply = reply }) (line_move past call reply) queues) k ≡ Some y → LineMirror (rec p call reply payload ∷ past) y
+lines-keep past legal queues m p call reply payload q on allows k y found =
     let e : Entry = record { process = p; call = call; reply = reply } in
-    let x = line-from q (length past) e prio queues k y found in
+    let z = map-from (reregistered q (length past) e) (changed (renewed (line_move past call reply)) queues q) k y (λ x. refl) found in
+    let x = changed-from (renewed (line_move past call reply)) queues q k z.0 (λ x. refl) z.1 in
     let place : x.0.place ≡ k = queue_in-place queues k x.0 x.1 in
     let inside : x.0.place < length past = rw place (alive-below past k (line-alive past queues m k x.0 x.1)) in
-    subst (LineMirror (rec p call reply payload ∷ past)) (sym x.2) (line-keeps past legal p call reply payload q prio next on x.0 (m.lines k x.0 x.1) inside
-    (λ same. room (reregistered q (length past) e x.0) (queue_in-map (reregistered q (length past) e) queues q (λ x. refl) ∙ ap (option_map (reregistered q (length past) e)) (ap (queue_in queues) (same ∙ place) ∙ x.1))))
+    subst (LineMirror (rec p call reply payload ∷ past)) (ap (reregistered q (length past) e) x.2 ∙ z.2)
+    (line-keeps past legal p call reply payload q on x.0 (m.lines k x.0 x.1) inside (λ same. allows x.0 (ap (queue_in queues) (same ∙ place) ∙ x.1)))
 
 -- a record that creates no queue, and frees none
 setattr-queue : (call : Call) (d : ℕ) (before : Option Description) → option_map (λ h. h.queue) (after_setattr call d before) ≡ option_map (λ h. h.queue) before
@@ -215,61 +147,33 @@ setattr-queue (MqSetattr e nonblock) d before = split (e == d) (λ t. rw t (inne
     inner (Some h) = refl
 setattr-queue call d before = refl
 
--- the queues that exist after an entry that creates none: those before, or all but one that is needed no longer
-pub alive-noted : (past : Past) → Legal past → (p : ℕ) (call : Call) (reply : Reply) (payload : List ℕ) (q prio : ℕ) → IsLegalNext past (rec p call reply payload) → EntryOn past p call payload reply q prio → creates call reply ≡ false →
-    alive (rec p call reply payload ∷ past) ≡ (if may_free call reply && not (is_needed (rec p call reply payload ∷ past) q) then filter (λ k. not (k == q)) (alive past) else alive past)
-alive-noted past legal p (MqClose d) Done payload q prio next on c = by (held past p d) refl on
-  where
-    swap : (b : Bool) (xs ys : List ℕ) → (if b then xs else ys) ≡ (if not b then ys else xs)
-    swap true xs ys = refl
-    swap false xs ys = refl
+swap : (b : Bool) (xs ys : List ℕ) → (if b then xs else ys) ≡ (if not b then ys else xs)
+swap true xs ys = refl
+swap false xs ys = refl
 
+done-alive : (past : Past) → Legal past → (p : ℕ) (call : Call) (payload : List ℕ) (q : ℕ) → DoneOn past p call payload q →
+    alive (rec p call Done payload ∷ past) ≡ (if frees call && not (is_needed (rec p call Done payload ∷ past) q) then filter (λ k. not (k == q)) (alive past) else alive past)
+done-alive past legal p (MqClose d) payload q on = by (held past p d) refl on
+  where
     by : (o : Option Description) → held past p d ≡ o → option_map (λ h. h.queue) (held past p d) ≡ Some q → alive (rec p (MqClose d) Done payload ∷ past) ≡ (if not (is_needed (rec p (MqClose d) Done payload ∷ past) q) then filter (λ k. not (k == q)) (alive past) else alive past)
     by None is e = absurd (let bad : None ≡ Some q = rw is at e in cc)
     by (Some h) is e =
         let at : Some h.queue ≡ Some q = rw is at e in
         let same : h.queue ≡ q = cc in
-        let closed = alive-closed past legal p d payload h is in
-        closed ∙ ap (λ k. if is_needed (rec p (MqClose d) Done payload ∷ past) k then alive past else filter (λ j. not (j == k)) (alive past)) same
+        alive-closed past legal p d payload h is
+        ∙ ap (λ k. if is_needed (rec p (MqClose d) Done payload ∷ past) k then alive past else filter (λ j. not (j == k)) (alive past)) same
         ∙ swap (is_needed (rec p (MqClose d) Done payload ∷ past) q) (alive past) (filter (λ k. not (k == q)) (alive past))
-alive-noted past legal p MqUnlink Done payload q prio next on c =
-    alive-unlinked past p payload q on ∙ swap (is_needed (rec p MqUnlink Done payload ∷ past) q) (alive past) (filter (λ k. not (k == q)) (alive past))
-  where
-    swap : (b : Bool) (xs ys : List ℕ) → (if b then xs else ys) ≡ (if not b then ys else xs)
-    swap true xs ys = refl
-    swap false xs ys = refl
-alive-noted past legal p (MqOpen flags attr) (Opened d false) payload q prio next on c = alive-opened past p flags attr payload d (opened-says past p flags attr payload d false next.reply)
-alive-noted past legal p (MqOpen flags attr) (Opened d true) payload q prio next on c = absurd (let bad : true ≡ false = c in cc)
-alive-noted past legal p call (Opened d created) payload q prio next on c = by call (legal_says past (rec p call (Opened d created) payload) next) c on next
-  where
-    by : (call : Call) → Says past p call (Opened d created) → creates call (Opened d created) ≡ false → q ≡ opened_queue past payload created → IsLegalNext past (rec p call (Opened d created) payload) → alive (rec p call (Opened d created) payload ∷ past) ≡ alive past
-    by (MqOpen flags attr) says c on next = open-by created c next
-      where
-        open-by : (created : Bool) → creates (MqOpen flags attr) (Opened d created) ≡ false → IsLegalNext past (rec p (MqOpen flags attr) (Opened d created) payload) → alive (rec p (MqOpen flags attr) (Opened d created) payload ∷ past) ≡ alive past
-        open-by true c next = absurd (let bad : true ≡ false = c in cc)
-        open-by false c next = alive-opened past p flags attr payload d (opened-says past p flags attr payload d false next.reply)
-    by (MqClose e) says c on next = absurd says.0
-    by MqUnlink says c on next = absurd says
-    by (MqSend e prio len) says c on next = absurd says.3
-    by (MqTimedSend e prio len until now) says c on next = absurd says.3
-    by (MqReceive e room) says c on next = absurd says.3
-    by (MqTimedReceive e room until now) says c on next = absurd says.3
-    by (MqGetattr e) says c on next = absurd says
-    by (MqSetattr e nonblock) says c on next = absurd says
-    by (MqNotify e value) says c on next = absurd says
-    by NextNotice says c on next = absurd (cc)
-    by Collect says c on next = absurd (cc)
-    by (Withdraw now) says c on next = absurd (cc)
-alive-noted past legal p call Done payload q prio next on c = alive-same_queues past (rec p call Done payload) refl refl (λ e. refl)
-alive-noted past legal p call (Attrs s) payload q prio next on c = alive-same_queues past (rec p call (Attrs s) payload) refl refl (λ e. setattr-queue call e (held past p e))
-alive-noted past legal p call (Queued n) payload q prio next on c = alive-same_queues past (rec p call (Queued n) payload) refl refl (λ e. refl)
-alive-noted past legal p call (Handed w) payload q prio next on c = alive-same_queues past (rec p call (Handed w) payload) refl refl (λ e. refl)
-alive-noted past legal p call Waits payload q prio next on c = alive-same_queues past (rec p call Waits payload) refl refl (λ e. refl)
-alive-noted past legal p call (Got m a n) payload q prio next on c = alive-same_queues past (rec p call (Got m a n) payload) refl refl (λ e. refl)
-alive-noted past legal p call (Collected b) payload q prio next on c = alive-same_queues past (rec p call (Collected b) payload) refl refl (λ e. refl)
-alive-noted past legal p call (Withdrawn b) payload q prio next on c = alive-same_queues past (rec p call (Withdrawn b) payload) refl refl (λ e. refl)
-alive-noted past legal p call (Notice v) payload q prio next on c = alive-same_queues past (rec p call (Notice v) payload) refl refl (λ e. refl)
-alive-noted past legal p call (Refused f) payload q prio next on c = alive-same_queues past (rec p call (Refused f) payload) refl refl (λ e. refl)
+done-alive past legal p MqUnlink payload q on = alive-unlinked past p payload q on ∙ swap (is_needed (rec p MqUnlink Done payload ∷ past) q) (alive past) (filter (λ k. not (k == q)) (alive past))
+done-alive past legal p call payload q on = alive-same_queues past (rec p call Done payload) refl refl (λ e. refl)
+
+-- the queues that exist after an entry that creates none: those before, or all but one that is needed no longer
+alive-noted : (past : Past) → Legal past → (p : ℕ) (call : Call) (reply : Reply) (payload : List ℕ) (q : ℕ) → EntryOn past p call payload reply q → creates call reply ≡ false →
+    alive (rec p call reply payload ∷ past) ≡ (if may_free call reply && not (is_needed (rec p call reply payload ∷ past) q) then filter (λ k. not (k == q)) (alive past) else alive past)
+alive-noted past legal p call Done payload q on c = done-alive past legal p call payload q on
+alive-noted past legal p call (Opened d true) payload q on c = absurd (let bad : true ≡ false = rw on.is at c in cc)
+alive-noted past legal p call (Opened d false) payload q on c = subst (λ x. alive (rec p x (Opened d false) payload ∷ past) ≡ alive past) (sym on.is) (alive-opened past p on.flags on.attr payload d on.facts)
+alive-noted past legal p call (Attrs s) payload q on c = alive-same_queues past (rec p call (Attrs s) payload) refl refl (λ e. setattr-queue call e (held past p e))
+alive-noted past legal p call reply payload q on c = alive-same_queues past (rec p call reply payload) refl refl (λ e. refl)
 
 filter-append : (t : ℕ → Bool) (xs ys : List ℕ) → filter t (xs ++ ys) ≡ filter t xs ++ filter t ys
 filter-append t [] ys = refl
@@ -277,9 +181,6 @@ filter-append t (x ∷ xs) ys = split (t x) (λ y. rw (y, filter-append t xs ys)
 
 append-nil : (xs : List ℕ) → xs ++ [] ≡ xs
 append-nil xs = grind (arith, common_steps)
-
-reverse-cons : {X : Type 0} (x : X) (xs : List X) → reverse (x ∷ xs) ≡ reverse xs ++ x ∷ []
-reverse-cons x xs = grind (arith, common_steps)
 
 filter-reverse : (t : ℕ → Bool) (xs : List ℕ) → filter t (reverse xs) ≡ reverse (filter t xs)
 filter-reverse t [] = refl
@@ -291,72 +192,59 @@ pub bound-alive : (past : Past) (name : List ℕ) (q : ℕ) → bound_queue past
 bound-alive past name q e = in-filter (λ q. is_named past q || is_held past q) (created past) q (bound-created past name q e) (rw (bound-named past name q e) refl)
 
 -- the entry's queue exists, where the entry may free it
-freed-alive : (past : Past) → Legal past → (p : ℕ) (call : Call) (reply : Reply) (payload : List ℕ) (q prio : ℕ) → EntryOn past p call payload reply q prio → may_free call reply ≡ true → is_in (alive past) q ≡ true
-freed-alive past legal p (MqClose d) Done payload q prio on f = called-alive past legal p (MqClose d) q on
-freed-alive past legal p MqUnlink Done payload q prio on f = bound-alive past payload q on
-freed-alive past legal p (MqOpen flags attr) Done payload q prio on f = absurd (let bad : false ≡ true = f in cc)
-freed-alive past legal p (MqSend d pr len) Done payload q prio on f = absurd (let bad : false ≡ true = f in cc)
-freed-alive past legal p (MqTimedSend d pr len until now) Done payload q prio on f = absurd (let bad : false ≡ true = f in cc)
-freed-alive past legal p (MqReceive d room) Done payload q prio on f = absurd (let bad : false ≡ true = f in cc)
-freed-alive past legal p (MqTimedReceive d room until now) Done payload q prio on f = absurd (let bad : false ≡ true = f in cc)
-freed-alive past legal p (MqGetattr d) Done payload q prio on f = absurd (let bad : false ≡ true = f in cc)
-freed-alive past legal p (MqSetattr d nonblock) Done payload q prio on f = absurd (let bad : false ≡ true = f in cc)
-freed-alive past legal p (MqNotify d value) Done payload q prio on f = absurd (let bad : false ≡ true = f in cc)
-freed-alive past legal p NextNotice Done payload q prio on f = absurd (let bad : false ≡ true = f in cc)
-freed-alive past legal p Collect Done payload q prio on f = absurd (let bad : false ≡ true = f in cc)
-freed-alive past legal p (Withdraw now) Done payload q prio on f = absurd (let bad : false ≡ true = f in cc)
-freed-alive past legal p call (Opened d c) payload q prio on f = absurd (let bad : false ≡ true = f in cc)
-freed-alive past legal p call (Queued n) payload q prio on f = absurd (let bad : false ≡ true = f in cc)
-freed-alive past legal p call (Handed w) payload q prio on f = absurd (let bad : false ≡ true = f in cc)
-freed-alive past legal p call Waits payload q prio on f = absurd (let bad : false ≡ true = f in cc)
-freed-alive past legal p call (Got m a n) payload q prio on f = absurd (let bad : false ≡ true = f in cc)
-freed-alive past legal p call (Collected b) payload q prio on f = absurd (let bad : false ≡ true = f in cc)
-freed-alive past legal p call (Withdrawn b) payload q prio on f = absurd (let bad : false ≡ true = f in cc)
-freed-alive past legal p call (Attrs s) payload q prio on f = absurd (let bad : false ≡ true = f in cc)
-freed-alive past legal p call (Notice v) payload q prio on f = absurd (let bad : false ≡ true = f in cc)
-freed-alive past legal p call (Refused x) payload q prio on f = absurd (let bad : false ≡ true = f in cc)
+done-exists : (past : Past) → Legal past → (p : ℕ) (call : Call) (payload : List ℕ) (q : ℕ) → DoneOn past p call payload q → is_in (alive past) q ≡ true
+done-exists past legal p MqUnlink payload q on = bound-alive past payload q on
+done-exists past legal p call payload q on = called-alive past legal p call q on
+
+freed-alive : (past : Past) → Legal past → (p : ℕ) (call : Call) (reply : Reply) (payload : List ℕ) (q : ℕ) → EntryOn past p call payload reply q → may_free call reply ≡ true → is_in (alive past) q ≡ true
+freed-alive past legal p call Done payload q on f = done-exists past legal p call payload q on
+freed-alive past legal p call reply payload q on f = absurd (let bad : false ≡ true = f in cc)
 
 read-named : (queues : List QueueShown) (q : ℕ) (y : QueueShown) → queue_in queues q ≡ Some y → is_named_in queues q ≡ y.named
 unfolding is_named_in
 read-named queues q y e = rw e refl
 
 -- the table of queues stays that of the journal, where the entry creates no queue
-pub noted-queues-keeps : (past : Past) → Legal past → (owners : List Owner) (queues : List QueueShown) → QueuesMirror past queues → (p : ℕ) (call : Call) (reply : Reply) (payload : List ℕ) (q prio : ℕ) → IsLegalNext past (rec p call reply payload) → EntryOn past p call payload reply q prio →
-    HasRoomIn queues q (length past) (record { process = p; call = call; reply = reply }) → OwnersMirror (rec p call reply payload ∷ past) owners → creates call reply ≡ false →
-    QueuesMirror (rec p call reply payload ∷ past) (noted_queues owners (length past) (record { process = p; call = call; reply = reply }) q prio queues)
-noted-queues-keeps past legal owners queues m p call reply payload q prio next on room om c =
+pub noted-queues-keeps : (past : Past) → Legal past → (owners : List Owner) (queues : List QueueShown) → QueuesMirror past queues → (p : ℕ) (call : Call) (reply : Reply) (payload : List ℕ) (q : ℕ) → EntryOn past p call payload reply q →
+    AllowsIn queues q (line_move past call reply) → OwnersMirror (rec p call reply payload ∷ past) owners → creates call reply ≡ false →
+    QueuesMirror (rec p call reply payload ∷ past) (noted_queues owners (length past) (record { process = p; call = call; reply = reply }) q (moves_of past call reply) queues)
+noted-queues-keeps past legal owners queues m p call reply payload q on allows om c =
     split (may_free call reply && not (is_named_in lines q || is_held_in owners q))
     (λ t. subst (QueuesMirror r) (sym (when-true (may_free call reply && not (is_named_in lines q || is_held_in owners q)) (without_queue lines q) lines t)) (record {
       places = places-without lines q ∙ ap (filter (λ k. not (k == q))) places ∙ filter-reverse (λ k. not (k == q)) (alive past)
-          ∙ ap reverse (sym (alive-noted past legal p call reply payload q prio next on c ∙ when-true (may_free call reply && not (is_needed r q)) (filter (λ k. not (k == q)) (alive past)) (alive past) (sym (same_test) ∙ t)));
-      lines = λ k y found. lines-keep past legal queues m p call reply payload q prio next on room k y (queue_in-without lines q k y found);
+          ∙ ap reverse (sym (now ∙ when-true (may_free call reply && not (is_needed r q)) (filter (λ k. not (k == q)) (alive past)) (alive past) (sym same_test ∙ t)));
+      lines = λ k y found. keep k y (queue_in-without lines q k y found);
     }))
     (λ n. subst (QueuesMirror r) (sym (when-false (may_free call reply && not (is_named_in lines q || is_held_in owners q)) (without_queue lines q) lines n)) (record {
-      places = places ∙ ap reverse (sym (alive-noted past legal p call reply payload q prio next on c ∙ when-false (may_free call reply && not (is_needed r q)) (filter (λ k. not (k == q)) (alive past)) (alive past) (sym (same_test) ∙ n)));
-      lines = λ k y found. lines-keep past legal queues m p call reply payload q prio next on room k y found;
+      places = places ∙ ap reverse (sym (now ∙ when-false (may_free call reply && not (is_needed r q)) (filter (λ k. not (k == q)) (alive past)) (alive past) (sym same_test ∙ n)));
+      lines = keep;
     }))
   where
     r : Past
     r = rec p call reply payload ∷ past
 
     lines : List QueueShown
-    lines = lines_after q (length past) (record { process = p; call = call; reply = reply }) prio queues
+    lines = lines_after q (length past) (record { process = p; call = call; reply = reply }) (line_move past call reply) queues
 
-    places : map (λ x. x.place) (lines_after q (length past) (record { process = p; call = call; reply = reply }) prio queues) ≡ reverse (alive past)
-    places = lines-places q (length past) (record { process = p; call = call; reply = reply }) prio queues ∙ m.places
+    keep : (k : ℕ) (y : QueueShown) → queue_in lines k ≡ Some y → LineMirror r y
+    keep = lines-keep past legal queues m p call reply payload q on allows
 
-    same_test : (may_free call reply && not (is_named_in (lines_after q (length past) (record { process = p; call = call; reply = reply }) prio queues) q || is_held_in owners q)) ≡ (may_free call reply && not (is_needed (rec p call reply payload ∷ past) q))
+    now : alive r ≡ (if may_free call reply && not (is_needed r q) then filter (λ k. not (k == q)) (alive past) else alive past)
+    now = alive-noted past legal p call reply payload q on c
+
+    places : map (λ x. x.place) lines ≡ reverse (alive past)
+    places = lines-places q (length past) (record { process = p; call = call; reply = reply }) (line_move past call reply) queues ∙ m.places
+
+    same_test : (may_free call reply && not (is_named_in lines q || is_held_in owners q)) ≡ (may_free call reply && not (is_needed r q))
     same_test = split (may_free call reply)
-        (λ t. ap (λ b. may_free call reply && not b) (named-here t (inside-queue_in lines q (ap (λ xs. is_in xs q) places ∙ in-reverse (alive past) q ∙ freed-alive past legal p call reply payload q prio on t))))
+        (λ t. ap (λ b. may_free call reply && not b) (named-here (inside-queue_in lines q (ap (λ xs. is_in xs q) places ∙ in-reverse (alive past) q ∙ freed-alive past legal p call reply payload q on t))))
         (λ n. rw n refl)
       where
-        named-here : may_free call reply ≡ true → (y : QueueShown) × (queue_in (lines_after q (length past) (record { process = p; call = call; reply = reply }) prio queues) q ≡ Some y) →
-            (is_named_in (lines_after q (length past) (record { process = p; call = call; reply = reply }) prio queues) q || is_held_in owners q) ≡ is_needed (rec p call reply payload ∷ past) q
-        named-here t y =
-            let mirror : LineMirror (rec p call reply payload ∷ past) y.0 = lines-keep past legal queues m p call reply payload q prio next on room q y.0 y.1 in
-            let named : y.0.named ≡ is_named (rec p call reply payload ∷ past) q = mirror.named ∙ ap (is_named (rec p call reply payload ∷ past)) (queue_in-place lines q y.0 y.1) in
-            let held : is_held_in owners q ≡ is_held (rec p call reply payload ∷ past) q = sym (is_held-table (rec p call reply payload ∷ past) owners om q) in
-            ap (λ b. b || is_held_in owners q) (read-named lines q y.0 y.1 ∙ named) ∙ ap (λ b. is_named (rec p call reply payload ∷ past) q || b) held
+        named-here : (y : QueueShown) × (queue_in lines q ≡ Some y) → (is_named_in lines q || is_held_in owners q) ≡ is_needed r q
+        named-here y =
+            let named : y.0.named ≡ is_named r q = (keep q y.0 y.1).named ∙ ap (is_named r) (queue_in-place lines q y.0 y.1) in
+            let held : is_held_in owners q ≡ is_held r q = sym (is_held-table r owners om q) in
+            ap (λ b. b || is_held_in owners q) (read-named lines q y.0 y.1 ∙ named) ∙ ap (λ b. is_named r q || b) held
 
 -- a queue that was just created ------------------------------------------------------------------------------------------
 
@@ -393,77 +281,42 @@ registered-later (r ∷ past) legal q le =
     none-made (Some n) = refl
 
 -- the table of queues with the queue that an open creates
-pub noted-queues-creates : (past : Past) → Legal past → (owners : List Owner) (queues : List QueueShown) → QueuesMirror past queues → (p : ℕ) (flags : OpenFlags) (attr : Option Attr) (d : ℕ) (payload : List ℕ) (q prio cap : ℕ) → IsLegalNext past (rec p (MqOpen flags attr) (Opened d true) payload) →
-    q ≡ length past → int_le (attributes_given (MqOpen flags attr)).maxmsg (pos cap) ≡ true →
-    QueuesMirror (rec p (MqOpen flags attr) (Opened d true) payload ∷ past) (noted_queues owners (length past) (record { process = p; call = MqOpen flags attr; reply = Opened d true }) q prio queues ++ fresh (length past) cap (attributes_given (MqOpen flags attr)) ∷ [])
-noted-queues-creates past legal owners queues m p flags attr d payload q prio cap next here roomy =
-    let r : Record = rec p (MqOpen flags attr) (Opened d true) payload in
-    let e : Entry = record { process = p; call = MqOpen flags attr; reply = Opened d true } in
-    let lines = lines_after q (length past) e prio queues in
-    let facts : OpenedFacts past p payload d true = opened-says past p flags attr payload d true next.reply in
-    let y : QueueShown = fresh (length past) cap (attributes_given (MqOpen flags attr)) in
-    record {
-      places = places-push lines y ∙ ap (λ xs. xs ++ length past ∷ []) (lines-places q (length past) e prio queues ∙ m.places) ∙ sym (reverse-cons (length past) (alive past)) ∙ ap reverse (sym (alive-new past p flags attr payload d facts));
-      lines = λ k z found. by k z (queue_in-push lines y k z found);
+pub noted-queues-creates : (past : Past) → Legal past → (owners : List Owner) (queues : List QueueShown) → QueuesMirror past queues → (p : ℕ) (call : Call) (d : ℕ) (payload : List ℕ) (q cap : ℕ) → OpenedOn past p call payload d true q →
+    int_le (attributes_given call).maxmsg (pos cap) ≡ true →
+    QueuesMirror (rec p call (Opened d true) payload ∷ past) (noted_queues owners (length past) (record { process = p; call = call; reply = Opened d true }) q (moves_of past call (Opened d true)) queues ++ fresh (length past) cap (attributes_given call) ∷ [])
+noted-queues-creates past legal owners queues m p call d payload q cap on roomy = record {
+  places = places-push lines new ∙ ap (λ xs. xs ++ length past ∷ []) (lines-places q (length past) e Rests queues ∙ m.places) ∙ sym (reverse-cons (length past) (alive past)) ∙ ap reverse (sym alive-now);
+  lines = λ k z found. by k z (queue_in-push lines new k z found);
+}
+  where
+    r : Record
+    r = rec p call (Opened d true) payload
+
+    e : Entry
+    e = record { process = p; call = call; reply = Opened d true }
+
+    lines : List QueueShown
+    lines = lines_after q (length past) e Rests queues
+
+    new : QueueShown
+    new = fresh (length past) cap (attributes_given call)
+
+    alive-now : alive (r ∷ past) ≡ length past ∷ alive past
+    alive-now = subst (λ x. alive (rec p x (Opened d true) payload ∷ past) ≡ length past ∷ alive past) (sym on.is) (alive-new past p on.flags on.attr payload d on.facts)
+
+    newest : (r : Record) → attributes (r ∷ past) (length past) ≡ attributes_given r.entry.call
+    newest r = rw (eq-eqb (length past) (length past) refl) refl
+
+    new-line : LineMirror (r ∷ past) new
+    new-line = record {
+      named = sym (named-newest past r (rw on.is refl));
+      registration = sym (rw (registered-later past legal (length past) (omega arith)) refl);
+      slots = sym (ap (slots_of (r ∷ past)) (present-later past legal (length past) (omega arith)));
+      room = ap (λ (a : Attr). int_le a.maxmsg (pos cap)) (newest r) ∙ roomy;
+      few = omega arith;
+      attributes = sym (newest r);
     }
-  where
-    new-line : LineMirror (rec p (MqOpen flags attr) (Opened d true) payload ∷ past) (fresh (length past) cap (attributes_given (MqOpen flags attr)))
-    new-line =
-        let r : Record = rec p (MqOpen flags attr) (Opened d true) payload in
-        record {
-          named = sym (named-newest past r refl);
-          registration = sym (rw (registered-later past legal (length past) (omega arith)) refl);
-          slots = sym (ap (slots_of (r ∷ past)) (present-later past legal (length past) (omega arith)));
-          room = ap (λ (a : Attr). int_le a.maxmsg (pos cap)) (newest r) ∙ roomy;
-          few = omega arith;
-          attributes = sym (newest r);
-        }
-      where
-        newest : (r : Record) → attributes (r ∷ past) (length past) ≡ attributes_given r.entry.call
-        newest r = rw (eq-eqb (length past) (length past) refl) refl
 
-    by : (k : ℕ) (z : QueueShown) → (queue_in (lines_after q (length past) (record { process = p; call = MqOpen flags attr; reply = Opened d true }) prio queues) k ≡ Some z) ⊎ (z ≡ fresh (length past) cap (attributes_given (MqOpen flags attr))) → LineMirror (rec p (MqOpen flags attr) (Opened d true) payload ∷ past) z
-    by k z (inl found) = lines-keep past legal queues m p (MqOpen flags attr) (Opened d true) payload q prio next here (λ x f. tt) k z found
-    by k z (inr same) = subst (LineMirror (rec p (MqOpen flags attr) (Opened d true) payload ∷ past)) (sym same) new-line
-
--- room -------------------------------------------------------------------------------------------------------------------
-
-pub line-of : (q here : ℕ) (e : Entry) (queues : List QueueShown) (x : QueueShown) → queue_in (map (reregistered q here e) queues) q ≡ Some x → (y : QueueShown) × (queue_in queues q ≡ Some y) × (x ≡ reregistered q here e y)
-line-of q here e queues x found = by (queue_in queues q) refl (sym (queue_in-map (reregistered q here e) queues q (λ y. refl)) ∙ found)
-  where
-    by : (o : Option QueueShown) → queue_in queues q ≡ o → option_map (reregistered q here e) (queue_in queues q) ≡ Some x → (y : QueueShown) × (queue_in queues q ≡ Some y) × (x ≡ reregistered q here e y)
-    by None is g = absurd (let bad : None ≡ Some x = rw is at g in cc)
-    by (Some y) is g = let at : Some (reregistered q here e y) ≡ Some x = ap (option_map (reregistered q here e)) (sym is) ∙ g in let same : reregistered q here e y ≡ x = cc in (y, is, sym same)
-
--- a queue that is not full has room for one more, and one that gives a message has room for another
-pub line-room : (past : Past) (queues : List QueueShown) → QueuesMirror past queues → (p : ℕ) (call : Call) (reply : Reply) (payload : List ℕ) (q prio : ℕ) → EntryOn past p call payload reply q prio → ((n : Option ℕ) → reply ≡ Queued n → is_full past q ≡ false) →
-    HasRoomIn queues q (length past) (record { process = p; call = call; reply = reply })
-line-room past queues m p call (Queued n) payload q prio on free x found =
-    let y = line-of q (length past) (record { process = p; call = call; reply = Queued n }) queues x found in
-    let mirror : LineMirror past y.0 = m.lines q y.0 y.1 in
-    let place : y.0.place ≡ q = queue_in-place queues q y.0 y.1 in
-    let roomy : int_le (attributes past q).maxmsg (pos y.0.cap) ≡ true = ap (λ k. int_le (attributes past k).maxmsg (pos y.0.cap)) (sym place) ∙ mirror.room in
-    let few : int_le (attributes past q).maxmsg (pos (length y.0.slots)) ≡ false =
-    ap (λ n. int_le (attributes past q).maxmsg (pos n)) (ap length mirror.slots ∙ length-slots_of past (present past y.0.place) ∙ ap (λ k. length (present past k)) place) ∙ free n refl in
-    let has : length y.0.slots < y.0.cap = int-room (attributes past q).maxmsg y.0.cap (length y.0.slots) roomy few in
-    subst (λ (z : QueueShown). length z.slots < z.cap) (sym y.2) has
-line-room past queues m p call (Got k None n) payload q prio on free x found = tt
-line-room past queues m p call (Got k (Some w) n) payload q prio on free x found =
-    let y = line-of q (length past) (record { process = p; call = call; reply = Got k (Some w) n }) queues x found in
-    let mirror : LineMirror past y.0 = m.lines q y.0 y.1 in
-    let place : y.0.place ≡ q = queue_in-place queues q y.0 y.1 in
-    let slots : y.0.slots ≡ slots_of past (present past q) = mirror.slots ∙ ap (λ j. slots_of past (present past j)) place in
-    let fewer = without-fewer k (present past q) on.facts.inside in
-    let kept : length (without_place k y.0.slots) ≡ length (without k (present past q)) = ap (λ xs. length (without_place k xs)) slots ∙ ap length (slots_of-without past k (present past q)) ∙ length-slots_of past (without k (present past q)) in
-    let all : length y.0.slots ≡ length (present past q) = ap length slots ∙ length-slots_of past (present past q) in
-    let has : length (without_place k y.0.slots) < y.0.cap = omega (arith, fewer, kept, all, mirror.few) in
-    subst (λ (z : QueueShown). length (without_place k z.slots) < z.cap) (sym y.2) has
-line-room past queues m p call (Opened d c) payload q prio on free x found = tt
-line-room past queues m p call (Handed w) payload q prio on free x found = tt
-line-room past queues m p call Waits payload q prio on free x found = tt
-line-room past queues m p call (Collected b) payload q prio on free x found = tt
-line-room past queues m p call (Withdrawn b) payload q prio on free x found = tt
-line-room past queues m p call (Attrs s) payload q prio on free x found = tt
-line-room past queues m p call (Notice v) payload q prio on free x found = tt
-line-room past queues m p call Done payload q prio on free x found = tt
-line-room past queues m p call (Refused f) payload q prio on free x found = tt
+    by : (k : ℕ) (z : QueueShown) → (queue_in lines k ≡ Some z) ⊎ (z ≡ new) → LineMirror (r ∷ past) z
+    by k z (inl found) = lines-keep past legal queues m p call (Opened d true) payload q on (λ x f. tt) k z found
+    by k z (inr same) = subst (LineMirror (r ∷ past)) (sym same) new-line

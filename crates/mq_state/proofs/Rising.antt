@@ -7,12 +7,10 @@ use Rattle.mq_model.specs.Record.{Past}
 use Rattle.mq_model.specs.Names.{creates}
 use Rattle.mq_model.specs.Descriptors.{alive, created, is_named, is_held}
 use Rattle.mq_model.specs.Messages.{is_in}
-use Rattle.mq_model.specs.declared.entries.Entry.{Entry}
 use Rattle.mq_model.proofs.Places.{split, clash, is_in-filter}
 use Rattle.mq_model.proofs.Frames.{created-below}
 use Rattle.mq_state.specs.QueueShown.{QueueShown}
-use Rattle.mq_state.specs.Queues.{Rises, HaveRisingPlaces, QueuesMirror, reregistered}
-use Rattle.mq_state.proofs.QueueLines.{places-map}
+use Rattle.mq_state.specs.Queues.{Rises, HaveRisingPlaces, QueuesMirror}
 use Rattle.mq_state.proofs.QueuesKeep.{in-append, in-reverse, reverse-cons}
 
 -- each number is above all after it
@@ -56,9 +54,6 @@ rises-reverse (k ∷ ks) falls = subst Rises (sym (reverse-cons k ks)) (rises-pu
 -- queues are created one after another
 pub rising-places : (past : Past) (queues : List QueueShown) → QueuesMirror past queues → HaveRisingPlaces queues
 rising-places past queues m = subst Rises (sym m.places) (rises-reverse (alive past) (falls-filter (λ q. is_named past q || is_held past q) (created past) (falls-created past)))
-
-pub rising-map : (q here : ℕ) (e : Entry) (queues : List QueueShown) → HaveRisingPlaces queues → HaveRisingPlaces (map (reregistered q here e) queues)
-rising-map q here e queues rises = subst Rises (sym (places-map (reregistered q here e) queues (λ x. refl))) rises
 
 -- by index ---------------------------------------------------------------------------------------------------------------
 

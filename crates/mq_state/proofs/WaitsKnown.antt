@@ -11,19 +11,21 @@ use Rattle.mq_model.specs.declared.owners.Owner.{Owner}
 use Rattle.mq_model.specs.declared.entries.Attr.{Attr}
 use Rattle.mq_model.specs.declared.entries.Entry.{Entry}
 use Rattle.mq_model.specs.declared.entries.Call.{Call}
-use Rattle.mq_model.specs.declared.entries.Call.TheVariants.{MqOpen, MqClose, MqUnlink, MqSetattr}
+use Rattle.mq_model.specs.declared.entries.Call.TheVariants.{MqOpen, MqClose, MqSetattr}
 use Rattle.mq_model.specs.declared.entries.Reply.{Reply}
-use Rattle.mq_model.specs.declared.entries.Reply.TheVariants.{Opened, Queued, Handed, Waits, Got, Collected, Attrs, Notice, Done, Refused, Withdrawn}
+use Rattle.mq_model.specs.declared.entries.Reply.TheVariants.{Opened, Handed, Waits, Got, Collected, Attrs, Done, Withdrawn}
 use Rattle.mq_model.proofs.Places.{split}
 use Rattle.mq_model.proofs.OwnerLines.{wait_in-with_slot, wait_in-with_wait, wait_in-with_answer}
 use Rattle.mq_slots.specs.Held.{Held}
+use Rattle.mq_state.specs.declared.moves.Moves.{Moves}
+use Rattle.mq_state.specs.Moves.{wait_move}
 use Rattle.mq_state.specs.QueueShown.{QueueShown}
-use Rattle.mq_state.specs.Queues.{queue_in, changed, with_waiting, waiting_in, renewed, reregistered, released, noted_queues, fresh, is_named_in, may_free, QueuesMirror, LineMirror}
+use Rattle.mq_state.specs.Queues.{queue_in, changed, with_waiting, waiting_in, renewed, reregistered, released, noted_queues, fresh, is_named_in, QueuesMirror, LineMirror}
 use Rattle.mq_state.specs.Tables.{with_fresh, MovesOwnWait}
 use Rattle.mq_state.specs.WaitBits.{waits_on, wait_bits, KnowWaits, moved_queue, waits_noted}
 use Rattle.mq_state.proofs.WaitBits.{bits-same, bits-none}
 use Rattle.mq_state.proofs.WaitsNoted.{length-noted}
-use Rattle.mq_state.proofs.QueueLines.{queue_in-changed, queue_in-map, queue_in-without, queue_in-push, queue_in-place, places-changed}
+use Rattle.mq_state.proofs.QueueLines.{changed-from, map-from, queue_in-without, queue_in-push, queue_in-place, places-changed}
 use Rattle.mq_state.proofs.QueuesKeep.{alive-line}
 use Rattle.mq_state.proofs.Fitting.{blocked-on-below}
 use Rattle.mq_model.specs.Descriptors.{alive}
@@ -44,20 +46,14 @@ none-on-new past legal owners m = bits-none (length past) owners (λ p. by p (wa
 -- the lines after an entry, before who waits is noted ----------------------------------------------------------------------
 
 know-changed : (owners : List Owner) (f : QueueShown → QueueShown) (queues : List QueueShown) (q : ℕ) → ((x : QueueShown) → (f x).place ≡ x.place) → ((x : QueueShown) → (f x).waiting ≡ x.waiting) → KnowWaits owners queues → KnowWaits owners (changed f queues q)
-know-changed owners f queues q stays same knows = λ k y e. split (q == k)
-    (λ t. let at : option_map f (queue_in queues k) ≡ Some y = rw t at (sym (queue_in-changed f queues q k stays) ∙ e) in mapped k y (queue_in queues k) refl at)
-    (λ n. let at : queue_in queues k ≡ Some y = rw n at (sym (queue_in-changed f queues q k stays) ∙ e) in knows k y at)
-  where
-    mapped : (k : ℕ) (y : QueueShown) (o : Option QueueShown) → queue_in queues k ≡ o → option_map f (queue_in queues k) ≡ Some y → y.waiting ≡ wait_bits k owners
-    mapped k y None is at = absurd (let bad : None ≡ Some y = rw is at at in cc)
-    mapped k y (Some x) is at = let here : Some (f x) ≡ Some y = rw is at at in let to : f x ≡ y = cc in ap (λ (z : QueueShown). z.waiting) (sym to) ∙ same x ∙ knows k x is
+know-changed owners f queues q stays same knows = λ k y e.
+    let x = changed-from f queues q k y stays e in
+    ap (λ (z : QueueShown). z.waiting) (sym x.2) ∙ split (q == x.0.place) (λ t. rw t (same x.0)) (λ n. rw n refl) ∙ knows k x.0 x.1
 
 know-map : (owners : List Owner) (f : QueueShown → QueueShown) (queues : List QueueShown) → ((x : QueueShown) → (f x).place ≡ x.place) → ((x : QueueShown) → (f x).waiting ≡ x.waiting) → KnowWaits owners queues → KnowWaits owners (map f queues)
-know-map owners f queues stays same knows = λ k y e. by k y (queue_in queues k) refl (sym (queue_in-map f queues k stays) ∙ e)
-  where
-    by : (k : ℕ) (y : QueueShown) (o : Option QueueShown) → queue_in queues k ≡ o → option_map f (queue_in queues k) ≡ Some y → y.waiting ≡ wait_bits k owners
-    by k y None is at = absurd (let bad : None ≡ Some y = rw is at at in cc)
-    by k y (Some x) is at = let here : Some (f x) ≡ Some y = rw is at at in let to : f x ≡ y = cc in ap (λ (z : QueueShown). z.waiting) (sym to) ∙ same x ∙ knows k x is
+know-map owners f queues stays same knows = λ k y e.
+    let x = map-from f queues k y stays e in
+    ap (λ (z : QueueShown). z.waiting) (sym x.2) ∙ same x.0 ∙ knows k x.0 x.1
 
 know-released : (owners noted_owners : List Owner) (freed : Bool) (queues : List QueueShown) (q : ℕ) → KnowWaits owners queues → KnowWaits owners (released noted_owners freed queues q)
 know-released owners noted_owners freed queues q knows = split (freed && not (is_named_in queues q || is_held_in noted_owners q))
@@ -74,36 +70,14 @@ know-fresh owners (Some o) given here queues none knows = λ k y e. by k y e (qu
         let place : here ≡ k = ap (λ (z : QueueShown). z.place) (sym new) ∙ queue_in-place (queues ++ fresh here o.cap given ∷ []) k y e in
         ap (λ (z : QueueShown). z.waiting) new ∙ sym none ∙ ap (λ j. wait_bits j owners) place
 
-renewed-place : (here : ℕ) (call : Call) (reply : Reply) (prio : ℕ) (x : QueueShown) → (renewed here call reply prio x).place ≡ x.place
-renewed-place here call (Queued n) prio x = refl
-renewed-place here call (Got m (Some w) n) prio x = refl
-renewed-place here call (Got m None n) prio x = refl
-renewed-place here call Done prio x = done-place call
-  where
-    done-place : (call : Call) → (renewed here call Done prio x).place ≡ x.place
-    done-place MqUnlink = refl
-    done-place call = refl
-renewed-place here call reply prio x = refl
-
-renewed-waiting : (here : ℕ) (call : Call) (reply : Reply) (prio : ℕ) (x : QueueShown) → (renewed here call reply prio x).waiting ≡ x.waiting
-renewed-waiting here call (Queued n) prio x = refl
-renewed-waiting here call (Got m (Some w) n) prio x = refl
-renewed-waiting here call (Got m None n) prio x = refl
-renewed-waiting here call Done prio x = done-waiting call
-  where
-    done-waiting : (call : Call) → (renewed here call Done prio x).waiting ≡ x.waiting
-    done-waiting MqUnlink = refl
-    done-waiting call = refl
-renewed-waiting here call reply prio x = refl
-
-know-lines : (owners noted_owners : List Owner) (brought : Option Held) (given : Attr) (here : ℕ) (e : Entry) (q prio : ℕ) (queues : List QueueShown) → wait_bits here owners ≡ 0 → KnowWaits owners queues →
-    KnowWaits owners (with_fresh brought given here (noted_queues noted_owners here e q prio queues))
-know-lines owners noted_owners brought given here e q prio queues none knows =
-    let lines : List QueueShown = map (reregistered q here e) queues in
+know-lines : (owners noted_owners : List Owner) (brought : Option Held) (given : Attr) (here : ℕ) (e : Entry) (q : ℕ) (moves : Moves) (queues : List QueueShown) → wait_bits here owners ≡ 0 → KnowWaits owners queues →
+    KnowWaits owners (with_fresh brought given here (noted_queues noted_owners here e q moves queues))
+know-lines owners noted_owners brought given here e q moves queues none knows =
+    let lines : List QueueShown = changed (renewed moves.line) queues q in
     know-fresh owners brought given here _ none
-    (know-released owners noted_owners (may_free e.call e.reply) (changed (renewed here e.call e.reply prio) lines q) q
-    (know-changed owners (renewed here e.call e.reply prio) lines q (renewed-place here e.call e.reply prio) (renewed-waiting here e.call e.reply prio)
-    (know-map owners (reregistered q here e) queues (λ x. refl) (λ x. refl) knows)))
+    (know-released owners noted_owners moves.freed (map (reregistered q here e) lines) q
+    (know-map owners (reregistered q here e) lines (λ x. refl) (λ x. refl)
+    (know-changed owners (renewed moves.line) queues q (λ x. refl) (λ x. refl) knows)))
 
 -- who waits after an entry -------------------------------------------------------------------------------------------------
 
@@ -137,48 +111,39 @@ abbrev IsElsewhere : Option ℕ → ℕ → Type 0
 IsElsewhere None k = Unit {0}
 IsElsewhere (Some q) k = (q == k) ≡ false
 
-noted-same : (owners : List Owner) (here p : ℕ) (call : Call) (reply : Reply) (q k : ℕ) → p < length owners → MovesOwnWait reply (wait_in owners p) → IsElsewhere (moved_queue owners p reply q) k → WaitSame owners (noted owners here p call reply q) k
+ended-same : (owners : List Owner) (p k : ℕ) → p < length owners → (w : OpenWait) → wait_in owners p ≡ Some w → IsElsewhere (option_map (λ w. w.queue) (wait_in owners p)) k → WaitSame owners (with_wait owners p None) k
+ended-same owners p k lt w is other = let off : (w.queue == k) ≡ false = rw is at other in wait-same owners p None k lt refl (ap (waits_on k) is ∙ off)
+
+noted-same : (owners : List Owner) (here p : ℕ) (call : Call) (reply : Reply) (q k : ℕ) → p < length owners → MovesOwnWait (wait_move reply) (wait_in owners p) → IsElsewhere (moved_queue owners p (wait_move reply) q) k → WaitSame owners (noted owners here p call reply q) k
 noted-same owners here p call Waits q k lt own other = wait-same owners p (Some (record { place = here; queue = q; kind = wait_kind call; until = deadline_of call })) k lt other (ap (waits_on k) own)
-noted-same owners here p call (Collected b) q k lt own other = ended own.0 own.1 other
-  where
-    ended : (w : OpenWait) → wait_in owners p ≡ Some w → IsElsewhere (option_map (λ w. w.queue) (wait_in owners p)) k → WaitSame owners (with_wait owners p None) k
-    ended w is other = let off : (w.queue == k) ≡ false = rw is at other in wait-same owners p None k lt refl (ap (waits_on k) is ∙ off)
-noted-same owners here p call (Withdrawn b) q k lt own other = ended own.0 own.1 other
-  where
-    ended : (w : OpenWait) → wait_in owners p ≡ Some w → IsElsewhere (option_map (λ w. w.queue) (wait_in owners p)) k → WaitSame owners (with_wait owners p None) k
-    ended w is other = let off : (w.queue == k) ≡ false = rw is at other in wait-same owners p None k lt refl (ap (waits_on k) is ∙ off)
+noted-same owners here p call (Collected b) q k lt own other = ended-same owners p k lt own.0 own.1 other
+noted-same owners here p call (Withdrawn b) q k lt own other = ended-same owners p k lt own.0 own.1 other
 noted-same owners here p call (Opened d created) q k lt own other = open-same owners p call d q k
 noted-same owners here p call Done q k lt own other = done-same owners p call k
 noted-same owners here p call (Attrs s) q k lt own other = attributes-same owners p call k
 noted-same owners here p call (Handed w) q k lt own other = answer-same owners (waiter_in owners w) here k
 noted-same owners here p call (Got m a n) q k lt own other = answer-same owners (option_and_then (waiter_in owners) a) here k
-noted-same owners here p call (Queued n) q k lt own other = λ j. refl
-noted-same owners here p call (Notice v) q k lt own other = λ j. refl
-noted-same owners here p call (Refused f) q k lt own other = λ j. refl
+noted-same owners here p call reply q k lt own other = λ j. refl
 
 -- the lines after it is noted who waits
 know-noted : (owners after : List Owner) (moved : Option ℕ) (queues : List QueueShown) → ((k : ℕ) → IsElsewhere moved k → wait_bits k after ≡ wait_bits k owners) → KnowWaits owners queues → KnowWaits after (waits_noted moved after queues)
 know-noted owners after None queues same knows = λ k y e. knows k y e ∙ sym (same k tt)
-know-noted owners after (Some q) queues same knows = λ k y e. split (q == k)
-    (λ t. let at : option_map (with_waiting (wait_bits q after)) (queue_in queues k) ≡ Some y = rw t at (sym (queue_in-changed (with_waiting (wait_bits q after)) queues q k (λ x. refl)) ∙ e) in mapped k y (eqb-true _ _ t) (queue_in queues k) refl at)
-    (λ n. let at : queue_in queues k ≡ Some y = rw n at (sym (queue_in-changed (with_waiting (wait_bits q after)) queues q k (λ x. refl)) ∙ e) in knows k y at ∙ sym (same k n))
-  where
-    mapped : (k : ℕ) (y : QueueShown) → q ≡ k → (o : Option QueueShown) → queue_in queues k ≡ o → option_map (with_waiting (wait_bits q after)) (queue_in queues k) ≡ Some y → y.waiting ≡ wait_bits k after
-    mapped k y here None is at = absurd (let bad : None ≡ Some y = rw is at at in cc)
-    mapped k y here (Some x) is at =
-        let found : Some (with_waiting (wait_bits q after) x) ≡ Some y = rw is at at in
-        let to : with_waiting (wait_bits q after) x ≡ y = cc in
-        ap (λ (z : QueueShown). z.waiting) (sym to) ∙ ap (λ j. wait_bits j after) here
+know-noted owners after (Some q) queues same knows = λ k y e.
+    let x = changed-from (with_waiting (wait_bits q after)) queues q k y (λ x. refl) e in
+    let place : x.0.place ≡ k = queue_in-place queues k x.0 x.1 in
+    ap (λ (z : QueueShown). z.waiting) (sym x.2) ∙ split (q == x.0.place)
+    (λ t. rw t (ap (λ j. wait_bits j after) (eqb-true _ _ t ∙ place)))
+    (λ n. rw n (knows k x.0 x.1 ∙ sym (same k (ap (λ j. q == j) (sym place) ∙ n))))
 
 -- the lines after an entry know who waits
-pub waits-known : (past : Past) → Legal past → (owners after : List Owner) → OwnersMirror past owners → (e : Entry) (q prio : ℕ) (brought : Option Held) (given : Attr) (queues : List QueueShown) → e.process < length owners → MovesOwnWait e.reply (wait_in owners e.process) →
+pub waits-known : (past : Past) → Legal past → (owners after : List Owner) → OwnersMirror past owners → (e : Entry) (q : ℕ) (moves : Moves) (brought : Option Held) (given : Attr) (queues : List QueueShown) → e.process < length owners → MovesOwnWait (wait_move e.reply) (wait_in owners e.process) →
     after ≡ noted owners (length past) e.process e.call e.reply q → KnowWaits owners queues →
-    KnowWaits after (waits_noted (moved_queue owners e.process e.reply q) after (with_fresh brought given (length past) (noted_queues after (length past) e q prio queues)))
-waits-known past legal owners after m e q prio brought given queues lt own is knows =
-    know-noted owners after (moved_queue owners e.process e.reply q) _
+    KnowWaits after (waits_noted (moved_queue owners e.process (wait_move e.reply) q) after (with_fresh brought given (length past) (noted_queues after (length past) e q moves queues)))
+waits-known past legal owners after m e q moves brought given queues lt own is knows =
+    know-noted owners after (moved_queue owners e.process (wait_move e.reply) q) _
     (λ k other. bits-same k after owners (ap length is ∙ length-noted owners (length past) e.process e.call e.reply q)
     (λ p. ap (λ (xs : List Owner). waits_on k (wait_in xs p)) is ∙ noted-same owners (length past) e.process e.call e.reply q k lt own other p))
-    (know-lines owners after brought given (length past) e q prio queues (none-on-new past legal owners m) knows)
+    (know-lines owners after brought given (length past) e q moves queues (none-on-new past legal owners m) knows)
 
 -- what else the lines say stays ---------------------------------------------------------------------------------------------
 
@@ -186,20 +151,13 @@ pub mirror-waiting : (past : Past) (moved : Option ℕ) (owners : List Owner) (q
 mirror-waiting past None owners queues m = m
 mirror-waiting past (Some q) owners queues m = record {
   places = places-changed (with_waiting (wait_bits q owners)) queues q (λ x. refl) ∙ m.places;
-  lines = λ k y e. split (q == k)
-      (λ t. let at : option_map (with_waiting (wait_bits q owners)) (queue_in queues k) ≡ Some y = rw t at (sym (queue_in-changed (with_waiting (wait_bits q owners)) queues q k (λ x. refl)) ∙ e) in mapped k y (queue_in queues k) refl at)
-      (λ n. let at : queue_in queues k ≡ Some y = rw n at (sym (queue_in-changed (with_waiting (wait_bits q owners)) queues q k (λ x. refl)) ∙ e) in m.lines k y at);
+  lines = λ k y e.
+      let x = changed-from (with_waiting (wait_bits q owners)) queues q k y (λ x. refl) e in
+      let l = m.lines k x.0 x.1 in
+      subst (LineMirror past) x.2 (split (q == x.0.place)
+      (λ t. rw t (record { named = l.named; registration = l.registration; slots = l.slots; room = l.room; few = l.few; attributes = l.attributes }))
+      (λ n. rw n l));
 }
-  where
-    same-line : (x : QueueShown) (bits : ℕ) → LineMirror past x → LineMirror past (with_waiting bits x)
-    same-line x bits l = record { named = l.named; registration = l.registration; slots = l.slots; room = l.room; few = l.few; attributes = l.attributes }
-
-    mapped : (k : ℕ) (y : QueueShown) (o : Option QueueShown) → queue_in queues k ≡ o → option_map (with_waiting (wait_bits q owners)) (queue_in queues k) ≡ Some y → LineMirror past y
-    mapped k y None is at = absurd (let bad : None ≡ Some y = rw is at at in cc)
-    mapped k y (Some x) is at =
-        let found : Some (with_waiting (wait_bits q owners) x) ≡ Some y = rw is at at in
-        let to : with_waiting (wait_bits q owners) x ≡ y = cc in
-        subst (LineMirror past) to (same-line x (wait_bits q owners) (m.lines k x is))
 
 -- what the line of a queue knows is read
 pub bits-known : (past : Past) (owners : List Owner) (queues : List QueueShown) → QueuesMirror past queues → KnowWaits owners queues → (q : ℕ) → is_in (alive past) q ≡ true → waiting_in queues q ≡ wait_bits q owners

@@ -1,5 +1,5 @@
 -- How many processes wait after an entry, and that the tables keep their sizes.
-use Rattle.std.proofs.Common.{◌≡◌, ℕ, ◌+◌, ◌<◌, ◌≤◌, true, false, List, length, Option, Some, None, refl, sym, ◌∙◌, ap, arith}
+use Rattle.std.proofs.Common.{◌≡◌, ℕ, ◌+◌, ◌<◌, ◌≤◌, true, false, List, length, Option, Some, None, refl, sym, ◌∙◌, ap, subst, arith}
 use Rattle.std.specs.Prelude.{IsTrue}
 use Rattle.std.specs.Option.{option_map, option_and_then}
 use Rattle.std.proofs.lemmas.List.Sums.{count_by-le-length}
@@ -12,16 +12,19 @@ use Rattle.mq_model.specs.OwnersNoted.{noted, noted_open, noted_done, noted_attr
 use Rattle.mq_model.specs.declared.owners.OpenWait.{OpenWait}
 use Rattle.mq_model.specs.declared.owners.Owner.{Owner}
 use Rattle.mq_model.specs.declared.entries.Call.{Call}
-use Rattle.mq_model.specs.declared.entries.Call.TheVariants.{MqOpen, MqClose, MqUnlink, MqSend, MqReceive, MqGetattr, MqSetattr, MqNotify, NextNotice, Collect, MqTimedSend, MqTimedReceive, Withdraw}
+use Rattle.mq_model.specs.declared.entries.Call.TheVariants.{MqOpen, MqClose, MqSend, MqReceive, MqSetattr, NextNotice, Collect, MqTimedSend, MqTimedReceive, Withdraw}
 use Rattle.mq_model.specs.declared.entries.Reply.{Reply}
-use Rattle.mq_model.specs.declared.entries.Reply.TheVariants.{Opened, Queued, Handed, Waits, Got, Collected, Attrs, Notice, Done, Refused, Withdrawn}
+use Rattle.mq_model.specs.declared.entries.Reply.TheVariants.{Opened, Handed, Waits, Got, Collected, Attrs, Done, Withdrawn}
 use Rattle.mq_model.proofs.Frames.{answered_by-none}
 use Rattle.mq_model.proofs.Cases.{Says}
 use Rattle.mq_model.proofs.OpenWaits.{withdrawn-open}
 use Rattle.mq_model.proofs.OwnersKeep.{turn-none}
 use Rattle.mq_model.proofs.OwnerLines.{length-with_slot, length-with_wait, length-with_answer, waits_count-with_slot, waits_count-with_wait, waits_count-with_answer, waits_count-no_wait, no-wait}
 use Rattle.mq_state.specs.Kept.{HasEntryRoom}
-use Rattle.mq_state.specs.Tables.{begins_wait, moves_waits, MovesOwnWait}
+use Rattle.mq_state.specs.declared.moves.WaitMove.{WaitMove}
+use Rattle.mq_state.specs.declared.moves.WaitMove.TheVariants.{Stays, Begins, Ends}
+use Rattle.mq_state.specs.Moves.{wait_move}
+use Rattle.mq_state.specs.Tables.{MovesOwnWait}
 use Rattle.mq_model.specs.declared.owners.WaitKind.{WaitKind}
 
 answer-at-length : (owners : List Owner) (o : Option ℕ) (here : ℕ) → length (with_answer_at owners o here) ≡ length owners
@@ -49,9 +52,7 @@ length-noted owners here p call (Collected b) q = length-with_wait owners p _
 length-noted owners here p call (Withdrawn b) q = length-with_wait owners p _
 length-noted owners here p call (Handed w) q = answer-at-length owners (waiter_in owners w) here
 length-noted owners here p call (Got m a n) q = answer-at-length owners (option_and_then (waiter_in owners) a) here
-length-noted owners here p call (Queued n) q = refl
-length-noted owners here p call (Notice v) q = refl
-length-noted owners here p call (Refused f) q = refl
+length-noted owners here p call reply q = refl
 
 answer-at-waits : (owners : List Owner) (o : Option ℕ) (here : ℕ) → waits_count (with_answer_at owners o here) ≡ waits_count owners
 answer-at-waits owners None here = refl
@@ -69,19 +70,25 @@ attributes-waits : (owners : List Owner) (p : ℕ) (call : Call) → waits_count
 attributes-waits owners p (MqSetattr d nonblock) = waits_count-with_slot owners p d _
 attributes-waits owners p call = refl
 
--- a reply by which no wait begins or ends
-pub waits-quiet : (owners : List Owner) (here p : ℕ) (call : Call) (reply : Reply) (q : ℕ) → moves_waits reply ≡ false → waits_count (noted owners here p call reply q) ≡ waits_count owners
-waits-quiet owners here p call (Opened d created) q e = open-waits owners p call d q
-waits-quiet owners here p call Done q e = done-waits owners p call
-waits-quiet owners here p call (Attrs s) q e = attributes-waits owners p call
-waits-quiet owners here p call Waits q e = absurd (cc)
-waits-quiet owners here p call (Collected b) q e = absurd (cc)
-waits-quiet owners here p call (Withdrawn b) q e = absurd (cc)
-waits-quiet owners here p call (Handed w) q e = answer-at-waits owners (waiter_in owners w) here
-waits-quiet owners here p call (Got m a n) q e = answer-at-waits owners (option_and_then (waiter_in owners) a) here
-waits-quiet owners here p call (Queued n) q e = refl
-waits-quiet owners here p call (Notice v) q e = refl
-waits-quiet owners here p call (Refused fault) q e = refl
+-- how many wait after an entry
+abbrev pub MovesCount : WaitMove → ℕ → ℕ → Type 0
+MovesCount Stays before after = after ≡ before
+MovesCount Begins before after = after ≡ before + 1
+MovesCount Ends before after = after + 1 ≡ before
+
+waits-after : (owners : List Owner) (here p : ℕ) (call : Call) (reply : Reply) (q : ℕ) → MovesOwnWait (wait_move reply) (wait_in owners p) → p < length owners → MovesCount (wait_move reply) (waits_count owners) (waits_count (noted owners here p call reply q))
+waits-after owners here p call Waits q own lt = waits_count-with_wait owners p (record { place = here; queue = q; kind = wait_kind call; until = deadline_of call }) lt own
+waits-after owners here p call (Collected b) q own lt = waits_count-no_wait owners p own.0 own.1
+waits-after owners here p call (Withdrawn b) q own lt = waits_count-no_wait owners p own.0 own.1
+waits-after owners here p call (Opened d created) q own lt = open-waits owners p call d q
+waits-after owners here p call Done q own lt = done-waits owners p call
+waits-after owners here p call (Attrs s) q own lt = attributes-waits owners p call
+waits-after owners here p call (Handed w) q own lt = answer-at-waits owners (waiter_in owners w) here
+waits-after owners here p call (Got m a n) q own lt = answer-at-waits owners (option_and_then (waiter_in owners) a) here
+waits-after owners here p call reply q own lt = refl
+
+pub waits-moved : (owners : List Owner) (here p : ℕ) (call : Call) (reply : Reply) (q : ℕ) (move : WaitMove) → move ≡ wait_move reply → MovesOwnWait move (wait_in owners p) → p < length owners → MovesCount move (waits_count owners) (waits_count (noted owners here p call reply q))
+waits-moved owners here p call reply q move is own lt = subst (λ m. MovesCount m (waits_count owners) (waits_count (noted owners here p call reply q))) (sym is) (waits-after owners here p call reply q (subst (λ m. MovesOwnWait m (wait_in owners p)) is own) lt)
 
 pub waits-few : (owners : List Owner) → waits_count owners ≤ length owners
 unfolding waits_count
@@ -115,78 +122,36 @@ answered-waits past p by e = cases (open_wait past p) refl
     cases None is = absurd (let bad : None ≡ Some by = sym (answered_by-none past p is) ∙ e in cc)
     cases (Some w) is = (w, is)
 
--- in a legal journal a process begins a wait where it has none, and ends one that it has
-pub own-wait : (past : Past) (owners : List Owner) → OwnersMirror past owners → (p : ℕ) (call : Call) (reply : Reply) → Says past p call reply → IsTrue (may_call past p call) → MovesOwnWait reply (wait_in owners p)
-own-wait past owners m p call Waits says turn = no-wait (wait_in owners p) (m.waits p ∙ turn-none past p call Waits says turn refl)
-own-wait past owners m p call (Collected b) says turn = by call says turn
+collected-waits : (past : Past) (p : ℕ) (call : Call) (b : ℕ) → Says past p call (Collected b) → IsTrue (may_call past p call) → (w : ℕ) × (open_wait past p ≡ Some w)
+collected-waits past p Collect b says turn = by (answered_by past p) refl turn
   where
-    by : (call : Call) → Says past p call (Collected b) → IsTrue (may_call past p call) → (w : OpenWait) × (wait_in owners p ≡ Some w)
-    by Collect says turn = collected (answered_by past p) refl turn
-      where
-        collected : (o : Option ℕ) → answered_by past p ≡ o → IsTrue (may_call past p Collect) → (w : OpenWait) × (wait_in owners p ≡ Some w)
-        collected None is turn = absurd (let bad : false ≡ true = rw is at turn in cc)
-        collected (Some k) is turn = let w = answered-waits past p k is in waits-here past owners m p w.0 w.1
-    by (MqOpen flags attr) says turn = absurd says
-    by (MqClose d) says turn = absurd says.0
-    by MqUnlink says turn = absurd says
-    by (MqSend d prio len) says turn = absurd says.3
-    by (MqReceive d rm) says turn = absurd says.3
-    by (MqTimedSend d prio len until now) says turn = absurd says.3
-    by (MqTimedReceive d rm until now) says turn = absurd says.3
-    by (MqGetattr d) says turn = absurd says
-    by (MqSetattr d nonblock) says turn = absurd says
-    by (MqNotify d value) says turn = absurd says
-    by NextNotice says turn = absurd (cc)
-    by (Withdraw now) says turn = absurd (cc)
+    by : (o : Option ℕ) → answered_by past p ≡ o → IsTrue (may_call past p Collect) → (w : ℕ) × (open_wait past p ≡ Some w)
+    by None is turn = absurd (let bad : false ≡ true = rw is at turn in cc)
+    by (Some k) is turn = answered-waits past p k is
+collected-waits past p (MqClose d) b says turn = absurd says.0
+collected-waits past p (MqSend d prio len) b says turn = absurd says.3
+collected-waits past p (MqReceive d room) b says turn = absurd says.3
+collected-waits past p (MqTimedSend d prio len until now) b says turn = absurd says.3
+collected-waits past p (MqTimedReceive d room until now) b says turn = absurd says.3
+collected-waits past p NextNotice b says turn = absurd (cc)
+collected-waits past p (Withdraw now) b says turn = absurd (cc)
+collected-waits past p call b says turn = absurd says
+
+-- in a legal journal a process begins a wait where it has none, and ends one that it has
+pub own-wait : (past : Past) (owners : List Owner) → OwnersMirror past owners → (p : ℕ) (call : Call) (reply : Reply) → Says past p call reply → IsTrue (may_call past p call) → MovesOwnWait (wait_move reply) (wait_in owners p)
+own-wait past owners m p call Waits says turn = no-wait (wait_in owners p) (m.waits p ∙ turn-none past p call Waits says turn refl)
+own-wait past owners m p call (Collected b) says turn = let w = collected-waits past p call b says turn in waits-here past owners m p w.0 w.1
 own-wait past owners m p call (Withdrawn w) says turn = waits-here past owners m p w (withdrawn-open past p call w says turn).0
-own-wait past owners m p call (Opened d created) says turn = tt
-own-wait past owners m p call Done says turn = tt
-own-wait past owners m p call (Attrs s) says turn = tt
-own-wait past owners m p call (Handed w) says turn = tt
-own-wait past owners m p call (Got k a n) says turn = tt
-own-wait past owners m p call (Queued n) says turn = tt
-own-wait past owners m p call (Notice v) says turn = tt
-own-wait past owners m p call (Refused f) says turn = tt
+own-wait past owners m p call reply says turn = tt
 
--- one more waits after a wait begins
-pub waits-begun : (owners : List Owner) (here p : ℕ) (call : Call) (reply : Reply) (q : ℕ) → begins_wait reply ≡ true → MovesOwnWait reply (wait_in owners p) → p < length owners → waits_count (noted owners here p call reply q) ≡ waits_count owners + 1
-waits-begun owners here p call Waits q e own lt = waits_count-with_wait owners p (record { place = here; queue = q; kind = wait_kind call; until = deadline_of call }) lt own
-waits-begun owners here p call (Opened d created) q e own lt = absurd (cc)
-waits-begun owners here p call Done q e own lt = absurd (cc)
-waits-begun owners here p call (Attrs s) q e own lt = absurd (cc)
-waits-begun owners here p call (Collected b) q e own lt = absurd (cc)
-waits-begun owners here p call (Withdrawn b) q e own lt = absurd (cc)
-waits-begun owners here p call (Handed w) q e own lt = absurd (cc)
-waits-begun owners here p call (Got m a n) q e own lt = absurd (cc)
-waits-begun owners here p call (Queued n) q e own lt = absurd (cc)
-waits-begun owners here p call (Notice v) q e own lt = absurd (cc)
-waits-begun owners here p call (Refused f) q e own lt = absurd (cc)
-
--- one fewer waits after a wait ends
-pub waits-ended : (owners : List Owner) (here p : ℕ) (call : Call) (reply : Reply) (q : ℕ) → moves_waits reply ≡ true → begins_wait reply ≡ false → MovesOwnWait reply (wait_in owners p) → waits_count (noted owners here p call reply q) + 1 ≡ waits_count owners
-waits-ended owners here p call (Collected b) q e f own = waits_count-no_wait owners p own.0 own.1
-waits-ended owners here p call (Withdrawn b) q e f own = waits_count-no_wait owners p own.0 own.1
-waits-ended owners here p call Waits q e f own = absurd (cc)
-waits-ended owners here p call (Opened d created) q e f own = absurd (cc)
-waits-ended owners here p call Done q e f own = absurd (cc)
-waits-ended owners here p call (Attrs s) q e f own = absurd (cc)
-waits-ended owners here p call (Handed w) q e f own = absurd (cc)
-waits-ended owners here p call (Got m a n) q e f own = absurd (cc)
-waits-ended owners here p call (Queued n) q e f own = absurd (cc)
-waits-ended owners here p call (Notice v) q e f own = absurd (cc)
-waits-ended owners here p call (Refused fault) q e f own = absurd (cc)
+entry-room : (reply : Reply) (before after room : ℕ) → MovesCount (wait_move reply) before after → HasEntryRoom reply before room → after + 1 ≤ room
+entry-room Waits before after room count has = omega (arith, count, has)
+entry-room (Collected b) before after room count has = omega (arith, count, has)
+entry-room (Withdrawn w) before after room count has = omega (arith, count, has)
+entry-room reply before after room count has = omega (arith, count, has)
 
 -- there is room for the collect entries after the entry
 pub waits-noted : (past : Past) (owners : List Owner) → OwnersMirror past owners → (p : ℕ) (call : Call) (reply : Reply) (q room : ℕ) → Says past p call reply → IsTrue (may_call past p call) → p < length owners → HasEntryRoom reply (waits_count owners) room →
     waits_count (noted owners (length past) p call reply q) + 1 ≤ room
-waits-noted past owners m p call (Opened d created) q room says turn lt has = let e = open-waits owners p call d q in omega (arith, e)
-waits-noted past owners m p call Done q room says turn lt has = let e = done-waits owners p call in omega (arith, e)
-waits-noted past owners m p call (Attrs s) q room says turn lt has = let e = attributes-waits owners p call in omega (arith, e)
-waits-noted past owners m p call Waits q room says turn lt has = let e = waits-begun owners (length past) p call Waits q refl (own-wait past owners m p call Waits says turn) lt in omega (arith, e)
-waits-noted past owners m p call (Collected b) q room says turn lt has = let e = waits-ended owners (length past) p call (Collected b) q refl refl (own-wait past owners m p call (Collected b) says turn) in omega (arith, e)
-waits-noted past owners m p call (Withdrawn w) q room says turn lt has = let e = waits-ended owners (length past) p call (Withdrawn w) q refl refl (own-wait past owners m p call (Withdrawn w) says turn) in omega (arith, e)
-waits-noted past owners m p call (Handed w) q room says turn lt has = let e = answer-at-waits owners (waiter_in owners w) (length past) in omega (arith, e)
-waits-noted past owners m p call (Got k a n) q room says turn lt has = let e = answer-at-waits owners (option_and_then (waiter_in owners) a) (length past) in omega (arith, e)
-waits-noted past owners m p call (Queued n) q room says turn lt has = has
-waits-noted past owners m p call (Notice v) q room says turn lt has = has
-waits-noted past owners m p call (Refused f) q room says turn lt has = has
+waits-noted past owners m p call reply q room says turn lt has =
+    entry-room reply (waits_count owners) (waits_count (noted owners (length past) p call reply q)) room (waits-after owners (length past) p call reply q (own-wait past owners m p call reply says turn) lt) has

@@ -3,6 +3,7 @@ pub mod Order
 pub mod QueueShown
 pub mod Queues
 pub mod QueueModel
+pub mod Moves
 pub mod WaitBits
 pub mod InboxShown
 pub mod InboxModel

@@ -7,7 +7,7 @@ use Rattle.std.specs.Option.{option_map, option_and_then, unwrap_or}
 use Rattle.mq_model.specs.Record.{Past}
 use Rattle.mq_model.specs.Names.{attributes, default_attributes, name_of}
 use Rattle.mq_model.specs.Descriptors.{alive, is_named}
-use Rattle.mq_model.specs.Messages.{is_in, present, priority, priority_given}
+use Rattle.mq_model.specs.Messages.{is_in, present, priority}
 use Rattle.mq_model.specs.Notices.{registered, registration_after}
 use Rattle.mq_model.specs.Ladder.{is_of}
 use Rattle.mq_model.specs.Owners.{is_held_in}
@@ -15,10 +15,9 @@ use Rattle.mq_model.specs.declared.owners.Owner.{Owner}
 use Rattle.mq_model.specs.declared.entries.Attr.{Attr}
 use Rattle.mq_model.specs.declared.entries.Registration.{Registration}
 use Rattle.mq_model.specs.declared.entries.Entry.{Entry}
-use Rattle.mq_model.specs.declared.entries.Call.{Call}
-use Rattle.mq_model.specs.declared.entries.Call.TheVariants.{MqClose, MqUnlink}
-use Rattle.mq_model.specs.declared.entries.Reply.{Reply}
-use Rattle.mq_model.specs.declared.entries.Reply.TheVariants.{Queued, Got, Done}
+use Rattle.mq_state.specs.declared.moves.LineMove.{LineMove}
+use Rattle.mq_state.specs.declared.moves.LineMove.TheVariants.{Enters, Leaves, LosesName}
+use Rattle.mq_state.specs.declared.moves.Moves.{Moves}
 use Rattle.mq_slots.specs.Messages.{without}
 use Rattle.mq_state.specs.Order.{best_slot}
 use Rattle.mq_state.specs.QueueShown.{QueueShown}
@@ -80,86 +79,51 @@ unnamed x = record { place = x.place; named = false; registration = x.registrati
 abbrev pub with_waiting : ℕ → QueueShown → QueueShown
 with_waiting bits x = record { place = x.place; named = x.named; registration = x.registration; slots = x.slots; cap = x.cap; attributes = x.attributes; waiting = bits }
 
-abbrev pub admitting : Option ℕ → ℕ → QueueShown → QueueShown
-admitting None prio x = x
-admitting (Some w) prio x = with_slot (prio, w) x
+abbrev pub named_after : LineMove → Bool → Bool
+named_after LosesName named = false
+named_after _ named = named
 
-abbrev pub renewed_done : Call → QueueShown → QueueShown
-renewed_done MqUnlink x = unnamed x
-renewed_done _ x = x
+abbrev pub slots_after : LineMove → List (ℕ × ℕ) → List (ℕ × ℕ)
+slots_after (Enters prio place) slots = (prio, place) ∷ slots
+slots_after (Leaves place None) slots = without place slots
+slots_after (Leaves place (Some m)) slots = m ∷ without place slots
+slots_after _ slots = slots
 
--- the line of the entry's queue: its messages, and whether it is still named. An admitted message has this priority
-abbrev pub renewed : ℕ → Call → Reply → ℕ → QueueShown → QueueShown
-renewed here call (Queued notified) prio x = with_slot (priority_given call, here) x
-renewed here call (Got place admitted notified) prio x = admitting admitted prio (without_slot place x)
-renewed here call Done prio x = renewed_done call x
-renewed here call _ prio x = x
+-- the line of the entry's queue: whether it is still named, and its messages
+abbrev pub renewed : LineMove → QueueShown → QueueShown
+renewed m x = record { place = x.place; named = named_after m x.named; registration = x.registration; slots = slots_after m x.slots; cap = x.cap; attributes = x.attributes; waiting = x.waiting }
 
--- an entry with this reply may change the line of its queue
-abbrev pub touches_line : Reply → Bool
-touches_line (Queued notified) = true
-touches_line (Got place admitted notified) = true
-touches_line Done = true
-touches_line _ = false
-
-abbrev pub HasRoomFor : Option ℕ → QueueShown → Type 0
-HasRoomFor None x = Unit {0}
-HasRoomFor (Some w) x = length x.slots < x.cap
-
--- there is room for the message that the entry lets in
-abbrev pub HasRoom : Reply → QueueShown → Type 0
-HasRoom (Queued notified) x = length x.slots < x.cap
-HasRoom (Got place admitted notified) x = HasRoomFor admitted (without_slot place x)
-HasRoom _ x = Unit {0}
-
--- a message may come into the line: it has a priority, and was sent after those that are there
-pub record IsNewest (prio place : ℕ) (x : QueueShown) : Type 0 where
+-- a message may come into the line: there is room for it, it has a priority, and was sent after those that are there
+pub record MayEnter (prio place : ℕ) (x : QueueShown) : Type 0 where
+  pub room : length x.slots < x.cap
   pub low : prio < 32768
   pub newest : (m : ℕ × ℕ) → Contains x.slots m → m.1 < place
-
-abbrev pub IsNewestOf : Option ℕ → ℕ → QueueShown → Type 0
-IsNewestOf None prio x = Unit {0}
-IsNewestOf (Some w) prio x = IsNewest prio w x
 
 -- the message that the line gives next was sent at this place
 abbrev pub IsNextAt : ℕ → QueueShown → Type 0
 IsNextAt place x = option_map (λ m. m.1) (best_slot x.slots) ≡ Some place
 
--- what the entry at place `here` takes is the message that is received next, and what it lets in is the newest
-abbrev pub IsInOrder : ℕ → Call → Reply → ℕ → QueueShown → Type 0
-IsInOrder here call (Queued notified) prio x = IsNewest (priority_given call) here x
-IsInOrder here call (Got place admitted notified) prio x = IsNextAt place x × IsNewestOf admitted prio x
-IsInOrder here call _ prio x = Unit {0}
+-- what leaves the line is the message that is received next, and what enters it may
+abbrev pub Allows : LineMove → QueueShown → Type 0
+Allows (Enters prio place) x = MayEnter prio place x
+Allows (Leaves place None) x = IsNextAt place x
+Allows (Leaves place (Some m)) x = IsNextAt place x × MayEnter m.0 m.1 (without_slot place x)
+Allows _ x = Unit {0}
+
+-- the line of queue q, if there is one, allows the move
+abbrev pub AllowsIn : List QueueShown → ℕ → LineMove → Type 0
+AllowsIn queues q m = (x : QueueShown) → queue_in queues q ≡ Some x → Allows m x
 
 -- any line: its registration, where the entry's call is made on queue q
 abbrev pub reregistered : ℕ → ℕ → Entry → QueueShown → QueueShown
 reregistered q here e x = record { place = x.place; named = x.named; registration = registration_after (q == x.place) here e x.registration; slots = x.slots; cap = x.cap; attributes = x.attributes; waiting = x.waiting }
 
--- there is room in the line of queue q for the message that an entry made on it lets in
-abbrev pub HasRoomIn : List QueueShown → ℕ → ℕ → Entry → Type 0
-HasRoomIn queues q here e = (x : QueueShown) → queue_in (map (reregistered q here e) queues) q ≡ Some x → HasRoom e.reply x
-
--- in the line of queue q the entry takes the message that is received next, and lets in the newest
-abbrev pub IsInOrderIn : List QueueShown → ℕ → ℕ → Entry → ℕ → Type 0
-IsInOrderIn queues q here e prio = (x : QueueShown) → queue_in (map (reregistered q here e) queues) q ≡ Some x → IsInOrder here e.call e.reply prio x
-
-abbrev pub frees : Call → Bool
-frees (MqClose d) = true
-frees MqUnlink = true
-frees _ = false
-
--- an entry after which its queue may be needed no longer
-abbrev pub may_free : Call → Reply → Bool
-may_free call Done = frees call
-may_free call _ = false
-
 abbrev pub released : List Owner → Bool → List QueueShown → ℕ → List QueueShown
 released owners freed queues q = if freed && not (is_named_in queues q || is_held_in owners q) then without_queue queues q else queues
 
--- the table after the entry at place `here`, made on queue q; the table of processes is the one after it
-abbrev pub noted_queues : List Owner → ℕ → Entry → ℕ → ℕ → List QueueShown → List QueueShown
-noted_queues owners here e q prio queues =
-    released owners (may_free e.call e.reply) (changed (renewed here e.call e.reply prio) (map (reregistered q here e) queues) q) q
+-- the table after the entry at place `here`, made on queue q, which moves this; the table of processes is the one after it
+abbrev pub noted_queues : List Owner → ℕ → Entry → ℕ → Moves → List QueueShown → List QueueShown
+noted_queues owners here e q moves queues = released owners moves.freed (map (reregistered q here e) (changed (renewed moves.line) queues q)) q
 
 -- a queue that was just created
 abbrev pub fresh : ℕ → ℕ → Attr → QueueShown

@@ -1,20 +1,22 @@
 -- The tables beside the journal say what the definitions say of it.
-use Rattle.std.specs.Prelude.{ℕ, Bool, ◌≡◌, ◌+◌, ◌≤◌, ◌<◌, true, false, List, [], ◌∷◌, ◌++◌, ◌&&◌, ◌==◌, if◌then◌else◌, drop, All, length, Option, Some, None, is_some, int_le, pos}
+use Rattle.std.specs.Prelude.{ℕ, Bool, ◌≡◌, ◌+◌, ◌≤◌, ◌<◌, true, false, List, [], ◌∷◌, ◌++◌, ◌&&◌, ◌==◌, if◌then◌else◌, drop, All, length, Option, Some, None, int_le, pos}
 use Rattle.std.specs.Option.{unwrap_or}
 use Rattle.mq_model.specs.Names.{bound_queue, creates, attributes_given, are_within_limits}
 use Rattle.mq_model.specs.Descriptors.{called_queue}
-use Rattle.mq_model.specs.Messages.{priority}
 use Rattle.mq_model.specs.declared.entries.Attr.{Attr}
 use Rattle.mq_model.specs.declared.entries.Registration.{Registration}
 use Rattle.mq_model.specs.declared.entries.Call.{Call}
 use Rattle.mq_model.specs.declared.entries.Call.TheVariants.{MqOpen, MqUnlink, MqNotify}
 use Rattle.mq_model.specs.declared.entries.Reply.{Reply}
-use Rattle.mq_model.specs.declared.entries.Reply.TheVariants.{Got, Done, Waits, Collected, Withdrawn}
+use Rattle.mq_model.specs.declared.entries.Reply.TheVariants.{Done}
 use Rattle.mq_model.specs.Record.{Past}
-use Rattle.mq_model.specs.Notices.{notices, notified, gives_notice}
+use Rattle.mq_model.specs.Notices.{notices}
 use Rattle.mq_model.specs.Owners.{OwnersMirror}
 use Rattle.mq_model.specs.declared.owners.OpenWait.{OpenWait}
 use Rattle.mq_model.specs.declared.owners.Owner.{Owner}
+use Rattle.mq_state.specs.declared.moves.WaitMove.{WaitMove}
+use Rattle.mq_state.specs.declared.moves.WaitMove.TheVariants.{Stays, Begins, Ends}
+use Rattle.mq_state.specs.declared.moves.Moves.{Moves}
 use Rattle.mq_state.specs.QueueShown.{QueueShown}
 use Rattle.mq_state.specs.InboxShown.{InboxShown}
 use Rattle.mq_state.specs.Queues.{QueuesMirror, registrations_in, fresh}
@@ -40,29 +42,11 @@ entry_queue past p (MqOpen flags attr) name = unwrap_or (bound_queue past name) 
 entry_queue past p MqUnlink name = unwrap_or (bound_queue past name) (length past)
 entry_queue past p call name = unwrap_or (called_queue past p call) (length past)
 
--- a wait begins or ends
-abbrev pub moves_waits : Reply → Bool
-moves_waits Waits = true
-moves_waits (Collected by) = true
-moves_waits (Withdrawn wait) = true
-moves_waits _ = false
-
--- a wait begins
-abbrev pub begins_wait : Reply → Bool
-begins_wait Waits = true
-begins_wait _ = false
-
 -- a process that waits already begins no wait, and one that does not wait ends none
-abbrev pub MovesOwnWait : Reply → Option OpenWait → Type 0
-MovesOwnWait Waits wait = wait ≡ None
-MovesOwnWait (Collected by) wait = (w : OpenWait) × (wait ≡ Some w)
-MovesOwnWait (Withdrawn k) wait = (w : OpenWait) × (wait ≡ Some w)
-MovesOwnWait _ wait = Unit {0}
-
--- the priority of the send that a reply admits
-abbrev pub admitted_priority : Past → Reply → ℕ
-admitted_priority past (Got place (Some w) notified) = priority past w
-admitted_priority past _ = 0
+abbrev pub MovesOwnWait : WaitMove → Option OpenWait → Type 0
+MovesOwnWait Stays wait = Unit {0}
+MovesOwnWait Begins wait = wait ≡ None
+MovesOwnWait Ends wait = (w : OpenWait) × (wait ≡ Some w)
 
 -- a new queue's messages have their room, and the table of queues has room for the queue
 pub record IsFresh (call : Call) (queues : ℕ) (capacity : ℕ) (o : Held) : Type 0 where
@@ -90,18 +74,19 @@ HasRoomToRegister queues inboxes p (MqNotify d (Some v)) reply = reply ≡ Done 
 HasRoomToRegister queues inboxes p call reply = Unit {0}
 
 -- how many notices an entry brings process p: one where it notifies a registration of the process
-abbrev pub notices_brought : Option Registration → Reply → ℕ → ℕ
-notices_brought None reply p = 0
-notices_brought (Some n) reply p = if is_some (notified reply) && n.process == p then 1 else 0
+abbrev pub notices_brought : Option Registration → Bool → ℕ → ℕ
+notices_brought None notified p = 0
+notices_brought (Some n) notified p = if notified && n.process == p then 1 else 0
 
 -- the notices of process p after an entry: the registration of the entry's queue brings one, where the entry notifies it
-abbrev pub notified_values : Option Registration → Reply → ℕ → List ℕ → List ℕ
-notified_values None reply p values = values
-notified_values (Some n) reply p values = if is_some (notified reply) && n.process == p then values ++ n.value ∷ [] else values
+abbrev pub notified_values : Option Registration → Bool → ℕ → List ℕ → List ℕ
+notified_values None notified p values = values
+notified_values (Some n) notified p values = if notified && n.process == p then values ++ n.value ∷ [] else values
 
-abbrev pub noted_values : ℕ → Option Registration → Reply → ℕ → List ℕ → List ℕ
-noted_values process registered reply p values =
-    if gives_notice reply && process == p then drop 1 (notified_values registered reply p values) else notified_values registered reply p values
+-- and the oldest is taken out, where the entry gives it to its process
+abbrev pub noted_values : ℕ → Option Registration → Moves → ℕ → List ℕ → List ℕ
+noted_values process registered moves p values =
+    if moves.given && process == p then drop 1 (notified_values registered moves.notified p values) else notified_values registered moves.notified p values
 
 abbrev pub with_fresh : Option Held → Attr → ℕ → List QueueShown → List QueueShown
 with_fresh None given here queues = queues

@@ -2,10 +2,10 @@
 use Rattle.std.specs.Prelude.{ℕ, ◌≡◌, ◌+◌, ◌*◌, ◌==◌, Bool, false, if◌then◌else◌, List, [], ◌∷◌, Option, Some, None}
 use Rattle.std.specs.Option.{option_map}
 use Rattle.mq_model.specs.Owners.{wait_in}
-use Rattle.mq_model.specs.declared.entries.Reply.{Reply}
-use Rattle.mq_model.specs.declared.entries.Reply.TheVariants.{Waits, Collected, Withdrawn}
 use Rattle.mq_model.specs.declared.owners.OpenWait.{OpenWait}
 use Rattle.mq_model.specs.declared.owners.Owner.{Owner}
+use Rattle.mq_state.specs.declared.moves.WaitMove.{WaitMove}
+use Rattle.mq_state.specs.declared.moves.WaitMove.TheVariants.{Stays, Begins, Ends}
 use Rattle.mq_state.specs.QueueShown.{QueueShown}
 use Rattle.mq_state.specs.Queues.{queue_in, changed, with_waiting}
 
@@ -23,11 +23,10 @@ abbrev pub KnowWaits : List Owner → List QueueShown → Type 0
 KnowWaits owners queues = (q : ℕ) (x : QueueShown) → queue_in queues q ≡ Some x → x.waiting ≡ wait_bits q owners
 
 -- the queue on which an entry of process p, made on queue q, begins or ends a wait; the table of processes is the one before it
-abbrev pub moved_queue : List Owner → ℕ → Reply → ℕ → Option ℕ
-moved_queue owners p Waits q = Some q
-moved_queue owners p (Collected by) q = option_map (λ w. w.queue) (wait_in owners p)
-moved_queue owners p (Withdrawn wait) q = option_map (λ w. w.queue) (wait_in owners p)
-moved_queue owners p _ q = None
+abbrev pub moved_queue : List Owner → ℕ → WaitMove → ℕ → Option ℕ
+moved_queue owners p Stays q = None
+moved_queue owners p Begins q = Some q
+moved_queue owners p Ends q = option_map (λ w. w.queue) (wait_in owners p)
 
 -- the table of queues where the line of that queue knows who waits
 abbrev pub waits_noted : Option ℕ → List Owner → List QueueShown → List QueueShown

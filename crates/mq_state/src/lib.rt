@@ -5,6 +5,7 @@ pub mod books;
 mod buffers;
 pub mod collected;
 pub mod memory;
+mod moves;
 mod notices;
 mod prefixes;
 mod queues;

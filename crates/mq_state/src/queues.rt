@@ -3,13 +3,13 @@ ghost use Rattle.std.specs.Prelude.{◌≡◌, ◌<◌, ◌^◌, ◌==◌, ◌++
 ghost use Rattle.std.specs.Option.{option_map};
 ghost use Rattle.std.specs.Str.{bytes_eq};
 ghost use Rattle.mq_model.specs.Names.{name_of, are_within_limits};
-ghost use Rattle.mq_state.specs.Queues.{queue_in, slots_in, registration_in, attributes_in, is_named_in, bound_in, changed, renewed, renewed_done, HasRoom, HasRoomIn, IsInOrder, IsInOrderIn, reregistered, without_queue, fresh, frees, may_free, released, noted_queues, touches_line, waiting_in, with_waiting, HaveRisingPlaces};
-ghost use Rattle.mq_state.specs.QueueShown.{QueueShown};
+ghost use Rattle.mq_state.specs.Queues.{queue_in, slots_in, registration_in, attributes_in, is_named_in, bound_in, changed, renewed, Allows, AllowsIn, reregistered, without_queue, fresh, released, noted_queues, waiting_in, with_waiting, HaveRisingPlaces};
 ghost use Rattle.mq_state.specs.Order.{best_slot, slots_for};
 ghost use Rattle.mq_state.specs.Pool.{Pool, IsSpare, emptied};
 
+use crate::moves::{LineMove, Moves};
 use crate::prefixes::Prefix;
-use mq_model::entries::{Attr, Call, Entry, Registration, Reply};
+use mq_model::entries::{Attr, Entry, Registration};
 use mq_model::ladder::DEFAULT_ATTRIBUTES;
 use mq_model::owners::Owner;
 use mq_model::{limits, owners, registrations};
@@ -40,7 +40,7 @@ impl Model for Queue {
 }
 
 impl Queue {
-    ghost use Rattle.mq_state.specs.Queues.{with_slot, without_slot, unnamed, IsNewest, IsNextAt, IsInOrder};
+    ghost use Rattle.mq_state.specs.Queues.{with_slot, without_slot, unnamed, MayEnter, IsNextAt};
 
     /// A queue that was just created at a place.
     pub fn new(place: u64, attributes: Attr, slots: Slots) -> Queue
@@ -115,8 +115,7 @@ impl Queue {
 
     #[inline(always)]
     fn push(&mut self, prio: u32, place: u64)
-        requires room { length self.old.slots < self.old.cap }
-        requires newest { IsNewest prio place self.old }
+        requires { MayEnter prio place self.old }
         ensures { self.new ≡ with_slot (prio, place) self.old }
     {
         self.slots.push(prio, place);
@@ -136,14 +135,6 @@ impl Queue {
         self.named = false;
     }
 
-    fn note_done(&mut self, call: Call)
-        ensures { self.new ≡ renewed_done call self.old }
-    {
-        if let Call::MqUnlink = call {
-            self.unname();
-        }
-    }
-
     /// The order in which the queue's messages stood.
     pub fn into_slots(self) -> Slots
         ensures { result.cap ≡ self.cap }
@@ -152,28 +143,22 @@ impl Queue {
         slots
     }
 
-    /// Notes the entry at place `here`, which was made on this queue: what it lets in and takes out, and whether the queue is
-    /// still named. A message that it admits has priority `prio`.
+    /// Notes what an entry made on this queue moves in it: which message leaves and which enters, and whether it is still named.
     #[inline(always)]
-    pub fn note(&mut self, here: u64, entry: Entry, prio: u32)
-        requires room { HasRoom entry.reply self.old }
-        requires order { IsInOrder here entry.call entry.reply prio self.old }
-        ensures { self.new ≡ renewed here entry.call entry.reply prio self.old }
+    pub fn note(&mut self, line: LineMove)
+        requires { Allows line self.old }
+        ensures { self.new ≡ renewed line self.old }
     {
-        match entry.reply {
-            Reply::Queued { notified: _ } => self.push(entry.call.priority(), here),
-            Reply::Got {
-                place: _,
-                admitted,
-                notified: _,
-            } => {
+        match line {
+            LineMove::Rests => {}
+            LineMove::Enters { prio, place } => self.push(prio, place),
+            LineMove::Leaves { place: _, admitted } => {
                 self.pop();
-                if let Some(wait) = admitted {
-                    self.push(prio, wait);
+                if let Some((prio, place)) = admitted {
+                    self.push(prio, place);
                 }
             }
-            Reply::Done => self.note_done(entry.call),
-            _ => {}
+            LineMove::LosesName => self.unname(),
         }
     }
 
@@ -374,39 +359,19 @@ fn remove(queues: &mut Vec<Queue>, spares: &mut Vec<Slots>, q: u64)
     }
 }
 
-// An entry with this reply may change the line of its queue.
+// Notes what an entry moves in the line of its queue, which has perhaps this index, and gives the index where it was found.
 #[inline(always)]
-fn touches_line(reply: Reply) -> bool
-    ensures { result ≡ touches_line reply }
-{
-    match reply {
-        Reply::Queued { .. } | Reply::Got { .. } | Reply::Done => true,
-        _ => false,
-    }
-}
-
-// Notes an entry in the line of its queue, which has perhaps this index, and gives the index where it was found.
-#[inline(always)]
-fn renew(
-    queues: &mut [Queue],
-    q: u64,
-    here: u64,
-    entry: Entry,
-    prio: u32,
-    hint: usize,
-) -> Option<usize>
+fn renew(queues: &mut [Queue], q: u64, line: LineMove, hint: usize) -> Option<usize>
     requires rising { HaveRisingPlaces queues.old }
-    requires room { (x : QueueShown) → queue_in queues.old q ≡ Some x → HasRoom entry.reply x }
-    requires order { (x : QueueShown) → queue_in queues.old q ≡ Some x →
-        IsInOrder here entry.call entry.reply prio x }
-    ensures { queues.new ≡ changed (renewed here entry.call entry.reply prio) queues.old q }
+    requires allows { AllowsIn queues.old q line }
+    ensures { queues.new ≡ changed (renewed line) queues.old q }
 {
-    if !touches_line(entry.reply) {
+    if let LineMove::Rests = line {
         return None;
     }
     let found = index_from(queues, q, hint);
     if let Some(i) = found {
-        queues[i].note(here, entry, prio);
+        queues[i].note(line);
     }
     found
 }
@@ -421,24 +386,6 @@ fn note_registrations(queues: &mut [Queue], q: u64, here: u64, entry: Entry)
     }
     for i in 0..queues.len() {
         queues[i].note_registration(q, here, entry);
-    }
-}
-
-fn frees(call: Call) -> bool
-    ensures { result ≡ frees call }
-{
-    match call {
-        Call::MqClose { .. } | Call::MqUnlink => true,
-        _ => false,
-    }
-}
-
-fn may_free(entry: Entry) -> bool
-    ensures { result ≡ may_free entry.call entry.reply }
-{
-    match entry.reply {
-        Reply::Done => frees(entry.call),
-        _ => false,
     }
 }
 
@@ -458,31 +405,31 @@ fn release(owners: &[Owner], freed: bool, queues: &mut Vec<Queue>, spares: &mut 
     }
 }
 
-// Notes an entry made on queue q in the lines: its registrations, and what its own queue lets in and gives out.
+// Notes an entry made on queue q in the lines: what it moves in that of its own queue, and the registrations.
 #[inline(always)]
 fn note_lines(
     queues: &mut Vec<Queue>,
     here: u64,
     entry: Entry,
     q: u64,
-    prio: u32,
+    line: LineMove,
     hint: usize,
 ) -> Option<usize>
     requires rising { HaveRisingPlaces queues.old.items }
-    requires room { HasRoomIn queues.old.items q here entry }
-    requires order { IsInOrderIn queues.old.items q here entry prio }
-    ensures items { queues.new.items ≡ changed (renewed here entry.call entry.reply prio)
-        (map (reregistered q here entry) queues.old.items) q }
+    requires allows { AllowsIn queues.old.items q line }
+    ensures items { queues.new.items ≡ map (reregistered q here entry)
+        (changed (renewed line) queues.old.items q) }
     ensures room { (vec_len queues.new ≡ vec_len queues.old) ×
         (vec_capacity queues.new ≡ vec_capacity queues.old) }
 {
+    let found = renew(queues, q, line, hint);
     note_registrations(queues, q, here, entry);
-    renew(queues, q, here, entry, prio, hint)
+    found
 }
 
-/// Notes the entry at place `here`, made on queue q, where the table of processes has noted it. A message that it admits has
-/// priority `prio`. A queue that it creates is added apart. The order of a queue that exists no longer joins the spare ones. The line of
-/// queue q has perhaps the index `hint`, and where it was looked for, the index is given.
+/// Notes the entry at place `here`, made on queue q, which moves this, where the table of processes has noted it. A queue that it
+/// creates is added apart. The order of a queue that exists no longer joins the spare ones. The line of queue q has perhaps the index
+/// `hint`, and where it was looked for, the index is given.
 #[inline(always)]
 pub fn note(
     queues: &mut Vec<Queue>,
@@ -491,13 +438,13 @@ pub fn note(
     here: u64,
     entry: Entry,
     q: u64,
-    prio: u32,
+    moves: Moves,
     hint: usize,
 ) -> Option<usize>
     requires rising { HaveRisingPlaces queues.old.items }
-    requires room { HasRoomIn queues.old.items q here entry }
-    requires order { IsInOrderIn queues.old.items q here entry prio }
-    ensures items { queues.new.items ≡ noted_queues owners.now here entry q prio queues.old.items }
+    requires allows { AllowsIn queues.old.items q moves.line }
+    ensures items { queues.new.items ≡
+        noted_queues owners.now here entry q moves queues.old.items }
     ensures room { vec_len queues.old < vec_capacity queues.old →
         vec_len queues.new < vec_capacity queues.new }
     ensures pool { (m : ℕ) → Pool m queues.old.items spares.old.items (vec_capacity queues.old)
@@ -505,8 +452,8 @@ pub fn note(
         Pool m queues.new.items spares.new.items (vec_capacity queues.new)
         (vec_capacity spares.new) }
 {
-    let found = note_lines(queues, here, entry, q, prio, hint);
-    release(owners, may_free(entry), queues, spares, q);
+    let found = note_lines(queues, here, entry, q, moves.line, hint);
+    release(owners, moves.freed, queues, spares, q);
     found
 }
 

@@ -2,11 +2,10 @@
 ghost use Rattle.std.specs.Prelude.{◌≡◌, ◌<◌, ◌≤◌, ◌+◌, IfOk, OnOk, OnErr, IsSome, Some, None, IsTrue, ℕ, length, [], pos, int_le, map, replicate};
 ghost use Rattle.mq_model.specs.declared.entries.Registration.{Registration};
 ghost use Rattle.mq_model.specs.Descriptors.{held};
-ghost use Rattle.mq_model.specs.Notices.{gives_notice};
 ghost use Rattle.mq_model.specs.Owners.{waits_count, free_owner};
 ghost use Rattle.std.specs.Option.{option_map, unwrap_or};
 ghost use Rattle.mq_model.specs.Names.{bound_queue, attributes_given};
-ghost use Rattle.mq_state.specs.Tables.{entry_queue, admitted_priority};
+ghost use Rattle.mq_state.specs.Tables.{entry_queue};
 ghost use Rattle.mq_state.specs.Kept.{Mirrors, notice_room};
 ghost use Rattle.mq_state.specs.Pool.{order_count};
 
@@ -15,14 +14,15 @@ mod facts;
 mod room;
 mod waiting;
 
+use crate::moves::{Moves, WaitMove};
 use crate::notices::Inbox;
 use crate::prefixes::Prefix;
 use crate::queues::Queue;
-use crate::{buffers, notices, queues};
+use crate::{notices, queues};
 use mq_model::bounds::Bounds;
-use mq_model::entries::{Call, Description, Entry, Reply};
+use mq_model::entries::{Call, Description, Entry};
 use mq_model::owners::Owner;
-use mq_model::{ladder, limits, owners, registrations};
+use mq_model::{ladder, limits, owners};
 use mq_slots::Slots;
 use std::alloc::{AllocError, Global};
 
@@ -141,15 +141,15 @@ impl Tables {
 impl Tables {
     ghost use Rattle.std.specs.Prelude.{vec_len, vec_capacity};
     ghost use Rattle.mq_model.specs.OwnersNoted.{noted, FitsSlots};
-    ghost use Rattle.mq_state.specs.Queues.{noted_queues, registration_in, HasRoomIn, IsInOrderIn, HaveRisingPlaces};
+    ghost use Rattle.mq_state.specs.Queues.{noted_queues, registration_in, AllowsIn, HaveRisingPlaces};
     ghost use Rattle.mq_state.specs.Inboxes.{notices_in, room_in};
     ghost use Rattle.mq_state.specs.Pool.{IsPooled};
     ghost use Rattle.mq_state.specs.Tables.{BringsOrder, notices_brought, noted_values, notified_values, with_fresh};
 
-    // Notes in the inboxes what an entry made on queue q brings and takes.
+    // Notes in the inboxes what an entry of process p, made on queue q, brings and takes.
     #[inline(always)]
-    fn note_notices(&mut self, entry: Entry, q: u64)
-        requires process { entry.process < length self.old.inboxes.items }
+    fn note_notices(&mut self, p: u32, q: u64, moves: Moves)
+        requires process { p < length self.old.inboxes.items }
         requires room { (n : Registration) → registration_in self.old.queues.items q ≡ Some n →
             0 < room_in self.old.inboxes.items n.process }
         ensures owners { self.new.owners.items ≡ self.old.owners.items }
@@ -160,31 +160,32 @@ impl Tables {
         ensures spares { self.new.spares ≡ self.old.spares }
         ensures count { length self.new.inboxes.items ≡ length self.old.inboxes.items }
         ensures inboxes { (k : ℕ) →
-            notices_in self.new.inboxes.items k ≡ noted_values entry.process
-            (registration_in self.old.queues.items q) entry.reply k
+            notices_in self.new.inboxes.items k ≡ noted_values p
+            (registration_in self.old.queues.items q) moves k
             (notices_in self.old.inboxes.items k) }
         ensures notice_room { (k : ℕ) →
             room_in self.old.inboxes.items k ≤ room_in self.new.inboxes.items k + notices_brought
-            (registration_in self.old.queues.items q) entry.reply k }
+            (registration_in self.old.queues.items q) moves.notified k }
     {
-        if registrations::notified(entry.reply).is_some() {
+        if moves.notified {
             if let Some(n) = queues::registration(&self.queues, q) {
                 notices::push(&mut self.inboxes, n.process, n.value);
             }
         }
-        if gives_notice(entry.reply) {
-            notices::take(&mut self.inboxes, entry.process);
+        if moves.given {
+            notices::take(&mut self.inboxes, p);
         }
     }
 
     // Notes in the table of processes an entry made on queue q, and how many wait after it.
     #[inline(always)]
-    fn note_process(&mut self, here: u64, entry: Entry, q: u64)
+    fn note_process(&mut self, here: u64, entry: Entry, q: u64, wait: WaitMove)
         requires process { entry.process < length self.old.owners.items }
         requires numbers { FitsSlots entry.call entry.reply }
         requires few { length self.old.owners.items ≤ 33 }
         requires waits { self.old.waits ≡ waits_count self.old.owners.items }
-        requires own { MovesOwnWait entry.reply (wait_in self.old.owners.items entry.process) }
+        requires moves { wait ≡ wait_move entry.reply }
+        requires own { MovesOwnWait wait (wait_in self.old.owners.items entry.process) }
         ensures same { self.new ≡ record self.old {
           owners = self.new.owners;
           waits = self.new.waits;
@@ -193,16 +194,15 @@ impl Tables {
             noted self.old.owners.items here entry.process entry.call entry.reply q }
         ensures waits { self.new.waits ≡ waits_count self.new.owners.items }
     {
-        self.waits = note_owners(&mut self.owners, self.waits, here, entry, q);
+        self.waits = note_owners(&mut self.owners, self.waits, here, entry, q, wait);
     }
 
     // Notes an entry made on queue q in the lines of the queues, where the table of processes has noted it, and adds the queue that it
-    // creates, whose order it brings. A message that it admits has priority `prio`.
+    // creates, whose order it brings.
     #[inline(always)]
-    fn note_queues(&mut self, here: u64, entry: Entry, q: u64, prio: u32, fresh: Option<Slots>)
+    fn note_queues(&mut self, here: u64, entry: Entry, q: u64, moves: Moves, fresh: Option<Slots>)
         requires rising { HaveRisingPlaces self.old.queues.items }
-        requires room { HasRoomIn self.old.queues.items q here entry }
-        requires order { IsInOrderIn self.old.queues.items q here entry prio }
+        requires allows { AllowsIn self.old.queues.items q moves.line }
         requires brings { BringsOrder entry.call entry.reply (vec_len self.old.queues)
             (vec_capacity self.old.queues) fresh }
         ensures same { self.new ≡ record self.old {
@@ -211,7 +211,7 @@ impl Tables {
           hints = self.new.hints;
         } }
         ensures queues { self.new.queues.items ≡ with_fresh fresh (attributes_given entry.call) here
-            (noted_queues self.old.owners.items here entry q prio self.old.queues.items) }
+            (noted_queues self.old.owners.items here entry q moves self.old.queues.items) }
         ensures pool { IsPooled fresh self.old → IsPooled None self.new }
     {
         let hint = self.hint(q);
@@ -222,7 +222,7 @@ impl Tables {
             here,
             entry,
             q,
-            prio,
+            moves,
             hint,
         );
         set_hint(&mut self.hints, q, found);
@@ -290,73 +290,35 @@ fn free_owners(alloc: Global, count: usize) -> Result<Vec<Owner>, AllocError>
     Ok(owners)
 }
 
-ghost use Rattle.mq_state.specs.Tables.{begins_wait, moves_waits, MovesOwnWait};
+ghost use Rattle.mq_state.specs.Tables.{MovesOwnWait};
+ghost use Rattle.mq_state.specs.Moves.{wait_move};
 ghost use Rattle.mq_model.specs.Owners.{wait_in};
 ghost use Rattle.mq_model.specs.OwnersNoted.{noted, FitsSlots};
 
-// Notes in the table of processes an entry made on queue q, and gives how many wait after it, where so many waited before it.
+// Notes in the table of processes an entry made on queue q, which moves the wait of its process so, and gives how many wait after it,
+// where so many waited before it.
 #[inline(always)]
-fn note_owners(owners: &mut [Owner], waits: usize, here: u64, entry: Entry, q: u64) -> usize
+fn note_owners(
+    owners: &mut [Owner],
+    waits: usize,
+    here: u64,
+    entry: Entry,
+    q: u64,
+    wait: WaitMove,
+) -> usize
     requires process { entry.process < length owners.old }
     requires numbers { FitsSlots entry.call entry.reply }
     requires few { length owners.old ≤ 33 }
     requires waits { waits ≡ waits_count owners.old }
-    requires own { MovesOwnWait entry.reply (wait_in owners.old entry.process) }
+    requires moves { wait ≡ wait_move entry.reply }
+    requires own { MovesOwnWait wait (wait_in owners.old entry.process) }
     ensures owners { owners.new ≡ noted owners.old here entry.process entry.call entry.reply q }
     ensures waits { result ≡ waits_count owners.new }
 {
     owners::note(owners, here, entry, q);
-    if !moves_waits(entry.reply) {
-        return waits;
-    }
-    if begins_wait(entry.reply) {
-        return waits + 1;
-    }
-    waits - 1
-}
-
-// A wait begins or ends.
-#[inline(always)]
-fn moves_waits(reply: Reply) -> bool
-    ensures { result ≡ moves_waits reply }
-{
-    match reply {
-        Reply::Waits | Reply::Collected { .. } | Reply::Withdrawn { .. } => true,
-        _ => false,
-    }
-}
-
-#[inline(always)]
-fn begins_wait(reply: Reply) -> bool
-    ensures { result ≡ begins_wait reply }
-{
-    match reply {
-        Reply::Waits => true,
-        _ => false,
-    }
-}
-
-#[inline(always)]
-fn gives_notice(reply: Reply) -> bool
-    ensures { result ≡ gives_notice reply }
-{
-    match reply {
-        Reply::Notice(Some(_)) => true,
-        _ => false,
-    }
-}
-
-// The priority of the send that a reply admits.
-#[inline(always)]
-fn admitted_priority(journal: &Prefix<'_>, reply: Reply) -> u32
-    ensures { result ≡ admitted_priority journal.now.records reply }
-{
-    match reply {
-        Reply::Got {
-            place: _,
-            admitted: Some(wait),
-            notified: _,
-        } => buffers::priority_at(journal, wait),
-        _ => 0,
+    match wait {
+        WaitMove::Stays => waits,
+        WaitMove::Begins => waits + 1,
+        WaitMove::Ends => waits - 1,
     }
 }

@@ -19,8 +19,8 @@ ghost use Rattle.mq_state.specs.Room.{ends_wait};
 
 use crate::prefixes::Prefix;
 use crate::tables::facts::by_deadline;
-use crate::tables::{Tables, admitted_priority, queue_of, waiting};
-use crate::{buffers, notices, queues};
+use crate::tables::{Tables, queue_of, waiting};
+use crate::{buffers, moves, notices, queues};
 use mq_model::entries::{Call, Entry, Reply};
 use mq_model::faults::Fault;
 use mq_model::journals::Journal;
@@ -155,11 +155,11 @@ impl Tables {
         ensures bounds { self.new.bounds ≡ self.old.bounds }
     {
         let here = journal.len();
-        let prio = admitted_priority(journal, entry.reply);
-        let moved = waiting::moved_queue(&self.owners, entry, q);
-        self.note_notices(entry, q);
-        self.note_process(here, entry, q);
-        self.note_queues(here, entry, q, prio, fresh);
+        let moves = moves::moves_of(journal, entry);
+        let moved = waiting::moved_queue(&self.owners, entry.process, moves.wait, q);
+        self.note_notices(entry.process, q, moves);
+        self.note_process(here, entry, q, moves.wait);
+        self.note_queues(here, entry, q, moves, fresh);
         self.note_waiting(moved);
     }
 

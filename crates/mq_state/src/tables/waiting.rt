@@ -3,16 +3,15 @@ ghost use Rattle.std.specs.Prelude.{◌≡◌, ◌<◌, ◌≤◌, IsTrue, lengt
 ghost use Rattle.mq_model.specs.Descriptors.{alive};
 ghost use Rattle.mq_model.specs.Messages.{is_in, least};
 ghost use Rattle.mq_model.specs.Legality.{Legal};
-ghost use Rattle.mq_model.specs.Owners.{waiting, wait_in};
-ghost use Rattle.std.specs.Option.{option_map};
+ghost use Rattle.mq_model.specs.Owners.{waiting};
 ghost use Rattle.mq_state.specs.Kept.{Mirrors};
 ghost use Rattle.mq_state.specs.Queues.{waiting_in};
 ghost use Rattle.mq_state.specs.WaitBits.{waits_on, wait_bits, KnowWaits, moved_queue, waits_noted};
 
+use crate::moves::WaitMove;
 use crate::prefixes::Prefix;
 use crate::queues;
 use crate::tables::Tables;
-use mq_model::entries::{Entry, Reply};
 use mq_model::owners::{self, OpenWait, Owner, WaitKind};
 
 fn waits_on(q: u64, wait: Option<OpenWait>) -> bool
@@ -41,25 +40,18 @@ fn wait_bits(q: u64, owners: &[Owner]) -> u64
     bits
 }
 
-fn wait_queue(owners: &[Owner], p: u32) -> Option<u64>
-    ensures { result ≡ option_map (λ w. w.queue) (wait_in owners.now p) }
-{
-    match owners::wait(owners, p) {
-        None => None,
-        Some(wait) => Some(wait.queue),
-    }
-}
-
-// The queue on which an entry made on queue q begins or ends a wait.
+// The queue on which an entry of process p, made on queue q, begins or ends a wait.
 #[inline(always)]
-pub(crate) fn moved_queue(owners: &[Owner], entry: Entry, q: u64) -> Option<u64>
-    ensures { result ≡ moved_queue owners.now entry.process entry.reply q }
+pub(crate) fn moved_queue(owners: &[Owner], p: u32, wait: WaitMove, q: u64) -> Option<u64>
+    ensures { result ≡ moved_queue owners.now p wait q }
 {
-    match entry.reply {
-        Reply::Waits => Some(q),
-        Reply::Collected { by: _ } => wait_queue(owners, entry.process),
-        Reply::Withdrawn { wait: _ } => wait_queue(owners, entry.process),
-        _ => None,
+    match wait {
+        WaitMove::Stays => None,
+        WaitMove::Begins => Some(q),
+        WaitMove::Ends => match owners::wait(owners, p) {
+            None => None,
+            Some(open) => Some(open.queue),
+        },
     }
 }
 

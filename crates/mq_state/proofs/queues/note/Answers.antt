@@ -1,12 +1,11 @@
-use Rattle.std.proofs.Common.{List, map}
+use Rattle.std.proofs.Common.{List}
 use Rattle.mq_state.specs.QueueShown.{QueueShown}
-use Rattle.mq_state.specs.Queues.{reregistered}
+use Rattle.mq_state.specs.Queues.{changed, renewed}
 use Rattle.mq_state.proofs.Pooling.{pool-map, pool-changed}
 use Rattle.mq_state.proofs.queues.note.Goals as goal
 
 pub returns-clause-pool : goal.returns-clause-pool
 returns-clause-pool c = λ m pool.
-    let e = c.args.entry in
-    let lines : List QueueShown = map (reregistered c.args.q c.args.here e) c.args.queues.now.items in
-    let changed = pool-changed c.args.here e.call e.reply c.args.prio lines c.args.q (pool-map c.args.q c.args.here e c.args.queues.now.items pool) in
-    c.release.ensures.pool m (rw (c.note_lines-found.ensures.items, c.note_lines-found.ensures.room.1) changed)
+    let lines : List QueueShown = changed (renewed c.args.moves.line) c.args.queues.now.items c.args.q in
+    let kept = pool-map c.args.q c.args.here c.args.entry lines (pool-changed c.args.moves.line c.args.queues.now.items c.args.q pool) in
+    c.release.ensures.pool m (rw (c.note_lines-found.ensures.items, c.note_lines-found.ensures.room.1) kept)

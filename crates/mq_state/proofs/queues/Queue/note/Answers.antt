@@ -1,11 +1,13 @@
-use Rattle.std.proofs.Common.{◌≡◌, ℕ, Option, Some, ◌∙◌, ap}
-use Rattle.mq_model.specs.declared.entries.Reply.{Reply}
-use Rattle.mq_model.specs.declared.entries.Reply.TheVariants.{Got}
-use Rattle.mq_state.proofs.BestSlots.{newest-left}
+use Rattle.std.proofs.Common.{◌≡◌, ◌∙◌, ℕ, Option, Some, sym, ap, subst}
+use Rattle.mq_state.specs.declared.moves.LineMove.{LineMove}
+use Rattle.mq_state.specs.declared.moves.LineMove.TheVariants.{Leaves}
+use Rattle.mq_state.specs.Queues.{Allows, MayEnter}
 use Rattle.mq_state.proofs.queues.Queue.note.Goals as goal
 
-pub push-requires-in-Some-clause-newest : goal.push-requires-in-Some-clause-newest
-push-requires-in-Some-clause-newest c =
-    let got = c.in-Got in
-    let reply : c.args.entry.reply ≡ Got got.place (Some c.in-Some.wait) got.notified = got.is ∙ ap (λ (a : Option ℕ). (let r : Reply = Got got.place a got.notified in r)) c.in-Some.is in
-    newest-left c.args.here c.args.entry.call c.args.entry.reply c.args.prio c.args.self.now c.pop.new.self got.place c.in-Some.wait got.notified reply c.requires.order c.pop.ensures
+pub push-requires-in-Some : goal.push-requires-in-Some
+push-requires-in-Some c =
+    let left = c.in-Leaves in
+    let s : ℕ × ℕ = (c.in-Some.prio, c.in-Some.place) in
+    let is : c.args.line ≡ Leaves left.place (Some s) = left.is ∙ ap (λ (a : Option (ℕ × ℕ)). (let m : LineMove = Leaves left.place a in m)) c.in-Some.is in
+    let allows : Allows (Leaves left.place (Some s)) c.args.self.now = subst (λ m. Allows m c.args.self.now) is c.requires in
+    subst (MayEnter s.0 s.1) (sym (c.pop.ensures left.place allows.0)) allows.1

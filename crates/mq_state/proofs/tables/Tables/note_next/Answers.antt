@@ -1,47 +1,49 @@
 use Rattle.std.proofs.Common.{◌≡◌, ◌∙◌, ◌+◌, ◌≤◌, ◌∷◌, ℕ, List, length, refl, sym, ap, subst, arith, Option, None, vec_len, vec_capacity}
 use Rattle.mq_model.specs.Record.{Record}
-use Rattle.mq_model.specs.OwnersNoted.{noted}
-use Rattle.mq_model.proofs.LegalReplies.{legal_says}
-use Rattle.mq_model.proofs.OwnersKeep.{noted-fits}
 use Rattle.mq_model.specs.Names.{attributes_given}
-use Rattle.mq_state.specs.Tables.{MovesOwnWait, TablesMirror, entry_queue, admitted_priority, noted_values, with_fresh, notices_brought, HasNoticeRoom}
-use Rattle.mq_state.specs.Inboxes.{notices_in, room_in}
-use Rattle.mq_state.specs.QueueShown.{QueueShown}
-use Rattle.mq_state.specs.Queues.{HasRoomIn, HaveRisingPlaces, IsInOrderIn, noted_queues, registration_in, QueuesMirror}
-use Rattle.mq_state.specs.Kept.{AreThoseOf}
-use Rattle.mq_state.specs.Pool.{IsPooled, PoolWithin}
-use Rattle.mq_state.proofs.Pooling.{pooled-waiting}
-use Rattle.mq_state.specs.WaitBits.{KnowWaits, moved_queue, waits_noted}
-use Rattle.mq_state.specs.declared.tables.Tables.{Tables}
-use Rattle.mq_model.specs.declared.owners.Owner.{Owner}
+use Rattle.mq_model.specs.Notices.{notified}
 use Rattle.mq_model.specs.Owners.{wait_in, waits_count}
+use Rattle.mq_model.specs.OwnersNoted.{noted}
+use Rattle.mq_model.specs.declared.owners.Owner.{Owner}
 use Rattle.mq_model.specs.declared.entries.Attr.{Attr}
 use Rattle.mq_model.specs.declared.entries.Call.{Call}
 use Rattle.mq_model.specs.declared.entries.Entry.{Entry}
 use Rattle.mq_model.specs.declared.entries.Reply.{Reply}
+use Rattle.mq_model.proofs.LegalReplies.{legal_says}
+use Rattle.mq_model.proofs.OwnersKeep.{noted-fits}
 use Rattle.mq_slots.specs.Held.{Held}
-use Rattle.mq_state.proofs.WaitsKnown.{waits-known, mirror-waiting}
-use Rattle.mq_state.proofs.QueuesNoted.{line-room}
-use Rattle.mq_state.proofs.TablesKeep.{entry-on, queued-free, tables-keep}
-use Rattle.mq_state.proofs.WaitsNoted.{length-noted, own-wait}
-use Rattle.mq_state.proofs.NoticeRoom.{notice-room-keeps, notice-room-waiting, room-to-notify}
-use Rattle.mq_state.proofs.Arriving.{line-order}
+use Rattle.mq_state.specs.declared.moves.LineMove.{LineMove}
+use Rattle.mq_state.specs.declared.moves.WaitMove.{WaitMove}
+use Rattle.mq_state.specs.declared.moves.Moves.{Moves}
+use Rattle.mq_state.specs.declared.tables.Tables.{Tables}
+use Rattle.mq_state.specs.Inboxes.{notices_in, room_in}
+use Rattle.mq_state.specs.Kept.{AreThoseOf}
+use Rattle.mq_state.specs.Moves.{line_move, wait_move, moves_of}
+use Rattle.mq_state.specs.Pool.{IsPooled, PoolWithin}
+use Rattle.mq_state.specs.QueueShown.{QueueShown}
+use Rattle.mq_state.specs.Queues.{AllowsIn, HaveRisingPlaces, noted_queues, registration_in, QueuesMirror}
+use Rattle.mq_state.specs.Tables.{MovesOwnWait, TablesMirror, entry_queue, noted_values, with_fresh, notices_brought, HasNoticeRoom}
+use Rattle.mq_state.specs.WaitBits.{KnowWaits, moved_queue, waits_noted}
+use Rattle.mq_state.proofs.Arriving.{line-allows}
 use Rattle.mq_state.proofs.Bounded.{brought-one}
+use Rattle.mq_state.proofs.Moving.{entry-on}
+use Rattle.mq_state.proofs.NoticeRoom.{notice-room-keeps, notice-room-waiting, room-to-notify}
+use Rattle.mq_state.proofs.Pooling.{pooled-waiting}
 use Rattle.mq_state.proofs.Rising.{rising-places}
+use Rattle.mq_state.proofs.TablesKeep.{tables-keep}
+use Rattle.mq_state.proofs.WaitsKnown.{waits-known, mirror-waiting}
+use Rattle.mq_state.proofs.WaitsNoted.{length-noted, own-wait}
 use Rattle.mq_state.proofs.tables.Tables.note_next.Goals as goal
 
-moved-room : (xs ys : List QueueShown) (q k here there : ℕ) (e : Entry) → ys ≡ xs → k ≡ q → there ≡ here → HasRoomIn xs q here e → HasRoomIn ys k there e
-moved-room xs ys q k here there e lines queue place room = rw (lines, queue, place) room
-
-moved-order : (xs ys : List QueueShown) (q k here there : ℕ) (e : Entry) (prio other : ℕ) → ys ≡ xs → k ≡ q → there ≡ here → other ≡ prio → IsInOrderIn xs q here e prio → IsInOrderIn ys k there e other
-moved-order xs ys q k here there e prio other lines queue place same order = rw (lines, queue, place, same) order
+allows-alike : (xs ys : List QueueShown) (q k : ℕ) (m n : LineMove) → ys ≡ xs → k ≡ q → n ≡ m → AllowsIn xs q m → AllowsIn ys k n
+allows-alike xs ys q k m n lines queue move allows = rw (lines, queue, move) allows
 
 noted-alike : (xs ys : List Owner) (p q k here there : ℕ) (call : Call) (reply : Reply) → ys ≡ xs → k ≡ q → there ≡ here → noted ys there p call reply k ≡ noted xs here p call reply q
 noted-alike xs ys p q k here there call reply table queue place = rw (table, queue, place) refl
 
-lines-alike : (xs ys : List QueueShown) (owners others : List Owner) (o : Option Held) (given : Attr) (q k here there : ℕ) (e : Entry) (prio other : ℕ) → ys ≡ xs → others ≡ owners → k ≡ q → there ≡ here → other ≡ prio →
-    with_fresh o given there (noted_queues others there e k other ys) ≡ with_fresh o given here (noted_queues owners here e q prio xs)
-lines-alike xs ys owners others o given q k here there e prio other lines table queue place same = rw (lines, table, queue, place, same) refl
+lines-alike : (xs ys : List QueueShown) (owners others : List Owner) (o : Option Held) (given : Attr) (q k here there : ℕ) (e : Entry) (m n : Moves) → ys ≡ xs → others ≡ owners → k ≡ q → there ≡ here → n ≡ m →
+    with_fresh o given there (noted_queues others there e k n ys) ≡ with_fresh o given here (noted_queues owners here e q m xs)
+lines-alike xs ys owners others o given q k here there e m n lines table queue place moves = rw (lines, table, queue, place, moves) refl
 
 pub note_process-requires-clause-numbers : goal.note_process-requires-clause-numbers
 note_process-requires-clause-numbers c = noted-fits c.args.journal.now.records c.args.self.now.owners.items c.requires.tables.mirror.lines c.args.entry.process c.args.entry.call c.args.entry.reply c.args.payload.now c.requires.next.reply
@@ -55,32 +57,23 @@ note_process-requires-clause-few c =
 
 pub note_process-requires-clause-own : goal.note_process-requires-clause-own
 note_process-requires-clause-own c =
-    let past = c.args.journal.now.records in
     let e = c.args.entry in
-    subst (λ (xs : List Owner). MovesOwnWait e.reply (wait_in xs e.process)) (sym c.note_notices.ensures.owners)
-    (own-wait past c.args.self.now.owners.items c.requires.tables.mirror.lines e.process e.call e.reply (legal_says past (record { entry = e; payload = c.args.payload.now }) c.requires.next) c.requires.next.turn)
+    let own : MovesOwnWait (wait_move e.reply) (wait_in c.args.self.now.owners.items e.process) =
+    own-wait c.args.journal.now.records c.args.self.now.owners.items c.requires.tables.mirror.lines e.process e.call e.reply (legal_says c.args.journal.now.records (record { entry = e; payload = c.args.payload.now }) c.requires.next) c.requires.next.turn in
+    subst (λ (m : WaitMove). MovesOwnWait m (wait_in c.note_notices.new.self.owners.items e.process)) (sym (ap (λ (m : Moves). m.wait) c.moves_of-moves.ensures))
+    (subst (λ (xs : List Owner). MovesOwnWait (wait_move e.reply) (wait_in xs e.process)) (sym c.note_notices.ensures.owners) own)
 
 pub note_notices-requires-clause-room : goal.note_notices-requires-clause-room
 note_notices-requires-clause-room c = λ n is. room-to-notify c.args.self.now.queues.items c.args.self.now.inboxes.items c.requires.tables.notice_room c.args.q n is
 
-pub note_queues-requires-clause-room : goal.note_queues-requires-clause-room
-note_queues-requires-clause-room c =
+pub note_queues-requires-clause-allows : goal.note_queues-requires-clause-allows
+note_queues-requires-clause-allows c =
     let past = c.args.journal.now.records in
     let e = c.args.entry in
     let q = entry_queue past e.process e.call c.args.payload.now in
-    let room : HasRoomIn c.args.self.now.queues.items q (length past) e =
-    line-room past c.args.self.now.queues.items c.requires.tables.mirror.existing e.process e.call e.reply c.args.payload.now q (admitted_priority past e.reply) (entry-on past e.process e.call e.reply c.args.payload.now c.requires.next) (queued-free past e.process e.call e.reply c.args.payload.now c.requires.next) in
-    moved-room c.args.self.now.queues.items c.note_process.new.self.queues.items q c.args.q (length past) c.len-here.result e (ap (λ (t : Tables). t.queues.items) c.note_process.ensures.same ∙ ap (λ v. v.items) c.note_notices.ensures.queues) c.requires.queue c.len-here.ensures room
-
-pub note_queues-requires-clause-order : goal.note_queues-requires-clause-order
-note_queues-requires-clause-order c =
-    let past = c.args.journal.now.records in
-    let e = c.args.entry in
-    let prio = admitted_priority past e.reply in
-    let q = entry_queue past e.process e.call c.args.payload.now in
-    let order : IsInOrderIn c.args.self.now.queues.items q (length past) e prio =
-    line-order past c.requires.tables.legal c.args.self.now.queues.items c.requires.tables.mirror.existing e.process e.call e.reply c.args.payload.now q prio (legal_says past (record { entry = e; payload = c.args.payload.now }) c.requires.next) (entry-on past e.process e.call e.reply c.args.payload.now c.requires.next) in
-    moved-order c.args.self.now.queues.items c.note_process.new.self.queues.items q c.args.q (length past) c.len-here.result e prio c.admitted_priority-prio.result (ap (λ (t : Tables). t.queues.items) c.note_process.ensures.same ∙ ap (λ v. v.items) c.note_notices.ensures.queues) c.requires.queue c.len-here.ensures c.admitted_priority-prio.ensures order
+    allows-alike c.args.self.now.queues.items c.note_process.new.self.queues.items q c.args.q (line_move past e.call e.reply) c.moves_of-moves.result.line
+    (ap (λ (t : Tables). t.queues.items) c.note_process.ensures.same ∙ ap (λ v. v.items) c.note_notices.ensures.queues) c.requires.queue (ap (λ (m : Moves). m.line) c.moves_of-moves.ensures)
+    (line-allows past c.requires.tables.legal c.args.self.now.queues.items c.requires.tables.mirror.existing e.process e.call e.reply c.args.payload.now q (entry-on past e.process e.call e.reply c.args.payload.now c.requires.next))
 
 pub note_queues-requires-clause-rising : goal.note_queues-requires-clause-rising
 note_queues-requires-clause-rising c = subst HaveRisingPlaces (sym (ap (λ (t : Tables). t.queues.items) c.note_process.ensures.same ∙ ap (λ v. v.items) c.note_notices.ensures.queues)) (rising-places c.args.journal.now.records c.args.self.now.queues.items c.requires.tables.mirror.existing)
@@ -115,7 +108,7 @@ pub returns-clause-notice_room : goal.returns-clause-notice_room
 returns-clause-notice_room c = λ k.
     let same : room_in c.note_waiting.new.self.inboxes.items k ≡ room_in c.note_notices.new.self.inboxes.items k = ap (λ (t : Tables). room_in t.inboxes.items k) c.note_waiting.ensures.same ∙ ap (λ (t : Tables). room_in t.inboxes.items k) c.note_queues.ensures.same ∙ ap (λ (t : Tables). room_in t.inboxes.items k) c.note_process.ensures.same in
     let kept = c.note_notices.ensures.notice_room k in
-    let one = brought-one (registration_in c.args.self.now.queues.items c.args.q) c.args.entry.reply k in
+    let one = brought-one (registration_in c.args.self.now.queues.items c.args.q) c.moves_of-moves.result.notified k in
     omega (arith, same, kept, one)
 
 pub returns-clause-tables : goal.returns-clause-tables
@@ -130,24 +123,30 @@ returns-clause-tables c =
     let after = c.note_waiting.new.self in
     let q = entry_queue past e.process e.call payload in
     let r : Record = record { entry = e; payload = payload } in
-    let count = c.requires.tables.mirror.owner_count in
+    let moves : Moves = moves_of past e.call e.reply in
+    let moves_are : c.moves_of-moves.result ≡ moves = c.moves_of-moves.ensures in
+    let on = entry-on past e.process e.call e.reply payload c.requires.next in
     let same_owners : made.owners.items ≡ asked.owners.items = ap (λ (t : Tables). t.owners.items) c.note_queues.ensures.same in
     let same_inboxes : made.inboxes.items ≡ told.inboxes.items = ap (λ (t : Tables). t.inboxes.items) c.note_queues.ensures.same ∙ ap (λ (t : Tables). t.inboxes.items) c.note_process.ensures.same in
     let same_n : made.n ≡ before.n = ap (λ (t : Tables). t.n) c.note_queues.ensures.same ∙ ap (λ (t : Tables). t.n) c.note_process.ensures.same ∙ c.note_notices.ensures.n in
     let old_queues : asked.queues.items ≡ before.queues.items = ap (λ (t : Tables). t.queues.items) c.note_process.ensures.same ∙ ap (λ v. v.items) c.note_notices.ensures.queues in
     let owners : made.owners.items ≡ noted before.owners.items (length past) e.process e.call e.reply q =
     same_owners ∙ c.note_process.ensures.owners ∙ noted-alike before.owners.items told.owners.items e.process q c.args.q (length past) c.len-here.result e.call e.reply c.note_notices.ensures.owners c.requires.queue c.len-here.ensures in
-    let queues : made.queues.items ≡ with_fresh c.args.fresh (attributes_given e.call) (length past) (noted_queues made.owners.items (length past) e q (admitted_priority past e.reply) before.queues.items) =
-    c.note_queues.ensures.queues ∙ lines-alike before.queues.items asked.queues.items made.owners.items asked.owners.items c.args.fresh (attributes_given e.call) q c.args.q (length past) c.len-here.result e (admitted_priority past e.reply) c.admitted_priority-prio.result old_queues (sym same_owners) c.requires.queue c.len-here.ensures c.admitted_priority-prio.ensures in
-    let inboxes : (k : ℕ) → notices_in made.inboxes.items k ≡ noted_values e.process (registration_in before.queues.items q) e.reply k (notices_in before.inboxes.items k) =
-    λ k. ap (λ xs. notices_in xs k) same_inboxes ∙ c.note_notices.ensures.inboxes k ∙ ap (λ j. noted_values e.process (registration_in before.queues.items j) e.reply k (notices_in before.inboxes.items k)) c.requires.queue in
-    let rooms : (k : ℕ) → room_in before.inboxes.items k ≤ room_in made.inboxes.items k + notices_brought (registration_in before.queues.items q) e.reply k =
-    λ k. subst (λ xs. room_in before.inboxes.items k ≤ room_in xs k + notices_brought (registration_in before.queues.items q) e.reply k) (sym same_inboxes)
-    (subst (λ j. room_in before.inboxes.items k ≤ room_in told.inboxes.items k + notices_brought (registration_in before.queues.items j) e.reply k) c.requires.queue (c.note_notices.ensures.notice_room k)) in
+    let queues : made.queues.items ≡ with_fresh c.args.fresh (attributes_given e.call) (length past) (noted_queues made.owners.items (length past) e q moves before.queues.items) =
+    c.note_queues.ensures.queues ∙ lines-alike before.queues.items asked.queues.items made.owners.items asked.owners.items c.args.fresh (attributes_given e.call) q c.args.q (length past) c.len-here.result e moves c.moves_of-moves.result old_queues (sym same_owners) c.requires.queue c.len-here.ensures moves_are in
+    let inboxes : (k : ℕ) → notices_in made.inboxes.items k ≡ noted_values e.process (registration_in before.queues.items q) moves k (notices_in before.inboxes.items k) =
+    λ k. ap (λ xs. notices_in xs k) same_inboxes ∙ c.note_notices.ensures.inboxes k ∙ ap (λ j. noted_values e.process (registration_in before.queues.items j) c.moves_of-moves.result k (notices_in before.inboxes.items k)) c.requires.queue
+    ∙ ap (λ (m : Moves). noted_values e.process (registration_in before.queues.items q) m k (notices_in before.inboxes.items k)) moves_are in
+    let rooms : (k : ℕ) → room_in before.inboxes.items k ≤ room_in made.inboxes.items k + notices_brought (registration_in before.queues.items q) moves.notified k =
+    λ k. let brought : notices_brought (registration_in before.queues.items c.args.q) c.moves_of-moves.result.notified k ≡ notices_brought (registration_in before.queues.items q) moves.notified k =
+    ap (λ j. notices_brought (registration_in before.queues.items j) c.moves_of-moves.result.notified k) c.requires.queue ∙ ap (λ (m : Moves). notices_brought (registration_in before.queues.items q) m.notified k) moves_are in
+    let same : room_in made.inboxes.items k ≡ room_in told.inboxes.items k = ap (λ xs. room_in xs k) same_inboxes in
+    let kept = c.note_notices.ensures.notice_room k in
+    omega (arith, kept, brought, same) in
     let mirror : TablesMirror (r ∷ past) before.n made.owners.items made.queues.items made.inboxes.items =
     tables-keep past c.requires.tables.legal before.n before.owners.items made.owners.items before.queues.items made.queues.items before.inboxes.items made.inboxes.items c.requires.tables.mirror
     e.process e.call e.reply payload (vec_len before.queues) (vec_capacity before.queues) c.args.fresh c.requires.next c.requires.at_most c.requires.brings
-    (line-room past before.queues.items c.requires.tables.mirror.existing e.process e.call e.reply payload q (admitted_priority past e.reply) (entry-on past e.process e.call e.reply payload c.requires.next) (queued-free past e.process e.call e.reply payload c.requires.next))
+    (line-allows past c.requires.tables.legal before.queues.items c.requires.tables.mirror.existing e.process e.call e.reply payload q on)
     (record {
       owners_are = owners;
       queues_are = queues;
@@ -156,12 +155,14 @@ returns-clause-tables c =
     })
     (ap length owners ∙ length-noted before.owners.items (length past) e.process e.call e.reply q) in
     let notice_room : HasNoticeRoom made.queues.items made.inboxes.items = subst (λ (xs : List QueueShown). HasNoticeRoom xs made.inboxes.items) (sym queues)
-    (notice-room-keeps past c.requires.tables.legal before.queues.items c.requires.tables.mirror.existing e.process e.call e.reply payload c.requires.next before.inboxes.items made.inboxes.items c.requires.tables.notice_room
-    rooms c.requires.registration c.args.fresh (attributes_given e.call) made.owners.items (admitted_priority past e.reply)) in
-    let moved : c.moved_queue-moved.result ≡ moved_queue before.owners.items e.process e.reply q = c.moved_queue-moved.ensures ∙ ap (λ (xs : List Owner). moved_queue xs e.process e.reply c.args.q) c.deref.ensures.value ∙ ap (moved_queue before.owners.items e.process e.reply) c.requires.queue in
-    let lines : after.queues.items ≡ waits_noted (moved_queue before.owners.items e.process e.reply q) made.owners.items made.queues.items = c.note_waiting.ensures.queues ∙ ap (λ o. waits_noted o made.owners.items made.queues.items) moved in
-    let known : KnowWaits made.owners.items after.queues.items = subst (KnowWaits made.owners.items) (sym (lines ∙ ap (waits_noted (moved_queue before.owners.items e.process e.reply q) made.owners.items) queues))
-    (waits-known past c.requires.tables.legal before.owners.items made.owners.items c.requires.tables.mirror.lines e q (admitted_priority past e.reply) c.args.fresh (attributes_given e.call) before.queues.items
+    (notice-room-keeps past c.requires.tables.legal before.queues.items c.requires.tables.mirror.existing e.process e.call e.reply payload q on before.inboxes.items made.inboxes.items c.requires.tables.notice_room
+    rooms c.requires.registration c.args.fresh (attributes_given e.call) made.owners.items moves) in
+    let moved : c.moved_queue-moved.result ≡ moved_queue before.owners.items e.process moves.wait q =
+    c.moved_queue-moved.ensures ∙ ap (λ (xs : List Owner). moved_queue xs e.process c.moves_of-moves.result.wait c.args.q) c.deref.ensures.value
+    ∙ ap (moved_queue before.owners.items e.process c.moves_of-moves.result.wait) c.requires.queue ∙ ap (λ (m : Moves). moved_queue before.owners.items e.process m.wait q) moves_are in
+    let lines : after.queues.items ≡ waits_noted (moved_queue before.owners.items e.process moves.wait q) made.owners.items made.queues.items = c.note_waiting.ensures.queues ∙ ap (λ o. waits_noted o made.owners.items made.queues.items) moved in
+    let known : KnowWaits made.owners.items after.queues.items = subst (KnowWaits made.owners.items) (sym (lines ∙ ap (waits_noted (moved_queue before.owners.items e.process moves.wait q) made.owners.items) queues))
+    (waits-known past c.requires.tables.legal before.owners.items made.owners.items c.requires.tables.mirror.lines e q moves c.args.fresh (attributes_given e.call) before.queues.items
     (let count = c.requires.tables.mirror.owner_count in let le = c.requires.at_most in omega (arith, count, le))
     (own-wait past before.owners.items c.requires.tables.mirror.lines e.process e.call e.reply (legal_says past r c.requires.next) c.requires.next.turn)
     owners c.requires.tables.known) in
@@ -172,11 +173,11 @@ returns-clause-tables c =
         owner_count = mirror.owner_count ∙ ap (λ n. n + 1) (sym same_n);
         inbox_count = mirror.inbox_count ∙ ap (λ n. n + 1) (sym same_n);
         lines = mirror.lines;
-        existing = subst (QueuesMirror (r ∷ past)) (sym lines) (mirror-waiting (r ∷ past) (moved_queue before.owners.items e.process e.reply q) made.owners.items made.queues.items mirror.existing);
+        existing = subst (QueuesMirror (r ∷ past)) (sym lines) (mirror-waiting (r ∷ past) (moved_queue before.owners.items e.process moves.wait q) made.owners.items made.queues.items mirror.existing);
         notices = mirror.notices;
       };
       waits = ap (λ (t : Tables). t.waits) c.note_queues.ensures.same ∙ c.note_process.ensures.waits ∙ ap waits_count (sym same_owners);
       known = known;
-      notice_room = subst (λ (xs : List QueueShown). HasNoticeRoom xs made.inboxes.items) (sym lines) (notice-room-waiting (moved_queue before.owners.items e.process e.reply q) made.owners.items made.queues.items made.inboxes.items notice_room);
+      notice_room = subst (λ (xs : List QueueShown). HasNoticeRoom xs made.inboxes.items) (sym lines) (notice-room-waiting (moved_queue before.owners.items e.process moves.wait q) made.owners.items made.queues.items made.inboxes.items notice_room);
     } in
     subst (AreThoseOf (r ∷ past)) (sym c.note_waiting.ensures.same) those

@@ -19,4 +19,4 @@ pub returns-in_default-clause-queues : goal.returns-in_default-clause-queues
 returns-in_default-clause-queues g =
     let none : g.args.fresh ≡ None = g.in_default.is in
     let owners = g.deref.ensures.value in
-    g.note-found.ensures.items ∙ rw none (λ i. noted_queues (owners i) g.args.here g.args.entry g.args.q g.args.prio g.args.self.now.queues.items)
+    g.note-found.ensures.items ∙ rw none (λ i. noted_queues (owners i) g.args.here g.args.entry g.args.q g.args.moves g.args.self.now.queues.items)

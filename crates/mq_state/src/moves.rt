@@ -1,0 +1,126 @@
+//! What an entry moves, computed once for all tables.
+ghost use Rattle.std.specs.Prelude.{◌≡◌};
+ghost use Rattle.std.specs.Option.{option_map};
+ghost use Rattle.mq_state.specs.Queues.{slot_of};
+ghost use Rattle.mq_state.specs.Moves.{moves_of};
+
+use crate::buffers;
+use crate::prefixes::Prefix;
+use mq_model::entries::{Call, Entry, Reply};
+
+/// What happens in the line of the entry's queue.
+#[derive(Clone, Copy)]
+pub enum LineMove {
+    /// Nothing.
+    Rests,
+    /// The message that was sent at a place enters.
+    Enters {
+        prio: u32,
+        place: u64,
+    },
+    /// The message that was sent at a place leaves, and the send that this admits enters, as its priority and its place.
+    Leaves {
+        place: u64,
+        admitted: Option<(u32, u64)>,
+    },
+    /// The queue is no longer bound to its name.
+    LosesName,
+}
+
+/// What happens to the wait of the entry's process.
+#[derive(Clone, Copy)]
+pub enum WaitMove {
+    /// Nothing.
+    Stays,
+    /// It begins.
+    Begins,
+    /// It ends.
+    Ends,
+}
+
+/// What an entry moves.
+#[derive(Clone, Copy)]
+pub struct Moves {
+    /// In the line of its queue.
+    pub line: LineMove,
+    /// In the wait of its process.
+    pub wait: WaitMove,
+    /// The registration on its queue is notified.
+    pub notified: bool,
+    /// Its process is given its oldest notice.
+    pub given: bool,
+    /// Nobody may need its queue any longer.
+    pub freed: bool,
+}
+
+// The message of the send that is admitted, as its priority and its place.
+#[inline(always)]
+fn message(journal: &Prefix<'_>, admitted: Option<u64>) -> Option<(u32, u64)>
+    ensures { result ≡ option_map (slot_of journal.now.records) admitted }
+{
+    match admitted {
+        None => None,
+        Some(place) => Some((buffers::priority_at(journal, place), place)),
+    }
+}
+
+/// What the next entry of a journal moves.
+#[inline(always)]
+pub fn moves_of(journal: &Prefix<'_>, entry: Entry) -> Moves
+    ensures { result ≡ moves_of journal.now.records entry.call entry.reply }
+{
+    let quiet = Moves {
+        line: LineMove::Rests,
+        wait: WaitMove::Stays,
+        notified: false,
+        given: false,
+        freed: false,
+    };
+    match entry.reply {
+        Reply::Queued { notified } => Moves {
+            line: LineMove::Enters {
+                prio: entry.call.priority(),
+                place: journal.len(),
+            },
+            notified: notified.is_some(),
+            ..quiet
+        },
+        Reply::Got {
+            place,
+            admitted,
+            notified,
+        } => Moves {
+            line: LineMove::Leaves {
+                place,
+                admitted: message(journal, admitted),
+            },
+            notified: notified.is_some(),
+            ..quiet
+        },
+        Reply::Waits => Moves {
+            wait: WaitMove::Begins,
+            ..quiet
+        },
+        Reply::Collected { .. } | Reply::Withdrawn { .. } => Moves {
+            wait: WaitMove::Ends,
+            ..quiet
+        },
+        Reply::Notice(Some(_)) => Moves {
+            given: true,
+            ..quiet
+        },
+        Reply::Done => match entry.call {
+            Call::MqUnlink => Moves {
+                line: LineMove::LosesName,
+                freed: true,
+                ..quiet
+            },
+            Call::MqClose { .. } => Moves {
+                freed: true,
+                ..quiet
+            },
+            _ => quiet,
+        },
+        _ => quiet,
+    }
+}
