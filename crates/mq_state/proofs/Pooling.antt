@@ -42,7 +42,7 @@ wide-changed f same (x ∷ queues) q all =
     (λ t. rw t (All-cons Wide (f x) queues (subst (λ n. 4096 ≤ n) (sym (same x)) head) tail))
     (λ n. rw n (All-cons Wide x (changed f queues q) head (wide-changed f same queues q tail)))
 
-length-changed : (f : QueueShown → QueueShown) (queues : List QueueShown) (q : ℕ) → length (changed f queues q) ≡ length queues
+pub length-changed : (f : QueueShown → QueueShown) (queues : List QueueShown) (q : ℕ) → length (changed f queues q) ≡ length queues
 length-changed f [] q = refl
 length-changed f (x ∷ queues) q = split (x.place == q) (λ t. rw t refl) (λ n. rw n (ap suc (length-changed f queues q)))
 

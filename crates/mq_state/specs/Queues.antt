@@ -73,9 +73,6 @@ with_slot s x = record { place = x.place; named = x.named; registration = x.regi
 abbrev pub without_slot : ℕ → QueueShown → QueueShown
 without_slot m x = record { place = x.place; named = x.named; registration = x.registration; slots = without m x.slots; cap = x.cap; attributes = x.attributes; waiting = x.waiting }
 
-abbrev pub unnamed : QueueShown → QueueShown
-unnamed x = record { place = x.place; named = false; registration = x.registration; slots = x.slots; cap = x.cap; attributes = x.attributes; waiting = x.waiting }
-
 abbrev pub with_waiting : ℕ → QueueShown → QueueShown
 with_waiting bits x = record { place = x.place; named = x.named; registration = x.registration; slots = x.slots; cap = x.cap; attributes = x.attributes; waiting = bits }
 

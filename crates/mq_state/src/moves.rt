@@ -8,21 +8,15 @@ use crate::buffers;
 use crate::prefixes::Prefix;
 use mq_model::entries::{Call, Entry, Reply};
 
-/// What happens in the line of the entry's queue.
+/// What happens in the line of the entry's queue. A message is its priority and the place of its send.
 #[derive(Clone, Copy)]
 pub enum LineMove {
     /// Nothing.
     Rests,
-    /// The message that was sent at a place enters.
-    Enters {
-        prio: u32,
-        place: u64,
-    },
-    /// The message that was sent at a place leaves, and the send that this admits enters, as its priority and its place.
-    Leaves {
-        place: u64,
-        admitted: Option<(u32, u64)>,
-    },
+    /// A message enters.
+    Enters(u32, u64),
+    /// The message that was sent at a place leaves, and the message of the send that this admits enters.
+    Leaves(u64, Option<(u32, u64)>),
     /// The queue is no longer bound to its name.
     LosesName,
 }
@@ -69,7 +63,7 @@ fn message(journal: &Prefix<'_>, admitted: Option<u64>) -> Option<(u32, u64)>
 pub fn moves_of(journal: &Prefix<'_>, entry: Entry) -> Moves
     ensures { result ≡ moves_of journal.now.records entry.call entry.reply }
 {
-    let quiet = Moves {
+    let mut moves = Moves {
         line: LineMove::Rests,
         wait: WaitMove::Stays,
         notified: false,
@@ -77,50 +71,30 @@ pub fn moves_of(journal: &Prefix<'_>, entry: Entry) -> Moves
         freed: false,
     };
     match entry.reply {
-        Reply::Queued { notified } => Moves {
-            line: LineMove::Enters {
-                prio: entry.call.priority(),
-                place: journal.len(),
-            },
-            notified: notified.is_some(),
-            ..quiet
-        },
+        Reply::Queued { notified } => {
+            moves.line = LineMove::Enters(entry.call.priority(), journal.len());
+            moves.notified = notified.is_some();
+        }
         Reply::Got {
             place,
             admitted,
             notified,
-        } => Moves {
-            line: LineMove::Leaves {
-                place,
-                admitted: message(journal, admitted),
-            },
-            notified: notified.is_some(),
-            ..quiet
-        },
-        Reply::Waits => Moves {
-            wait: WaitMove::Begins,
-            ..quiet
-        },
-        Reply::Collected { .. } | Reply::Withdrawn { .. } => Moves {
-            wait: WaitMove::Ends,
-            ..quiet
-        },
-        Reply::Notice(Some(_)) => Moves {
-            given: true,
-            ..quiet
-        },
+        } => {
+            moves.line = LineMove::Leaves(place, message(journal, admitted));
+            moves.notified = notified.is_some();
+        }
+        Reply::Waits => moves.wait = WaitMove::Begins,
+        Reply::Collected { .. } | Reply::Withdrawn { .. } => moves.wait = WaitMove::Ends,
+        Reply::Notice(value) => moves.given = value.is_some(),
         Reply::Done => match entry.call {
-            Call::MqUnlink => Moves {
-                line: LineMove::LosesName,
-                freed: true,
-                ..quiet
-            },
-            Call::MqClose { .. } => Moves {
-                freed: true,
-                ..quiet
-            },
-            _ => quiet,
+            Call::MqUnlink => {
+                moves.line = LineMove::LosesName;
+                moves.freed = true;
+            }
+            Call::MqClose { .. } => moves.freed = true,
+            _ => {}
         },
-        _ => quiet,
+        _ => {}
     }
+    moves
 }

@@ -40,7 +40,7 @@ impl Model for Queue {
 }
 
 impl Queue {
-    ghost use Rattle.mq_state.specs.Queues.{with_slot, without_slot, unnamed, MayEnter, IsNextAt};
+    ghost use Rattle.mq_state.specs.Queues.{with_slot, without_slot, MayEnter, IsNextAt};
 
     /// A queue that was just created at a place.
     pub fn new(place: u64, attributes: Attr, slots: Slots) -> Queue
@@ -129,12 +129,6 @@ impl Queue {
         let _ = self.slots.pop();
     }
 
-    fn unname(&mut self)
-        ensures { self.new ≡ unnamed self.old }
-    {
-        self.named = false;
-    }
-
     /// The order in which the queue's messages stood.
     pub fn into_slots(self) -> Slots
         ensures { result.cap ≡ self.cap }
@@ -151,14 +145,14 @@ impl Queue {
     {
         match line {
             LineMove::Rests => {}
-            LineMove::Enters { prio, place } => self.push(prio, place),
-            LineMove::Leaves { place: _, admitted } => {
+            LineMove::Enters(prio, place) => self.push(prio, place),
+            LineMove::Leaves(_, admitted) => {
                 self.pop();
                 if let Some((prio, place)) = admitted {
                     self.push(prio, place);
                 }
             }
-            LineMove::LosesName => self.unname(),
+            LineMove::LosesName => self.named = false,
         }
     }
 
@@ -405,28 +399,6 @@ fn release(owners: &[Owner], freed: bool, queues: &mut Vec<Queue>, spares: &mut 
     }
 }
 
-// Notes an entry made on queue q in the lines: what it moves in that of its own queue, and the registrations.
-#[inline(always)]
-fn note_lines(
-    queues: &mut Vec<Queue>,
-    here: u64,
-    entry: Entry,
-    q: u64,
-    line: LineMove,
-    hint: usize,
-) -> Option<usize>
-    requires rising { HaveRisingPlaces queues.old.items }
-    requires allows { AllowsIn queues.old.items q line }
-    ensures items { queues.new.items ≡ map (reregistered q here entry)
-        (changed (renewed line) queues.old.items q) }
-    ensures room { (vec_len queues.new ≡ vec_len queues.old) ×
-        (vec_capacity queues.new ≡ vec_capacity queues.old) }
-{
-    let found = renew(queues, q, line, hint);
-    note_registrations(queues, q, here, entry);
-    found
-}
-
 /// Notes the entry at place `here`, made on queue q, which moves this, where the table of processes has noted it. A queue that it
 /// creates is added apart. The order of a queue that exists no longer joins the spare ones. The line of queue q has perhaps the index
 /// `hint`, and where it was looked for, the index is given.
@@ -452,7 +424,8 @@ pub fn note(
         Pool m queues.new.items spares.new.items (vec_capacity queues.new)
         (vec_capacity spares.new) }
 {
-    let found = note_lines(queues, here, entry, q, moves.line, hint);
+    let found = renew(queues, q, moves.line, hint);
+    note_registrations(queues, q, here, entry);
     release(owners, moves.freed, queues, spares, q);
     found
 }

@@ -140,11 +140,13 @@ impl Tables {
 
 impl Tables {
     ghost use Rattle.std.specs.Prelude.{vec_len, vec_capacity};
+    ghost use Rattle.mq_model.specs.Owners.{wait_in};
     ghost use Rattle.mq_model.specs.OwnersNoted.{noted, FitsSlots};
+    ghost use Rattle.mq_state.specs.Moves.{wait_move};
     ghost use Rattle.mq_state.specs.Queues.{noted_queues, registration_in, AllowsIn, HaveRisingPlaces};
     ghost use Rattle.mq_state.specs.Inboxes.{notices_in, room_in};
     ghost use Rattle.mq_state.specs.Pool.{IsPooled};
-    ghost use Rattle.mq_state.specs.Tables.{BringsOrder, notices_brought, noted_values, notified_values, with_fresh};
+    ghost use Rattle.mq_state.specs.Tables.{BringsOrder, MovesOwnWait, notices_brought, noted_values, notified_values, with_fresh};
 
     // Notes in the inboxes what an entry of process p, made on queue q, brings and takes.
     #[inline(always)]
@@ -192,9 +194,15 @@ impl Tables {
         } }
         ensures owners { self.new.owners.items ≡
             noted self.old.owners.items here entry.process entry.call entry.reply q }
-        ensures waits { self.new.waits ≡ waits_count self.new.owners.items }
+        ensures waits { self.new.waits ≡ waits_count
+            (noted self.old.owners.items here entry.process entry.call entry.reply q) }
     {
-        self.waits = note_owners(&mut self.owners, self.waits, here, entry, q, wait);
+        owners::note(&mut self.owners, here, entry, q);
+        match wait {
+            WaitMove::Stays => {}
+            WaitMove::Begins => self.waits += 1,
+            WaitMove::Ends => self.waits -= 1,
+        }
     }
 
     // Notes an entry made on queue q in the lines of the queues, where the table of processes has noted it, and adds the queue that it
@@ -288,37 +296,4 @@ fn free_owners(alloc: Global, count: usize) -> Result<Vec<Owner>, AllocError>
 {
     let owners = vec![in alloc; Owner::free(); count]?;
     Ok(owners)
-}
-
-ghost use Rattle.mq_state.specs.Tables.{MovesOwnWait};
-ghost use Rattle.mq_state.specs.Moves.{wait_move};
-ghost use Rattle.mq_model.specs.Owners.{wait_in};
-ghost use Rattle.mq_model.specs.OwnersNoted.{noted, FitsSlots};
-
-// Notes in the table of processes an entry made on queue q, which moves the wait of its process so, and gives how many wait after it,
-// where so many waited before it.
-#[inline(always)]
-fn note_owners(
-    owners: &mut [Owner],
-    waits: usize,
-    here: u64,
-    entry: Entry,
-    q: u64,
-    wait: WaitMove,
-) -> usize
-    requires process { entry.process < length owners.old }
-    requires numbers { FitsSlots entry.call entry.reply }
-    requires few { length owners.old ≤ 33 }
-    requires waits { waits ≡ waits_count owners.old }
-    requires moves { wait ≡ wait_move entry.reply }
-    requires own { MovesOwnWait wait (wait_in owners.old entry.process) }
-    ensures owners { owners.new ≡ noted owners.old here entry.process entry.call entry.reply q }
-    ensures waits { result ≡ waits_count owners.new }
-{
-    owners::note(owners, here, entry, q);
-    match wait {
-        WaitMove::Stays => waits,
-        WaitMove::Begins => waits + 1,
-        WaitMove::Ends => waits - 1,
-    }
 }

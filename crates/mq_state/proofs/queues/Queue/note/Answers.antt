@@ -8,6 +8,6 @@ pub push-requires-in-Some : goal.push-requires-in-Some
 push-requires-in-Some c =
     let left = c.in-Leaves in
     let s : ℕ × ℕ = (c.in-Some.prio, c.in-Some.place) in
-    let is : c.args.line ≡ Leaves left.place (Some s) = left.is ∙ ap (λ (a : Option (ℕ × ℕ)). (let m : LineMove = Leaves left.place a in m)) c.in-Some.is in
-    let allows : Allows (Leaves left.place (Some s)) c.args.self.now = subst (λ m. Allows m c.args.self.now) is c.requires in
-    subst (MayEnter s.0 s.1) (sym (c.pop.ensures left.place allows.0)) allows.1
+    let is : c.args.line ≡ Leaves left.field-0 (Some s) = left.is ∙ ap (λ (a : Option (ℕ × ℕ)). (let m : LineMove = Leaves left.field-0 a in m)) c.in-Some.is in
+    let allows : Allows (Leaves left.field-0 (Some s)) c.args.self.now = subst (λ m. Allows m c.args.self.now) is c.requires in
+    subst (MayEnter s.0 s.1) (sym (c.pop.ensures left.field-0 allows.0)) allows.1

@@ -176,7 +176,7 @@ returns-clause-tables c =
         existing = subst (QueuesMirror (r ∷ past)) (sym lines) (mirror-waiting (r ∷ past) (moved_queue before.owners.items e.process moves.wait q) made.owners.items made.queues.items mirror.existing);
         notices = mirror.notices;
       };
-      waits = ap (λ (t : Tables). t.waits) c.note_queues.ensures.same ∙ c.note_process.ensures.waits ∙ ap waits_count (sym same_owners);
+      waits = ap (λ (t : Tables). t.waits) c.note_queues.ensures.same ∙ c.note_process.ensures.waits ∙ ap waits_count (sym (same_owners ∙ c.note_process.ensures.owners));
       known = known;
       notice_room = subst (λ (xs : List QueueShown). HasNoticeRoom xs made.inboxes.items) (sym lines) (notice-room-waiting (moved_queue before.owners.items e.process moves.wait q) made.owners.items made.queues.items made.inboxes.items notice_room);
     } in
