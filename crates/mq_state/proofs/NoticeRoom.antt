@@ -4,7 +4,7 @@ use Rattle.std.proofs.lemmas.List.{length-map}
 use Rattle.std.specs.List.{filter}
 use Rattle.std.proofs.lemmas.List.Sums.{sum_by-cons, sum_by_push, count_by-le-length}
 use Rattle.mq_model.specs.Record.{Past}
-use Rattle.mq_model.specs.Notices.{registration_of, registration_after, only_if, or_else, unless, ends, notified}
+use Rattle.mq_model.specs.Notices.{registration_of, registration_after, only_if, or_else, unless, ends, registered, notified}
 use Rattle.mq_model.specs.Legality.{Legal}
 use Rattle.mq_model.specs.declared.owners.Owner.{Owner}
 use Rattle.mq_model.specs.declared.entries.Entry.{Entry}
@@ -30,7 +30,7 @@ use Rattle.mq_model.specs.Owners.{is_held_in}
 use Rattle.mq_state.specs.Tables.{HasNoticeRoom, HasRoomToRegister, notices_brought, with_fresh}
 use Rattle.mq_state.proofs.Moving.{EntryOn, notifies-alive, notifies-registered}
 use Rattle.mq_state.proofs.Reading.{registration-read}
-use Rattle.mq_state.proofs.TablesKeep.{notified-of}
+use Rattle.mq_state.proofs.QueueLines.{mapped}
 
 abbrev one_if : Bool → ℕ
 one_if b = cond b 1 0
@@ -209,9 +209,9 @@ lines-room past legal queues m p call reply payload q on inboxes after has kept 
     notified-by : (reply : Reply) → EntryOn past p call payload reply q → KeepsRoom queues inboxes after q true → (j : ℕ) → notified reply ≡ Some j → ((n : Registration) → registration_of (length past) p call reply ≢ Some n) →
         registrations_in (map (reregistered q (length past) (record { process = p; call = call; reply = reply })) queues) k ≤ room_in after k
     notified-by reply on kept j is none =
-        let x = notified-of past q j (notifies-registered past p call reply payload q on j is) in
-        let stands : registration_in queues q ≡ Some x.registration = registration-read past queues m q (notifies-alive past legal p call reply payload q on (ap is_some is)) ∙ x.stands in
-        notified-room (length past) (record { process = p; call = call; reply = reply }) queues inboxes after q has kept (λ i n made same. none n made) x.registration stands (is ∙ ap Some (sym x.place)) k
+        let n = mapped (λ (n : Registration). n.place) (registered past q) j (notifies-registered past p call reply payload q on j is) in
+        let stands : registration_in queues q ≡ Some n.0 = registration-read past queues m q (notifies-alive past legal p call reply payload q on (ap is_some is)) ∙ n.1 in
+        notified-room (length past) (record { process = p; call = call; reply = reply }) queues inboxes after q has kept (λ i n made same. none n made) n.0 stands (is ∙ ap Some (sym n.2)) k
 
     by : (reply : Reply) → EntryOn past p call payload reply q → KeepsRoom queues inboxes after q (is_some (notified reply)) → HasRoomToRegister queues inboxes p call reply →
         registrations_in (map (reregistered q (length past) (record { process = p; call = call; reply = reply })) queues) k ≤ room_in after k

@@ -142,7 +142,7 @@ queue_in-place (y ∷ queues) q x e = split (y.place == q)
     (λ t. let here : Some y ≡ Some x = rw t at e in let same : y ≡ x = cc in ap (λ (z : QueueShown). z.place) (sym same) ∙ eqb-true _ _ t)
     (λ n. queue_in-place queues q x (rw n at e))
 
-mapped : {X Y : Type 0} (f : X → Y) (o : Option X) (y : Y) → option_map f o ≡ Some y → (x : X) × (o ≡ Some x) × (f x ≡ y)
+pub mapped : {X Y : Type 0} (f : X → Y) (o : Option X) (y : Y) → option_map f o ≡ Some y → (x : X) × (o ≡ Some x) × (f x ≡ y)
 mapped f None y e = absurd (let bad : None ≡ Some y = e in cc)
 mapped f (Some x) y e = (x, refl, let same : f x ≡ y = cc in same)
 

@@ -8,11 +8,9 @@ use Rattle.std.specs.Option.{option_map}
 use Rattle.mq_model.specs.Record.{Record, Past}
 use Rattle.mq_model.specs.Descriptors.{alive, created, is_named, is_held}
 use Rattle.mq_model.specs.Messages.{is_in, present, with_place, priority_given, waiting_sends, blocked_sends, ended_sends, least}
-use Rattle.mq_model.specs.Notices.{registration_after}
 use Rattle.mq_model.specs.Legality.{Legal}
-use Rattle.mq_model.specs.declared.entries.Registration.{Registration}
 use Rattle.mq_model.specs.declared.entries.Call.{Call}
-use Rattle.mq_model.specs.declared.entries.Call.TheVariants.{MqUnlink, MqNotify}
+use Rattle.mq_model.specs.declared.entries.Call.TheVariants.{MqUnlink}
 use Rattle.mq_model.specs.declared.entries.Reply.{Reply}
 use Rattle.mq_model.specs.declared.entries.Reply.TheVariants.{Queued, Handed, Got, Done}
 use Rattle.mq_model.proofs.Places.{split, is_in-filter}
@@ -83,17 +81,6 @@ length-without m (s ∷ xs) = let rest = length-without m xs in split (s.1 == m)
 pub length-slots_of : (past : Past) (xs : List ℕ) → length (slots_of past xs) ≡ length xs
 length-slots_of past [] = refl
 length-slots_of past (x ∷ xs) = ap suc (length-slots_of past xs)
-
--- registrations ----------------------------------------------------------------------------------------------------------
-
--- whether the call is made on the queue matters to a notify that was done alone
-on-done : (b c : Bool) (here p : ℕ) (call : Call) (before : Option Registration) → ((d : ℕ) (v : Option ℕ) → call ≡ MqNotify d v → b ≡ c) → registration_after b here (record { process = p; call = call; reply = Done }) before ≡ registration_after c here (record { process = p; call = call; reply = Done }) before
-on-done b c here p (MqNotify d v) before same = ap (λ x. registration_after x here (record { process = p; call = MqNotify d v; reply = Done }) before) (same d v refl)
-on-done b c here p call before same = refl
-
-pub registration-on : (b c : Bool) (here p : ℕ) (call : Call) (reply : Reply) (before : Option Registration) → ((d : ℕ) (v : Option ℕ) → call ≡ MqNotify d v → reply ≡ Done → b ≡ c) → registration_after b here (record { process = p; call = call; reply = reply }) before ≡ registration_after c here (record { process = p; call = call; reply = reply }) before
-registration-on b c here p call Done before same = on-done b c here p call before (λ d v e. same d v e refl)
-registration-on b c here p call reply before same = refl
 
 -- room -------------------------------------------------------------------------------------------------------------------
 

@@ -32,9 +32,9 @@ use Rattle.mq_state.specs.declared.moves.LineMove.TheVariants.{Rests}
 use Rattle.mq_state.specs.Moves.{done_move, line_move, frees, may_free, moves_of}
 use Rattle.mq_state.specs.QueueShown.{QueueShown}
 use Rattle.mq_state.specs.Queues.{queue_in, is_named_in, changed, without_queue, renewed, named_after, slots_after, Allows, AllowsIn, reregistered, noted_queues, fresh, slots_of, LineMirror, QueuesMirror}
-use Rattle.mq_state.proofs.QueueLines.{changed_line, changed-from, map-from, places-changed, places-map, queue_in-place, inside-queue_in, queue_in-without, places-without, queue_in-push, places-push}
+use Rattle.mq_state.proofs.QueueLines.{mapped, changed_line, changed-from, map-from, places-changed, places-map, queue_in-place, inside-queue_in, queue_in-without, places-without, queue_in-push, places-push}
 use Rattle.mq_state.proofs.Moving.{rec, OpenedOn, DoneOn, EntryOn}
-use Rattle.mq_state.proofs.QueuesKeep.{alive-below, reverse-cons, in-reverse, eqb-swap, line-alive, registration-on, slots-few, presence, same-slots}
+use Rattle.mq_state.proofs.QueuesKeep.{alive-below, reverse-cons, in-reverse, eqb-swap, line-alive, slots-few, presence, same-slots}
 
 unbound-of : (o : Option ℕ) → not (is_some o) ≡ true → o ≡ None
 unbound-of None e = refl
@@ -55,12 +55,16 @@ named-keeps past p call Done payload q on k lt = done-named past p call payload 
 named-keeps past p call (Opened d true) payload q on k lt = named-created past (rec p call (Opened d true) payload) k (rw on.is refl) (unbound-of (bound_queue past payload) on.facts.new) lt ∙ still (q == k) (is_named past k)
 named-keeps past p call reply payload q on k lt = named-same past (rec p call reply payload) k refl refl lt ∙ still (q == k) (is_named past k)
 
+done-registered : (past : Past) (p : ℕ) (call : Call) (payload : List ℕ) (q k : ℕ) → DoneOn past p call payload q →
+    registration_after (q == k) (length past) (record { process = p; call = call; reply = Done }) (registered past k) ≡ registered (rec p call Done payload ∷ past) k
+done-registered past p (MqNotify d v) payload q k on = rw on refl
+done-registered past p call payload q k on = refl
+
 -- the registration of the line after the entry
 registered-keeps : (past : Past) (p : ℕ) (call : Call) (reply : Reply) (payload : List ℕ) (q k : ℕ) → EntryOn past p call payload reply q →
     registration_after (q == k) (length past) (record { process = p; call = call; reply = reply }) (registered past k) ≡ registered (rec p call reply payload ∷ past) k
-registered-keeps past p call reply payload q k on =
-    registration-on (q == k) (is_on past (record { process = p; call = call; reply = reply }) k) (length past) p call reply (registered past k)
-    (λ d v c e. let at : called_queue past p (MqNotify d v) ≡ Some q = rw (c, e) at on in rw (c, at) refl)
+registered-keeps past p call Done payload q k on = done-registered past p call payload q k on
+registered-keeps past p call reply payload q k on = refl
 
 when-true : {X : Type 0} (b : Bool) (x y : X) → b ≡ true → (if b then x else y) ≡ x
 when-true b x y e = rw e refl
@@ -153,16 +157,11 @@ swap false xs ys = refl
 
 done-alive : (past : Past) → Legal past → (p : ℕ) (call : Call) (payload : List ℕ) (q : ℕ) → DoneOn past p call payload q →
     alive (rec p call Done payload ∷ past) ≡ (if frees call && not (is_needed (rec p call Done payload ∷ past) q) then filter (λ k. not (k == q)) (alive past) else alive past)
-done-alive past legal p (MqClose d) payload q on = by (held past p d) refl on
-  where
-    by : (o : Option Description) → held past p d ≡ o → option_map (λ h. h.queue) (held past p d) ≡ Some q → alive (rec p (MqClose d) Done payload ∷ past) ≡ (if not (is_needed (rec p (MqClose d) Done payload ∷ past) q) then filter (λ k. not (k == q)) (alive past) else alive past)
-    by None is e = absurd (let bad : None ≡ Some q = rw is at e in cc)
-    by (Some h) is e =
-        let at : Some h.queue ≡ Some q = rw is at e in
-        let same : h.queue ≡ q = cc in
-        alive-closed past legal p d payload h is
-        ∙ ap (λ k. if is_needed (rec p (MqClose d) Done payload ∷ past) k then alive past else filter (λ j. not (j == k)) (alive past)) same
-        ∙ swap (is_needed (rec p (MqClose d) Done payload ∷ past) q) (alive past) (filter (λ k. not (k == q)) (alive past))
+done-alive past legal p (MqClose d) payload q on =
+    let h = mapped (λ (h : Description). h.queue) (held past p d) q on in
+    alive-closed past legal p d payload h.0 h.1
+    ∙ ap (λ k. if is_needed (rec p (MqClose d) Done payload ∷ past) k then alive past else filter (λ j. not (j == k)) (alive past)) h.2
+    ∙ swap (is_needed (rec p (MqClose d) Done payload ∷ past) q) (alive past) (filter (λ k. not (k == q)) (alive past))
 done-alive past legal p MqUnlink payload q on = alive-unlinked past p payload q on ∙ swap (is_needed (rec p MqUnlink Done payload ∷ past) q) (alive past) (filter (λ k. not (k == q)) (alive past))
 done-alive past legal p call payload q on = alive-same_queues past (rec p call Done payload) refl refl (λ e. refl)
 

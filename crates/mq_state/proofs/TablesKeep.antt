@@ -1,9 +1,8 @@
 -- The tables stay those of the journal, where they note an entry.
 use Rattle.std.proofs.Common.{◌≡◌, ℕ, ◌≤◌, ◌==◌, Bool, true, false, ◌&&◌, List, [], ◌∷◌, ◌++◌, length, drop, Option, Some, None, is_some, if◌then◌else◌, refl, sym, ◌∙◌, ap, subst, arith}
-use Rattle.std.specs.Option.{option_map}
 use Rattle.mq_model.specs.Record.{Past}
 use Rattle.mq_model.specs.Names.{creates, attributes_given}
-use Rattle.mq_model.specs.Notices.{registered, registered_place, notified, gives_notice, notices}
+use Rattle.mq_model.specs.Notices.{registered, notified, gives_notice, notices}
 use Rattle.mq_model.specs.Legality.{Legal, IsLegalNext}
 use Rattle.mq_model.specs.Owners.{OwnersMirror}
 use Rattle.mq_model.specs.OwnersNoted.{noted}
@@ -24,23 +23,11 @@ use Rattle.mq_state.specs.Moves.{line_move, moves_of}
 use Rattle.mq_state.specs.Queues.{registration_in, noted_queues, fresh, QueuesMirror, AllowsIn}
 use Rattle.mq_state.specs.Tables.{TablesMirror, entry_queue, IsFresh, BringsOrder, notified_values, noted_values, with_fresh}
 use Rattle.mq_state.proofs.Moving.{rec, EntryOn, entry-on, entry-queue, notifies-alive, notifies-registered}
+use Rattle.mq_state.proofs.QueueLines.{mapped}
 use Rattle.mq_state.proofs.QueuesNoted.{noted-queues-keeps, noted-queues-creates}
 use Rattle.mq_state.proofs.Reading.{registration-read}
 
 -- notices ----------------------------------------------------------------------------------------------------------------
-
--- the registration that a reply notifies stands on the entry's queue
-pub record IsNotified (past : Past) (q k : ℕ) : Type 0 where
-  pub registration : Registration
-  pub stands : registered past q ≡ Some registration
-  pub place : registration.place ≡ k
-
-pub notified-of : (past : Past) (q k : ℕ) → registered_place past q ≡ Some k → IsNotified past q k
-notified-of past q k e = by (registered past q) refl e
-  where
-    by : (o : Option Registration) → registered past q ≡ o → option_map (λ n. n.place) (registered past q) ≡ Some k → IsNotified past q k
-    by None is e = absurd (let bad : None ≡ Some k = rw is at e in cc)
-    by (Some n) is e = let at : Some n.place ≡ Some k = rw is at e in record { registration = n; stands = is; place = cc }
 
 -- an entry that notifies nobody brings nothing
 brings-nothing : (o : Option Registration) (k : ℕ) (values : List ℕ) → notified_values o false k values ≡ values
@@ -57,9 +44,9 @@ brings-value n moves p k values notified quiet = rw (quiet, notified) refl
 brings-one : (past : Past) → Legal past → (p : ℕ) (call : Call) (reply : Reply) (payload : List ℕ) (q j : ℕ) → EntryOn past p call payload reply q → notified reply ≡ Some j → gives_notice reply ≡ false → (o : Option Registration) → o ≡ registered past q → (k : ℕ) →
     noted_values p o (moves_of past call reply) k (notices past k) ≡ notices (rec p call reply payload ∷ past) k
 brings-one past legal p call reply payload q j on is quiet o same k =
-    let x = notified-of past q j (notifies-registered past p call reply payload q on j is) in
-    let now = notices-notified past legal (rec p call reply payload) q x.registration k x.stands (is ∙ ap Some (sym x.place)) quiet in
-    ap (λ r. noted_values p r (moves_of past call reply) k (notices past k)) (same ∙ x.stands) ∙ brings-value x.registration (moves_of past call reply) p k (notices past k) (ap is_some is) quiet ∙ sym now
+    let n = mapped (λ (n : Registration). n.place) (registered past q) j (notifies-registered past p call reply payload q on j is) in
+    let now = notices-notified past legal (rec p call reply payload) q n.0 k n.1 (is ∙ ap Some (sym n.2)) quiet in
+    ap (λ r. noted_values p r (moves_of past call reply) k (notices past k)) (same ∙ n.1) ∙ brings-value n.0 (moves_of past call reply) p k (notices past k) (ap is_some is) quiet ∙ sym now
 
 pub notices-keep : (past : Past) → Legal past → (p : ℕ) (call : Call) (reply : Reply) (payload : List ℕ) (q : ℕ) → EntryOn past p call payload reply q → (o : Option Registration) → (is_some (notified reply) ≡ true → o ≡ registered past q) → (k : ℕ) →
     noted_values p o (moves_of past call reply) k (notices past k) ≡ notices (rec p call reply payload ∷ past) k

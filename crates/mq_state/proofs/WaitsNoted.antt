@@ -25,6 +25,7 @@ use Rattle.mq_state.specs.declared.moves.WaitMove.{WaitMove}
 use Rattle.mq_state.specs.declared.moves.WaitMove.TheVariants.{Stays, Begins, Ends}
 use Rattle.mq_state.specs.Moves.{wait_move}
 use Rattle.mq_state.specs.Tables.{MovesOwnWait}
+use Rattle.mq_state.proofs.QueueLines.{mapped}
 use Rattle.mq_model.specs.declared.owners.WaitKind.{WaitKind}
 
 answer-at-length : (owners : List Owner) (o : Option ℕ) (here : ℕ) → length (with_answer_at owners o here) ≡ length owners
@@ -108,11 +109,7 @@ none-pending owners none k q kind = by (wait_in owners k) refl
 
 -- the open wait of a process that the table has
 waits-here : (past : Past) (owners : List Owner) → OwnersMirror past owners → (p : ℕ) (w : ℕ) → open_wait past p ≡ Some w → (x : OpenWait) × (wait_in owners p ≡ Some x)
-waits-here past owners m p w e = by (wait_in owners p) refl
-  where
-    by : (o : Option OpenWait) → wait_in owners p ≡ o → (x : OpenWait) × (wait_in owners p ≡ Some x)
-    by None is = absurd (let bad : None ≡ Some w = sym (ap (option_map (λ (y : OpenWait). y.place)) is) ∙ m.waits p ∙ e in cc)
-    by (Some x) is = (x, is)
+waits-here past owners m p w e = let x = mapped (λ (y : OpenWait). y.place) (wait_in owners p) w (m.waits p ∙ e) in (x.0, x.1)
 
 -- an answered process waits
 pub answered-waits : (past : Past) (p : ℕ) (by : ℕ) → answered_by past p ≡ Some by → (w : ℕ) × (open_wait past p ≡ Some w)
