@@ -1,6 +1,6 @@
 -- The message that an entry takes out of a queue is the one that is received next, and what it lets in was sent after those that
 -- are there.
-use Rattle.std.proofs.Common.{◌≡◌, ℕ, ◌<◌, ◌==◌, true, false, ◌&&◌, ◌||◌, not, inl, inr, List, [], ◌∷◌, length, Option, Some, None, refl, sym, ◌∙◌, ap, subst, arith, eqb-true, eq-eqb}
+use Rattle.std.proofs.Common.{◌≡◌, ℕ, ◌<◌, ◌==◌, true, false, ◌&&◌, ◌||◌, not, inl, inr, List, [], ◌∷◌, length, Some, None, refl, sym, ◌∙◌, ap, subst, arith, eqb-true, eq-eqb}
 use Rattle.std.specs.Prelude.{nat_le, int_le, pos}
 use Rattle.std.specs.List.{Contains}
 use Rattle.std.specs.Option.{option_map}

@@ -1,5 +1,5 @@
 -- The message that goes before all others is the best, and a pop takes it.
-use Rattle.std.proofs.Common.{◌≡◌, ◌≢◌, ◌↔◌, ℕ, ◌==◌, Bool, true, ◌⊎◌, inl, inr, List, [], ◌∷◌, Option, Some, None, IsNone, IfSome, refl, sym, ◌∙◌, ap, subst, arith}
+use Rattle.std.proofs.Common.{◌≡◌, ◌≢◌, ◌↔◌, ℕ, Bool, true, ◌⊎◌, inl, inr, List, [], ◌∷◌, Option, Some, None, IsNone, IfSome, refl, sym, ◌∙◌, ap, arith}
 use Rattle.std.specs.List.{find, list_all, Contains}
 use Rattle.std.specs.Option.{option_map}
 use Rattle.std.proofs.lemmas.Bool.{cases_eq, and_parts, and_from}

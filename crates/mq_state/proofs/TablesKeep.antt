@@ -1,5 +1,5 @@
 -- The tables stay those of the journal, where they note an entry.
-use Rattle.std.proofs.Common.{◌≡◌, ℕ, ◌≤◌, ◌==◌, Bool, true, false, ◌&&◌, List, [], ◌∷◌, ◌++◌, length, drop, Option, Some, None, is_some, if◌then◌else◌, refl, sym, ◌∙◌, ap, subst, arith}
+use Rattle.std.proofs.Common.{◌≡◌, ℕ, ◌≤◌, ◌==◌, true, false, List, [], ◌∷◌, ◌++◌, length, drop, Option, Some, None, is_some, if◌then◌else◌, refl, sym, ◌∙◌, ap, subst, arith}
 use Rattle.mq_model.specs.Record.{Past}
 use Rattle.mq_model.specs.Names.{creates, attributes_given}
 use Rattle.mq_model.specs.Notices.{registered, notified, gives_notice, notices}

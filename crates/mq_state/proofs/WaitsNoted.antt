@@ -1,7 +1,7 @@
 -- How many processes wait after an entry, and that the tables keep their sizes.
-use Rattle.std.proofs.Common.{◌≡◌, ℕ, ◌+◌, ◌<◌, ◌≤◌, true, false, List, length, Option, Some, None, refl, sym, ◌∙◌, ap, subst, arith}
+use Rattle.std.proofs.Common.{◌≡◌, ℕ, ◌+◌, ◌<◌, ◌≤◌, true, false, List, length, Option, Some, None, refl, sym, ◌∙◌, subst, arith}
 use Rattle.std.specs.Prelude.{IsTrue}
-use Rattle.std.specs.Option.{option_map, option_and_then}
+use Rattle.std.specs.Option.{option_and_then}
 use Rattle.std.proofs.lemmas.List.Sums.{count_by-le-length}
 use Rattle.mq_model.specs.Record.{Past}
 use Rattle.mq_model.specs.Deadlines.{deadline_of}

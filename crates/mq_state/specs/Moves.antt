@@ -1,5 +1,5 @@
 -- What an entry moves: in the line of its queue, in the wait of its process, in the notices. Each table takes it from here.
-use Rattle.std.specs.Prelude.{ℕ, Bool, true, false, length, is_some}
+use Rattle.std.specs.Prelude.{Bool, true, false, length, is_some}
 use Rattle.std.specs.Option.{option_map}
 use Rattle.mq_model.specs.Record.{Past}
 use Rattle.mq_model.specs.Messages.{priority_given}

@@ -1,7 +1,6 @@
 use Rattle.std.proofs.Common.{◌≡◌, ◌∙◌, ◌+◌, ◌≤◌, ◌∷◌, ℕ, List, length, refl, sym, ap, subst, arith, Option, None, vec_len, vec_capacity}
 use Rattle.mq_model.specs.Record.{Record}
 use Rattle.mq_model.specs.Names.{attributes_given}
-use Rattle.mq_model.specs.Notices.{notified}
 use Rattle.mq_model.specs.Owners.{wait_in, waits_count}
 use Rattle.mq_model.specs.OwnersNoted.{noted}
 use Rattle.mq_model.specs.declared.owners.Owner.{Owner}
