@@ -1,5 +1,5 @@
 //! The tables beside the journal, and how they note an entry.
-ghost use Rattle.std.specs.Prelude.{◌≡◌, ◌<◌, ◌≤◌, ◌+◌, IfOk, OnOk, OnErr, IsSome, Some, None, IsTrue, ℕ, length, [], pos, int_le, map, replicate};
+ghost use Rattle.std.specs.Prelude.{◌≡◌, ◌<◌, ◌≤◌, ◌+◌, IfOk, Some, None, ℕ, length, [], replicate};
 ghost use Rattle.mq_model.specs.declared.entries.Registration.{Registration};
 ghost use Rattle.mq_model.specs.Descriptors.{held};
 ghost use Rattle.mq_model.specs.Owners.{waits_count, free_owner};
@@ -146,7 +146,7 @@ impl Tables {
     ghost use Rattle.mq_state.specs.Queues.{noted_queues, registration_in, AllowsIn, HaveRisingPlaces};
     ghost use Rattle.mq_state.specs.Inboxes.{notices_in, room_in};
     ghost use Rattle.mq_state.specs.Pool.{IsPooled};
-    ghost use Rattle.mq_state.specs.Tables.{BringsOrder, MovesOwnWait, notices_brought, noted_values, notified_values, with_fresh};
+    ghost use Rattle.mq_state.specs.Tables.{BringsOrder, MovesOwnWait, notices_brought, noted_values, with_fresh};
 
     // Notes in the inboxes what an entry of process p, made on queue q, brings and takes.
     #[inline(always)]
@@ -154,12 +154,7 @@ impl Tables {
         requires process { p < length self.old.inboxes.items }
         requires room { (n : Registration) → registration_in self.old.queues.items q ≡ Some n →
             0 < room_in self.old.inboxes.items n.process }
-        ensures owners { self.new.owners.items ≡ self.old.owners.items }
-        ensures waits { self.new.waits ≡ self.old.waits }
-        ensures queues { self.new.queues ≡ self.old.queues }
-        ensures n { self.new.n ≡ self.old.n }
-        ensures bounds { self.new.bounds ≡ self.old.bounds }
-        ensures spares { self.new.spares ≡ self.old.spares }
+        ensures same { self.new ≡ record self.old { inboxes = self.new.inboxes } }
         ensures count { length self.new.inboxes.items ≡ length self.old.inboxes.items }
         ensures inboxes { (k : ℕ) →
             notices_in self.new.inboxes.items k ≡ noted_values p

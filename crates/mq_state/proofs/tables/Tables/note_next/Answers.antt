@@ -51,7 +51,7 @@ pub note_process-requires-clause-few : goal.note_process-requires-clause-few
 note_process-requires-clause-few c =
     let few = c.requires.tables.few in
     let count = c.requires.tables.mirror.owner_count in
-    let same = ap length c.note_notices.ensures.owners in
+    let same = ap (λ (t : Tables). length t.owners.items) c.note_notices.ensures.same in
     omega (arith, few, count, same)
 
 pub note_process-requires-clause-own : goal.note_process-requires-clause-own
@@ -60,7 +60,7 @@ note_process-requires-clause-own c =
     let own : MovesOwnWait (wait_move e.reply) (wait_in c.args.self.now.owners.items e.process) =
     own-wait c.args.journal.now.records c.args.self.now.owners.items c.requires.tables.mirror.lines e.process e.call e.reply (legal_says c.args.journal.now.records (record { entry = e; payload = c.args.payload.now }) c.requires.next) c.requires.next.turn in
     subst (λ (m : WaitMove). MovesOwnWait m (wait_in c.note_notices.new.self.owners.items e.process)) (sym (ap (λ (m : Moves). m.wait) c.moves_of-moves.ensures))
-    (subst (λ (xs : List Owner). MovesOwnWait (wait_move e.reply) (wait_in xs e.process)) (sym c.note_notices.ensures.owners) own)
+    (subst (λ (xs : List Owner). MovesOwnWait (wait_move e.reply) (wait_in xs e.process)) (sym (ap (λ (t : Tables). t.owners.items) c.note_notices.ensures.same)) own)
 
 pub note_notices-requires-clause-room : goal.note_notices-requires-clause-room
 note_notices-requires-clause-room c = λ n is. room-to-notify c.args.self.now.queues.items c.args.self.now.inboxes.items c.requires.tables.notice_room c.args.q n is
@@ -71,11 +71,11 @@ note_queues-requires-clause-allows c =
     let e = c.args.entry in
     let q = entry_queue past e.process e.call c.args.payload.now in
     allows-alike c.args.self.now.queues.items c.note_process.new.self.queues.items q c.args.q (line_move past e.call e.reply) c.moves_of-moves.result.line
-    (ap (λ (t : Tables). t.queues.items) c.note_process.ensures.same ∙ ap (λ v. v.items) c.note_notices.ensures.queues) c.requires.queue (ap (λ (m : Moves). m.line) c.moves_of-moves.ensures)
+    (ap (λ (t : Tables). t.queues.items) c.note_process.ensures.same ∙ ap (λ (t : Tables). t.queues.items) c.note_notices.ensures.same) c.requires.queue (ap (λ (m : Moves). m.line) c.moves_of-moves.ensures)
     (line-allows past c.requires.tables.legal c.args.self.now.queues.items c.requires.tables.mirror.existing e.process e.call e.reply c.args.payload.now q (entry-on past e.process e.call e.reply c.args.payload.now c.requires.next))
 
 pub note_queues-requires-clause-rising : goal.note_queues-requires-clause-rising
-note_queues-requires-clause-rising c = subst HaveRisingPlaces (sym (ap (λ (t : Tables). t.queues.items) c.note_process.ensures.same ∙ ap (λ v. v.items) c.note_notices.ensures.queues)) (rising-places c.args.journal.now.records c.args.self.now.queues.items c.requires.tables.mirror.existing)
+note_queues-requires-clause-rising c = subst HaveRisingPlaces (sym (ap (λ (t : Tables). t.queues.items) c.note_process.ensures.same ∙ ap (λ (t : Tables). t.queues.items) c.note_notices.ensures.same)) (rising-places c.args.journal.now.records c.args.self.now.queues.items c.requires.tables.mirror.existing)
 
 pub note_waiting-requires : goal.note_waiting-requires
 note_waiting-requires c =
@@ -83,7 +83,7 @@ note_waiting-requires c =
     let few = c.requires.tables.few in
     let count = c.requires.tables.mirror.owner_count in
     let kept = ap (λ (t : Tables). length t.owners.items) c.note_queues.ensures.same in
-    let same = ap length c.note_process.ensures.owners ∙ length-noted c.note_notices.new.self.owners.items c.len-here.result e.process e.call e.reply c.args.q ∙ ap length c.note_notices.ensures.owners in
+    let same = ap length c.note_process.ensures.owners ∙ length-noted c.note_notices.new.self.owners.items c.len-here.result e.process e.call e.reply c.args.q ∙ ap (λ (t : Tables). length t.owners.items) c.note_notices.ensures.same in
     omega (arith, few, count, kept, same)
 
 pub returns-clause-pool : goal.returns-clause-pool
@@ -91,7 +91,7 @@ returns-clause-pool c =
     let t = c.note_notices.new.self in
     let made = c.note_queues.new.self in
     let after = c.note_waiting.new.self in
-    let start : PoolWithin t.bounds c.args.fresh t.queues.items t.spares.items (vec_capacity t.queues) (vec_capacity t.spares) = rw (c.note_notices.ensures.bounds, c.note_notices.ensures.queues, c.note_notices.ensures.spares) c.requires.pool in
+    let start : PoolWithin t.bounds c.args.fresh t.queues.items t.spares.items (vec_capacity t.queues) (vec_capacity t.spares) = subst (IsPooled c.args.fresh) (sym c.note_notices.ensures.same) c.requires.pool in
     let pool : IsPooled None made = c.note_queues.ensures.pool (subst (IsPooled c.args.fresh) (sym c.note_process.ensures.same) start) in
     let here : PoolWithin made.bounds None after.queues.items made.spares.items (vec_capacity after.queues) (vec_capacity made.spares) =
     pooled-waiting made.bounds c.moved_queue-moved.result made.owners.items made.queues.items after.queues.items made.spares.items (vec_capacity made.queues) (vec_capacity after.queues) (vec_capacity made.spares) c.note_waiting.ensures.queues c.note_waiting.ensures.room.1 pool in
@@ -101,7 +101,7 @@ pub returns-clause-owners : goal.returns-clause-owners
 returns-clause-owners c =
     let e = c.args.entry in
     ap (λ (t : Tables). t.owners.items) c.note_waiting.ensures.same ∙ ap (λ (t : Tables). t.owners.items) c.note_queues.ensures.same ∙ c.note_process.ensures.owners
-    ∙ noted-alike c.args.self.now.owners.items c.note_notices.new.self.owners.items e.process (entry_queue c.args.journal.now.records e.process e.call c.args.payload.now) c.args.q (length c.args.journal.now.records) c.len-here.result e.call e.reply c.note_notices.ensures.owners c.requires.queue c.len-here.ensures
+    ∙ noted-alike c.args.self.now.owners.items c.note_notices.new.self.owners.items e.process (entry_queue c.args.journal.now.records e.process e.call c.args.payload.now) c.args.q (length c.args.journal.now.records) c.len-here.result e.call e.reply (ap (λ (t : Tables). t.owners.items) c.note_notices.ensures.same) c.requires.queue c.len-here.ensures
 
 pub returns-clause-notice_room : goal.returns-clause-notice_room
 returns-clause-notice_room c = λ k.
@@ -127,10 +127,10 @@ returns-clause-tables c =
     let on = entry-on past e.process e.call e.reply payload c.requires.next in
     let same_owners : made.owners.items ≡ asked.owners.items = ap (λ (t : Tables). t.owners.items) c.note_queues.ensures.same in
     let same_inboxes : made.inboxes.items ≡ told.inboxes.items = ap (λ (t : Tables). t.inboxes.items) c.note_queues.ensures.same ∙ ap (λ (t : Tables). t.inboxes.items) c.note_process.ensures.same in
-    let same_n : made.n ≡ before.n = ap (λ (t : Tables). t.n) c.note_queues.ensures.same ∙ ap (λ (t : Tables). t.n) c.note_process.ensures.same ∙ c.note_notices.ensures.n in
-    let old_queues : asked.queues.items ≡ before.queues.items = ap (λ (t : Tables). t.queues.items) c.note_process.ensures.same ∙ ap (λ v. v.items) c.note_notices.ensures.queues in
+    let same_n : made.n ≡ before.n = ap (λ (t : Tables). t.n) c.note_queues.ensures.same ∙ ap (λ (t : Tables). t.n) c.note_process.ensures.same ∙ ap (λ (t : Tables). t.n) c.note_notices.ensures.same in
+    let old_queues : asked.queues.items ≡ before.queues.items = ap (λ (t : Tables). t.queues.items) c.note_process.ensures.same ∙ ap (λ (t : Tables). t.queues.items) c.note_notices.ensures.same in
     let owners : made.owners.items ≡ noted before.owners.items (length past) e.process e.call e.reply q =
-    same_owners ∙ c.note_process.ensures.owners ∙ noted-alike before.owners.items told.owners.items e.process q c.args.q (length past) c.len-here.result e.call e.reply c.note_notices.ensures.owners c.requires.queue c.len-here.ensures in
+    same_owners ∙ c.note_process.ensures.owners ∙ noted-alike before.owners.items told.owners.items e.process q c.args.q (length past) c.len-here.result e.call e.reply (ap (λ (t : Tables). t.owners.items) c.note_notices.ensures.same) c.requires.queue c.len-here.ensures in
     let queues : made.queues.items ≡ with_fresh c.args.fresh (attributes_given e.call) (length past) (noted_queues made.owners.items (length past) e q moves before.queues.items) =
     c.note_queues.ensures.queues ∙ lines-alike before.queues.items asked.queues.items made.owners.items asked.owners.items c.args.fresh (attributes_given e.call) q c.args.q (length past) c.len-here.result e moves c.moves_of-moves.result old_queues (sym same_owners) c.requires.queue c.len-here.ensures moves_are in
     let inboxes : (k : ℕ) → notices_in made.inboxes.items k ≡ noted_values e.process (registration_in before.queues.items q) moves k (notices_in before.inboxes.items k) =
