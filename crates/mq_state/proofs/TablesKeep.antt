@@ -21,8 +21,8 @@ use Rattle.mq_state.specs.InboxShown.{InboxShown}
 use Rattle.mq_state.specs.Inboxes.{notices_in}
 use Rattle.mq_state.specs.Moves.{line_move, moves_of}
 use Rattle.mq_state.specs.Queues.{registration_in, noted_queues, fresh, QueuesMirror, AllowsIn}
-use Rattle.mq_state.specs.Tables.{TablesMirror, entry_queue, IsFresh, BringsOrder, notified_values, noted_values, with_fresh}
-use Rattle.mq_state.proofs.Moving.{rec, EntryOn, entry-on, entry-queue, notifies-alive, notifies-registered}
+use Rattle.mq_state.specs.Tables.{TablesMirror, IsFresh, BringsOrder, notified_values, noted_values, with_fresh}
+use Rattle.mq_state.proofs.Moving.{rec, EntryOn, entry-queue, notifies-alive, notifies-registered}
 use Rattle.mq_state.proofs.QueueLines.{mapped}
 use Rattle.mq_state.proofs.QueuesNoted.{noted-queues-keeps, noted-queues-creates}
 use Rattle.mq_state.proofs.Reading.{registration-read}
@@ -71,12 +71,12 @@ creates-open past legal owners queues m p call reply payload q len capacity o on
 
 -- the tables after an entry are those of the journal with it
 pub tables-keep : (past : Past) → Legal past → (n : ℕ) (owners after_owners : List Owner) (queues after_queues : List QueueShown) (inboxes after_inboxes : List InboxShown) → TablesMirror past n owners queues inboxes →
-    (p : ℕ) (call : Call) (reply : Reply) (payload : List ℕ) (len capacity : ℕ) (brought : Option Held) → IsLegalNext past (rec p call reply payload) → p ≤ n → BringsOrder call reply len capacity brought →
-    AllowsIn queues (entry_queue past p call payload) (line_move past call reply) →
-    IsNotedBy past (record { process = p; call = call; reply = reply }) (entry_queue past p call payload) brought owners after_owners queues after_queues inboxes after_inboxes →
+    (p : ℕ) (call : Call) (reply : Reply) (payload : List ℕ) (len capacity : ℕ) (brought : Option Held) (q : ℕ) → IsLegalNext past (rec p call reply payload) → EntryOn past p call payload reply q → p ≤ n → BringsOrder call reply len capacity brought →
+    AllowsIn queues q (line_move past call reply) →
+    IsNotedBy past (record { process = p; call = call; reply = reply }) q brought owners after_owners queues after_queues inboxes after_inboxes →
     length after_owners ≡ length owners →
     TablesMirror (rec p call reply payload ∷ past) n after_owners after_queues after_inboxes
-tables-keep past legal n owners after_owners queues after_queues inboxes after_inboxes m p call reply payload len capacity brought next le brings allows by count = record {
+tables-keep past legal n owners after_owners queues after_queues inboxes after_inboxes m p call reply payload len capacity brought q next on le brings allows by count = record {
   owner_count = count ∙ m.owner_count;
   inbox_count = by.inbox_count ∙ m.inbox_count;
   lines = lines;
@@ -87,12 +87,6 @@ tables-keep past legal n owners after_owners queues after_queues inboxes after_i
   where
     r : Past
     r = rec p call reply payload ∷ past
-
-    q : ℕ
-    q = entry_queue past p call payload
-
-    on : EntryOn past p call payload reply (entry_queue past p call payload)
-    on = entry-on past p call reply payload next
 
     lines : OwnersMirror r after_owners
     lines = subst (OwnersMirror r) (sym by.owners_are) (noted-keeps past owners m.lines legal (rec p call reply payload) q next (let c = m.owner_count in omega (arith, c)) (entry-queue past p call reply payload q on))

@@ -146,8 +146,7 @@ impl Tables {
         ensures tables { AreThoseOf (record { entry = entry; payload = payload.now } ∷
             journal.now.records) self.new }
         ensures owners { self.new.owners.items ≡ noted self.old.owners.items
-            (length journal.now.records) entry.process entry.call entry.reply
-            (entry_queue journal.now.records entry.process entry.call payload.now) }
+            (length journal.now.records) entry.process entry.call entry.reply q }
         ensures notice_room { (k : ℕ) →
             room_in self.old.inboxes.items k ≤ room_in self.new.inboxes.items k + 1 }
         ensures pool { IsPooled None self.new }

@@ -4,7 +4,7 @@ use Rattle.mq_model.specs.Record.{Record, Past, Shown}
 use Rattle.mq_model.specs.Owners.{waits_count}
 use Rattle.mq_model.specs.OwnersNoted.{noted}
 use Rattle.mq_model.proofs.LegalReplies.{legal_says}
-use Rattle.mq_state.specs.Tables.{AreAtMost, entry_queue}
+use Rattle.mq_state.specs.Tables.{AreAtMost}
 use Rattle.mq_state.specs.Kept.{HasRoomWithin, notice_room, AreThoseOf}
 use Rattle.mq_model.specs.declared.bounds.Bounds.{Bounds}
 use Rattle.mq_state.proofs.WaitsNoted.{waits-noted}
@@ -20,24 +20,23 @@ push-requires-clause-entry_room c =
     let past = c.args.journal.now.records in
     let e = c.args.entry in
     let count = c.requires.kept.tables.mirror.owner_count in
-    let room = waits-noted past c.args.self.now.owners.items c.requires.kept.tables.mirror.lines e.process e.call e.reply (entry_queue past e.process e.call c.args.payload.now) c.args.journal.now.entry_room (legal_says past (record { entry = e; payload = c.args.payload.now }) c.requires.next) c.requires.next.turn (let le = c.requires.at_most in omega (arith, le, count)) c.requires.entries in
+    let room = waits-noted past c.args.self.now.owners.items c.requires.kept.tables.mirror.lines e.process e.call e.reply c.args.q c.args.journal.now.entry_room (legal_says past (record { entry = e; payload = c.args.payload.now }) c.requires.next) c.requires.next.turn (let le = c.requires.at_most in omega (arith, le, count)) c.requires.entries in
     omega (arith, room)
 
 pub returns-clause-kept : goal.returns-clause-kept
 returns-clause-kept c =
     let past = c.args.journal.now.records in
     let e = c.args.entry in
-    let payload = c.args.payload.now in
     let before = c.args.self.now in
     let after = c.note_next.new.self in
-    let r : Record = record { entry = e; payload = payload } in
+    let r : Record = record { entry = e; payload = c.args.payload.now } in
     let count = c.requires.kept.tables.mirror.owner_count in
     let same : c.whole.result.records ≡ past = ap (λ (j : Shown). j.records) c.whole.ensures in
     let records : c.push.new.self.records ≡ r ∷ past = c.push.ensures.records in
-    let noted_owners : after.owners.items ≡ noted before.owners.items (length past) e.process e.call e.reply (entry_queue past e.process e.call payload) =
-    c.note_next.ensures.owners ∙ ap (λ (xs : Past). noted before.owners.items (length xs) e.process e.call e.reply (entry_queue xs e.process e.call payload)) same in
-    let waits : waits_count after.owners.items ≡ waits_count (noted before.owners.items (length past) e.process e.call e.reply (entry_queue past e.process e.call payload)) = ap waits_count noted_owners in
-    let room = waits-noted past before.owners.items c.requires.kept.tables.mirror.lines e.process e.call e.reply (entry_queue past e.process e.call payload) c.args.journal.now.entry_room (legal_says past r c.requires.next) c.requires.next.turn (let le = c.requires.at_most in omega (arith, le, count)) c.requires.entries in
+    let noted_owners : after.owners.items ≡ noted before.owners.items (length past) e.process e.call e.reply c.args.q =
+    c.note_next.ensures.owners ∙ ap (λ (xs : Past). noted before.owners.items (length xs) e.process e.call e.reply c.args.q) same in
+    let waits : waits_count after.owners.items ≡ waits_count (noted before.owners.items (length past) e.process e.call e.reply c.args.q) = ap waits_count noted_owners in
+    let room = waits-noted past before.owners.items c.requires.kept.tables.mirror.lines e.process e.call e.reply c.args.q c.args.journal.now.entry_room (legal_says past r c.requires.next) c.requires.next.turn (let le = c.requires.at_most in omega (arith, le, count)) c.requires.entries in
     let pushed = c.push.ensures.entry_room in
     let those : AreThoseOf c.push.new.self.records after = subst (λ (xs : Past). AreThoseOf xs after) (ap (λ (xs : Past). r ∷ xs) same ∙ sym records) c.note_next.ensures.tables in
     record {

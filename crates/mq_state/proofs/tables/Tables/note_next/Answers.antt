@@ -1,5 +1,6 @@
 use Rattle.std.proofs.Common.{◌≡◌, ◌∙◌, ◌+◌, ◌≤◌, ◌∷◌, ℕ, List, length, refl, sym, ap, subst, arith, Option, None, vec_len, vec_capacity}
-use Rattle.mq_model.specs.Record.{Record}
+use Rattle.mq_model.specs.Record.{Record, Past}
+use Rattle.mq_model.specs.Legality.{IsLegalNext}
 use Rattle.mq_model.specs.Names.{attributes_given}
 use Rattle.mq_model.specs.Owners.{wait_in, waits_count}
 use Rattle.mq_model.specs.OwnersNoted.{noted}
@@ -25,7 +26,7 @@ use Rattle.mq_state.specs.Tables.{MovesOwnWait, TablesMirror, entry_queue, noted
 use Rattle.mq_state.specs.WaitBits.{KnowWaits, moved_queue, waits_noted}
 use Rattle.mq_state.proofs.Arriving.{line-allows}
 use Rattle.mq_state.proofs.Bounded.{brought-one}
-use Rattle.mq_state.proofs.Moving.{entry-on}
+use Rattle.mq_state.proofs.Moving.{rec, EntryOn, entry-on}
 use Rattle.mq_state.proofs.NoticeRoom.{notice-room-keeps, notice-room-waiting, room-to-notify}
 use Rattle.mq_state.proofs.Pooling.{pooled-waiting}
 use Rattle.mq_state.proofs.Rising.{rising-places}
@@ -34,15 +35,18 @@ use Rattle.mq_state.proofs.WaitsKnown.{waits-known, mirror-waiting}
 use Rattle.mq_state.proofs.WaitsNoted.{length-noted, own-wait}
 use Rattle.mq_state.proofs.tables.Tables.note_next.Goals as goal
 
-allows-alike : (xs ys : List QueueShown) (q k : ℕ) (m n : LineMove) → ys ≡ xs → k ≡ q → n ≡ m → AllowsIn xs q m → AllowsIn ys k n
-allows-alike xs ys q k m n lines queue move allows = rw (lines, queue, move) allows
+allows-alike : (xs ys : List QueueShown) (q : ℕ) (m n : LineMove) → ys ≡ xs → n ≡ m → AllowsIn xs q m → AllowsIn ys q n
+allows-alike xs ys q m n lines move allows = rw (lines, move) allows
 
-noted-alike : (xs ys : List Owner) (p q k here there : ℕ) (call : Call) (reply : Reply) → ys ≡ xs → k ≡ q → there ≡ here → noted ys there p call reply k ≡ noted xs here p call reply q
-noted-alike xs ys p q k here there call reply table queue place = rw (table, queue, place) refl
+noted-alike : (xs ys : List Owner) (p q here there : ℕ) (call : Call) (reply : Reply) → ys ≡ xs → there ≡ here → noted ys there p call reply q ≡ noted xs here p call reply q
+noted-alike xs ys p q here there call reply table place = rw (table, place) refl
 
-lines-alike : (xs ys : List QueueShown) (owners others : List Owner) (o : Option Held) (given : Attr) (q k here there : ℕ) (e : Entry) (m n : Moves) → ys ≡ xs → others ≡ owners → k ≡ q → there ≡ here → n ≡ m →
-    with_fresh o given there (noted_queues others there e k n ys) ≡ with_fresh o given here (noted_queues owners here e q m xs)
-lines-alike xs ys owners others o given q k here there e m n lines table queue place moves = rw (lines, table, queue, place, moves) refl
+lines-alike : (xs ys : List QueueShown) (owners others : List Owner) (o : Option Held) (given : Attr) (q here there : ℕ) (e : Entry) (m n : Moves) → ys ≡ xs → others ≡ owners → there ≡ here → n ≡ m →
+    with_fresh o given there (noted_queues others there e q n ys) ≡ with_fresh o given here (noted_queues owners here e q m xs)
+lines-alike xs ys owners others o given q here there e m n lines table place moves = rw (lines, table, place, moves) refl
+
+on-queue : (past : Past) (p : ℕ) (call : Call) (reply : Reply) (payload : List ℕ) (q : ℕ) → q ≡ entry_queue past p call payload → IsLegalNext past (rec p call reply payload) → EntryOn past p call payload reply q
+on-queue past p call reply payload q is next = subst (EntryOn past p call payload reply) (sym is) (entry-on past p call reply payload next)
 
 pub note_process-requires-clause-numbers : goal.note_process-requires-clause-numbers
 note_process-requires-clause-numbers c = noted-fits c.args.journal.now.records c.args.self.now.owners.items c.requires.tables.mirror.lines c.args.entry.process c.args.entry.call c.args.entry.reply c.args.payload.now c.requires.next.reply
@@ -69,10 +73,9 @@ pub note_queues-requires-clause-allows : goal.note_queues-requires-clause-allows
 note_queues-requires-clause-allows c =
     let past = c.args.journal.now.records in
     let e = c.args.entry in
-    let q = entry_queue past e.process e.call c.args.payload.now in
-    allows-alike c.args.self.now.queues.items c.note_process.new.self.queues.items q c.args.q (line_move past e.call e.reply) c.moves_of-moves.result.line
-    (ap (λ (t : Tables). t.queues.items) c.note_process.ensures.same ∙ ap (λ (t : Tables). t.queues.items) c.note_notices.ensures.same) c.requires.queue (ap (λ (m : Moves). m.line) c.moves_of-moves.ensures)
-    (line-allows past c.requires.tables.legal c.args.self.now.queues.items c.requires.tables.mirror.existing e.process e.call e.reply c.args.payload.now q (entry-on past e.process e.call e.reply c.args.payload.now c.requires.next))
+    allows-alike c.args.self.now.queues.items c.note_process.new.self.queues.items c.args.q (line_move past e.call e.reply) c.moves_of-moves.result.line
+    (ap (λ (t : Tables). t.queues.items) c.note_process.ensures.same ∙ ap (λ (t : Tables). t.queues.items) c.note_notices.ensures.same) (ap (λ (m : Moves). m.line) c.moves_of-moves.ensures)
+    (line-allows past c.requires.tables.legal c.args.self.now.queues.items c.requires.tables.mirror.existing e.process e.call e.reply c.args.payload.now c.args.q (on-queue past e.process e.call e.reply c.args.payload.now c.args.q c.requires.queue c.requires.next))
 
 pub note_queues-requires-clause-rising : goal.note_queues-requires-clause-rising
 note_queues-requires-clause-rising c = subst HaveRisingPlaces (sym (ap (λ (t : Tables). t.queues.items) c.note_process.ensures.same ∙ ap (λ (t : Tables). t.queues.items) c.note_notices.ensures.same)) (rising-places c.args.journal.now.records c.args.self.now.queues.items c.requires.tables.mirror.existing)
@@ -101,7 +104,7 @@ pub returns-clause-owners : goal.returns-clause-owners
 returns-clause-owners c =
     let e = c.args.entry in
     ap (λ (t : Tables). t.owners.items) c.note_waiting.ensures.same ∙ ap (λ (t : Tables). t.owners.items) c.note_queues.ensures.same ∙ c.note_process.ensures.owners
-    ∙ noted-alike c.args.self.now.owners.items c.note_notices.new.self.owners.items e.process (entry_queue c.args.journal.now.records e.process e.call c.args.payload.now) c.args.q (length c.args.journal.now.records) c.len-here.result e.call e.reply (ap (λ (t : Tables). t.owners.items) c.note_notices.ensures.same) c.requires.queue c.len-here.ensures
+    ∙ noted-alike c.args.self.now.owners.items c.note_notices.new.self.owners.items e.process c.args.q (length c.args.journal.now.records) c.len-here.result e.call e.reply (ap (λ (t : Tables). t.owners.items) c.note_notices.ensures.same) c.len-here.ensures
 
 pub returns-clause-notice_room : goal.returns-clause-notice_room
 returns-clause-notice_room c = λ k.
@@ -120,31 +123,29 @@ returns-clause-tables c =
     let asked = c.note_process.new.self in
     let made = c.note_queues.new.self in
     let after = c.note_waiting.new.self in
-    let q = entry_queue past e.process e.call payload in
+    let q = c.args.q in
     let r : Record = record { entry = e; payload = payload } in
     let moves : Moves = moves_of past e.call e.reply in
     let moves_are : c.moves_of-moves.result ≡ moves = c.moves_of-moves.ensures in
-    let on = entry-on past e.process e.call e.reply payload c.requires.next in
+    let on = on-queue past e.process e.call e.reply payload q c.requires.queue c.requires.next in
     let same_owners : made.owners.items ≡ asked.owners.items = ap (λ (t : Tables). t.owners.items) c.note_queues.ensures.same in
     let same_inboxes : made.inboxes.items ≡ told.inboxes.items = ap (λ (t : Tables). t.inboxes.items) c.note_queues.ensures.same ∙ ap (λ (t : Tables). t.inboxes.items) c.note_process.ensures.same in
     let same_n : made.n ≡ before.n = ap (λ (t : Tables). t.n) c.note_queues.ensures.same ∙ ap (λ (t : Tables). t.n) c.note_process.ensures.same ∙ ap (λ (t : Tables). t.n) c.note_notices.ensures.same in
     let old_queues : asked.queues.items ≡ before.queues.items = ap (λ (t : Tables). t.queues.items) c.note_process.ensures.same ∙ ap (λ (t : Tables). t.queues.items) c.note_notices.ensures.same in
     let owners : made.owners.items ≡ noted before.owners.items (length past) e.process e.call e.reply q =
-    same_owners ∙ c.note_process.ensures.owners ∙ noted-alike before.owners.items told.owners.items e.process q c.args.q (length past) c.len-here.result e.call e.reply (ap (λ (t : Tables). t.owners.items) c.note_notices.ensures.same) c.requires.queue c.len-here.ensures in
+    same_owners ∙ c.note_process.ensures.owners ∙ noted-alike before.owners.items told.owners.items e.process q (length past) c.len-here.result e.call e.reply (ap (λ (t : Tables). t.owners.items) c.note_notices.ensures.same) c.len-here.ensures in
     let queues : made.queues.items ≡ with_fresh c.args.fresh (attributes_given e.call) (length past) (noted_queues made.owners.items (length past) e q moves before.queues.items) =
-    c.note_queues.ensures.queues ∙ lines-alike before.queues.items asked.queues.items made.owners.items asked.owners.items c.args.fresh (attributes_given e.call) q c.args.q (length past) c.len-here.result e moves c.moves_of-moves.result old_queues (sym same_owners) c.requires.queue c.len-here.ensures moves_are in
+    c.note_queues.ensures.queues ∙ lines-alike before.queues.items asked.queues.items made.owners.items asked.owners.items c.args.fresh (attributes_given e.call) q (length past) c.len-here.result e moves c.moves_of-moves.result old_queues (sym same_owners) c.len-here.ensures moves_are in
     let inboxes : (k : ℕ) → notices_in made.inboxes.items k ≡ noted_values e.process (registration_in before.queues.items q) moves k (notices_in before.inboxes.items k) =
-    λ k. ap (λ xs. notices_in xs k) same_inboxes ∙ c.note_notices.ensures.inboxes k ∙ ap (λ j. noted_values e.process (registration_in before.queues.items j) c.moves_of-moves.result k (notices_in before.inboxes.items k)) c.requires.queue
-    ∙ ap (λ (m : Moves). noted_values e.process (registration_in before.queues.items q) m k (notices_in before.inboxes.items k)) moves_are in
+    λ k. ap (λ xs. notices_in xs k) same_inboxes ∙ c.note_notices.ensures.inboxes k ∙ ap (λ (m : Moves). noted_values e.process (registration_in before.queues.items q) m k (notices_in before.inboxes.items k)) moves_are in
     let rooms : (k : ℕ) → room_in before.inboxes.items k ≤ room_in made.inboxes.items k + notices_brought (registration_in before.queues.items q) moves.notified k =
-    λ k. let brought : notices_brought (registration_in before.queues.items c.args.q) c.moves_of-moves.result.notified k ≡ notices_brought (registration_in before.queues.items q) moves.notified k =
-    ap (λ j. notices_brought (registration_in before.queues.items j) c.moves_of-moves.result.notified k) c.requires.queue ∙ ap (λ (m : Moves). notices_brought (registration_in before.queues.items q) m.notified k) moves_are in
+    λ k. let brought = ap (λ (m : Moves). notices_brought (registration_in before.queues.items q) m.notified k) moves_are in
     let same : room_in made.inboxes.items k ≡ room_in told.inboxes.items k = ap (λ xs. room_in xs k) same_inboxes in
     let kept = c.note_notices.ensures.notice_room k in
     omega (arith, kept, brought, same) in
     let mirror : TablesMirror (r ∷ past) before.n made.owners.items made.queues.items made.inboxes.items =
     tables-keep past c.requires.tables.legal before.n before.owners.items made.owners.items before.queues.items made.queues.items before.inboxes.items made.inboxes.items c.requires.tables.mirror
-    e.process e.call e.reply payload (vec_len before.queues) (vec_capacity before.queues) c.args.fresh c.requires.next c.requires.at_most c.requires.brings
+    e.process e.call e.reply payload (vec_len before.queues) (vec_capacity before.queues) c.args.fresh q c.requires.next on c.requires.at_most c.requires.brings
     (line-allows past c.requires.tables.legal before.queues.items c.requires.tables.mirror.existing e.process e.call e.reply payload q on)
     (record {
       owners_are = owners;
@@ -157,8 +158,7 @@ returns-clause-tables c =
     (notice-room-keeps past c.requires.tables.legal before.queues.items c.requires.tables.mirror.existing e.process e.call e.reply payload q on before.inboxes.items made.inboxes.items c.requires.tables.notice_room
     rooms c.requires.registration c.args.fresh (attributes_given e.call) made.owners.items moves) in
     let moved : c.moved_queue-moved.result ≡ moved_queue before.owners.items e.process moves.wait q =
-    c.moved_queue-moved.ensures ∙ ap (λ (xs : List Owner). moved_queue xs e.process c.moves_of-moves.result.wait c.args.q) c.deref.ensures.value
-    ∙ ap (moved_queue before.owners.items e.process c.moves_of-moves.result.wait) c.requires.queue ∙ ap (λ (m : Moves). moved_queue before.owners.items e.process m.wait q) moves_are in
+    c.moved_queue-moved.ensures ∙ ap (λ (xs : List Owner). moved_queue xs e.process c.moves_of-moves.result.wait q) c.deref.ensures.value ∙ ap (λ (m : Moves). moved_queue before.owners.items e.process m.wait q) moves_are in
     let lines : after.queues.items ≡ waits_noted (moved_queue before.owners.items e.process moves.wait q) made.owners.items made.queues.items = c.note_waiting.ensures.queues ∙ ap (λ o. waits_noted o made.owners.items made.queues.items) moved in
     let known : KnowWaits made.owners.items after.queues.items = subst (KnowWaits made.owners.items) (sym (lines ∙ ap (waits_noted (moved_queue before.owners.items e.process moves.wait q) made.owners.items) queues))
     (waits-known past c.requires.tables.legal before.owners.items made.owners.items c.requires.tables.mirror.lines e q moves c.args.fresh (attributes_given e.call) before.queues.items
