@@ -12,10 +12,10 @@ ghost use Rattle.c_handles.specs.Handles.{process_in, under_way_in};
 ghost use Rattle.c_handles.specs.Codes.{told, code_of, written, given_code, given, notice_code, notice_given, sent_code, got_code, message_got, attributes_got, end_code, end_message};
 
 use c_handles::handle::Handle;
-use c_handles::numbers;
 use c_handles::requests::{
     Attributes, Message, Moment, Opening, limits, read_name, read_open, registration,
 };
+use c_handles::{numbers, with_member};
 use mq::Call;
 use std::alloc::Global;
 
@@ -142,7 +142,7 @@ pub extern "C" fn yak_exit(alloc: Global, process: &mut Handle) -> u32
     ensures { Gives (λ old new result. Exits old new result) (code_of given_code)
         (process_in process.old) (process_in process.new) result }
 {
-    numbers::done(process.exit(alloc))
+    numbers::done(with_member!(process, alloc, |member| member.exit()))
 }
 
 /// Sends a message, or begins to wait for its admission (`mq_send`).
@@ -158,7 +158,9 @@ pub extern "C" fn yak_start_send(
         OneCall start_send_says old new (Call.MqSend d prio (length bytes.now)) bytes.now result)
         (code_of sent_code) (process_in process.old) (process_in process.new) result }
 {
-    process.start_send(alloc, d, bytes, prio)
+    let len = bytes.len() as u64;
+    let tried = process.make_at_once(alloc, Call::MqSend { d, prio, len }, bytes, &mut []);
+    numbers::sent(tried)
 }
 
 /// The same at the moment `now`, with a deadline (`mq_timedsend`).
@@ -202,7 +204,9 @@ pub extern "C" fn yak_start_receive(
         result) (λ t. told (code_of got_code t) (written (message_got message.old) message.old t))
         (process_in process.old) (process_in process.new) (told result message.new) }
 {
-    process.start_receive(alloc, d, buf, message)
+    let room = buf.len() as u64;
+    let tried = process.make_at_once(alloc, Call::MqReceive { d, room }, &[], buf);
+    numbers::got(tried, message)
 }
 
 /// The same at the moment `now`, with a deadline (`mq_timedreceive`).
@@ -244,7 +248,8 @@ pub extern "C" fn yak_collect(
         (process_in process.old) (process_in process.new) buf.old buf.new
         (told result message.new) }
 {
-    numbers::ended(process.collect(alloc, buf), message)
+    let ending = with_member!(process, alloc, |member| member.collect(buf));
+    numbers::ended(ending, message)
 }
 
 /// Ends the open wait, whose deadline has passed at the moment `now`: as `yak_collect` where it is answered, and else it is withdrawn.
@@ -260,7 +265,9 @@ pub extern "C" fn yak_end_wait(
         told (end_code e) (end_message message.old e)) (process_in process.old)
         (process_in process.new) buf.old buf.new (told result message.new) }
 {
-    numbers::ended(process.end_wait(alloc, buf, now.deadline()), message)
+    let now = now.deadline();
+    let ending = with_member!(process, alloc, |member| member.end_wait(buf, now));
+    numbers::ended(ending, message)
 }
 
 /// Looks from outside the lock whether the open wait is answered, which takes one load.
@@ -270,5 +277,5 @@ pub extern "C" fn yak_answered(alloc: Global, process: &mut Handle) -> u32
         (process_in process.new) result }
     ensures under_way { under_way_in process.new ≡ under_way_in process.old }
 {
-    numbers::looked(process.answered(alloc))
+    numbers::looked(with_member!(process, alloc, |member| member.answered()))
 }

@@ -6,6 +6,7 @@ ghost use Rattle.c_handles.specs.Readings.{Checks, GivesNobody, GivesRoom, Reads
 use crate::handle::Handle;
 use crate::numbers::{DONE, EMPTY, GOES_ON, NO_ENTRY, RETRY, SHORT};
 use crate::requests::Room;
+use crate::with_member;
 use journal_format::line::line_of;
 use mq::{Bounds, Fault};
 use std::alloc::Global;
@@ -15,15 +16,11 @@ use std::alloc::Global;
 pub fn check(alloc: Global, process: &mut Handle) -> u32
     ensures { Checks (process_in process.old) (process_in process.new) result }
 {
-    let Some(mut member) = process.take(alloc) else {
-        return EMPTY;
-    };
-    let checked = member.check(alloc);
-    process.put(member);
-    match checked {
-        Some(Ok(())) => DONE,
-        Some(Err(_)) => unreachable!(),
-        None => RETRY,
+    match with_member!(process, alloc, |member| member.check(alloc)) {
+        None => EMPTY,
+        Some(None) => RETRY,
+        Some(Some(Ok(()))) => DONE,
+        Some(Some(Err(_))) => unreachable!(),
     }
 }
 
@@ -45,16 +42,12 @@ pub fn entry(
           code = result;
         }) }
 {
-    let Some(mut member) = process.take(alloc) else {
-        return EMPTY;
-    };
-    let read = member.record(alloc, place);
-    process.put(member);
-    match read {
-        None => RETRY,
-        Some(Err(_)) => Fault::NoMemory.number(),
-        Some(Ok(None)) => NO_ENTRY,
-        Some(Ok(Some((entry, payload)))) => {
+    match with_member!(process, alloc, |member| member.record(alloc, place)) {
+        None => EMPTY,
+        Some(None) => RETRY,
+        Some(Some(Err(_))) => Fault::NoMemory.number(),
+        Some(Some(Ok(None))) => NO_ENTRY,
+        Some(Some(Ok(Some((entry, payload))))) => {
             match line_of(alloc, place, entry, payload.as_slice()) {
                 Ok(line) => write_line(line.as_bytes(), text, len),
                 Err(_) => Fault::NoMemory.number(),
@@ -84,14 +77,10 @@ fn write_line(line: &[u8], text: &mut [u8], len: &mut usize) -> u32
 pub fn room(alloc: Global, process: &mut Handle, room: &mut Room) -> u32
     ensures { GivesRoom (process_in process.old) (process_in process.new) room.old room.new result }
 {
-    let Some(mut member) = process.take(alloc) else {
-        return EMPTY;
-    };
-    let left = member.room();
-    process.put(member);
-    match left {
-        None => RETRY,
-        Some(left) => {
+    match with_member!(process, alloc, |member| member.room()) {
+        None => EMPTY,
+        Some(None) => RETRY,
+        Some(Some(left)) => {
             *room = room_shown(left);
             DONE
         }
@@ -117,14 +106,10 @@ fn room_shown(left: Option<Bounds>) -> Room
 pub fn nobody_can_call(alloc: Global, process: &mut Handle) -> u32
     ensures { GivesNobody (process_in process.old) (process_in process.new) result }
 {
-    let Some(mut member) = process.take(alloc) else {
-        return EMPTY;
-    };
-    let asked = member.nobody_can_call();
-    process.put(member);
-    match asked {
-        None => RETRY,
-        Some(true) => DONE,
-        Some(false) => GOES_ON,
+    match with_member!(process, alloc, |member| member.nobody_can_call()) {
+        None => EMPTY,
+        Some(None) => RETRY,
+        Some(Some(true)) => DONE,
+        Some(Some(false)) => GOES_ON,
     }
 }
