@@ -82,6 +82,9 @@ pub struct Handle {
     apart: [u64; 12],
 }
 
+// As long as the library takes it to be.
+const _: () = assert!(std::mem::size_of::<Handle>() == 128);
+
 // SAFETY: the header lets a handle go from thread to thread where that is ordered, as a move is. It has no tie to a thread.
 unsafe impl Send for Handle {}
 
