@@ -1,4 +1,5 @@
 use Rattle.std.proofs.Common.{◌≡◌, subst, ℕ, List, take, Result, Ok, Err, IfOk}
+use Rattle.script_runner.specs.Notes.{lines_of}
 use Rattle.script_runner.specs.Runs.{RunsWhole}
 use Rattle.script_text.specs.Script.{Whole, said_script, script_written}
 use Rattle.script_runner.proofs.journal.script_journal.Goals as goal
@@ -15,5 +16,5 @@ pub returns-clause-done : goal.returns-clause-done
 returns-clause-done g c = λ all script known written.
     let text : c.in_ok-text.text.items ≡ take 1048577 all = rw known at c.in_ok-text.ensures.bytes in
     let same = same_script _ _ (take 1048577 all) (said_script c.in_ok-script.script) script text c.as_slice.ensures.value c.in_ok-script.ensures.written written in
-    let ran = ok_so _ (λ journal. (replies : List ℕ) × RunsWhole (said_script c.in_ok-script.script) replies journal.records) c.run_unwritten.result (λ journal done. (done.0, done.1)) c.run_unwritten.ensures.done in
-    subst (λ s. IfOk c.run_unwritten.result (λ journal. (replies : List ℕ) × RunsWhole s replies journal.records)) same ran
+    let ran = ok_so _ (λ journal. (replies : List ℕ) × RunsWhole (said_script c.in_ok-script.script) replies journal.records) c.run_noted.result (λ journal done. (lines_of c.run_noted.new.noted.items, done)) c.run_noted.ensures.done in
+    subst (λ s. IfOk c.run_noted.result (λ journal. (replies : List ℕ) × RunsWhole s replies journal.records)) same ran
