@@ -118,7 +118,7 @@ impl Handle {
         requires brings { Brings call given.now (length buf.old) }
         requires kind { IsOf A.kind call }
         ensures { let kind = A.kind in GivesWith (buf.new ≡ buf.old) (λ old new result.
-            IsCall kind.fills kind.says old new call given.now buf.old buf.new result)
+            IsCall kind.says old new call given.now buf.old buf.new result)
             (λ tried. tried) (process_in self.old) (process_in self.new) result }
     {
         with_member!(self, alloc, |member| member.make(call, given, buf))
@@ -137,7 +137,7 @@ impl Handle {
         requires kind { IsOf A.kind call }
         requires untimed { deadline_of call ≡ None }
         ensures { let kind = A.kind in GivesWith (buf.new ≡ buf.old) (λ old new result.
-            IsCall kind.fills kind.says old new call given.now buf.old buf.new result)
+            IsCall kind.says old new call given.now buf.old buf.new result)
             (λ tried. tried) (process_in self.old) (process_in self.new) result }
     {
         let mut member = self.take(alloc)?;

@@ -76,7 +76,7 @@ impl Member {
         requires brings { Brings call given.now (length buf.old) }
         requires kind { IsOf A.kind call }
         ensures { let kind = A.kind in TriesWith (buf.new ≡ buf.old) (λ old new result.
-            IsCall kind.fills kind.says old new call given.now buf.old buf.new result)
+            IsCall kind.says old new call given.now buf.old buf.new result)
             (ticket_of self.old.standing) (ticket_of self.new.standing) result }
     {
         if waiting(&self.standing).is_some() {
@@ -107,7 +107,7 @@ impl Member {
         ensures none { IfNone result (ticket_of self.new.standing ≡ ticket_of self.old.standing) }
         ensures same { IfNone result (buf.new ≡ buf.old) }
         ensures made { let kind = A.kind in IfSome result (λ returned.
-            IsCall kind.fills kind.says (ticket_of self.old.standing) (ticket_of self.new.standing)
+            IsCall kind.says (ticket_of self.old.standing) (ticket_of self.new.standing)
             call given.now buf.old buf.new returned) }
     {
         if !standing::is_idle(&self.standing) {
