@@ -1,19 +1,20 @@
 -- With bounds there is room for all that they allow.
 use Rattle.std.proofs.Common.{◌≡◌, ◌≢◌, ℕ, ◌+◌, ◌<◌, ◌≤◌, Bool, true, false, ◌||◌, List, [], ◌∷◌, length, Option, Some, None, is_some, Result, Ok, Err, refl, sym, ◌∙◌, ap, subst, arith, ◌⊎◌, inl, inr, if◌then◌else◌, ◌==◌, ◌&&◌, vec_capacity}
-use Rattle.std.specs.Prelude.{nat_lt, IsOk}
+use Rattle.std.specs.Prelude.{nat_lt, IsOk, slice_get}
 use Rattle.std.specs.Result.{is_err}
 use Rattle.mq_model.proofs.Places.{split}
 use Rattle.std.proofs.lemmas.Bool.Decides.{nat_tests}
 use Rattle.mq_model.specs.Record.{Record, Past, Shown, payload_bytes}
 use Rattle.mq_model.specs.Bounds.{open_waits, exceeds, entries_needed, bytes_needed, finds_full, has_entry, HeedsBounds}
 use Rattle.mq_model.specs.Legality.{Appends, reply_to, is_refused, payload_of}
-use Rattle.mq_model.specs.Notices.{notified}
+use Rattle.mq_model.specs.Notices.{notices, notified}
+use Rattle.mq_model.proofs.Cases.{Says, reply_says, OpenReply, DoneReply, AttrsReply}
 use Rattle.mq_model.specs.Ladder.{timed_reply}
 use Rattle.mq_model.specs.declared.bounds.Bounds.{Bounds}
 use Rattle.mq_model.specs.declared.entries.Call.{Call}
-use Rattle.mq_model.specs.declared.entries.Call.TheVariants.{MqSend, MqTimedSend, MqTimedReceive}
+use Rattle.mq_model.specs.declared.entries.Call.TheVariants.{MqOpen, MqClose, MqUnlink, MqSend, MqReceive, MqGetattr, MqSetattr, MqNotify, NextNotice, Collect, MqTimedSend, MqTimedReceive, Withdraw}
 use Rattle.mq_model.specs.declared.entries.Reply.{Reply}
-use Rattle.mq_model.specs.declared.entries.Reply.TheVariants.{Waits, Refused}
+use Rattle.mq_model.specs.declared.entries.Reply.TheVariants.{Waits, Notice, Refused}
 use Rattle.mq_model.specs.declared.entries.Registration.{Registration}
 use Rattle.mq_model.specs.declared.faults.Fault.{Fault}
 use Rattle.mq_model.specs.declared.faults.Fault.TheVariants.{NoMemory, JournalFull}
@@ -26,8 +27,8 @@ use Rattle.mq_state.specs.Tables.{notices_brought}
 use Rattle.mq_slots.specs.Held.{Held}
 use Rattle.mq_state.specs.QueueShown.{QueueShown}
 use Rattle.mq_state.specs.Pool.{IsPooled, PoolWithin}
-use Rattle.mq_state.specs.Requests.{without_deadline}
-use Rattle.mq_state.specs.Kept.{HasRoomWithin, HasNotices, IsKeptBy, IsCalled, IsRoomRefused}
+use Rattle.mq_state.specs.Requests.{without_deadline, IsGiven}
+use Rattle.mq_state.specs.Kept.{HasRoomWithin, HasNotices, IsKeptBy, IsCalled, IsRoomRefused, HasEntryRoom}
 use Rattle.mq_state.specs.declared.tables.Tables.{Tables}
 
 -- the tables count the open waits
@@ -220,10 +221,14 @@ refused-full o entries bytes result fault said room is same other = split (excee
     by (inl ok) = absurd (let bad : Ok tt ≡ Err fault = sym ok ∙ is in cc)
     by (inr want) = absurd (other (let a : result ≡ Err NoMemory = want.0 in let b : fault ≡ said = no-fault fault said same in cc))
 
+-- what is full, by the needs of the call
+pub full-by : (o : Option Bounds) (past : Past) (p : ℕ) (call : Call) (given : List ℕ) (k m : ℕ) → entries_needed call ≡ k → bytes_needed past p call given ≡ m → finds_full o past p call given ≡ exceeds o (length past + open_waits past + k) (payload_bytes past + m)
+full-by o past p call given k m entries bytes = λ i. exceeds o (length past + open_waits past + entries i) (payload_bytes past + bytes i)
+
 -- what a call needs room for, by its reply without its deadline
 pub needs : (o : Option Bounds) (past : Past) (p : ℕ) (call : Call) (given : List ℕ) (plain : Reply) (k m : ℕ) → plain ≡ reply_to past p (without_deadline call) given → k ≡ entries_needed call → m ≡ length (payload_of call plain given) →
     finds_full o past p call given ≡ exceeds o (length past + open_waits past + k) (payload_bytes past + m)
-needs o past p call given plain k m is entries bytes = λ i. exceeds o (length past + open_waits past + sym entries i) (payload_bytes past + (kept call is ∙ sym bytes) i)
+needs o past p call given plain k m is entries bytes = full-by o past p call given k m (sym entries) (kept call is ∙ sym bytes)
   where
     paid : (reply : Reply) → (if is_refused reply then 0 else length given) ≡ length (if is_refused reply then [] else given)
     paid reply = split (is_refused reply) (λ t. rw t refl) (λ f. rw f refl)
@@ -242,3 +247,30 @@ keeps-less past p (MqTimedSend d prio len until now) given plain reply is answer
     less other = omega arith
 keeps-less past p (MqTimedReceive d room until now) given plain reply is answers = omega arith
 keeps-less past p call given plain reply is answers = subst (λ (r : Reply). length (payload_of call r given) ≤ length (payload_of call plain given)) (is ∙ sym answers) (omega arith)
+
+-- that room is enough for the entry of the call with its reply
+pub entry-room : (past : Past) (p : ℕ) (call : Call) (given : List ℕ) (reply : Reply) (w room : ℕ) → reply ≡ reply_to past p call given → IsGiven call given → w + entries_needed call ≤ room → HasEntryRoom reply w room
+entry-room past p call given reply w room answers = by call (subst (Says past p call) (sym answers) (reply_says past p call given))
+  where
+    two : (reply : Reply) → w + 2 ≤ room → HasEntryRoom reply w room
+    two Waits le = le
+    two reply le = omega (arith, le)
+
+    one : (reply : Reply) → (reply ≡ Waits → ⊥) → w + 1 ≤ room → HasEntryRoom reply w room
+    one Waits never le = absurd (never refl)
+    one reply never le = omega (arith, le)
+
+    by : (call : Call) → Says past p call reply → IsGiven call given → w + entries_needed call ≤ room → HasEntryRoom reply w room
+    by (MqSend d prio len) says is le = two reply le
+    by (MqTimedSend d prio len until now) says is le = two reply le
+    by (MqReceive d most) says is le = two reply le
+    by (MqTimedReceive d most until now) says is le = two reply le
+    by (MqOpen flags attr) says is le = one reply (λ e. subst OpenReply e says) le
+    by (MqClose d) says is le = one reply (λ e. subst DoneReply e says.0) le
+    by MqUnlink says is le = one reply (λ e. subst DoneReply e says) le
+    by (MqGetattr d) says is le = one reply (λ e. subst AttrsReply e says) le
+    by (MqSetattr d nonblock) says is le = one reply (λ e. subst AttrsReply e says) le
+    by (MqNotify d value) says is le = one reply (λ e. subst DoneReply e says) le
+    by NextNotice says is le = one reply (λ e. let bad : Waits ≡ Notice (slice_get (notices past p) 0) = sym e ∙ says in cc) le
+    by Collect says is le = absurd is
+    by (Withdraw now) says is le = absurd is

@@ -28,6 +28,7 @@ pub fn put_message(journal: &Journal, place: u64, buf: &mut [u8])
 }
 
 /// Puts the message that a reply gives into the front of the buffer.
+#[inline(always)]
 pub fn fill(journal: &Journal, reply: Reply, buf: &mut [u8])
     requires { Fits journal.now.records reply (length buf.old) }
     ensures { buf.new ≡ filled journal.now.records reply buf.old }

@@ -10,11 +10,11 @@ ghost use Rattle.mq_model.specs.OwnersNoted.{noted};
 ghost use Rattle.mq_state.specs.Buffers.{filled};
 ghost use Rattle.mq_state.specs.Tables.{entry_queue, HasRoomToRegister, BringsOrder, CreatesWithin};
 ghost use Rattle.mq_model.specs.Record.{payload_bytes};
-ghost use Rattle.mq_model.specs.Bounds.{open_waits, exceeds, entries_needed};
+ghost use Rattle.mq_model.specs.Bounds.{open_waits, exceeds, entries_needed, bytes_needed};
 ghost use Rattle.mq_state.specs.Inboxes.{room_in};
 ghost use Rattle.mq_state.specs.Pool.{IsPooled};
 ghost use Rattle.mq_state.specs.Kept.{AreThoseOf, SaysSame, IsKeptBy, HasEntryRoom, MayCall, IsCalled, IsRoomRefused, SparesBytes};
-ghost use Rattle.mq_state.specs.Requests.{Brings, without_deadline};
+ghost use Rattle.mq_state.specs.Requests.{Brings};
 ghost use Rattle.mq_state.specs.Room.{ends_wait};
 
 use crate::prefixes::Prefix;
@@ -281,35 +281,8 @@ impl Tables {
     {
         let past = Prefix::whole(journal);
         let plain = self.plain_reply(&past, p, call, given);
-        let q = self.entry_queue(&past, p, call, given);
-        self.settle(journal, p, call, plain, given, buf, q)
-    }
-
-    // Settles a call on queue q, whose reply without its deadline is this: makes room for its entry, for the bytes that it keeps, and for
-    // what it creates or registers, fills the buffer where it gets a message, and appends its entry.
-    #[inline(always)]
-    fn settle(
-        &mut self,
-        journal: &mut Journal,
-        p: u32,
-        call: Call,
-        plain: Reply,
-        given: &[u8],
-        buf: &mut [u8],
-        q: u64,
-    ) -> Reply
-        requires queue { q ≡ entry_queue journal.old.records p call given.now }
-        requires may_call { MayCall journal.old self.old p }
-        requires brings { Brings call given.now (length buf.old) }
-        requires replies { plain ≡
-            reply_to journal.old.records p (without_deadline call) given.now }
-        ensures called { IsCalled journal.old journal.new self.old self.new p call
-            given.now result }
-        ensures buffer { is_receive call ≡ true →
-            buf.new ≡ filled journal.old.records result buf.old }
-        ensures refused { is_send call ≡ true → SparesBytes journal.old journal.new result }
-    {
         let reply = by_deadline(call, plain);
+        let q = self.entry_queue(&past, p, call, given);
         let most = payload_of(call, plain, given).len();
         let kept = payload_of(call, reply, given).len();
         if let Err(fault) = self.make_room(journal, entries_needed(call), most, kept) {
@@ -328,6 +301,47 @@ impl Tables {
             reply,
         };
         self.record(journal, entry, given, q, fresh);
+        reply
+    }
+
+    // Settles a send or a receive on queue q that needs room for all the bytes that it is given: makes the room, fills the buffer where it
+    // gets a message, and appends its entry.
+    #[inline(always)]
+    fn settle(
+        &mut self,
+        journal: &mut Journal,
+        p: u32,
+        call: Call,
+        reply: Reply,
+        given: &[u8],
+        buf: &mut [u8],
+        q: u64,
+    ) -> Reply
+        requires queue { q ≡ entry_queue journal.old.records p call given.now }
+        requires may_call { MayCall journal.old self.old p }
+        requires brings { Brings call given.now (length buf.old) }
+        requires replies { reply ≡ reply_to journal.old.records p call given.now }
+        requires entries { entries_needed call ≡ 2 }
+        requires bytes { bytes_needed journal.old.records p call given.now ≡ length given.now }
+        requires creates { creates call reply ≡ false }
+        requires registration { HasRoomToRegister self.old.queues.items self.old.inboxes.items
+            p call reply }
+        ensures called { IsCalled journal.old journal.new self.old self.new p call
+            given.now result }
+        ensures buffer { buf.new ≡ filled journal.old.records result buf.old }
+        ensures refused { is_send call ≡ true → SparesBytes journal.old journal.new result }
+    {
+        let kept = payload_of(call, reply, given).len();
+        if let Err(fault) = self.make_room(journal, 2, given.len(), kept) {
+            return Reply::Refused(fault);
+        }
+        buffers::fill(journal, reply, buf);
+        let entry = Entry {
+            process: p,
+            call,
+            reply,
+        };
+        self.record(journal, entry, given, q, None);
         reply
     }
 
@@ -415,8 +429,7 @@ impl Tables {
     }
 
     // The slots of the queue that an open creates, if it creates one, with bounds spare ones, and a place for the queue.
-    #[inline(always)]
-    pub(crate) fn fresh_slots(
+    fn fresh_slots(
         &mut self,
         call: Call,
         reply: Reply,
@@ -454,8 +467,7 @@ impl Tables {
 
     // Makes room for the notice of the registration that a call of process p makes: for one from each queue, since at most
     // one registration stands on each.
-    #[inline(always)]
-    pub(crate) fn make_notice_room(
+    fn make_notice_room(
         &mut self,
         p: u32,
         call: Call,
