@@ -429,11 +429,7 @@ impl Tables {
     }
 
     // The slots of the queue that an open creates, if it creates one, with bounds spare ones, and a place for the queue.
-    fn fresh_slots(
-        &mut self,
-        call: Call,
-        reply: Reply,
-    ) -> Result<Option<Slots>, AllocError>
+    fn fresh_slots(&mut self, call: Call, reply: Reply) -> Result<Option<Slots>, AllocError>
         requires pool { IsPooled None self.old }
         requires within { CreatesWithin call reply }
         requires few { creates call reply ≡ true → vec_len self.old.queues < 64 }
@@ -467,12 +463,7 @@ impl Tables {
 
     // Makes room for the notice of the registration that a call of process p makes: for one from each queue, since at most
     // one registration stands on each.
-    fn make_notice_room(
-        &mut self,
-        p: u32,
-        call: Call,
-        reply: Reply,
-    ) -> Result<(), AllocError>
+    fn make_notice_room(&mut self, p: u32, call: Call, reply: Reply) -> Result<(), AllocError>
         requires pool { IsPooled None self.old }
         requires process { p < length self.old.inboxes.items }
         ensures same { SaysSame self.old self.new }
