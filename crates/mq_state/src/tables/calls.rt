@@ -1,6 +1,5 @@
 //! The calls: each makes room, decides its reply, and appends its entry, which the tables note.
-ghost use Rattle.std.specs.Prelude.{◌≡◌, ◌≢◌, ◌<◌, ◌≤◌, ◌+◌, ◌-◌, ◌^◌, IfOk, IfSome, IsSome, OnOk, OnErr, Err, IsTrue, Some, None, true, false, ℕ, length, [], ◌∷◌, is_some, vec_len, vec_capacity, if◌then◌else◌};
-ghost use Rattle.mq_model.specs.Name.{is_name};
+ghost use Rattle.std.specs.Prelude.{◌≡◌, ◌<◌, ◌≤◌, ◌+◌, ◌^◌, IfOk, OnOk, OnErr, Err, IsTrue, Some, None, true, false, ℕ, length, [], ◌∷◌, vec_len, vec_capacity};
 ghost use Rattle.mq_model.specs.Names.{creates};
 ghost use Rattle.mq_model.specs.Legality.{Appends, reply_to, may_call, is_payload, payload_of, IsLegalNext};
 ghost use Rattle.std.specs.Option.{option_map};
