@@ -1,6 +1,0 @@
-use Rattle.c_handles.proofs.Giving.{gives}
-use Rattle.c_handles.specs.Codes.{code_of, given_code}
-use Rattle.c_exports.proofs.exports.yak_exit.Goals as goal
-
-pub returns : goal.returns
-returns c = gives _ _ (code_of given_code) _ _ _ _ c.«exit».ensures c.done.ensures
