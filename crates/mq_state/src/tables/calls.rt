@@ -366,9 +366,27 @@ impl Tables {
         }
     }
 
-    // Between a send and `make`, so that there is no place for the call and the reply of that where it is not called.
+    // Between a send and `send_apart`, so that there is no place for the reply of that where it is not called.
     #[inline(always)]
     fn other_send(
+        &mut self,
+        journal: &mut Journal,
+        p: u32,
+        d: u32,
+        bytes: &[u8],
+        prio: u32,
+    ) -> Reply
+        requires { MayCall journal.old self.old p }
+        ensures called { IsCalled journal.old journal.new self.old self.new p
+            (Call.MqSend d prio (length bytes.now)) bytes.now result }
+        ensures refused { SparesBytes journal.old journal.new result }
+    {
+        self.send_apart(journal, p, d, bytes, prio)
+    }
+
+    // Any send without a deadline: where its call is built the usual send has no place for it.
+    #[inline(never)]
+    fn send_apart(
         &mut self,
         journal: &mut Journal,
         p: u32,
@@ -415,9 +433,20 @@ impl Tables {
         }
     }
 
-    // Between a receive and `make`, in the same way.
+    // Between a receive and `receive_apart`, in the same way.
     #[inline(always)]
     fn other_receive(&mut self, journal: &mut Journal, p: u32, d: u32, buf: &mut [u8]) -> Reply
+        requires { MayCall journal.old self.old p }
+        ensures called { IsCalled journal.old journal.new self.old self.new p
+            (Call.MqReceive d (length buf.old)) [] result }
+        ensures buffer { buf.new ≡ filled journal.old.records result buf.old }
+    {
+        self.receive_apart(journal, p, d, buf)
+    }
+
+    // Any receive without a deadline.
+    #[inline(never)]
+    fn receive_apart(&mut self, journal: &mut Journal, p: u32, d: u32, buf: &mut [u8]) -> Reply
         requires { MayCall journal.old self.old p }
         ensures called { IsCalled journal.old journal.new self.old self.new p
             (Call.MqReceive d (length buf.old)) [] result }
