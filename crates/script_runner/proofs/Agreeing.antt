@@ -37,19 +37,6 @@ looks-later (a ∷ old) [] new first later = absurd first
 looks-later (a ∷ old) (b ∷ mid) [] first later = absurd later
 looks-later (a ∷ old) (b ∷ mid) (c ∷ new) first later = (calls-later first.0 later.0, looks-later old mid new first.1 later.1)
 
-find-later : (n : ℕ) (old mid new : List (Ticket Record)) → AllLook old mid → AllZip (FindsLength n) mid new → AllZip (FindsLength n) old new
-find-later n [] [] [] first found = tt
-find-later n [] [] (c ∷ new) first found = absurd found
-find-later n [] (b ∷ mid) new first found = absurd first
-find-later n (a ∷ old) [] new first found = absurd first
-find-later n (a ∷ old) (b ∷ mid) [] first found = absurd found
-find-later n (a ∷ old) (b ∷ mid) (c ∷ new) first found =
-    (record { calls = calls-later first.0 found.0.calls; count = found.0.count }, find-later n old mid new first.1 found.1)
-
--- a meeting after a look
-pub meet-later : (old mid new : List (Ticket Record)) → AllLook old mid → Meet mid new → Meet old new
-meet-later old mid new first m = record { n = m.n; found = find-later m.n old mid new first m.found }
-
 -- the processes of a phase that has ended are of the system
 pub workers-made : (mq : LockId) (shares : List (Share (Ticket Record))) (workers : List (Worked (Ticket Record))) → AllWorkOff shares workers → All (λ share. IsReady mq share.process) shares → All (λ worked. worked.process.lock ≡ mq) workers
 workers-made mq shares workers off ready =
@@ -122,6 +109,9 @@ blocked-met blocked n [] [] found = tt
 blocked-met blocked n [] (b ∷ new) found = absurd found
 blocked-met blocked n (a ∷ old) [] found = absurd found
 blocked-met blocked n (a ∷ old) (b ∷ new) found = (found.0.length, blocked-met blocked n old new found.1)
+
+pub stand-meets : {blocked : List ℕ} {old new : List (Ticket Record)} → MeetBlocked blocked old new → Meet old new
+stand-meets {blocked} {old} {new} m = record { n = m.n; found = blocked-met blocked m.n old new m.found }
 
 pub blocked-are : (blocked : List ℕ) (n : ℕ) (old new : List (Ticket Record)) → AllZip (FindsBlocked blocked n) old new → All (λ (process : Ticket Record). list_all (is_blocked process.left) blocked ≡ true) new
 blocked-are blocked n [] [] found = All-nil (λ (process : Ticket Record). list_all (is_blocked process.left) blocked ≡ true)

@@ -2,7 +2,7 @@
 ghost use Rattle.std.specs.Prelude.{◌≡◌, [], IfOk, map, true};
 ghost use Rattle.std.specs.List.{All, AllZip};
 ghost use Rattle.mq.specs.Calls.{Calls};
-ghost use Rattle.script_runner.specs.Meeting.{AllLook, FindsBlocked, Meet, MeetBlocked};
+ghost use Rattle.script_runner.specs.Meeting.{AllLook, FindsBlocked, MeetBlocked};
 ghost use Rattle.script_runner.specs.Runs.{FindsLength};
 
 use crate::deal::processes_of;
@@ -12,74 +12,9 @@ use mq::{Guarded, Mq, Process};
 use std::alloc::{AllocError, Global};
 use std::sync::Wait;
 
-/// The processes of a phase that has ended. Each has come in once more, and all found as many entries in the journal.
+/// The processes of a phase that has ended, or come to a stand. Each has come in once more, and all found a journal of one length, in which
+/// these are blocked.
 pub fn meet<L: Look<Guarded>, R: Wait>(
-    rt: &R,
-    alloc: Global,
-    mq: &Mq<L>,
-    workers: Vec<Worked<Process<L>>>,
-) -> Result<Vec<Process<L>>, AllocError>
-    requires { All (λ worked. worked.process.lock ≡ mq.now) workers.items }
-    ensures { IfOk result (λ processes.
-        Meet (map (λ worked. worked.process) workers.items) processes.items) }
-{
-    let mut processes = processes_of(alloc, workers)?;
-    find_one_length(rt, mq, processes.as_mut_slice());
-    Ok(processes)
-}
-
-// All processes ask how many entries the journal has, until they find as many. They do at the first question: nobody calls any more.
-fn find_one_length<L: Look<Guarded>, R: Wait>(rt: &R, mq: &Mq<L>, processes: &mut [Process<L>])
-    requires { All (λ process. process.lock ≡ mq.now) processes.old }
-    ensures { Meet processes.old processes.new }
-{
-    let mut agree = find_as_many(rt, mq, processes);
-    'questions: for _ in rt.forever() {
-        if agree {
-            break;
-        }
-        agree = find_as_many(rt, mq, processes);
-    }
-}
-
-// Whether all find as many entries as the first one.
-fn find_as_many<L: Look<Guarded>, R: Wait>(rt: &R, mq: &Mq<L>, processes: &mut [Process<L>]) -> bool
-    requires { All (λ process. process.lock ≡ mq.now) processes.old }
-    ensures looked { AllLook processes.old processes.new }
-    ensures agree { result ≡ true → Meet processes.old processes.new }
-{
-    match processes.split_first_mut() {
-        None => true,
-        Some((first, others)) => {
-            let count = first.journal_len(rt, mq);
-            all_find(rt, mq, others, count)
-        }
-    }
-}
-
-// Whether all find so many entries.
-fn all_find<L: Look<Guarded>, R: Wait>(
-    rt: &R,
-    mq: &Mq<L>,
-    processes: &mut [Process<L>],
-    count: u64,
-) -> bool
-    requires { All (λ process. process.lock ≡ mq.now) processes.old }
-    ensures looked { AllLook processes.old processes.new }
-    ensures agree { result ≡ true → AllZip (FindsLength count) processes.old processes.new }
-{
-    match processes.split_first_mut() {
-        None => true,
-        Some((process, others)) => {
-            let finds = process.journal_len(rt, mq) == count;
-            all_find(rt, mq, others, count) && finds
-        }
-    }
-}
-
-/// The processes of a phase that came to a stand. Each has come in once more, and all found a journal of one length, in which these are
-/// blocked.
-pub fn meet_blocked<L: Look<Guarded>, R: Wait>(
     rt: &R,
     alloc: Global,
     mq: &Mq<L>,

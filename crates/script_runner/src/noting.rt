@@ -118,6 +118,6 @@ where
     let workers = make_calls(rt, alloc, mq, gate, shares)?;
     note_all(alloc, noted, &workers)?;
     let workers = settled(rt, alloc, mq, workers)?;
-    let processes = meet(rt, alloc, mq, workers)?;
+    let processes = meet(rt, alloc, mq, workers, &[])?;
     Ok(processes)
 }

@@ -289,7 +289,7 @@ where
     let shares = shares_of(alloc, processes, calls)?;
     let workers = run_phase(rt, alloc, mq, gate, shares)?;
     let text = text_of(alloc, workers.as_slice())?;
-    let processes = meet(rt, alloc, mq, workers)?;
+    let processes = meet(rt, alloc, mq, workers, &[])?;
     Ok((processes, text))
 }
 

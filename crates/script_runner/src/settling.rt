@@ -3,7 +3,7 @@ ghost use Rattle.std.specs.Prelude.{◌≡◌, [], IfErr, IfOk};
 ghost use Rattle.std.specs.List.{All};
 ghost use Rattle.script_runner.specs.Stands.{EndsStuck, blocked_lines, blocked_processes};
 
-use crate::meeting::meet_blocked;
+use crate::meeting::meet;
 use crate::stop::Stop;
 use crate::turns::Worked;
 use fast_mutex::Look;
@@ -29,7 +29,7 @@ pub fn settled<L: Look<Guarded>, R: Wait>(
         return Ok(workers);
     }
     let blocked = blocked_of(alloc, &workers)?;
-    let processes = meet_blocked(rt, alloc, mq, workers, &blocked)?;
+    let processes = meet(rt, alloc, mq, workers, &blocked)?;
     Err(Stop::Stuck { processes, lines })
 }
 

@@ -5,7 +5,7 @@ use Rattle.script_runner.specs.Notes.{lines_of}
 use Rattle.script_runner.specs.Phase.{AllWorkOff, AreReady, text_in}
 use Rattle.script_runner.specs.Runs.{IsReady}
 use Rattle.script_text.specs.Script.{said_calls}
-use Rattle.script_runner.proofs.Agreeing.{met-count, met-ready, workers-made}
+use Rattle.script_runner.proofs.Agreeing.{met-count, met-ready, stand-meets, workers-made}
 use Rattle.script_runner.proofs.Standing.{all-made, all-through}
 use Rattle.script_runner.proofs.Taking.{all-unmap}
 use Rattle.script_runner.proofs.Working.{phase-done, same-lengths}
@@ -34,14 +34,14 @@ returns-clause-ready g c =
     let mq = c.args.mq.now in let shares = c.in_ok-shares.shares.items in let workers = c.in_ok-workers-2.workers.items in
     let off : AllWorkOff shares workers = subst (λ ws. AllWorkOff shares ws) (sym c.in_ok-workers-2.ensures.through.0) (all-through shares c.in_ok-workers.workers.items c.in_ok-workers.ensures c.in_ok-workers-2.ensures.through.1) in
     let ready = all-unmap (IsReady mq) (λ share. share.process) shares (All-same (IsReady mq) (map (λ share. share.process) shares) c.args.processes.items c.in_ok-shares.ensures.processes c.requires) in
-    met-ready mq shares workers c.in_ok-processes.processes.items off ready c.in_ok-processes.ensures
+    met-ready mq shares workers c.in_ok-processes.processes.items off ready (stand-meets c.in_ok-processes.ensures)
 
 pub returns-clause-count : goal.returns-clause-count
 returns-clause-count g c =
     let shares = c.in_ok-shares.shares.items in let workers = c.in_ok-workers-2.workers.items in let ended = map (λ worked. worked.process) workers in
     let off : AllWorkOff shares workers = subst (λ ws. AllWorkOff shares ws) (sym c.in_ok-workers-2.ensures.through.0) (all-through shares c.in_ok-workers.workers.items c.in_ok-workers.ensures c.in_ok-workers-2.ensures.through.1) in
     let same : length c.in_ok-processes.processes.items ≡ length c.args.processes.items =
-    met-count ended c.in_ok-processes.processes.items c.in_ok-processes.ensures
+    met-count ended c.in_ok-processes.processes.items (stand-meets c.in_ok-processes.ensures)
     ∙ same-lengths shares workers c.args.processes.items ended off c.in_ok-shares.ensures.processes refl in
     grind (arith, common_steps)
 
@@ -55,7 +55,7 @@ returns-clause-ran g c =
       record {
         ended = ended;
         ran = phase-done (said_calls c.args.calls.now) shares workers c.args.processes.items ended (text_in workers) off c.in_ok-shares.ensures.calls c.in_ok-shares.ensures.processes refl refl;
-        met = c.in_ok-processes.ensures;
+        met = stand-meets c.in_ok-processes.ensures;
       },
       noted ∙ ap (λ ws. lines_of c.args.noted.now.items ++ text_in ws) (sym c.in_ok-workers-2.ensures.through.0),
     )

@@ -5,7 +5,7 @@ use Rattle.script_runner.specs.Phase.{EndsEarly, text_in}
 use Rattle.script_runner.specs.Runs.{IsReady}
 use Rattle.script_text.specs.Script.{said_calls}
 use Rattle.script_runner.specs.declared.stop.Stop.TheVariants.{Stuck}
-use Rattle.script_runner.proofs.Agreeing.{met-count, met-ready, workers-made}
+use Rattle.script_runner.proofs.Agreeing.{met-count, met-ready, stand-meets, workers-made}
 use Rattle.script_runner.proofs.Standing.{early-unwritten, phase-stands, stop-same}
 use Rattle.script_runner.proofs.Taking.{all-unmap}
 use Rattle.script_runner.proofs.Working.{phase-done, same-lengths}
@@ -26,13 +26,13 @@ pub returns-clause-ready : goal.returns-clause-ready
 returns-clause-ready g c =
     let mq = c.args.mq.now in let shares = c.in_ok-shares.shares.items in
     let ready = all-unmap (IsReady mq) (λ share. share.process) shares (All-same (IsReady mq) (map (λ share. share.process) shares) c.args.processes.items c.in_ok-shares.ensures.processes c.requires) in
-    met-ready mq shares c.in_ok-workers.workers.items c.in_ok-processes.processes.items c.in_ok-workers.ensures.through ready c.in_ok-processes.ensures
+    met-ready mq shares c.in_ok-workers.workers.items c.in_ok-processes.processes.items c.in_ok-workers.ensures.through ready (stand-meets c.in_ok-processes.ensures)
 
 pub returns-clause-count : goal.returns-clause-count
 returns-clause-count g c =
     let workers = c.in_ok-workers.workers.items in let ended = map (λ worked. worked.process) workers in
     let same : length c.in_ok-processes.processes.items ≡ length c.args.processes.items =
-    met-count ended c.in_ok-processes.processes.items c.in_ok-processes.ensures
+    met-count ended c.in_ok-processes.processes.items (stand-meets c.in_ok-processes.ensures)
     ∙ same-lengths c.in_ok-shares.shares.items workers c.args.processes.items ended c.in_ok-workers.ensures.through c.in_ok-shares.ensures.processes refl in
     grind (arith, common_steps)
 
@@ -44,7 +44,7 @@ returns-clause-ran g c =
     record {
       ended = ended;
       ran = phase-done (said_calls c.args.calls.now) shares workers c.args.processes.items ended text c.in_ok-workers.ensures.through c.in_ok-shares.ensures.calls c.in_ok-shares.ensures.processes refl is;
-      met = c.in_ok-processes.ensures;
+      met = stand-meets c.in_ok-processes.ensures;
     }
 
 pub returns-in_err-workers-clause-deadlock : goal.returns-in_err-workers-clause-deadlock
