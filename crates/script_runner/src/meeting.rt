@@ -3,7 +3,6 @@ ghost use Rattle.std.specs.Prelude.{◌≡◌, [], IfOk, map, true};
 ghost use Rattle.std.specs.List.{All, AllZip};
 ghost use Rattle.mq.specs.Calls.{Calls};
 ghost use Rattle.script_runner.specs.Meeting.{AllLook, FindsBlocked, MeetBlocked};
-ghost use Rattle.script_runner.specs.Runs.{FindsLength};
 
 use crate::deal::processes_of;
 use crate::turns::Worked;
