@@ -158,9 +158,7 @@ pub extern "C" fn yak_start_send(
         OneCall start_send_says old new (Call.MqSend d prio (length bytes.now)) bytes.now result)
         (code_of sent_code) (process_in process.old) (process_in process.new) result }
 {
-    let len = bytes.len() as u64;
-    let tried = process.make_at_once(alloc, Call::MqSend { d, prio, len }, bytes, &mut []);
-    numbers::sent(tried)
+    process.start_send(alloc, d, bytes, prio)
 }
 
 /// The same at the moment `now`, with a deadline (`mq_timedsend`).
@@ -204,9 +202,7 @@ pub extern "C" fn yak_start_receive(
         result) (λ t. told (code_of got_code t) (written (message_got message.old) message.old t))
         (process_in process.old) (process_in process.new) (told result message.new) }
 {
-    let room = buf.len() as u64;
-    let tried = process.make_at_once(alloc, Call::MqReceive { d, room }, &[], buf);
-    numbers::got(tried, message)
+    process.start_receive(alloc, d, buf, message)
 }
 
 /// The same at the moment `now`, with a deadline (`mq_timedreceive`).

@@ -1,11 +1,8 @@
 -- What a member keeps.
-use Rattle.std.proofs.Common.{◌≡◌, ℕ, ◌==◌, true, [], ◌∷◌, Option, Some, None, is_some, IsSome, refl, ap, ◌∙◌, sym}
+use Rattle.std.proofs.Common.{◌≡◌, ℕ, ◌==◌, true, [], ◌∷◌, Option, Some, None, is_some, refl, ap, ◌∙◌, sym}
 use Rattle.fast_mutex.specs.Items.{Ticket}
 use Rattle.mq_model.specs.declared.entries.Deadline.{Deadline}
-use Rattle.mq_model.specs.Deadlines.{deadline_of}
-use Rattle.mq_model.specs.declared.entries.Call.{Call}
-use Rattle.mq_state.specs.Buffers.{waiting_room}
-use Rattle.mq.specs.Calls.{Calls, WaitsIn}
+use Rattle.mq.specs.Calls.{Calls}
 use Rattle.mq.proofs.Others.{deadline-grown}
 use Rattle.mq_model.specs.Record.{Record, Past}
 use Rattle.mq_model.specs.Waits.{open_wait, wait_deadline, is_wait}
@@ -23,16 +20,6 @@ no_deadline (r ∷ past) p e = split (r.entry.process == p)
     (λ waits. absurd (let bad = rw (own, waits) at e in cc))
     (λ other. rw (own, other) refl))
     (λ others. let rest : open_wait past p ≡ None = rw others at e in rw others (no_deadline past p rest))
-
--- nor after a call without one
-pub untimed : (t : Ticket Record) (call : Call) → deadline_of call ≡ None → (IsSome (waiting_room t.left t.number) → WaitsIn t call) → wait_deadline t.left t.number ≡ None
-untimed t call none begun = by (open_wait t.left t.number) refl
-  where
-    by : (o : Option ℕ) → open_wait t.left t.number ≡ o → wait_deadline t.left t.number ≡ None
-    by None is = no_deadline t.left t.number is
-    by (Some w) is =
-        let waits : IsSome (waiting_room t.left t.number) = rw is refl in
-        (begun waits).deadline ∙ none
 
 -- what leaves no record of the process leaves its deadline
 pub same_deadline : (old new t : Ticket Record) (until : Option Deadline) → Calls old new [] → old ≡ t → until ≡ wait_deadline t.left t.number → until ≡ wait_deadline new.left new.number

@@ -2,9 +2,11 @@
 ghost use Rattle.std.specs.Prelude.{◌≡◌, is_some};
 
 use crate::member::Member;
+use crate::numbers::EMPTY;
+use crate::requests::Message;
 use crate::seal::Seal;
 use crate::tried::Tried;
-use crate::with_member;
+use crate::{numbers, with_member};
 use mq::{Call, Returned};
 use std::alloc::Global;
 use std::ptr::null;
@@ -101,13 +103,15 @@ macro_rules! with_member {
 impl Handle {
     ghost use Rattle.std.specs.Prelude.{◌≡◌, None, length};
     ghost use Rattle.mq_state.specs.Requests.{Brings};
-    ghost use Rattle.mq_model.specs.Deadlines.{deadline_of};
+    ghost use Rattle.mq_model.specs.declared.entries.Call.{Call};
+    ghost use Rattle.mq.specs.Calls.{OneCall, ReceiveCall};
+    ghost use Rattle.mq.specs.Says.{start_send_says, start_receive_says};
     ghost use Rattle.mq.specs.Kinds.{IsOf, IsCall};
     ghost use Rattle.c_handles.specs.Handles.{process_in};
-    ghost use Rattle.c_handles.specs.Tries.{GivesWith};
+    ghost use Rattle.c_handles.specs.Tries.{Gives, GivesWith};
+    ghost use Rattle.c_handles.specs.Codes.{told, code_of, written, sent_code, got_code, message_got};
 
     /// As [`Member::make`], where there is a member.
-    #[inline(never)]
     pub fn make<A: Returned>(
         &mut self,
         alloc: Global,
@@ -124,28 +128,73 @@ impl Handle {
         with_member!(self, alloc, |member| member.make(call, given, buf))
     }
 
-    /// The same of a call without a deadline, by [`Member::make_at_once`] first: of a call that is made often.
+    /// Tries to send: the number of what [`make`](Handle::make) would come to.
     #[inline(always)]
-    pub fn make_at_once<A: Returned>(
+    pub fn start_send(&mut self, alloc: Global, d: u32, bytes: &[u8], prio: u32) -> u32
+        ensures { Gives (λ old new result.
+            OneCall start_send_says old new (Call.MqSend d prio (length bytes.now)) bytes.now
+            result) (code_of sent_code) (process_in self.old) (process_in self.new) result }
+    {
+        let Some(mut member) = self.take(alloc) else {
+            return EMPTY;
+        };
+        let sent = member.send_at_once(d, bytes, prio);
+        self.put(member);
+        match sent {
+            Some(tried) => numbers::sent(Some(tried)),
+            None => self.send_apart(alloc, d, bytes, prio),
+        }
+    }
+
+    // The same of any process.
+    #[inline(never)]
+    fn send_apart(&mut self, alloc: Global, d: u32, bytes: &[u8], prio: u32) -> u32
+        ensures { Gives (λ old new result.
+            OneCall start_send_says old new (Call.MqSend d prio (length bytes.now)) bytes.now
+            result) (code_of sent_code) (process_in self.old) (process_in self.new) result }
+    {
+        let len = bytes.len() as u64;
+        let tried = self.make(alloc, Call::MqSend { d, prio, len }, bytes, &mut []);
+        numbers::sent(tried)
+    }
+
+    /// Tries to receive, in the same way, and writes what it got.
+    #[inline(always)]
+    pub fn start_receive(
         &mut self,
         alloc: Global,
-        call: Call,
-        given: &[u8],
+        d: u32,
         buf: &mut [u8],
-    ) -> Option<Tried<A>>
-        requires brings { Brings call given.now (length buf.old) }
-        requires kind { IsOf A.kind call }
-        requires untimed { deadline_of call ≡ None }
-        ensures { let kind = A.kind in GivesWith (buf.new ≡ buf.old) (λ old new result.
-            IsCall kind.says old new call given.now buf.old buf.new result)
-            (λ tried. tried) (process_in self.old) (process_in self.new) result }
+        message: &mut Message,
+    ) -> u32
+        ensures { GivesWith (buf.new ≡ buf.old) (λ old new result.
+            ReceiveCall start_receive_says old new (Call.MqReceive d (length buf.old)) buf.old
+            buf.new result) (λ t.
+            told (code_of got_code t) (written (message_got message.old) message.old t))
+            (process_in self.old) (process_in self.new) (told result message.new) }
     {
-        let mut member = self.take(alloc)?;
-        let made = member.make_at_once(call, given, buf);
+        let Some(mut member) = self.take(alloc) else {
+            return EMPTY;
+        };
+        let got = member.receive_at_once(d, buf);
         self.put(member);
-        match made {
-            Some(returned) => Some(Tried::Made(returned)),
-            None => self.make(alloc, call, given, buf),
+        match got {
+            Some(tried) => numbers::got(Some(tried), message),
+            None => self.receive_apart(alloc, d, buf, message),
         }
+    }
+
+    // The same of any process.
+    #[inline(never)]
+    fn receive_apart(&mut self, alloc: Global, d: u32, buf: &mut [u8], message: &mut Message) -> u32
+        ensures { GivesWith (buf.new ≡ buf.old) (λ old new result.
+            ReceiveCall start_receive_says old new (Call.MqReceive d (length buf.old)) buf.old
+            buf.new result) (λ t.
+            told (code_of got_code t) (written (message_got message.old) message.old t))
+            (process_in self.old) (process_in self.new) (told result message.new) }
+    {
+        let room = buf.len() as u64;
+        let tried = self.make(alloc, Call::MqReceive { d, room }, &[], buf);
+        numbers::got(tried, message)
     }
 }

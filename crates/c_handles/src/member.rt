@@ -9,7 +9,7 @@ ghost use Rattle.c_handles.specs.Standings.{ticket_of, is_there};
 use crate::standing;
 use crate::standing::{Standing, arrive, at_rest, look, set_out, settle, waiting, walk_on};
 use crate::tried::{Ending, Looked, Tried};
-use mq::{Bounds, Call, Deadline, Entry, FastMq, FastProcess, Fault, Returned};
+use mq::{Bounds, Call, Deadline, Entry, FastMq, FastProcess, Fault, Received, Returned};
 use mq_model::ladder;
 use std::alloc::{AllocError, Global};
 use std::sync::Arc;
@@ -27,12 +27,13 @@ pub struct Member {
 }
 
 impl Member {
-    ghost use Rattle.std.specs.Prelude.{◌≡◌, None, IfNone, IfSome, [], length};
+    ghost use Rattle.std.specs.Prelude.{◌≡◌, IfNone, IfSome, [], length};
     ghost use Rattle.std.specs.Arc.{arc_value};
     ghost use Rattle.mq_state.specs.Requests.{Brings};
-    ghost use Rattle.mq_model.specs.Deadlines.{deadline_of};
-    ghost use Rattle.mq.specs.Calls.{Exits};
+    ghost use Rattle.mq_model.specs.declared.entries.Call.{Call};
+    ghost use Rattle.mq.specs.Calls.{Exits, OneCall, ReceiveCall};
     ghost use Rattle.mq.specs.Kinds.{IsOf, IsCall};
+    ghost use Rattle.mq.specs.Says.{start_send_says, start_receive_says};
     ghost use Rattle.c_handles.specs.Standings.{ticket_of};
     ghost use Rattle.c_handles.specs.Tries.{Tries, TriesWith};
 
@@ -91,33 +92,63 @@ impl Member {
         Tried::Made(returned)
     }
 
-    /// Makes a call without a deadline, where its process is at rest without an open wait and meets nobody on its way in: so the compiler
+    /// Tries to send, as [`make`](Member::make), where its process is at rest without an open wait and meets nobody on its way in: so the compiler
     /// knows each step. Else `None`, and the process is perhaps on its way.
-    #[tactic(auto, using(crate::proofs::Members::no_deadline, crate::proofs::Members::untimed))]
+    #[tactic(auto, using(crate::proofs::Members::no_deadline))]
     #[inline(always)]
-    pub fn make_at_once<A: Returned>(
+    pub fn send_at_once(
         &mut self,
-        call: Call,
-        given: &[u8],
-        buf: &mut [u8],
-    ) -> Option<A>
-        requires brings { Brings call given.now (length buf.old) }
-        requires kind { IsOf A.kind call }
-        requires untimed { deadline_of call ≡ None }
+        d: u32,
+        bytes: &[u8],
+        prio: u32,
+    ) -> Option<Tried<Result<bool, Fault>>>
         ensures none { IfNone result (ticket_of self.new.standing ≡ ticket_of self.old.standing) }
-        ensures same { IfNone result (buf.new ≡ buf.old) }
-        ensures made { let kind = A.kind in IfSome result (λ returned.
-            IsCall kind.says (ticket_of self.old.standing) (ticket_of self.new.standing)
-            call given.now buf.old buf.new returned) }
+        ensures sent { IfSome result (λ tried. Tries (λ old new result.
+            OneCall start_send_says old new (Call.MqSend d prio (length bytes.now)) bytes.now
+            result) (ticket_of self.old.standing) (ticket_of self.new.standing) tried) }
     {
         if !standing::is_idle(&self.standing) {
             return None;
         }
         match set_out(&self.mq, &mut self.standing) {
             Ok(arrived) => {
-                let (process, returned) = arrived.make(&self.mq, call, given, buf);
+                let len = bytes.len() as u64;
+                let call = Call::MqSend { d, prio, len };
+                let (process, sent) = arrived.make(&self.mq, call, bytes, &mut []);
                 settle(&mut self.standing, process);
-                Some(returned)
+                Some(Tried::Made(sent))
+            }
+            Err(approach) => {
+                walk_on(&mut self.standing, approach);
+                None
+            }
+        }
+    }
+
+    /// Tries to receive, in the same way.
+    #[tactic(auto, using(crate::proofs::Members::no_deadline))]
+    #[inline(always)]
+    pub fn receive_at_once(
+        &mut self,
+        d: u32,
+        buf: &mut [u8],
+    ) -> Option<Tried<Result<Option<Received>, Fault>>>
+        ensures none { IfNone result (ticket_of self.new.standing ≡ ticket_of self.old.standing) }
+        ensures same { IfNone result (buf.new ≡ buf.old) }
+        ensures got { IfSome result (λ tried. TriesWith (buf.new ≡ buf.old) (λ old new result.
+            ReceiveCall start_receive_says old new (Call.MqReceive d (length buf.old)) buf.old
+            buf.new result) (ticket_of self.old.standing) (ticket_of self.new.standing) tried) }
+    {
+        if !standing::is_idle(&self.standing) {
+            return None;
+        }
+        match set_out(&self.mq, &mut self.standing) {
+            Ok(arrived) => {
+                let room = buf.len() as u64;
+                let call = Call::MqReceive { d, room };
+                let (process, got) = arrived.make(&self.mq, call, &[], buf);
+                settle(&mut self.standing, process);
+                Some(Tried::Made(got))
             }
             Err(approach) => {
                 walk_on(&mut self.standing, approach);
