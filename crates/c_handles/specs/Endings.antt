@@ -49,12 +49,6 @@ look_code (Some NotYet) = 17
 look_code (Some NoWait) = 20
 
 -- a look at the process that a handle has, or none
-abbrev pub LooksIn : Bool → Option (Ticket Record) → Option (Ticket Record) → Option Looked → Type 0
-LooksIn under_way None None looked = looked ≡ None
-LooksIn under_way (Some old) (Some new) looked = (l : Looked) × Looks under_way old new l × (looked ≡ Some l)
-LooksIn under_way None (Some new) looked = ⊥
-LooksIn under_way (Some old) None looked = ⊥
-
 abbrev pub GivesLook : Bool → Option (Ticket Record) → Option (Ticket Record) → ℕ → Type 0
 GivesLook under_way None None code = code ≡ look_code None
 GivesLook under_way (Some old) (Some new) code = (l : Looked) × Looks under_way old new l × (code ≡ look_code (Some l))
