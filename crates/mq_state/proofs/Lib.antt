@@ -6,7 +6,6 @@ pub mod QueuesNoted
 pub mod Rising
 pub mod Reading
 pub mod Arriving
-pub mod Creating
 pub mod InboxLines
 pub mod NoticeRoom
 pub mod TablesKeep

@@ -1,5 +1,5 @@
 -- The tables stay those of the journal, where they note an entry.
-use Rattle.std.proofs.Common.{◌≡◌, ℕ, ◌≤◌, ◌==◌, true, false, List, [], ◌∷◌, ◌++◌, length, drop, Option, Some, None, is_some, if◌then◌else◌, refl, sym, ◌∙◌, ap, subst, arith}
+use Rattle.std.proofs.Common.{◌≡◌, ℕ, ◌≤◌, true, false, List, [], ◌∷◌, ◌++◌, length, Option, Some, None, is_some, refl, sym, ◌∙◌, ap, arith}
 use Rattle.mq_model.specs.Record.{Past}
 use Rattle.mq_model.specs.Names.{creates, attributes_given}
 use Rattle.mq_model.specs.Notices.{registered, notified, gives_notice, notices}
@@ -15,13 +15,12 @@ use Rattle.mq_model.specs.declared.entries.Reply.TheVariants.{Opened, Queued, Go
 use Rattle.mq_model.proofs.OwnersKeep.{noted-keeps}
 use Rattle.mq_model.proofs.NoticeSteps.{notices-same, notices-notified, notices-given}
 use Rattle.mq_slots.specs.Held.{Held}
-use Rattle.mq_state.specs.declared.moves.Moves.{Moves}
 use Rattle.mq_state.specs.QueueShown.{QueueShown}
 use Rattle.mq_state.specs.InboxShown.{InboxShown}
 use Rattle.mq_state.specs.Inboxes.{notices_in}
 use Rattle.mq_state.specs.Moves.{line_move, moves_of}
 use Rattle.mq_state.specs.Queues.{registration_in, noted_queues, fresh, QueuesMirror, AllowsIn}
-use Rattle.mq_state.specs.Tables.{TablesMirror, IsFresh, BringsOrder, notified_values, noted_values, with_fresh}
+use Rattle.mq_state.specs.Tables.{TablesMirror, IsFresh, BringsOrder, noted_values, with_fresh}
 use Rattle.mq_state.proofs.Moving.{rec, EntryOn, entry-queue, notifies-alive, notifies-registered}
 use Rattle.mq_state.proofs.QueueLines.{mapped}
 use Rattle.mq_state.proofs.QueuesNoted.{noted-queues-keeps, noted-queues-creates}
@@ -29,31 +28,19 @@ use Rattle.mq_state.proofs.Reading.{registration-read}
 
 -- notices ----------------------------------------------------------------------------------------------------------------
 
--- an entry that notifies nobody brings nothing
-brings-nothing : (o : Option Registration) (k : ℕ) (values : List ℕ) → notified_values o false k values ≡ values
-brings-nothing None k values = refl
-brings-nothing (Some n) k values = refl
-
-quiet-notices : (past : Past) (p : ℕ) (call : Call) (reply : Reply) (payload : List ℕ) (o : Option Registration) → notified reply ≡ None → gives_notice reply ≡ false → (k : ℕ) →
-    noted_values p o (moves_of past call reply) k (notices past k) ≡ notices (rec p call reply payload ∷ past) k
-quiet-notices past p call reply payload o none quiet k = rw (none, quiet) (brings-nothing o k (notices past k)) ∙ sym (notices-same past (rec p call reply payload) k none quiet)
-
-brings-value : (n : Registration) (moves : Moves) (p k : ℕ) (values : List ℕ) → moves.notified ≡ true → moves.given ≡ false → noted_values p (Some n) moves k values ≡ (if n.process == k then values ++ n.value ∷ [] else values)
-brings-value n moves p k values notified quiet = rw (quiet, notified) refl
-
 brings-one : (past : Past) → Legal past → (p : ℕ) (call : Call) (reply : Reply) (payload : List ℕ) (q j : ℕ) → EntryOn past p call payload reply q → notified reply ≡ Some j → gives_notice reply ≡ false → (o : Option Registration) → o ≡ registered past q → (k : ℕ) →
     noted_values p o (moves_of past call reply) k (notices past k) ≡ notices (rec p call reply payload ∷ past) k
 brings-one past legal p call reply payload q j on is quiet o same k =
     let n = mapped (λ (n : Registration). n.place) (registered past q) j (notifies-registered past p call reply payload q on j is) in
     let now = notices-notified past legal (rec p call reply payload) q n.0 k n.1 (is ∙ ap Some (sym n.2)) quiet in
-    ap (λ r. noted_values p r (moves_of past call reply) k (notices past k)) (same ∙ n.1) ∙ brings-value n.0 (moves_of past call reply) p k (notices past k) (ap is_some is) quiet ∙ sym now
+    grind arith
 
 pub notices-keep : (past : Past) → Legal past → (p : ℕ) (call : Call) (reply : Reply) (payload : List ℕ) (q : ℕ) → EntryOn past p call payload reply q → (o : Option Registration) → (is_some (notified reply) ≡ true → o ≡ registered past q) → (k : ℕ) →
     noted_values p o (moves_of past call reply) k (notices past k) ≡ notices (rec p call reply payload ∷ past) k
 notices-keep past legal p call (Queued (Some j)) payload q on o same k = brings-one past legal p call (Queued (Some j)) payload q j on refl refl o (same refl) k
 notices-keep past legal p call (Got m a (Some j)) payload q on o same k = brings-one past legal p call (Got m a (Some j)) payload q j on refl refl o (same refl) k
-notices-keep past legal p call (Notice (Some v)) payload q on o same k = ap (λ values. if p == k then drop 1 values else values) (brings-nothing o k (notices past k)) ∙ sym (notices-given past p call v payload k)
-notices-keep past legal p call reply payload q on o same k = quiet-notices past p call reply payload o refl refl k
+notices-keep past legal p call (Notice (Some v)) payload q on o same k = let now = notices-given past p call v payload k in grind arith
+notices-keep past legal p call reply payload q on o same k = let now = notices-same past (rec p call reply payload) k refl refl in grind arith
 
 -- all tables -------------------------------------------------------------------------------------------------------------
 
@@ -67,7 +54,7 @@ pub record IsNotedBy (past : Past) (e : Entry) (q : ℕ) (brought : Option Held)
 creates-open : (past : Past) → Legal past → (owners : List Owner) (queues : List QueueShown) → QueuesMirror past queues → (p : ℕ) (call : Call) (reply : Reply) (payload : List ℕ) (q len capacity : ℕ) (o : Held) → EntryOn past p call payload reply q → creates call reply ≡ true → IsFresh call len capacity o →
     QueuesMirror (rec p call reply payload ∷ past) (noted_queues owners (length past) (record { process = p; call = call; reply = reply }) q (moves_of past call reply) queues ++ fresh (length past) o.cap (attributes_given call) ∷ [])
 creates-open past legal owners queues m p call (Opened d true) payload q len capacity o on c f = noted-queues-creates past legal owners queues m p call d payload q o.cap on f.roomy
-creates-open past legal owners queues m p call reply payload q len capacity o on c f = absurd (let bad : false ≡ true = c in cc)
+creates-open past legal owners queues m p call reply payload q len capacity o on c f = absurd (cc)
 
 -- the tables after an entry are those of the journal with it
 pub tables-keep : (past : Past) → Legal past → (n : ℕ) (owners after_owners : List Owner) (queues after_queues : List QueueShown) (inboxes after_inboxes : List InboxShown) → TablesMirror past n owners queues inboxes →
@@ -80,18 +67,15 @@ tables-keep past legal n owners after_owners queues after_queues inboxes after_i
   owner_count = count ∙ m.owner_count;
   inbox_count = by.inbox_count ∙ m.inbox_count;
   lines = lines;
-  existing = subst (QueuesMirror r) (sym by.queues_are) (queues-by brought brings);
-  notices = λ k. by.inboxes_are k ∙ ap (noted_values p (registration_in queues q) (moves_of past call reply) k) (m.notices k)
-      ∙ notices-keep past legal p call reply payload q on (registration_in queues q) (λ some. registration-read past queues m.existing q (notifies-alive past legal p call reply payload q on some)) k;
+  existing = rw by.queues_are (queues-by brought brings);
+  notices = λ k. rw (by.inboxes_are k, m.notices k)
+      (notices-keep past legal p call reply payload q on (registration_in queues q) (λ some. registration-read past queues m.existing q (notifies-alive past legal p call reply payload q on some)) k);
 }
   where
-    r : Past
-    r = rec p call reply payload ∷ past
-
-    lines : OwnersMirror r after_owners
-    lines = subst (OwnersMirror r) (sym by.owners_are) (noted-keeps past owners m.lines legal (rec p call reply payload) q next (let c = m.owner_count in omega (arith, c)) (entry-queue past p call reply payload q on))
+    lines : OwnersMirror (rec p call reply payload ∷ past) after_owners
+    lines = rw by.owners_are (noted-keeps past owners m.lines legal (rec p call reply payload) q next (let c = m.owner_count in omega (arith, c)) (entry-queue past p call reply payload q on))
 
     queues-by : (brought : Option Held) → BringsOrder call reply len capacity brought →
-        QueuesMirror r (with_fresh brought (attributes_given call) (length past) (noted_queues after_owners (length past) (record { process = p; call = call; reply = reply }) q (moves_of past call reply) queues))
+        QueuesMirror (rec p call reply payload ∷ past) (with_fresh brought (attributes_given call) (length past) (noted_queues after_owners (length past) (record { process = p; call = call; reply = reply }) q (moves_of past call reply) queues))
     queues-by None brings = noted-queues-keeps past legal after_owners queues m.existing p call reply payload q on allows lines brings
     queues-by (Some o) brings = creates-open past legal after_owners queues m.existing p call reply payload q len capacity o on brings.0 brings.1

@@ -11,4 +11,4 @@ those-of_whole j whole t is kept = subst (λ (x : Shown). AreThoseOf x.records t
 
 -- what stands at a place of the first records
 pub none-beyond : (past : Past) (k q : ℕ) → k ≤ length past → k ≤ q → record_at (first k past) q ≡ None
-none-beyond past k q le beyond = record_at-past (first k past) q (let long = length-first k past le in omega (arith, beyond, long))
+none-beyond past k q le beyond = grind (arith, record_at-past, length-first)

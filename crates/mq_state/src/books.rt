@@ -4,7 +4,7 @@
 //! that the definitions give, and returns that reply. A call that replies `Refused(NoMemory)` or `Refused(JournalFull)` has no
 //! entry and changes nothing. The first comes only where a growth was refused, and never with bounds; the second only with bounds, and
 //! exactly where the call finds the journal full.
-ghost use Rattle.std.specs.Prelude.{◌≡◌, ◌≢◌, ◌<◌, ◌≤◌, ◌+◌, IfOk, IfSome, IsSome, IsTrue, ◌↔◌, Some, None, length, [], All, true, false, ◌&&◌, is_none};
+ghost use Rattle.std.specs.Prelude.{◌≡◌, ◌≢◌, ◌<◌, ◌≤◌, IfOk, IfSome, IsSome, IsTrue, ◌↔◌, Some, None, length, [], All, true, false, ◌&&◌, is_none};
 ghost use Rattle.mq_model.specs.Deadlines.{is_over};
 ghost use Rattle.mq_model.specs.Waits.{open_wait, wait_deadline, answered_by, is_answered};
 ghost use Rattle.mq_model.specs.Descriptors.{lowest_held};

@@ -1,5 +1,5 @@
 //! Which calls can still be made, and what the journal has room for.
-ghost use Rattle.std.specs.Prelude.{◌≡◌, ◌≤◌, ◌↔◌, IsTrue, length};
+ghost use Rattle.std.specs.Prelude.{◌≡◌, ◌↔◌, IsTrue};
 ghost use Rattle.mq_state.specs.Kept.{IsKeptBy};
 ghost use Rattle.mq_state.specs.Room.{NobodyCanCall, can_call, is_full, room_left};
 

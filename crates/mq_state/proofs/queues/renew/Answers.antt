@@ -1,6 +1,6 @@
 use Rattle.std.proofs.Common.{◌∙◌, refl, sym, ap}
 use Rattle.mq_state.specs.Queues.{renewed}
-use Rattle.mq_state.proofs.QueueLines.{queue_in-Some, changed-at, changed-None, changed-same}
+use Rattle.mq_state.proofs.QueueLines.{queue_in-Some, changed-at, changed-None, changed-same, queue_in-None}
 use Rattle.mq_state.proofs.queues.renew.Goals as goal
 
 pub note-requires : goal.note-requires
@@ -13,4 +13,4 @@ pub returns-in-Some : goal.returns-in-Some
 returns-in-Some c = changed-at _ c.args.queues.now c.args.q c.in-Some.i c.index-queues-i.result c.note.new.self (sym c.in-Some.ensures) c.index-queues-i.is (c.note.ensures ∙ ap (renewed c.args.line) (sym c.index-queues-i.is))
 
 pub returns-in_default-found : goal.returns-in_default-found
-returns-in_default-found c = sym (changed-None _ c.args.queues.now c.args.q (sym c.index_from-found.ensures ∙ c.in_default-found.is))
+returns-in_default-found c = sym (changed-None _ c.args.queues.now c.args.q (queue_in-None c.args.queues.now c.args.q (sym c.index_from-found.ensures ∙ c.in_default-found.is)))

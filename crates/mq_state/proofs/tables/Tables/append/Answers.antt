@@ -1,12 +1,9 @@
-use Rattle.std.proofs.Common.{◌≡◌, Option, ◌≤◌, ◌∙◌, ◌∷◌, ℕ, length, sym, ap, subst, arith}
+use Rattle.std.proofs.Common.{◌≡◌, ◌≤◌, length, arith, refl}
 use Rattle.std.proofs.lemmas.List.Elements.{All-cons}
-use Rattle.mq_model.specs.Record.{Record, Past, Shown}
+use Rattle.mq_model.specs.Record.{Record}
 use Rattle.mq_model.specs.Owners.{waits_count}
 use Rattle.mq_model.specs.OwnersNoted.{noted}
 use Rattle.mq_model.proofs.LegalReplies.{legal_says}
-use Rattle.mq_state.specs.Tables.{AreAtMost}
-use Rattle.mq_state.specs.Kept.{HasRoomWithin, notice_room, AreThoseOf}
-use Rattle.mq_model.specs.declared.bounds.Bounds.{Bounds}
 use Rattle.mq_state.proofs.WaitsNoted.{waits-noted}
 use Rattle.mq_state.proofs.Bounded.{room-keeps}
 use Rattle.mq_state.proofs.Wholes.{those-of_whole}
@@ -31,24 +28,16 @@ returns-clause-kept c =
     let after = c.note_next.new.self in
     let r : Record = record { entry = e; payload = c.args.payload.now } in
     let count = c.requires.kept.tables.mirror.owner_count in
-    let same : c.whole.result.records ≡ past = ap (λ (j : Shown). j.records) c.whole.ensures in
-    let records : c.push.new.self.records ≡ r ∷ past = c.push.ensures.records in
-    let noted_owners : after.owners.items ≡ noted before.owners.items (length past) e.process e.call e.reply c.args.q =
-    c.note_next.ensures.owners ∙ ap (λ (xs : Past). noted before.owners.items (length xs) e.process e.call e.reply c.args.q) same in
-    let waits : waits_count after.owners.items ≡ waits_count (noted before.owners.items (length past) e.process e.call e.reply c.args.q) = ap waits_count noted_owners in
     let room = waits-noted past before.owners.items c.requires.kept.tables.mirror.lines e.process e.call e.reply c.args.q c.args.journal.now.entry_room (legal_says past r c.requires.next) c.requires.next.turn (let le = c.requires.at_most in omega (arith, le, count)) c.requires.entries in
+    let waits : waits_count after.owners.items ≡ waits_count (noted before.owners.items (length past) e.process e.call e.reply c.args.q) = rw (c.note_next.ensures.owners, c.whole.ensures) refl in
     let pushed = c.push.ensures.entry_room in
-    let those : AreThoseOf c.push.new.self.records after = subst (λ (xs : Past). AreThoseOf xs after) (ap (λ (xs : Past). r ∷ xs) same ∙ sym records) c.note_next.ensures.tables in
     record {
-      tables = those;
-      processes = subst (λ (xs : Past). AreAtMost after.n xs) (sym records) (subst (λ (n : ℕ). AreAtMost n (r ∷ past)) (sym c.note_next.ensures.n) (All-cons (λ (x : Record). x.entry.process ≤ before.n) r past c.requires.at_most c.requires.kept.processes));
+      tables = rw c.push.ensures.records (rw c.whole.ensures at c.note_next.ensures.tables);
+      processes = rw (c.push.ensures.records, c.note_next.ensures.n) (All-cons (λ (x : Record). x.entry.process ≤ before.n) r past c.requires.at_most c.requires.kept.processes);
       room = omega (arith, waits, room, pushed);
-      bounded = subst (λ (o : Option Bounds). HasRoomWithin o c.push.new.self) (sym c.note_next.ensures.bounds)
-          (room-keeps before.bounds c.args.journal.now c.push.new.self r c.requires.kept.bounded c.push.ensures.records c.push.ensures.entry_room c.push.ensures.byte_room);
+      bounded = rw c.note_next.ensures.bounds (room-keeps before.bounds c.args.journal.now c.push.new.self r c.requires.kept.bounded c.push.ensures.records c.push.ensures.entry_room c.push.ensures.byte_room);
       notices = λ k le.
           let has = c.requires.kept.notices k (let same = c.note_next.ensures.n in omega (arith, le, same)) in
           let kept = c.note_next.ensures.notice_room k in
-          let same : notice_room after.bounds ≡ notice_room before.bounds = ap notice_room c.note_next.ensures.bounds in
-          let long : length c.push.new.self.records ≡ length (r ∷ past) = ap length records in
-          omega (arith, has, kept, same, long);
+          rw (c.note_next.ensures.bounds, c.push.ensures.records) (omega (arith, has, kept));
     }

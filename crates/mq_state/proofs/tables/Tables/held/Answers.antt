@@ -1,4 +1,4 @@
-use Rattle.std.proofs.Common.{◌≡◌, ◌∙◌, ℕ, Option, Some, None, ap, sym, IfSome, IsTrue}
+use Rattle.std.proofs.Common.{◌≡◌, ◌∙◌, ℕ, Option, ap, IfSome, IsTrue, arith}
 use Rattle.mq_model.specs.Record.{Past}
 use Rattle.mq_model.specs.Descriptors.{held, alive}
 use Rattle.mq_model.specs.Messages.{is_in}
@@ -9,8 +9,7 @@ use Rattle.mq_model.proofs.HeldQueues.{held-alive}
 use Rattle.mq_state.proofs.tables.Tables.held.Goals as goal
 
 lives : (past : Past) → Legal past → (p d : ℕ) (o : Option Description) → o ≡ held past p d → IfSome o (λ h. IsTrue (is_in (alive past) h.queue))
-lives past legal p d None e = tt
-lives past legal p d (Some h) e = held-alive past legal p d h (sym e)
+lives past legal p d o e = grind (arith, held-alive)
 
 pub returns : goal.returns
 returns c =

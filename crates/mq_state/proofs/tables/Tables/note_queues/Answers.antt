@@ -1,6 +1,5 @@
-use Rattle.std.proofs.Common.{◌≡◌, ◌∙◌, Some, None, vec_capacity}
+use Rattle.std.proofs.Common.{◌≡◌, Some, None, vec_capacity, rules}
 use Rattle.mq_slots.specs.Held.{Held}
-use Rattle.mq_state.specs.Queues.{noted_queues}
 use Rattle.mq_state.specs.Pool.{PoolWithin}
 use Rattle.mq_state.proofs.Pooling.{pool-fresh, pool-within}
 use Rattle.mq_state.proofs.tables.Tables.note_queues.Goals as goal
@@ -16,7 +15,4 @@ returns-in-Some-clause-pool g pooled =
     with_one
 
 pub returns-in_default-clause-queues : goal.returns-in_default-clause-queues
-returns-in_default-clause-queues g =
-    let none : g.args.fresh ≡ None = g.in_default.is in
-    let owners = g.deref.ensures.value in
-    g.note-found.ensures.items ∙ rw none (λ i. noted_queues (owners i) g.args.here g.args.entry g.args.q g.args.moves g.args.self.now.queues.items)
+returns-in_default-clause-queues g = search rules
