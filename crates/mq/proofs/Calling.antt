@@ -1,24 +1,25 @@
 -- What a call in one stay leaves.
-use Rattle.std.proofs.Common.{◌≡◌, ℕ, Bool, true, false, List, [], ◌∷◌, ◌++◌, length, Option, Some, None, is_some, IsSome, Result, IfErr, refl, ap, sym, subst, ◌∙◌, eq-eqb}
+use Rattle.std.proofs.Common.{◌≡◌, ℕ, Bool, true, false, List, [], ◌∷◌, ◌++◌, length, Option, Some, None, is_some, IsSome, Result, IfErr, refl, ap, sym, subst, ◌∙◌, eq-eqb, rules, arith}
 use Rattle.std.specs.List.{All}
+use Rattle.std.proofs.lemmas.List.{append-nil}
 use Rattle.std.specs.Option.{option_map}
 use Rattle.mq_model.specs.Record.{Record, Past}
-use Rattle.mq_model.specs.Waits.{open_wait, wait_deadline, is_wait, named_wait}
+use Rattle.mq_model.specs.Waits.{open_wait, is_wait, named_wait}
 use Rattle.mq_model.specs.Legality.{Legal}
 use Rattle.mq_model.specs.Bounds.{has_entry, HeedsBounds}
 use Rattle.mq_model.proofs.Frames.{answered_by-none}
 use Rattle.mq_model.proofs.Places.{split}
 use Rattle.mq_model.specs.declared.entries.Call.{Call}
 use Rattle.mq_model.specs.declared.entries.Reply.{Reply}
-use Rattle.mq_model.specs.declared.entries.Reply.TheVariants.{Opened, Queued, Handed, Waits, Got, Collected, Attrs, Notice, Done, Refused, Withdrawn}
+use Rattle.mq_model.specs.declared.entries.Reply.TheVariants.{Waits}
 use Rattle.mq_model.specs.declared.bounds.Bounds.{Bounds}
 use Rattle.mq_model.specs.declared.faults.Fault.{Fault}
 use Rattle.mq_state.specs.Kept.{Kept}
 use Rattle.mq_state.specs.Buffers.{waiting_call, waiting_room, room_of}
 use Rattle.fast_mutex.specs.Items.{LockId, Ticket, Grows, GrowsBy, items_of}
-use Rattle.mq.specs.Calls.{author, recorded, made, Calls, Found, AreInTurn, Stops, fixed_of, bounds_of, bounds_in, Came, IsFree, WaitsIn, wait_begun, answered_bits}
+use Rattle.mq.specs.Calls.{author, recorded, made, Calls, Found, AreInTurn, Stops, bounds_of, bounds_in, Came, IsFree, WaitsIn, answered_bits}
 use Rattle.mq.proofs.Answering.{answers-kept, bits-kept}
-use Rattle.mq.proofs.Others.{wait-grown, deadline-grown, call-grown, room-grown}
+use Rattle.mq.proofs.Others.{wait-grown, call-grown, room-grown}
 use Rattle.mq.proofs.Growing.{grows-on, own-made, all-made}
 
 module _ {old stay : Ticket Record} {system : LockId} {books : Kept} {p : ℕ} where
@@ -36,26 +37,15 @@ module _ {old stay : Ticket Record} {system : LockId} {books : Kept} {p : ℕ} w
   pub came-room : Came old system stay books p → waiting_room books.records p ≡ waiting_room old.left old.number
   came-room c = rw (c.process) (room-grown c.grows)
 
-  -- where it adds nothing, it leaves the room that its wait needs as it was
-  pub came-waits : {waits : Option ℕ} → Came old system stay books p → waits ≡ waiting_room old.left old.number → waits ≡ waiting_room books.records stay.number
-  came-waits c kept = kept ∙ sym (rw (same-number c) (came-room c))
-
   pub came-call : Came old system stay books p → waiting_call books.records p ≡ waiting_call old.left old.number
   came-call c = rw (c.process) (call-grown c.grows)
-
-  pub came-deadline : Came old system stay books p → wait_deadline books.records p ≡ wait_deadline old.left old.number
-  came-deadline c = rw (c.process) (deadline-grown c.grows)
 
   pub came-free : Came old system stay books p → IsFree old → open_wait books.records p ≡ None
   came-free c free = came-wait c ∙ free
 
   -- what a stay adds is its process's own
   pub came-grows_by : {records : Past} (added : Past) → Came old system stay books p → records ≡ added ++ books.records → All (λ x. author x ≡ p) added → GrowsBy author stay.number stay.left records
-  came-grows_by {records} added c is mine = record {
-    behind = added;
-    is = rw c.found is;
-    mine = rw (same-number c) mine;
-  }
+  came-grows_by {records} added c is mine = grind (arith, same-number)
 
   pub came-grows : {records : Past} (call : Call) (given : List ℕ) (reply : Reply) → Came old system stay books p → records ≡ made p call given reply ++ books.records → GrowsBy author stay.number stay.left records
   came-grows {records} call given reply c is = came-grows_by (made p call given reply) c is (all-made p call given reply)
@@ -69,15 +59,8 @@ module _ {old stay : Ticket Record} {system : LockId} {books : Kept} {p : ℕ} w
     legal = legal;
     grows =
         let added : Grows author old.number books.records records (own old.number) = record { behind = own p; is = is; mine = rw (sym c.process) mine } in
-        grown added;
+        rw append-nil at (grows-on c.grows added);
   }
-    where
-      empty : (xs : Past) → xs ++ [] ≡ xs
-      empty [] = refl
-      empty (x ∷ xs) = ap (λ (l : Past). x ∷ l) (empty xs)
-
-      grown : Grows author old.number books.records records (own old.number) → Grows author old.number old.left records (own old.number)
-      grown added = rw (sym (empty (own old.number))) (grows-on c.grows added)
 
   pub came-made : {records : Past} (call : Call) (given : List ℕ) (reply : Reply) → Came old system stay books p → old.lock ≡ system → records ≡ made p call given reply ++ books.records → Legal records
       → Calls old (record { lock = system; number = stay.number; left = records; told = false }) (made old.number call given reply)
@@ -87,39 +70,22 @@ module _ {old stay : Ticket Record} {system : LockId} {books : Kept} {p : ℕ} w
   pub came-bounds : Came old system stay books p → old.lock ≡ system → books.bounds ≡ bounds_of old
   came-bounds c lock = c.bounds ∙ ap (λ (l : LockId). bounds_in l.fixed) (sym lock)
 
-  pub came-count : Came old system stay books p → old.lock ≡ system → books.n ≡ old.lock.count
-  came-count c lock = c.n ∙ ap (λ (l : LockId). l.count) (sym lock)
-
   -- the journal that it found, and that the bounds heeded there are those of its system
   pub came-found : {records : Past} (call : Call) (given : List ℕ) (reply : Reply) → Came old system stay books p → old.lock ≡ system → records ≡ made p call given reply ++ books.records → HeedsBounds books.bounds books.records p call given reply
       → Found old (record { lock = system; number = stay.number; left = records; told = false }) call given reply
-  came-found call given reply c lock is heeds = record {
-    journal = books.records;
-    added = rw (sym c.process) is;
-    heeds =
-        let same = came-bounds c lock in
-        subst (λ (o : Option Bounds). HeedsBounds o books.records old.number call given reply) same (subst (λ (n : ℕ). HeedsBounds books.bounds books.records n call given reply) c.process heeds);
-  }
+  came-found call given reply c lock is heeds = grind (arith, came-bounds)
 
   -- where an exit stops, by the bounds of its system
   pub came-stops : (records : Past) (result : Result (Unit {0}) Fault) → Came old system stay books p → old.lock ≡ system → IfErr result (Stops books.bounds records p) → IfErr result (Stops (bounds_of old) records old.number)
-  came-stops records result c lock stops =
-      let same = came-bounds c lock in
-      subst (λ (n : ℕ). IfErr result (Stops (bounds_of old) records n)) c.process (subst (λ (o : Option Bounds). IfErr result (Stops o records p)) same stops)
+  came-stops records result c lock stops = grind (arith, came-bounds)
 
   -- the closes of an exit, by the bounds of its system
   pub came-in_turn : (ds : List ℕ) → Came old system stay books p → old.lock ≡ system → AreInTurn books.bounds books.records p ds → AreInTurn (bounds_of old) books.records old.number ds
-  came-in_turn ds c lock in_turn =
-      let same = came-bounds c lock in
-      subst (λ (n : ℕ). AreInTurn (bounds_of old) books.records n ds) c.process (subst (λ (o : Option Bounds). AreInTurn o books.records p ds) same in_turn)
+  came-in_turn ds c lock in_turn = grind (arith, came-bounds)
 
   -- a call that adds nothing of its process leaves the wait as it was
   pub still-free : {records : Past} (call : Call) (given : List ℕ) (reply : Reply) → Came old system stay books p → IsFree old → records ≡ made p call given reply ++ books.records → is_wait reply ≡ false → open_wait records stay.number ≡ None
-  still-free call given reply c free is answered = rw (is, same-number c) (by (has_entry reply) refl)
-    where
-      by : (b : Bool) → has_entry reply ≡ b → open_wait (made p call given reply ++ books.records) p ≡ None
-      by false e = rw e (came-free c free)
-      by true e = rw (e, eq-eqb p p refl, answered) refl
+  still-free call given reply c free is answered = grind (arith, came-free, same-number)
 
   -- where its reply names no wait, each answer is as it was
   pub came-quiet : {records : Past} (call : Call) (given : List ℕ) (reply : Reply) → Came old system stay books p → IsFree old → records ≡ made p call given reply ++ books.records → is_some (named_wait reply) ≡ false
@@ -133,64 +99,18 @@ module _ {old stay : Ticket Record} {system : LockId} {books : Kept} {p : ℕ} w
   -- where it waits, it waits in this call
   pub now-waits : {records : Past} (call : Call) (given : List ℕ) → Came old system stay books p → records ≡ made p call given Waits ++ books.records
       → WaitsIn (record { lock = system; number = stay.number; left = records; told = false }) call
-  now-waits call given c is =
-      let wait : open_wait (recorded p call given Waits ∷ books.records) p ≡ Some (length books.records) = rw (eq-eqb p p refl) refl in
-      let called : waiting_call (recorded p call given Waits ∷ books.records) p ≡ call = rw (wait, eq-eqb (length books.records) (length books.records) refl) refl in
-      record {
-        call = rw (is, same-number c) called;
-        room = rw (is, same-number c) (ap (λ (k : Call). option_map (λ (w : ℕ). room_of k) (open_wait (recorded p call given Waits ∷ books.records) p)) called ∙ ap (λ (o : Option ℕ). option_map (λ (w : ℕ). room_of call) o) wait);
-        deadline = rw (is, same-number c, eq-eqb p p refl) refl;
-      }
+  now-waits call given c is = grind (arith, same-number)
 
 is-waits : (reply : Reply) → is_wait reply ≡ true → reply ≡ Waits
-is-waits Waits e = refl
-is-waits (Opened d c) e = absurd (cc)
-is-waits (Queued n) e = absurd (cc)
-is-waits (Handed w) e = absurd (cc)
-is-waits (Got m a n) e = absurd (cc)
-is-waits (Collected by) e = absurd (cc)
-is-waits (Withdrawn by) e = absurd (cc)
-is-waits (Attrs s) e = absurd (cc)
-is-waits (Notice v) e = absurd (cc)
-is-waits Done e = absurd (cc)
-is-waits (Refused f) e = absurd (cc)
-
-not-begun : (reply : Reply) (room : ℕ) → is_wait reply ≡ false → wait_begun reply room ≡ None
-not-begun Waits room e = absurd (cc)
-not-begun (Opened d c) room e = refl
-not-begun (Queued n) room e = refl
-not-begun (Handed w) room e = refl
-not-begun (Got m a n) room e = refl
-not-begun (Collected by) room e = refl
-not-begun (Withdrawn by) room e = refl
-not-begun (Attrs s) room e = refl
-not-begun (Notice v) room e = refl
-not-begun Done room e = refl
-not-begun (Refused f) room e = refl
+is-waits reply e = search rules
 
 pub free-room : (past : Past) (p : ℕ) → open_wait past p ≡ None → waiting_room past p ≡ None
 free-room past p free = ap (λ (o : Option ℕ). option_map (λ (w : ℕ). room_of (waiting_call past p)) o) free
 
 module _ {old stay : Ticket Record} {system : LockId} {books : Kept} {p : ℕ} where
-  -- how long a buffer the process needs for its wait
-  pub room-begun : {records : Past} (call : Call) (given : List ℕ) (reply : Reply) → Came old system stay books p → IsFree old → records ≡ made p call given reply ++ books.records
-      → wait_begun reply (room_of call) ≡ waiting_room records stay.number
-  room-begun {records} call given reply c free is = split (is_wait reply)
-      (λ yes. let same = is-waits reply yes in
-      let waits = now-waits call given c (rw same at is) in
-      rw same (sym waits.room))
-      (λ other. not-begun reply (room_of call) other ∙ sym (free-room records stay.number (still-free call given reply c free is other)))
-
   -- where it has an open wait afterwards, it waits in this call
   pub begun : {records : Past} (call : Call) (given : List ℕ) (reply : Reply) → Came old system stay books p → IsFree old → records ≡ made p call given reply ++ books.records → IsSome (waiting_room records stay.number)
       → WaitsIn (record { lock = system; number = stay.number; left = records; told = false }) call
   begun {records} call given reply c free is some = split (is_wait reply)
       (λ yes. let same = is-waits reply yes in now-waits call given c (rw same at is))
       (λ other. let none = free-room records stay.number (still-free call given reply c free is other) in absurd (let bad : false ≡ true = subst IsSome none some in cc))
-
--- the fixed part has the number of processes
-pub fixed-n : (n m : ℕ) (a b : Option Bounds) → fixed_of n a ≡ fixed_of m b → n ≡ m
-fixed-n n m None None e = cc
-fixed-n n m None (Some b) e = absurd (cc)
-fixed-n n m (Some a) None e = absurd (cc)
-fixed-n n m (Some a) (Some b) e = cc

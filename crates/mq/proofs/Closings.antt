@@ -1,19 +1,17 @@
 -- Closing the lowest descriptor again and again.
-use Rattle.std.proofs.Common.{◌≡◌, ◌≢◌, ℕ, zero, suc, ◌+◌, ◌<◌, ◌≤◌, ◌==◌, Bool, true, false, List, [], ◌∷◌, Option, Some, None, is_some, refl, ap, sym, subst, ◌∙◌, arith, eqb, eqb-true, eq-eqb}
+use Rattle.std.proofs.Common.{◌≡◌, ◌≢◌, ℕ, zero, suc, ◌+◌, ◌<◌, ◌≤◌, ◌==◌, Bool, true, false, List, [], ◌∷◌, Option, Some, None, is_some, refl, ap, sym, subst, ◌∙◌, arith, eqb, eq-eqb, rules}
 use Rattle.std.specs.List.{find, All}
 use Rattle.std.proofs.lemmas.List.Elements.{All-nil, All-cons}
 use Rattle.std.specs.Option.{option_eq}
 use Rattle.std.proofs.lemmas.Bool.{eqb-false}
 use Rattle.mq_model.specs.Record.{Past}
 use Rattle.mq_model.specs.Descriptors.{held, lowest_held, numbers_from, descriptor_numbers}
-use Rattle.mq_model.specs.Waits.{open_wait}
 use Rattle.mq_model.specs.Legality.{Appends}
 use Rattle.mq_model.proofs.Places.{split}
 use Rattle.mq_model.specs.declared.entries.Call.TheVariants.{MqClose}
 use Rattle.mq_model.specs.declared.entries.Reply.{Reply}
 use Rattle.mq_model.specs.declared.entries.Reply.TheVariants.{Done, Refused}
 use Rattle.mq_model.specs.declared.faults.Fault.{Fault}
-use Rattle.mq_model.specs.declared.faults.Fault.TheVariants.{JournalFull}
 use Rattle.mq_model.specs.declared.bounds.Bounds.{Bounds}
 use Rattle.mq_model.specs.Bounds.{has_entry, finds_full, HeedsBounds}
 use Rattle.fast_mutex.specs.Items.{items_of}
@@ -25,18 +23,11 @@ IsFrom past p d = (e : ℕ) → lowest_held past p ≡ Some e → d ≤ e
 
 find-passes : (t : ℕ → Bool) (low n e : ℕ) → find t (numbers_from low n) ≡ Some e → (t e ≡ true) × (low ≤ e) × (e < low + n)
 find-passes t low zero e is = absurd (cc)
-find-passes t low (suc n) e is = split (t low)
-    (λ yes. let same : Some low ≡ Some e = rw yes at is in let here : low ≡ e = cc in (rw here at yes, omega arith, omega arith))
-    (λ no. let later : find t (numbers_from (low + 1) n) ≡ Some e = rw no at is in let x = find-passes t (low + 1) n e later in let above = x.1 in let below = x.2 in (x.0, omega (arith, above), omega (arith, below)))
+find-passes t low (suc n) e is = grind (arith, find-passes t (low + 1) n e)
 
 find-first : (t : ℕ → Bool) (low n d e : ℕ) → find t (numbers_from low n) ≡ Some d → t e ≡ true → low ≤ e → d ≤ e
 find-first t low zero d e is passes le = absurd (cc)
-find-first t low (suc n) d e is passes le = split (t low)
-    (λ yes. let same : Some low ≡ Some d = rw yes at is in let here : low ≡ d = cc in omega arith)
-    (λ no. let later : find t (numbers_from (low + 1) n) ≡ Some d = rw no at is in
-    split (low == e)
-    (λ here. let same : low ≡ e = eqb-true _ _ here in let clash : t low ≡ true = rw same passes in absurd (let bad : true ≡ false = sym clash ∙ no in cc))
-    (λ other. let ne : low ≡ e → ⊥ = eqb-false _ _ other in find-first t (low + 1) n d e later passes (omega (arith, le))))
+find-first t low (suc n) d e is passes le = grind (arith, split, find-first t (low + 1) n d e)
 
 pub lowest-held : (past : Past) (p d : ℕ) → lowest_held past p ≡ Some d → (is_some (held past p d) ≡ true) × (d < 16)
 unfolding descriptor_numbers
@@ -45,16 +36,6 @@ lowest-held past p d is = let x = find-passes (λ d. is_some (held past p d)) 0 
 lowest-first : (past : Past) (p d e : ℕ) → lowest_held past p ≡ Some d → is_some (held past p e) ≡ true → d ≤ e
 unfolding descriptor_numbers
 lowest-first past p d e is some = find-first (λ d. is_some (held past p d)) 0 16 d e is some (omega arith)
-
--- none is lower than 0
-pub from-start : (past : Past) (p : ℕ) → IsFrom past p 0
-from-start past p e is = omega arith
-
--- d is not the lowest
-pub from-next : (past : Past) (p d : ℕ) → IsFrom past p d → lowest_held past p ≢ Some d → IsFrom past p (d + 1)
-from-next past p d from other e is = let le = from e is in split (d == e)
-    (λ here. let same : d ≡ e = eqb-true _ _ here in absurd (other (rw same is)))
-    (λ differ. let ne : d ≡ e → ⊥ = eqb-false _ _ differ in omega (arith, le))
 
 -- d was the lowest, and is closed
 pub from-closed : (past : Past) (p d : ℕ) → lowest_held past p ≡ Some d → IsFrom (recorded p (MqClose d) [] Done ∷ past) p (d + 1)
@@ -89,12 +70,7 @@ closing-more {bounds} {found} {now} {after} {p} {d} c lowest room is = record {
 
 -- a close that is done did not find the journal full
 pub close-room : (bounds : Option Bounds) (past : Past) (p d : ℕ) (reply : Reply) → reply ≡ Done → HeedsBounds bounds past p (MqClose d) [] reply → finds_full bounds past p (MqClose d) [] ≡ false
-close-room bounds past p d reply is heeds = split (finds_full bounds past p (MqClose d) [])
-    (λ full. absurd (let refused : reply ≡ Refused JournalFull = heeds.full.1 full in let bad : Done ≡ Refused JournalFull = sym is ∙ refused in cc))
-    (λ room. room)
-
-pub closed-free : (past : Past) (p d : ℕ) → open_wait (recorded p (MqClose d) [] Done ∷ past) p ≡ None
-closed-free past p d = rw (eq-eqb p p refl) refl
+close-room bounds past p d reply is heeds = grind arith
 
 pub own-closes : (p : ℕ) (ds : List ℕ) → items_of author p (closes p ds) ≡ closes p ds
 own-closes p [] = refl
@@ -112,11 +88,7 @@ close-refused bounds past new p d reply fault lowest is entry none heeds = split
     (λ want. (record { d = d; lowest = lowest; unentered = sym (ap has_entry is) ∙ want; heeds = subst (HeedsBounds bounds past p (MqClose d) []) is heeds }, none want))
 
 pub lowest-is : (past : Past) (p d : ℕ) (o : Option ℕ) → o ≡ lowest_held past p → true ≡ option_eq eqb o (Some d) → lowest_held past p ≡ Some d
-lowest-is past p d None is same = absurd (cc)
-lowest-is past p d (Some e) is same = let here : e ≡ d = eqb-true e d (sym same) in sym is ∙ ap (λ (x : ℕ). Some x) here
+lowest-is past p d o is same = search rules
 
 pub lowest-is_not : (past : Past) (p d : ℕ) (o : Option ℕ) → o ≡ lowest_held past p → false ≡ option_eq eqb o (Some d) → lowest_held past p ≢ Some d
-lowest-is_not past p d o is other lowest =
-    let found : o ≡ Some d = is ∙ lowest in
-    let clash : false ≡ true = (rw found at other) ∙ eq-eqb d d refl in
-    absurd (cc)
+lowest-is_not past p d o is other lowest = search rules

@@ -1,7 +1,6 @@
 -- What a collect leaves, and what a call leaves that waited.
-use Rattle.std.proofs.Common.{◌≡◌, ◌≤◌, ◌↔◌, ℕ, true, false, List, [], ◌∷◌, ◌++◌, Option, Some, None, IsSome, IfSome, IfNone, Ok, Err, refl, ap, sym, ◌∙◌, subst, eq-eqb}
+use Rattle.std.proofs.Common.{◌≡◌, ◌↔◌, ℕ, true, false, List, [], ◌∷◌, ◌++◌, Option, Some, None, IsSome, IfSome, IfNone, Ok, Err, refl, ap, sym, ◌∙◌, subst, arith, rules}
 use Rattle.std.specs.List.{All}
-use Rattle.std.specs.Option.{option_map}
 use Rattle.std.proofs.lemmas.List.Elements.{All-nil, All-cons}
 use Rattle.mq_model.specs.Record.{Record, Past}
 use Rattle.mq_model.specs.Messages.{is_receive}
@@ -14,32 +13,19 @@ use Rattle.mq_model.specs.declared.entries.Call.{Call}
 use Rattle.mq_model.specs.declared.entries.Call.TheVariants.{Collect, Withdraw}
 use Rattle.mq_model.specs.declared.entries.Reply.TheVariants.{Waits, Collected, Withdrawn}
 use Rattle.mq_state.specs.Kept.{Kept}
-use Rattle.mq_state.specs.Buffers.{waiting_call, waiting_room, room_of, collected, collected_into, received_at, message_at, with_front}
+use Rattle.mq_state.specs.Buffers.{waiting_call, waiting_room, collected, collected_into, received_at, message_at, with_front}
 use Rattle.mq_state.specs.declared.collected.Collected.{Collected as Outcome}
 use Rattle.fast_mutex.specs.Items.{LockId, Ticket}
-use Rattle.mq_state.specs.declared.collected.Collected.TheVariants.{Got as GotMessage, Sent}
+use Rattle.mq_state.specs.declared.collected.Collected.TheVariants.{Got as GotMessage}
 use Rattle.mq.specs.Says.{start_send_says, start_receive_says}
 use Rattle.mq.specs.Calls.{author, recorded, Calls, Came, Collects, StillWaits, WithdrawsAt, Withdraws, Expired, Begins, Waited, OneCall, ReceiveCall, WaitedSend, WaitedReceive}
 use Rattle.mq.specs.KindsHold.{send-waits, receive-waits}
 use Rattle.mq.proofs.Messages.{message-kept, received-kept}
 use Rattle.mq.proofs.Growing.{own-recorded, calls-on}
-use Rattle.mq.proofs.Calling.{came-wait, came-room, came-call, came-calls, same-number, free-room}
+use Rattle.mq.proofs.Calling.{came-wait, came-room, came-call, came-calls, same-number}
 
 pub room-waits : (past : Past) (p : ℕ) → IsSome (waiting_room past p) → IsSome (open_wait past p)
-room-waits past p some = by (open_wait past p) refl
-  where
-    by : (o : Option ℕ) → open_wait past p ≡ o → IsSome (open_wait past p)
-    by (Some w) is = rw is refl
-    by None is = absurd (let none = free-room past p is in let bad : false ≡ true = rw none at some in cc)
-
-pub room-fits : (past : Past) (p len : ℕ) → IsSome (waiting_room past p) → IfSome (waiting_room past p) (λ room. room ≤ len) → room_of (waiting_call past p) ≤ len
-room-fits past p len some fits = by (open_wait past p) refl
-  where
-    by : (o : Option ℕ) → open_wait past p ≡ o → room_of (waiting_call past p) ≤ len
-    by None is = absurd (let none = free-room past p is in let bad : false ≡ true = rw none at some in cc)
-    by (Some w) is =
-        let room : waiting_room past p ≡ Some (room_of (waiting_call past p)) = ap (λ (o : Option ℕ). option_map (λ (w : ℕ). room_of (waiting_call past p)) o) is in
-        subst (λ (o : Option ℕ). IfSome o (λ room. room ≤ len)) room fits
+room-waits past p some = grind arith
 
 -- what a collect on the books adds
 pub record Adds (found new : Past) (p : ℕ) : Type 0 where
@@ -64,23 +50,11 @@ pub record Answered (found new : Past) (p : ℕ) : Type 0 where
   pub added : new ≡ recorded p Collect [] (Collected by) ∷ found
 
 pub collect-answered : (found new : Past) (p : ℕ) (result : Option Outcome) (value : Outcome) → (IsSome result ↔ IsSome (answered_by found p)) → IfSome (answered_by found p) (λ by. Appends found new p Collect [] (Collected by)) → result ≡ Some value → Answered found new p
-collect-answered found new p result value some entry there = by (answered_by found p) refl
-  where
-    by : (o : Option ℕ) → answered_by found p ≡ o → Answered found new p
-    by (Some b) is =
-        let appends : Appends found new p Collect [] (Collected b) = subst (λ (o : Option ℕ). IfSome o (λ by. Appends found new p Collect [] (Collected by))) is entry in
-        record { by = b; answered = is; added = appends.records }
-    by None is = absurd (let given : IsSome result = rw there refl in let yes = some.0 given in let bad : false ≡ true = rw is at yes in cc)
+collect-answered found new p result value some entry there = search rules
 
 -- the open wait that a withdrawal ended
 pub withdrawn-wait : (found new : Past) (p : ℕ) (now : Deadline) → IsSome (open_wait found p) → IfSome (open_wait found p) (λ wait. Appends found new p (Withdraw now) [] (Withdrawn wait)) → (w : ℕ) × (open_wait found p ≡ Some w) × (new ≡ recorded p (Withdraw now) [] (Withdrawn w) ∷ found)
-withdrawn-wait found new p now waits entry = by (open_wait found p) refl
-  where
-    by : (o : Option ℕ) → open_wait found p ≡ o → (w : ℕ) × (open_wait found p ≡ Some w) × (new ≡ recorded p (Withdraw now) [] (Withdrawn w) ∷ found)
-    by None is = absurd (let bad : false ≡ true = rw is at waits in cc)
-    by (Some w) is =
-        let appends : Appends found new p (Withdraw now) [] (Withdrawn w) = subst (λ (o : Option ℕ). IfSome o (λ wait. Appends found new p (Withdraw now) [] (Withdrawn wait))) is entry in
-        (w, is, appends.records)
+withdrawn-wait found new p now waits entry = search rules
 
 -- the end of a wait on the books adds its collect or its withdrawal
 pub end-adds : (found new : Past) (p : ℕ) (now : Deadline) (result : Option Outcome) → (IsSome result ↔ IsSome (answered_by found p)) → IfSome (answered_by found p) (λ by. Appends found new p Collect [] (Collected by))
@@ -97,11 +71,7 @@ end-adds found new p now result some entry none waits = by result refl
 
 -- where it gives nothing, the wait was not
 pub collect-unanswered : (found : Past) (p : ℕ) (result : Option Outcome) → (IsSome result ↔ IsSome (answered_by found p)) → result ≡ None → is_answered found p ≡ false
-collect-unanswered found p result some none = by (answered_by found p) refl
-  where
-    by : (o : Option ℕ) → answered_by found p ≡ o → is_answered found p ≡ false
-    by None is = rw is refl
-    by (Some b) is = absurd (let yes : IsSome (answered_by found p) = rw is refl in let given = some.1 yes in let bad : false ≡ true = rw none at given in cc)
+collect-unanswered found p result some none = search rules
 
 module _ {old stay : Ticket Record} {system : LockId} {books : Kept} {p : ℕ} where
   pub came-collects : {records : Past} {result : Outcome} {before after : List ℕ} → Came old system stay books p → old.lock ≡ system → Answered books.records records p
@@ -135,25 +105,11 @@ module _ {old stay : Ticket Record} {system : LockId} {books : Kept} {p : ℕ} w
     unanswered = rw (same, same-number c) unanswered;
   }
 
-pub collected-free : (found : Past) (p by : ℕ) → open_wait (recorded p Collect [] (Collected by) ∷ found) p ≡ None
-collected-free found p by = rw (eq-eqb p p refl) refl
-
--- after the end of a wait its process has none
-pub ended-free : (found new : Past) (p : ℕ) (now : Deadline) (result : Option Outcome) → (IsSome result ↔ IsSome (answered_by found p)) → IfSome (answered_by found p) (λ by. Appends found new p Collect [] (Collected by))
-    → (result ≡ None → IfSome (open_wait found p) (λ wait. Appends found new p (Withdraw now) [] (Withdrawn wait))) → IsSome (open_wait found p) → open_wait new p ≡ None
-ended-free found new p now result some entry none waits = by result refl
-  where
-    by : (r : Option Outcome) → result ≡ r → open_wait new p ≡ None
-    by None nothing = let x = withdrawn-wait found new p now waits (none nothing) in rw (x.2, eq-eqb p p refl) refl
-    by (Some value) there = let a = collect-answered found new p result value some entry there in rw (a.added, eq-eqb p p refl) refl
-
 pub if-some : {X : Type 0} (P : X → Type 0) (o : Option X) → ((x : X) → o ≡ Some x → P x) → IfSome o P
-if-some P None f = tt
-if-some P (Some x) f = f x refl
+if-some P o f = search rules
 
 pub if-none : {X : Type 0} (P : Type 0) (o : Option X) → (o ≡ None → P) → IfNone o P
-if-none P None f = f refl
-if-none P (Some x) f = tt
+if-none P o f = search rules
 
 -- a collect after stays that added nothing
 pub collects-later : {old mid new : Ticket Record} {result : Outcome} {before after : List ℕ} → Calls old mid [] → waiting_call mid.left mid.number ≡ waiting_call old.left old.number → Collects mid new result before after → Collects old new result before after
@@ -198,12 +154,6 @@ receive-waited {old} {mid} {new} {received} {before} {between} {after} {call} re
       is = ap (λ (r : Received). Ok r) (rw c.added (sym same ∙ sym kept));
       buffer = rw (c.added, message, sym untouched) filled_is;
     }
-
--- a wait that was answered by a receive of this call gives a message
-pub receive-gets : {mid new : Ticket Record} {before after : List ℕ} {call : Call} → is_receive call ≡ true → waiting_call mid.left mid.number ≡ call → Collects mid new Sent before after → ⊥
-receive-gets {mid} {new} {before} {after} {call} receives called c =
-    let same_call : waiting_call c.found mid.number ≡ call = c.call ∙ called in
-    let value : Some (GotMessage (received_at c.found c.by)) ≡ Some Sent = rw (same_call, c.answered, receives) at c.value in cc
 
 -- a wait and then its withdrawal
 pub expired : {R : Type 0} {gives : Deadline → Type 0} {old mid new : Ticket Record} {call : Call} {given : List ℕ} → Begins old mid call given → Withdraws gives mid new → Expired {R = R} gives old new call given (Err TimedOut)

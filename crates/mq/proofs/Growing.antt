@@ -1,10 +1,8 @@
 -- Journals that go on.
-use Rattle.std.proofs.Common.{◌≡◌, ℕ, ◌==◌, List, [], ◌∷◌, ◌++◌, refl, ap, sym, ◌∙◌, subst, append_assoc, eq-eqb}
+use Rattle.std.proofs.Common.{◌≡◌, ℕ, ◌==◌, List, [], ◌∷◌, ◌++◌, refl, ap, sym, ◌∙◌, append_assoc, eq-eqb, arith}
 use Rattle.std.specs.List.{All}
-use Rattle.std.proofs.lemmas.List.Elements.{filter-append, All-nil, All-cons}
+use Rattle.std.proofs.lemmas.List.Elements.{filter-append}
 use Rattle.mq_model.specs.Record.{Record, Past}
-use Rattle.mq_model.specs.Bounds.{has_entry}
-use Rattle.mq_model.proofs.Places.{split}
 use Rattle.mq_model.specs.declared.entries.Call.{Call}
 use Rattle.mq_model.specs.declared.entries.Reply.{Reply}
 use Rattle.fast_mutex.specs.Items.{Ticket, Grows, items_of}
@@ -23,19 +21,10 @@ own-recorded p call given reply = rw (eq-eqb p p refl) refl
 
 -- what a call adds is its process's own
 pub own-made : (p : ℕ) (call : Call) (given : List ℕ) (reply : Reply) → items_of author p (made p call given reply) ≡ made p call given reply
-own-made p call given reply = split (has_entry reply)
-    (λ some. rw some (own-recorded p call given reply))
-    (λ none. rw none refl)
+own-made p call given reply = grind arith
 
 pub all-made : (p : ℕ) (call : Call) (given : List ℕ) (reply : Reply) → All (λ x. author x ≡ p) (made p call given reply)
-all-made p call given reply = split (has_entry reply)
-    (λ some. rw some (All-cons (λ x. author x ≡ p) (recorded p call given reply) [] refl (All-nil (λ x. author x ≡ p))))
-    (λ none. rw none (All-nil (λ x. author x ≡ p)))
+all-made p call given reply = grind arith
 
 pub calls-on : {old mid new : Ticket Record} {first : Past} (own : ℕ → Past) → Calls old mid first → Calls mid new (own mid.number) → Calls old new (own old.number ++ first)
-calls-on {old} {mid} {new} {first} own a b = record {
-  lock = b.lock ∙ a.lock;
-  number = b.number ∙ a.number;
-  legal = b.legal;
-  grows = grows-on a.grows (subst (λ (n : ℕ). Grows author n mid.left new.left (own n)) a.number b.grows);
-}
+calls-on {old} {mid} {new} {first} own a b = grind (arith, grows-on)

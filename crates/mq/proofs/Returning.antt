@@ -1,12 +1,11 @@
 -- What a call of a kind is.
-use Rattle.std.proofs.Common.{◌≡◌, ℕ, List, true, false, Some, refl, sym, ◌∙◌}
+use Rattle.std.proofs.Common.{◌≡◌, ℕ, List, true, false, Some, refl, sym, ◌∙◌, rules}
 use Rattle.fast_mutex.specs.Items.{Ticket}
 use Rattle.mq_model.specs.Record.{Record}
 use Rattle.mq_model.specs.Messages.{is_receive}
 use Rattle.mq_model.specs.declared.entries.Call.{Call}
 use Rattle.mq_model.specs.declared.entries.Call.TheVariants.{MqReceive, MqTimedReceive}
 use Rattle.mq_model.specs.declared.entries.Reply.{Reply}
-use Rattle.mq_model.specs.declared.entries.Reply.TheVariants.{Got}
 use Rattle.mq_state.specs.Buffers.{filled}
 use Rattle.mq_state.specs.Requests.{IsGiven}
 use Rattle.mq.specs.Asked.{gets_message, may_reply}
@@ -15,10 +14,7 @@ use Rattle.mq.specs.Kinds.{Kind, IsKind, IsCall}
 
 -- a message is got by receives alone
 no-message : (call : Call) (reply : Reply) → may_reply call reply ≡ true → is_receive call ≡ false → gets_message reply ≡ false
-no-message (MqReceive d room) (Got m a n) may other = absurd (cc)
-no-message (MqTimedReceive d room until now) (Got m a n) may other = absurd (cc)
-no-message call (Got m a n) may other = absurd (cc)
-no-message call reply may other = refl
+no-message call reply may other = search rules
 
 -- what a call of a kind is, by its reply
 pub is-call : {R : Type 0} {old new : Ticket Record} (call : Call) {given : List ℕ} (before after : List ℕ) {returned : R} (k : Kind R) (reply : Reply) → IsKind k → IsGiven call given → may_reply call reply ≡ true → Calls old new (made old.number call given reply) → Found old new call given reply

@@ -17,6 +17,5 @@ tickets-left {A} lock k (suc n) = All-cons (λ (t : Ticket A). t.left ≡ []) _ 
 -- there are n of them
 pub tickets-count : {S A : Type 0} (ticket : S → Ticket A) (lock : LockId) (k n : ℕ) (seats : List S) → map ticket seats ≡ tickets_from lock k n → length seats ≡ n
 tickets-count ticket lock k zero [] e = refl
-tickets-count ticket lock k zero (s ∷ seats) e = absurd (cc)
-tickets-count ticket lock k (suc n) [] e = absurd (cc)
 tickets-count ticket lock k (suc n) (s ∷ seats) e = ap suc (tickets-count ticket lock (suc k) n seats (cc))
+tickets-count ticket lock k n seats e = absurd (cc)

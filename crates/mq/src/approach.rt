@@ -1,5 +1,4 @@
 //! A process under way into the lock.
-ghost use Rattle.std.specs.Prelude.{◌≡◌};
 
 use crate::arrived::Arrived;
 use crate::guarded::Guarded;

@@ -1,5 +1,5 @@
 //! The state that the lock guards.
-ghost use Rattle.std.specs.Prelude.{◌≡◌, ◌≤◌, ◌∷◌, [], false, refl, length, is_some};
+ghost use Rattle.std.specs.Prelude.{◌≡◌, ◌≤◌, false, length, is_some};
 ghost use Rattle.fast_mutex.specs.Marks.{flag};
 ghost use Rattle.mq_model.specs.Record.{first};
 ghost use Rattle.mq_model.specs.Waits.{is_answered, named_wait};
@@ -50,7 +50,7 @@ impl Guarded {
 impl Logged for Guarded {
     type Item = LoggedRecord;
 
-    ghost use Rattle.std.specs.Prelude.{◌∷◌, [], refl};
+    ghost use Rattle.std.specs.Prelude.{refl};
     ghost use Rattle.mq_model.specs.Waits.{is_answered};
     ghost use Rattle.mq.specs.Calls.{author, fixed_of};
     ghost use Rattle.mq_model.proofs.OthersLeave.{answered-stays};

@@ -1,12 +1,7 @@
 //! A process and its calls.
-ghost use Rattle.std.specs.Prelude.{◌≡◌, ◌≢◌, ◌≤◌, Bool, true, false, Some, None, IsSome, IfSome, IfNone, OnSome, Ok, length, [], is_some};
-ghost use Rattle.mq_model.specs.Waits.{open_wait};
-ghost use Rattle.mq_model.specs.Legality.{Legal};
-ghost use Rattle.mq_model.specs.declared.entries.Call.{Call};
-ghost use Rattle.mq_state.specs.Buffers.{waiting_room, waiting_call, room_of};
+ghost use Rattle.std.specs.Prelude.{◌≡◌, Some, IsSome};
+ghost use Rattle.mq_state.specs.Buffers.{waiting_room};
 ghost use Rattle.mq.specs.Calls.{ticket_of};
-ghost use Rattle.mq.specs.Asked.{is_done, is_attributes};
-ghost use Rattle.mq.specs.Says.{done_says, attributes_says};
 
 // What a process comes to that enters with its seat, makes this of its stay, leaves, and wakes who sleeps until then.
 macro_rules! in_one_stay {
@@ -77,10 +72,9 @@ pub(crate) fn seat_of<L: Look<Guarded>>(process: Process<L>) -> L::Seat
 }
 
 impl<L: Look<Guarded>> Process<L> {
-    ghost use Rattle.std.specs.Prelude.{◌≡◌, ◌≢◌, ◌≤◌, Bool, true, false, Some, None, IsSome, IfSome, IfNone, OnSome, Ok, length, [], is_some};
-    ghost use Rattle.mq_model.specs.Waits.{open_wait};
+    ghost use Rattle.std.specs.Prelude.{◌≡◌, Some, None, IsSome, length, []};
     ghost use Rattle.mq_model.specs.declared.entries.Call.{Call};
-    ghost use Rattle.mq_state.specs.Buffers.{waiting_room, waiting_call, room_of, filled};
+    ghost use Rattle.mq_state.specs.Buffers.{waiting_room};
     ghost use Rattle.mq_state.specs.Requests.{Brings};
     ghost use Rattle.mq.specs.Kinds.{IsOf, IsCall, IsWaiting, IsOver};
     ghost use Rattle.mq.specs.Says.{open_says, done_says, attributes_says, notice_says};

@@ -1,10 +1,5 @@
 //! What a call of a process returns, by the reply that it was given.
-ghost use Rattle.std.specs.Prelude.{◌≡◌, ◌≤◌, true, Some, None, length};
-ghost use Rattle.mq_model.specs.Messages.{is_receive};
-ghost use Rattle.mq_model.specs.Waits.{open_wait};
-ghost use Rattle.mq_state.specs.Buffers.{filled};
-ghost use Rattle.mq_state.specs.Kept.{IsMade};
-ghost use Rattle.mq_state.specs.Requests.{Brings};
+ghost use Rattle.std.specs.Prelude.{true, Some, None};
 
 use mq_model::entries::{Call, Received, Reply, Status};
 use mq_model::faults::Fault;

@@ -2,7 +2,8 @@
 ghost use Rattle.std.specs.Prelude.{◌≡◌, true, false, is_some};
 ghost use Rattle.fast_mutex.specs.Items.{GrowsBy};
 ghost use Rattle.mq_model.specs.Legality.{Legal};
-ghost use Rattle.mq_model.specs.Waits.{named_wait};
+ghost use Rattle.mq_model.specs.Waits.{named_wait, open_wait, wait_deadline};
+ghost use Rattle.mq_state.specs.Buffers.{waiting_room};
 ghost use Rattle.mq.specs.Calls.{Came, Knows, answered_bits, author, bounds_in, fixed_of};
 
 use crate::guarded::{Guarded, Visit};
@@ -19,6 +20,12 @@ pub(crate) fn begin<L: Look<Guarded>>(walk: L::Walk, process: u32) -> (L::Inside
         (bounds_in (L.walking walk).lock.fixed) }
     ensures came { Came (L.walking walk) (L.walking walk).lock
         (L.stay result.0) result.1.books process }
+    ensures wait { open_wait result.1.books.records process ≡
+        open_wait (L.walking walk).left (L.walking walk).number }
+    ensures deadline { wait_deadline result.1.books.records process ≡
+        wait_deadline (L.walking walk).left (L.walking walk).number }
+    ensures room { waiting_room result.1.books.records (L.stay result.0).number ≡
+        waiting_room (L.walking walk).left (L.walking walk).number }
     ensures knows { Knows (L.stay result.0) result.1.process result.1.answered result.1.places
         result.1.own }
 {

@@ -1,10 +1,6 @@
 //! The queues that processes share, and their making and end.
-ghost use Rattle.std.specs.Prelude.{◌≡◌, ◌≤◌, ◌<◌, ◌⊎◌, ◌↔◌, [], map, length, Err, IfOk, IfErr, IsOk, vec_len, vec_capacity};
+ghost use Rattle.std.specs.Prelude.{◌≡◌, ◌≤◌, ◌<◌, [], map, vec_len, vec_capacity};
 ghost use Rattle.std.specs.List.{All};
-ghost use Rattle.fast_mutex.specs.Items.{Grows, tickets_from};
-ghost use Rattle.mq_model.specs.Legality.{Legal};
-ghost use Rattle.mq_model.specs.declared.faults.Fault.TheVariants.{Invalid, NoMemory};
-ghost use Rattle.mq.specs.Calls.{author};
 
 use crate::guarded::Guarded;
 use crate::process::{Process, process_of, seat_of};
@@ -34,7 +30,7 @@ pub struct Mq<L: Look<Guarded>> {
 }
 
 impl<L: Look<Guarded>> Model for Mq<L> {
-    ghost use Rattle.std.specs.Prelude.{◌≡◌, ◌∷◌, [], ◌≤◌};
+    ghost use Rattle.std.specs.Prelude.{◌≡◌, ◌≤◌};
     ghost use Rattle.fast_mutex.specs.Items.{LockId};
     ghost use Rattle.mq.specs.Calls.{fixed_of, bounds_in};
 
@@ -47,7 +43,7 @@ impl<L: Look<Guarded>> Model for Mq<L> {
 }
 
 impl<L: Look<Guarded>> Mq<L> {
-    ghost use Rattle.std.specs.Prelude.{◌≡◌, ◌≤◌, ◌<◌, ◌⊎◌, ◌↔◌, ◌∷◌, [], Some, None, map, length, Err, IfOk, IfErr, IsOk, vec_len, vec_capacity};
+    ghost use Rattle.std.specs.Prelude.{◌≡◌, ◌≤◌, ◌<◌, ◌⊎◌, ◌↔◌, [], Some, None, Err, IfOk, IfErr, IsOk, vec_len};
     ghost use Rattle.std.specs.List.{All};
     ghost use Rattle.fast_mutex.specs.Items.{Grows, tickets_from};
     ghost use Rattle.mq_model.specs.Legality.{Legal};

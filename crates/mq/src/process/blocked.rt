@@ -1,7 +1,4 @@
 //! Whether processes wait for one another, and what there is room for.
-ghost use Rattle.std.specs.Prelude.{◌≡◌};
-ghost use Rattle.std.specs.List.{list_all};
-ghost use Rattle.mq.specs.Blocked.{is_blocked};
 
 use super::{Process, arrive};
 use crate::guarded::Guarded;

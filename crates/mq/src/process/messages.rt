@@ -1,5 +1,4 @@
 //! Sending and receiving, which may wait.
-ghost use Rattle.std.specs.Prelude.{◌≡◌, true, Some};
 
 use super::{Process, arrive};
 use crate::guarded::Guarded;
@@ -15,14 +14,12 @@ use std::time::Duration;
 // The four calls here have the body of `Process::make` in place: it is too long to be inlined with them, and would tell the kind of call
 // apart only when it runs.
 impl<L: Look<Guarded>> Process<L> {
-    ghost use Rattle.std.specs.Prelude.{◌≡◌, ◌≢◌, ◌≤◌, ◌||◌, Bool, true, false, Some, None, IsSome, IfSome, IfNone, IfOk, Ok, length, []};
+    ghost use Rattle.std.specs.Prelude.{◌≡◌, ◌≢◌, ◌≤◌, ◌||◌, true, false, Some, None, IsSome, IfSome, IfNone, IfOk, Ok, length, []};
     ghost use Rattle.mq_model.specs.Legality.{Legal};
     ghost use Rattle.mq_model.specs.Waits.{is_answered};
     ghost use Rattle.mq_model.specs.declared.entries.Call.{Call};
     ghost use Rattle.mq_state.specs.Buffers.{waiting_room};
     ghost use Rattle.mq.specs.Says.{start_send_says, start_receive_says, FitsIn};
-    ghost use Rattle.mq_model.specs.Messages.{is_send, is_receive};
-    ghost use Rattle.mq_state.specs.Buffers.{length_sent, room_of};
     ghost use Rattle.mq.specs.Calls.{IsFree, OneCall, ReceiveCall, SendCall, WholeReceive, WaitsIn, Collects, StillWaits};
 
     /// Sends a message without waiting for its admission: true where the queue or a waiting receive took it, false where the

@@ -1,5 +1,4 @@
 //! Sending and receiving with a deadline.
-ghost use Rattle.std.specs.Prelude.{◌≡◌, true};
 
 use super::{Process, arrive};
 use crate::guarded::Guarded;
@@ -17,11 +16,9 @@ use std::time::Duration;
 const SHORTEST_NAP: u64 = 50_000;
 
 impl<L: Look<Guarded>> Process<L> {
-    ghost use Rattle.std.specs.Prelude.{◌≡◌, ◌≢◌, ◌≤◌, Bool, true, false, Some, None, IsSome, IfSome, IfNone, IfOk, Ok, length, []};
-    ghost use Rattle.mq_model.specs.Legality.{Legal};
+    ghost use Rattle.std.specs.Prelude.{◌≡◌, ◌≤◌, true, false, Some, None, IsSome, IfSome, IfNone, IfOk, Ok, length, []};
     ghost use Rattle.mq_model.specs.Deadlines.{is_over};
     ghost use Rattle.mq_model.specs.Waits.{wait_deadline};
-    ghost use Rattle.mq_model.specs.declared.entries.Call.{Call};
     ghost use Rattle.mq_state.specs.Buffers.{waiting_room};
     ghost use Rattle.mq.specs.Says.{FitsIn};
     ghost use Rattle.mq.specs.Calls.{IsFree, Collects, WithdrawsAt, Withdraws, TimedSend, TimedReceive};

@@ -1,6 +1,6 @@
-use Rattle.std.proofs.Common.{◌≡◌, ◌∙◌, ◌+◌, ◌-◌, ◌*◌, ℕ, Bool, arith, sym, ap}
-use Rattle.fast_mutex.specs.Marks.{flag, answer_bits}
-use Rattle.fast_mutex.proofs.MarksKeep.{bits_down, bits_room, bits_empty, flag_small}
+use Rattle.std.proofs.Common.{◌∙◌, ◌+◌, ◌*◌, ℕ, Bool, arith, sym, ap, rules}
+use Rattle.fast_mutex.specs.Marks.{flag}
+use Rattle.fast_mutex.proofs.MarksKeep.{bits_down, bits_room, bits_empty}
 use Rattle.mq_model.specs.Waits.{is_answered}
 use Rattle.mq.proofs.guarded.all_answered.Goals as goal
 
@@ -8,13 +8,10 @@ pub loop-process-init : goal.loop-process-init
 loop-process-init c = record { few = omega arith; bits = sym (bits_empty (λ p. is_answered c.args.books.now.records p) 33) }
 
 pub overflow_mul-bits : goal.overflow_mul-bits
-overflow_mul-bits c = let f : ℕ → Bool = λ p. is_answered c.args.books.now.records p in
-    let room = bits_room f c.loop-process.process c.loop-process.bits c.loop-process-test.true c.loop-process.invariant.few c.loop-process.invariant.bits in omega arith
+overflow_mul-bits c = grind (arith, bits_room)
 
 pub overflow_add-bits : goal.overflow_add-bits
-overflow_add-bits c = let f : ℕ → Bool = λ p. is_answered c.args.books.now.records p in
-    let room = bits_room f c.loop-process.process c.loop-process.bits c.loop-process-test.true c.loop-process.invariant.few c.loop-process.invariant.bits in
-    let small = flag_small c.answered.result in omega (arith, c.bit.ensures)
+overflow_add-bits c = grind (arith, bits_room)
 
 pub loop-process-preserved : goal.loop-process-preserved
 loop-process-preserved c = let f : ℕ → Bool = λ p. is_answered c.args.books.now.records p in record {
@@ -23,5 +20,4 @@ loop-process-preserved c = let f : ℕ → Bool = λ p. is_answered c.args.books
 }
 
 pub returns : goal.returns
-returns c = let none_left : c.loop-process.process ≡ 0 = omega arith in
-    c.loop-process.invariant.bits ∙ ap (λ k. answer_bits (λ p. is_answered c.args.books.now.records p) (k + 1) (32 - k)) none_left
+returns c = search rules

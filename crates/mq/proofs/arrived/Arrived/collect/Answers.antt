@@ -1,30 +1,14 @@
-use Rattle.std.proofs.Common.{rules, ◌≡◌, ◌≤◌, ◌∙◌, ap, sym, subst, IfSome, Option, ℕ, length}
+use Rattle.std.proofs.Common.{◌∙◌, ap, sym, arith}
 use Rattle.mq_state.specs.Kept.{Kept}
-use Rattle.mq.proofs.Calling.{came-in, came-waits, came-room, came-grows_by}
-use Rattle.mq.proofs.Collecting.{room-waits, room-fits, collect-adds, collect-answered, collect-unanswered, came-collects, came-still}
+use Rattle.mq.proofs.Calling.{came-in, came-grows_by}
+use Rattle.mq.proofs.Collecting.{collect-adds, collect-answered, collect-unanswered, came-collects, came-still}
 use Rattle.mq.proofs.Fitting.{collect-fits}
 use Rattle.mq.proofs.arrived.Arrived.collect.Goals as goal
-
-pub collect-outcome-requires-clause-wait : goal.collect-outcome-requires-clause-wait
-collect-outcome-requires-clause-wait g c =
-    let came = came-in c.begin-inside.ensures.came c.self.view_is c.requires.made in
-    room-waits c.begin-inside.result.1.books.records c.self.inside.number (rw (came-room came) c.requires.wait)
-
-pub collect-outcome-requires-clause-room : goal.collect-outcome-requires-clause-room
-collect-outcome-requires-clause-room g c =
-    let came = came-in c.begin-inside.ensures.came c.self.view_is c.requires.made in
-    room-fits c.begin-inside.result.1.books.records c.self.inside.number (length c.args.buf.now) (rw (came-room came) c.requires.wait)
-    (subst (λ (o : Option ℕ). IfSome o (λ room. room ≤ length c.args.buf.now)) (sym (came-room came)) c.requires.room)
 
 pub depart-seat-requires-clause-grows : goal.depart-seat-requires-clause-grows
 depart-seat-requires-clause-grows g c =
     let a = collect-adds c.begin-inside.result.1.books.records c.collect-outcome.new.self.records c.self.inside.number c.collect-outcome.result c.collect-outcome.ensures.some c.collect-outcome.ensures.entry (λ none. ap (λ (k : Kept). k.records) (c.collect-outcome.ensures.none none)) in
     came-grows_by a.added c.begin-inside.ensures.came a.is a.mine
-
-pub process_of-requires-in-None : goal.process_of-requires-in-None
-process_of-requires-in-None g c =
-    let came = came-in c.begin-inside.ensures.came c.self.view_is c.requires.made in
-    rw (c.depart-seat.ensures.left, ap (λ (k : Kept). k.records) (c.collect-outcome.ensures.none c.in-None.is)) (came-waits came (rw c.self.view_is at c.self.invariant.0.waits_is))
 
 pub returns-in-Some-clause-some : goal.returns-in-Some-clause-some
 returns-in-Some-clause-some g c =
@@ -39,6 +23,4 @@ returns-in-None-clause-none g c =
     rw (c.process_of-in-None.ensures, c.depart-seat.ensures.left) (came-still came c.requires.made same (collect-unanswered c.begin-inside.result.1.books.records c.self.inside.number c.collect-outcome.result c.collect-outcome.ensures.some c.in-None.is) c.depart-seat.ensures.legal)
 
 pub returns-in-Some-clause-fits : goal.returns-in-Some-clause-fits
-returns-in-Some-clause-fits g c =
-    let same : length c.collect-outcome.new.buf ≡ length c.args.buf.now = search rules in
-    collect-fits c.begin-inside.result.1.books.records c.self.inside.number c.in-Some.outcome c.args.buf.now c.collect-outcome.new.buf (sym c.in-Some.is ∙ c.collect-outcome.ensures.value) c.collect-outcome.ensures.buffer same
+returns-in-Some-clause-fits g c = grind (arith, collect-fits)

@@ -1,14 +1,11 @@
+use Rattle.std.proofs.Common.{arith}
 use Rattle.mq.specs.Calls.{closes}
-use Rattle.mq.proofs.Calling.{came-in, came-free, came-calls, came-in_turn, came-stops, came-grows_by, same-number}
+use Rattle.mq.proofs.Calling.{came-in, came-calls, came-in_turn, came-stops, same-number}
 use Rattle.mq.proofs.Closings.{own-closes, all-closes}
 use Rattle.mq.proofs.arrived.Arrived.exit.Goals as goal
 
-pub close_all-done-requires-clause-no_wait : goal.close_all-done-requires-clause-no_wait
-close_all-done-requires-clause-no_wait g c = came-free (came-in c.begin-inside.ensures.came c.self.view_is c.requires.made) c.requires.free
-
 pub depart-requires-clause-grows : goal.depart-requires-clause-grows
-depart-requires-clause-grows g c =
-    came-grows_by (closes c.self.inside.number c.close_all-done.ensures.closing.ds) (came-in c.begin-inside.ensures.came c.self.view_is c.requires.made) c.close_all-done.ensures.closing.is (all-closes c.self.inside.number c.close_all-done.ensures.closing.ds)
+depart-requires-clause-grows g c = grind (arith, all-closes, came-in)
 
 pub returns-clause-call : goal.returns-clause-call
 returns-clause-call g c =

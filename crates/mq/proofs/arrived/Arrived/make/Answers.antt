@@ -1,14 +1,10 @@
 use Rattle.std.proofs.Common.{◌∙◌, ap, sym}
 use Rattle.mq_state.specs.Buffers.{filled}
-use Rattle.mq.specs.Calls.{wait_begun}
-use Rattle.mq.proofs.Calling.{came-in, came-free, came-grows, came-quiet, came-made, came-found, still-free, now-waits, room-begun, begun}
+use Rattle.mq.proofs.Calling.{came-in, came-grows, came-quiet, came-made, came-found, begun}
 use Rattle.mq.proofs.Messages.{filled-kept}
 use Rattle.mq.proofs.Replies.{asked, replied, may-be-refused}
 use Rattle.mq.proofs.Returning.{is-call}
 use Rattle.mq.proofs.arrived.Arrived.make.Goals as goal
-
-pub ask-reply-requires-clause-no_wait : goal.ask-reply-requires-clause-no_wait
-ask-reply-requires-clause-no_wait g c = came-free (came-in c.begin-inside.ensures.came c.self.view_is c.requires.made) c.requires.free
 
 pub of_reply-returned-requires : goal.of_reply-returned-requires
 of_reply-returned-requires g c = c.requires.kind c.ask-reply.result (replied c.ask-reply.ensures.made.entry (may-be-refused c.args.call c.args.given.now _ c.requires.brings))
@@ -22,12 +18,6 @@ depart_after-seat-requires-clause-quiet g c = λ quiet.
     let came = came-in c.begin-inside.ensures.came c.self.view_is c.requires.made in
     c.begin-inside.ensures.knows.answers_are ∙ came-quiet c.args.call c.args.given.now c.ask-reply.result came c.requires.free (asked c.ask-reply.ensures.made.entry c.ask-reply.ensures.made.no_entry) quiet
 
-pub process_of-requires : goal.process_of-requires
-process_of-requires g c =
-    let came = came-in c.begin-inside.ensures.came c.self.view_is c.requires.made in
-    let is = asked c.ask-reply.ensures.made.entry c.ask-reply.ensures.made.no_entry in
-    rw c.depart_after-seat.ensures.left (c.wait_begun.ensures ∙ ap (wait_begun c.ask-reply.result) (sym c.requires.brings.0) ∙ room-begun c.args.call c.args.given.now c.ask-reply.result came c.requires.free is)
-
 pub returns-clause-call : goal.returns-clause-call
 returns-clause-call g c =
     let came = came-in c.begin-inside.ensures.came c.self.view_is c.requires.made in
@@ -38,20 +28,6 @@ returns-clause-call g c =
     (came-found c.args.call c.args.given.now c.ask-reply.result came c.requires.made is c.ask-reply.ensures.made.full)
     c.of_reply-returned.ensures
     (λ receives. c.ask-reply.ensures.buffer receives ∙ sym (ap (λ past. filled past c.ask-reply.result c.args.buf.now) is ∙ filled-kept c.begin-inside.result.1.books.records c.self.inside.number c.args.call c.args.given.now c.ask-reply.result c.args.buf.now receives)))
-
-pub returns-clause-waits : goal.returns-clause-waits
-returns-clause-waits g c = λ waits.
-    let came = came-in c.begin-inside.ensures.came c.self.view_is c.requires.made in
-    let is = asked c.ask-reply.ensures.made.entry c.ask-reply.ensures.made.no_entry in
-    let reply = g.met.A.Returned.is_kind.waits c.ask-reply.new.books.records c.ask-reply.result c.of_reply-returned.result c.of_reply-returned.ensures waits in
-    rw (c.process_of.ensures, c.depart_after-seat.ensures.left) (now-waits c.args.call c.args.given.now came (rw reply at is))
-
-pub returns-clause-free : goal.returns-clause-free
-returns-clause-free g c = λ over.
-    let came = came-in c.begin-inside.ensures.came c.self.view_is c.requires.made in
-    let is = asked c.ask-reply.ensures.made.entry c.ask-reply.ensures.made.no_entry in
-    let answered = g.met.A.Returned.is_kind.over c.ask-reply.new.books.records c.ask-reply.result c.of_reply-returned.result c.of_reply-returned.ensures over in
-    rw (c.process_of.ensures, c.depart_after-seat.ensures.left) (still-free c.args.call c.args.given.now c.ask-reply.result came c.requires.free is answered)
 
 pub returns-clause-begun : goal.returns-clause-begun
 returns-clause-begun g c =

@@ -1,9 +1,7 @@
-use Rattle.std.proofs.Common.{◌≡◌, ◌≤◌, ◌∙◌, ap, sym, subst, []}
-use Rattle.std.specs.List.{All}
+use Rattle.std.proofs.Common.{◌≡◌, ◌∙◌, sym, [], arith}
 use Rattle.std.proofs.lemmas.List.Elements.{All-same, All-map, All-weaker}
 use Rattle.fast_mutex.specs.Items.{Grows}
-use Rattle.mq.specs.Calls.{author, fixed_of, bounds_in}
-use Rattle.mq.proofs.Calling.{fixed-n}
+use Rattle.mq.specs.Calls.{author}
 use Rattle.mq.proofs.Seats.{all-unmap}
 use Rattle.mq.proofs.system.Mq.finish.Goals as goal
 
@@ -18,7 +16,4 @@ returns-clause-grows g c =
     (All-map (λ t. Grows author t.number t.left c.into_journal.result.records []) g.L.Lock.ticket c.seats_of.result.items (rw c.into_journal.ensures.value c.in-Ok.ensures.grows))
 
 pub returns-clause-processes : goal.returns-clause-processes
-returns-clause-processes g c =
-    let same : fixed_of c.in-Ok.state.books.n c.in-Ok.state.books.bounds ≡ fixed_of c.args.self.count (bounds_in c.args.self.fixed) = c.in-Ok.ensures.fixed ∙ c.self.invariant.0 ∙ ap (λ t. fixed_of t.count (bounds_in t.fixed)) c.self.view_is in
-    let n : c.in-Ok.state.books.n ≡ c.args.self.count = fixed-n _ _ _ _ same in
-    subst (λ z. All (λ r. r.entry.process ≤ z) c.into_journal.result.records) n c.into_journal.ensures.processes
+returns-clause-processes g c = grind (arith)

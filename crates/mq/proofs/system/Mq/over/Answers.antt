@@ -4,9 +4,7 @@ use Rattle.mq.proofs.Seats.{tickets-left, tickets-count, all-unmap}
 use Rattle.mq.proofs.system.Mq.over.Goals as goal
 
 pub processes_of-requires-clause-room : goal.processes_of-requires-clause-room
-processes_of-requires-clause-room g c =
-    let count = tickets-count g.L.Lock.ticket (g.L.Lock.id c.in-Ok-new.lock) 1 c.args.n c.in-Ok-new.seats.items c.in-Ok-new.ensures.seats in
-    omega (arith, count, c.in-Ok-new.seats.ok.0, c.in-Ok-with_capacity.ensures.capacity)
+processes_of-requires-clause-room g c = grind (arith, tickets-count)
 
 pub processes_of-requires-clause-new : goal.processes_of-requires-clause-new
 processes_of-requires-clause-new g c =
