@@ -1,75 +1,41 @@
--- Calls that begin and are done, or refused, at once.
-use Rattle.std.proofs.Common.{◌≡◌, ℕ, List, true, refl, Some, Ok, Err}
+-- Sends and receives, with a deadline or without: what they leave in one stay.
+use Rattle.std.proofs.Common.{arith, ◌≡◌, ℕ, List, true, refl, Option, Some, Result, Ok, Err, Bool, ◌⊎◌, inl}
 use Rattle.fast_mutex.specs.Items.{Ticket}
-use Rattle.mq_model.specs.Record.{Past, Record}
+use Rattle.mq_model.specs.Messages.{is_receive, is_send}
+use Rattle.mq_model.specs.Record.{Record}
 use Rattle.mq_model.specs.declared.entries.Call.{Call}
 use Rattle.mq_model.specs.declared.entries.Received.{Received}
-use Rattle.mq_model.specs.declared.entries.Reply.{Reply}
-use Rattle.mq_model.specs.declared.entries.Reply.TheVariants.{Opened, Queued, Handed, Waits, Got, Collected, Attrs, Notice, Done, Refused, Withdrawn}
 use Rattle.mq_model.specs.declared.faults.Fault.{Fault}
 use Rattle.mq.specs.Calls.{OneCall, ReceiveCall}
-use Rattle.mq.specs.Says.{receive_says, send_says, start_receive_says, start_send_says}
+use Rattle.mq.specs.Kinds.{IsCall, receive_kind, send_kind}
+use Rattle.mq.specs.Says.{start_receive_says, start_send_says}
+use Rattle.script_runner.specs.Runs.{Receives, Sends, Shows}
+use Rattle.script_text.specs.declared.reply.Outcome.{Outcome}
+use Rattle.script_text.specs.declared.reply.Outcome.TheVariants as outcomes
 
-says-done : (reply : Reply) → start_send_says reply ≡ Some (Ok true) → send_says reply ≡ Some (Ok tt)
-says-done (Queued n) says = refl
-says-done (Handed w) says = refl
-says-done Waits says = absurd (cc)
-says-done (Refused f) says = absurd (cc)
-says-done (Opened d c) says = absurd (cc)
-says-done (Got m a n) says = absurd (cc)
-says-done (Collected by) says = absurd (cc)
-says-done (Withdrawn w) says = absurd (cc)
-says-done (Attrs s) says = absurd (cc)
-says-done (Notice v) says = absurd (cc)
-says-done Done says = absurd (cc)
+-- what the first stay of a send leaves, and of a receive
+pub send-starts : {old new : Ticket Record} (call : Call) (given before after : List ℕ) {returned : Result Bool Fault} → is_send call ≡ true → IsCall send_kind.says old new call given before after returned → OneCall start_send_says old new call given returned
+send-starts = grind arith
 
-says-not : (reply : Reply) (fault : Fault) → start_send_says reply ≡ Some (Err fault) → send_says reply ≡ Some (Err fault)
-says-not (Queued n) fault says = absurd (cc)
-says-not (Handed w) fault says = absurd (cc)
-says-not Waits fault says = absurd (cc)
-says-not (Refused f) fault says = let same : f ≡ fault = cc in rw same refl
-says-not (Opened d c) fault says = absurd (cc)
-says-not (Got m a n) fault says = absurd (cc)
-says-not (Collected by) fault says = absurd (cc)
-says-not (Withdrawn w) fault says = absurd (cc)
-says-not (Attrs s) fault says = absurd (cc)
-says-not (Notice v) fault says = absurd (cc)
-says-not Done fault says = absurd (cc)
+pub receive-starts : {old new : Ticket Record} (call : Call) (given before after : List ℕ) {returned : Result (Option Received) Fault} → is_receive call ≡ true → IsCall receive_kind.says old new call given before after returned → ReceiveCall start_receive_says old new call before after returned
+receive-starts = grind arith
 
-says-got : (past : Past) (reply : Reply) (received : Received) → start_receive_says past reply ≡ Some (Ok (Some received)) → receive_says past reply ≡ Some (Ok received)
-says-got past (Got m a n) received says = cc
-says-got past (Queued n) received says = absurd (cc)
-says-got past (Handed w) received says = absurd (cc)
-says-got past Waits received says = absurd (cc)
-says-got past (Refused f) received says = absurd (cc)
-says-got past (Opened d c) received says = absurd (cc)
-says-got past (Collected by) received says = absurd (cc)
-says-got past (Withdrawn w) received says = absurd (cc)
-says-got past (Attrs s) received says = absurd (cc)
-says-got past (Notice v) received says = absurd (cc)
-says-got past Done received says = absurd (cc)
+-- a send, and a receive, that did not wait
+pub send-done : {old new : Ticket Record} {call : Call} {bytes : List ℕ} → OneCall start_send_says old new call bytes (Ok true) → Shows (λ _. outcomes.Done) (Sends old new call bytes) outcomes.Done
+send-done start = record { result = Ok tt; called = inl (record { reply = start.reply; calls = start.calls; found = start.found; says_so = grind arith }); outcome = refl }
 
-says-none : (past : Past) (reply : Reply) (fault : Fault) → start_receive_says past reply ≡ Some (Err fault) → receive_says past reply ≡ Some (Err fault)
-says-none past (Got m a n) fault says = absurd (cc)
-says-none past (Queued n) fault says = absurd (cc)
-says-none past (Handed w) fault says = absurd (cc)
-says-none past Waits fault says = absurd (cc)
-says-none past (Refused f) fault says = let same : f ≡ fault = cc in rw same refl
-says-none past (Opened d c) fault says = absurd (cc)
-says-none past (Collected by) fault says = absurd (cc)
-says-none past (Withdrawn w) fault says = absurd (cc)
-says-none past (Attrs s) fault says = absurd (cc)
-says-none past (Notice v) fault says = absurd (cc)
-says-none past Done fault says = absurd (cc)
+pub send-refused : {old new : Ticket Record} {call : Call} {bytes : List ℕ} {fault : Fault} → OneCall start_send_says old new call bytes (Err fault) → Shows (λ _. outcomes.Done) (Sends old new call bytes) (outcomes.Refused fault)
+send-refused {fault = fault} start = record { result = Err fault; called = inl (record { reply = start.reply; calls = start.calls; found = start.found; says_so = grind arith }); outcome = refl }
 
-pub send-done : {old new : Ticket Record} {call : Call} {bytes : List ℕ} → OneCall start_send_says old new call bytes (Ok true) → OneCall send_says old new call bytes (Ok tt)
-send-done start = record { reply = start.reply; calls = start.calls; found = start.found; says_so = says-done start.reply start.says_so }
+pub receive-done : {old new : Ticket Record} {call : Call} {before after : List ℕ} {received : Received} → ReceiveCall start_receive_says old new call before after (Ok (Some received)) → Shows outcomes.Got (Receives old new call before after) (outcomes.Got received)
+receive-done {new = new} {received = received} start = record { result = Ok received; called = inl (record { reply = start.reply; calls = start.calls; found = start.found; says_so = grind arith; buffer = start.buffer }); outcome = refl }
 
-pub send-refused : {old new : Ticket Record} {call : Call} {bytes : List ℕ} {fault : Fault} → OneCall start_send_says old new call bytes (Err fault) → OneCall send_says old new call bytes (Err fault)
-send-refused {fault = fault} start = record { reply = start.reply; calls = start.calls; found = start.found; says_so = says-not start.reply fault start.says_so }
+pub receive-refused : {old new : Ticket Record} {call : Call} {before after : List ℕ} {fault : Fault} → ReceiveCall start_receive_says old new call before after (Err fault) → Shows outcomes.Got (Receives old new call before after) (outcomes.Refused fault)
+receive-refused {new = new} {fault = fault} start = record { result = Err fault; called = inl (record { reply = start.reply; calls = start.calls; found = start.found; says_so = grind arith; buffer = start.buffer }); outcome = refl }
 
-pub receive-done : {old new : Ticket Record} {call : Call} {before after : List ℕ} {received : Received} → ReceiveCall start_receive_says old new call before after (Ok (Some received)) → ReceiveCall receive_says old new call before after (Ok received)
-receive-done {new = new} {received = received} start = record { reply = start.reply; calls = start.calls; found = start.found; says_so = says-got new.left start.reply received start.says_so; buffer = start.buffer }
+-- those with a deadline, at the moment of the clock
+pub or-more : {A B C : Type 0} → A ⊎ B → A ⊎ B ⊎ C
+or-more = grind arith
 
-pub receive-refused : {old new : Ticket Record} {call : Call} {before after : List ℕ} {fault : Fault} → ReceiveCall start_receive_says old new call before after (Err fault) → ReceiveCall receive_says old new call before after (Err fault)
-receive-refused {new = new} {fault = fault} start = record { reply = start.reply; calls = start.calls; found = start.found; says_so = says-none new.left start.reply fault start.says_so; buffer = start.buffer }
+pub shows-so : {A : Type 0} {shows : A → Outcome} {Called Other : Result A Fault → Type 0} {came : Outcome} → ((result : Result A Fault) → Called result → Other result) → Shows shows Called came → Shows shows Other came
+shows-so so shown = record { result = shown.result; called = so shown.result shown.called; outcome = shown.outcome }

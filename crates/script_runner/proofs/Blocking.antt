@@ -1,32 +1,17 @@
 -- Calls that waited, and those that still wait.
-use Rattle.std.proofs.Common.{◌≡◌, ◌∙◌, ℕ, List, [], ◌∷◌, false, Option, Some, None, Ok, IsSome, IfSome, Bool, refl}
+use Rattle.std.proofs.Common.{◌≡◌, ◌∙◌, ℕ, List, [], ◌∷◌, false, None, Ok, IsSome, Bool, refl}
 use Rattle.fast_mutex.specs.Items.{Ticket}
 use Rattle.mq_model.specs.Record.{Record}
 use Rattle.mq_model.specs.declared.entries.Call.{Call}
-use Rattle.mq_model.specs.declared.entries.Call.TheVariants.{Collect}
-use Rattle.mq_model.specs.declared.entries.Reply.TheVariants.{Collected, Waits}
+use Rattle.mq_model.specs.declared.entries.Reply.TheVariants.{Waits}
 use Rattle.mq_state.specs.Buffers.{waiting_room}
-use Rattle.mq_state.specs.declared.collected.Collected.{Collected as Outcome}
-use Rattle.mq.specs.Calls.{Calls, Collects, OneCall, ReceiveCall, WaitsIn, recorded}
+use Rattle.mq.specs.Calls.{Calls, OneCall, ReceiveCall, WaitsIn, recorded}
 use Rattle.mq.specs.Says.{start_receive_says, start_send_says}
 use Rattle.mq.proofs.Collecting.{room-waits}
 use Rattle.mq.proofs.Growing.{calls-on}
 use Rattle.mq.proofs.Others.{call-grown, room-grown, wait-grown}
 use Rattle.mq.specs.KindsHold.{receive-waits, send-waits}
 use Rattle.script_runner.specs.Runs.{WaitsFor}
-
--- a collect after other processes' calls
-pub collects-later : {old mid new : Ticket Record} {outcome : Outcome} {before after : List ℕ} → Calls old mid [] → Collects mid new outcome before after → Collects old new outcome before after
-collects-later {old} {mid} {new} first c = record {
-  found = c.found;
-  by = c.by;
-  added = rw first.number at c.added;
-  answered = rw first.number at c.answered;
-  call = (rw first.number at c.call) ∙ call-grown first.grows;
-  calls = calls-on (λ n. recorded n Collect [] (Collected c.by) ∷ []) first c.calls;
-  value = rw first.number at c.value;
-  buffer = rw first.number at c.buffer;
-}
 
 -- a wait after other processes' calls
 waits-later : {old mid new : Ticket Record} {call : Call} {given : List ℕ} → Calls old mid (recorded old.number call given Waits ∷ []) → WaitsIn mid call → Calls mid new [] → WaitsFor old new call given
@@ -39,16 +24,10 @@ waits-later {old} {mid} {new} {call} {given} first waits later =
     }
 
 pub send-blocks : {old mid new : Ticket Record} {call : Call} {bytes : List ℕ} → OneCall start_send_says old mid call bytes (Ok false) → WaitsIn mid call → Calls mid new [] → WaitsFor old new call bytes
-send-blocks {old} {mid} {new} {call} {bytes} start waits later =
-    let reply : start.reply ≡ Waits = send-waits start.reply (Ok false) start.says_so refl in
-    let first : Calls old mid (recorded old.number call bytes Waits ∷ []) = rw reply at start.calls in
-    waits-later first waits later
+send-blocks start waits later = waits-later (rw (send-waits start.reply (Ok false) start.says_so refl) at start.calls) waits later
 
 pub receive-blocks : {old mid new : Ticket Record} {call : Call} {before between : List ℕ} → ReceiveCall start_receive_says old mid call before between (Ok None) → WaitsIn mid call → Calls mid new [] → WaitsFor old new call []
-receive-blocks {old} {mid} {new} {call} start waits later =
-    let reply : start.reply ≡ Waits = receive-waits mid.left start.reply (Ok None) start.says_so refl in
-    let first : Calls old mid (recorded old.number call [] Waits ∷ []) = rw reply at start.calls in
-    waits-later first waits later
+receive-blocks {mid = mid} start waits later = waits-later (rw (receive-waits mid.left start.reply (Ok None) start.says_so refl) at start.calls) waits later
 
 -- a look told the process something
 pub calls-told : {old mid new : Ticket Record} {told : Bool} → Calls old mid [] → new ≡ record mid { told = told } → Calls old new []
@@ -59,7 +38,3 @@ calls-later first later = calls-on (λ _. []) first later
 
 pub room-later : {old new : Ticket Record} → Calls old new [] → waiting_room new.left new.number ≡ waiting_room old.left old.number
 room-later calls = rw calls.number (room-grown calls.grows)
-
-pub if-some : {A : Type 0} (P Q : A → Type 0) (o : Option A) → ((x : A) → P x → Q x) → IfSome o P → IfSome o Q
-if-some P Q None weaker has = tt
-if-some P Q (Some x) weaker has = weaker x has

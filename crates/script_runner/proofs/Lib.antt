@@ -1,11 +1,9 @@
 pub mod Agreeing
 pub mod AtOnce
 pub mod Blocking
-pub mod KnownBytes
 pub mod Lists
-pub mod NotedLines
 pub mod Authors
+pub mod SideBySide
 pub mod Standing
 pub mod Stopping
-pub mod Taking
 pub mod Working

@@ -1,14 +1,18 @@
--- Phases and known bytes, where a write failed.
-use Rattle.std.proofs.Common.{◌≡◌, ◌<◌, ◌++◌, ℕ, List, ◌∷◌, length, get_or, take, drop, ap, sym, ◌∙◌, suc, Option, Vec, Global, Bor}
+-- The script that was read, and its phases and known bytes where a write failed.
+use Rattle.std.proofs.Common.{◌≡◌, ◌<◌, ◌++◌, ℕ, List, ◌∷◌, length, get_or, take, drop, ap, sym, ◌∙◌, suc, subst, Ok, Option, Vec, Global, Bor}
+use Rattle.std.proofs.KnownBytes.{Appends-trans}
 use Rattle.std.proofs.Math.Seq.{drop-cons}
 use Rattle.std.proofs.lemmas.List.{take-append-drop, map-append}
 use Rattle.std.specs.Io.KnownBytes.{Appends}
 use Rattle.text_io.specs.Output.{AppendsTooLittle}
 use Rattle.text_io.specs.Words.{Word}
-use Rattle.script_text.specs.Script.{WrittenCall, said_calls, said_phases}
+use Rattle.script_text.specs.Script.{Whole, WrittenCall, said_calls, said_phases, script_written}
 use Rattle.script_text.specs.declared.line.ScriptCall.{ScriptCall}
 use Rattle.script_runner.specs.Stops.{AppendsInto}
-use Rattle.script_runner.proofs.KnownBytes.{Appends-then}
+
+-- what holds of the script that was read holds of the one that the input writes
+pub of-script : (P : Whole → Type 0) {text slice front : List ℕ} {read script : Whole} → text ≡ front → slice ≡ text → script_written slice ≡ Ok read → script_written front ≡ Ok script → P read → P script
+of-script P {read = read} {script = script} whole sliced first second holds = let same : read ≡ script = cc in subst P same holds
 
 -- the phases before one, that one, and the later ones
 pub phases-split : (phases : List (Vec (ScriptCall (Bor Word)) Global)) (i : ℕ) (d : Vec (ScriptCall (Bor Word)) Global) → i < length phases → said_phases phases ≡ said_phases (take i phases) ++ said_calls (get_or phases i d).items ∷ said_phases (drop (suc i) phases)
@@ -20,4 +24,4 @@ phases-split phases i d low =
 
 -- a whole text was written, and of the next a front part
 pub appends-into : (a b c : Option (List ℕ)) (text next : List ℕ) → Appends a b text → AppendsTooLittle b c next → AppendsInto a c text next
-appends-into a b c text next whole part = (part.0, part.1, Appends-then a b c text (take part.0 next) whole part.2)
+appends-into a b c text next whole part = (part.0, part.1, Appends-trans a b c text (take part.0 next) whole part.2)

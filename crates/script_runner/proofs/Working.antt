@@ -1,85 +1,53 @@
 -- Calls, shares and phases, one more after the others.
 use Rattle.std.proofs.Common.{◌≡◌, ◌<◌, ◌+◌, ◌++◌, ℕ, List, [], ◌∷◌, length, get_or, take, map, refl, ap, arith, sym, ◌∙◌, subst, append_assoc, append-nil, All, Vec, Global, zero, suc}
 use Rattle.std.proofs.lemmas.List.{length-map, take_more, map-append}
-use Rattle.std.proofs.lemmas.List.Elements.{All-from_recursion, recursion_from_All}
-use Rattle.std.specs.List.{AllByRecursion as ByRecursion, AllZip}
+use Rattle.std.proofs.lemmas.List.Elements.{All-nil, All-cons, All-head, All-tail, All-from_recursion, All-map, recursion_from_All}
+use Rattle.std.proofs.lemmas.Slice.Zip.{AllZip-long}
+use Rattle.std.specs.List.{AllByRecursion as ByRecursion}
 use Rattle.fast_mutex.specs.Items.{LockId, Ticket, tickets_from}
 use Rattle.mq_model.specs.Record.{Record}
 use Rattle.script_runner.specs.Buffer.{buffer_given}
 use Rattle.text_io.specs.Words.{Word}
 use Rattle.script_runner.specs.Meeting.{RunsAndMeets}
-use Rattle.script_runner.specs.Phase.{AllWorkOff, calls_in, text_in}
+use Rattle.script_runner.specs.Phase.{AllWorkOff, WorksOff, calls_in, text_in}
 use Rattle.script_runner.specs.Runs.{IsReady, Performs, RunsCalls, RunsPhase, RunsPhases, calls_of}
-use Rattle.script_text.specs.ReplyLines.{reply_lines}
 use Rattle.script_text.specs.Script.{WrittenCall, said_calls, said_phases}
 use Rattle.script_text.specs.declared.line.ScriptCall.{ScriptCall}
 use Rattle.script_text.specs.declared.reply.Completion.{Completion}
 use Rattle.script_runner.specs.declared.turns.Share.{Share}
-use Rattle.script_runner.specs.declared.turns.Turn.{Turn}
 use Rattle.script_runner.specs.declared.turns.Worked.{Worked}
+use Rattle.script_runner.proofs.SideBySide.{zip-all}
 use denote.Ref.{Bor}
 
 -- one more call after the others
 pub RunsCalls-push : (calls : List WrittenCall) (call : WrittenCall) (completions : List Completion) (completion : Completion) (old mid new : Ticket Record) → RunsCalls calls completions old mid → Performs call.moment call.command (buffer_given call.command) completion.buffer.items mid new completion.outcome → RunsCalls (calls ++ call ∷ []) (completions ++ completion ∷ []) old new
-RunsCalls-push [] call [] completion old mid new ran last =
-    let P : Ticket Record → Type 0 = λ m. Performs call.moment call.command (buffer_given call.command) completion.buffer.items m new completion.outcome in
-    (new, subst P ran last, refl)
-RunsCalls-push [] call (a ∷ completions) completion old mid new ran last = absurd ran
-RunsCalls-push (c ∷ calls) call [] completion old mid new ran last = absurd ran
-RunsCalls-push (c ∷ calls) call (a ∷ completions) completion old mid new ran last =
-    (ran.0, ran.1, RunsCalls-push calls call completions completion ran.0 mid new ran.2 last)
+RunsCalls-push [] call [] completion old mid new ran last = grind arith
+RunsCalls-push (c ∷ calls) call (a ∷ completions) completion old mid new ran last = grind (arith, RunsCalls-push calls call completions completion ran.0 mid new ran.2 last)
+RunsCalls-push calls call completions completion old mid new ran last = absurd ran
 
--- a process without calls
-pub nothing-ran : (turns : List Turn) (completions : List Completion) (process : Ticket Record) → length turns ≡ 0 → completions ≡ [] → RunsCalls (calls_in turns) completions process process
-nothing-ran [] completions process few none = rw none refl
-nothing-ran (turn ∷ turns) completions process few none = absurd (omega arith)
+-- what holds of all that is shown
+all-unmap : {X Y : Type 0} (P : X → Type 0) (f : Y → X) (ys : List Y) → All P (map f ys) → All (λ y. P (f y)) ys
+all-unmap P f [] all = All-nil (λ y. P (f y))
+all-unmap P f (y ∷ ys) all = All-cons (λ y. P (f y)) y ys (All-head P (f y) (map f ys) all) (all-unmap P f ys (All-tail P (f y) (map f ys) all))
 
--- one more after the others
-pub zip-push : {A B : Type 0} (R : A → B → Type 0) (xs : List A) (ys : List B) (x : A) (y : B) → AllZip R xs ys → R x y → AllZip R (xs ++ x ∷ []) (ys ++ y ∷ [])
-zip-push R [] [] x y all has = (has, tt)
-zip-push R [] (b ∷ ys) x y all has = absurd all
-zip-push R (a ∷ xs) [] x y all has = absurd all
-zip-push R (a ∷ xs) (b ∷ ys) x y all has = (all.0, zip-push R xs ys x y all.1 has)
+-- the processes of the shares are ready
+pub shares-ready : {mq : LockId} (shares : List (Share (Ticket Record))) {before : List (Ticket Record)} → map (λ share. share.process) shares ≡ before → All (IsReady mq) before → All (λ share. IsReady mq share.process) shares
+shares-ready {mq} shares {before} processes ready = all-unmap (IsReady mq) (λ (s : Share (Ticket Record)). s.process) shares (rw processes ready)
 
 -- the processes that come back are ready again
-ready-again : (mq : LockId) (shares : List (Share (Ticket Record))) (workers : List (Worked (Ticket Record))) → AllWorkOff shares workers → ByRecursion (λ (share : Share (Ticket Record)). IsReady mq share.process) shares → ByRecursion (IsReady mq) (map (λ (worked : Worked (Ticket Record)). worked.process) workers)
-ready-again mq [] [] off ready = tt
-ready-again mq [] (w ∷ workers) off ready = absurd off
-ready-again mq (s ∷ shares) [] off ready = absurd off
-ready-again mq (s ∷ shares) (w ∷ workers) off ready =
-    (record { made = off.0.same.lock ∙ ready.0.made; free = off.0.free }, ready-again mq shares workers off.1 ready.1)
-
 pub all-ready : (mq : LockId) (shares : List (Share (Ticket Record))) (workers : List (Worked (Ticket Record))) → AllWorkOff shares workers → All (λ share. IsReady mq share.process) shares → All (IsReady mq) (map (λ (worked : Worked (Ticket Record)). worked.process) workers)
 all-ready mq shares workers off ready =
-    All-from_recursion (IsReady mq) (map (λ (worked : Worked (Ticket Record)). worked.process) workers)
-    (ready-again mq shares workers off (recursion_from_All (λ (share : Share (Ticket Record)). IsReady mq share.process) shares ready))
-
--- as many come back
-pub same-count : (shares : List (Share (Ticket Record))) (workers : List (Worked (Ticket Record))) → AllWorkOff shares workers → length workers ≡ length shares
-same-count [] [] off = refl
-same-count [] (w ∷ workers) off = absurd off
-same-count (s ∷ shares) [] off = absurd off
-same-count (s ∷ shares) (w ∷ workers) off = ap suc (same-count shares workers off.1)
+    All-map (IsReady mq) (λ worked. worked.process) workers
+    (zip-all WorksOff (λ (s : Share (Ticket Record)). IsReady mq s.process) (λ (w : Worked (Ticket Record)). IsReady mq w.process) (λ s w works is. record { made = works.same.lock ∙ is.made; free = works.free }) shares workers off ready)
 
 -- shares of these calls were worked off: the phase was run
 phase-ran : (calls : List WrittenCall) (shares : List (Share (Ticket Record))) (workers : List (Worked (Ticket Record))) → AllWorkOff shares workers → ByRecursion (λ (share : Share (Ticket Record)). calls_in share.turns.items ≡ calls_of share.process.number calls) shares → RunsPhase calls (map (λ (share : Share (Ticket Record)). share.process) shares) (map (λ (worked : Worked (Ticket Record)). worked.process) workers) (text_in workers)
 phase-ran calls [] [] off dealt = refl
-phase-ran calls [] (w ∷ workers) off dealt = absurd off
-phase-ran calls (s ∷ shares) [] off dealt = absurd off
-phase-ran calls (s ∷ shares) (w ∷ workers) off dealt =
-    let P : List WrittenCall → Type 0 = λ cs. RunsCalls cs w.completions.items s.process w.process in (
-      w.completions.items,
-      text_in workers,
-      subst P dealt.0 off.0.calls,
-      off.0.same,
-      phase-ran calls shares workers off.1 dealt.1,
-      ap (λ n. reply_lines n w.completions.items ++ text_in workers) off.0.same.number,
-    )
+phase-ran calls (s ∷ shares) (w ∷ workers) off dealt = grind (arith, phase-ran calls shares workers off.1 dealt.1)
+phase-ran calls shares workers off dealt = absurd off
 
 pub phase-done : (calls : List WrittenCall) (shares : List (Share (Ticket Record))) (workers : List (Worked (Ticket Record))) (before after : List (Ticket Record)) (text : List ℕ) → AllWorkOff shares workers → All (λ share. calls_in share.turns.items ≡ calls_of share.process.number calls) shares → map (λ share. share.process) shares ≡ before → after ≡ map (λ worked. worked.process) workers → text ≡ text_in workers → RunsPhase calls before after text
-phase-done calls shares workers before after text off dealt processes back is =
-    rw (sym processes, back, is)
-    (phase-ran calls shares workers off (recursion_from_All (λ (share : Share (Ticket Record)). calls_in share.turns.items ≡ calls_of share.process.number calls) shares dealt))
+phase-done calls shares workers before after text off dealt processes back is = grind (arith, phase-ran, recursion_from_All)
 
 -- one more phase after the others
 RunsPhases-push : (phases : List (List WrittenCall)) (calls : List WrittenCall) (before mid after : List (Ticket Record)) (text more : List ℕ) → RunsPhases phases before mid text → RunsAndMeets calls mid after more → RunsPhases (phases ++ calls ∷ []) before after (text ++ more)
@@ -107,8 +75,7 @@ phases-more phases i d before mid after text more low ran last =
     subst P same (RunsPhases-push (said_phases (take i phases)) (said_calls (get_or phases i d).items) before mid after text more ran last)
 
 pub same-lengths : (shares : List (Share (Ticket Record))) (workers : List (Worked (Ticket Record))) (before after : List (Ticket Record)) → AllWorkOff shares workers → map (λ share. share.process) shares ≡ before → after ≡ map (λ worked. worked.process) workers → length after ≡ length before
-same-lengths shares workers before after off processes back =
-    rw (sym processes, back) (length-map workers (λ (w : Worked (Ticket Record)). w.process) ∙ same-count shares workers off ∙ sym (length-map shares (λ (s : Share (Ticket Record)). s.process)))
+same-lengths shares workers before after off processes back = grind (arith, length-map, AllZip-long)
 
 -- new processes are ready
 each-new-ready : (lock : LockId) (k n : ℕ) → ByRecursion (IsReady lock) (tickets_from lock k n)

@@ -1,6 +1,6 @@
 -- What a phase does to its shares.
-use Rattle.std.specs.Prelude.{◌≡◌, ◌≢◌, ◌++◌, ℕ, List, [], ◌∷◌, None, map}
-use Rattle.std.specs.List.{All, AllZip}
+use Rattle.std.specs.Prelude.{◌≡◌, ◌≢◌, ℕ, List, [], None, map}
+use Rattle.std.specs.List.{All, AllZip, flat_map}
 use Rattle.fast_mutex.specs.Items.{LockId, Ticket}
 use Rattle.mq.specs.Calls.{IsFree}
 use Rattle.mq_model.specs.Record.{Record}
@@ -21,8 +21,7 @@ calls_in turns = map (λ turn. said_call turn.call) turns
 
 -- the lines of all replies, in the order of the processes
 abbrev pub text_in : List (Worked (Ticket Record)) → List ℕ
-text_in [] = []
-text_in (worked ∷ others) = reply_lines worked.process.number worked.completions.items ++ text_in others
+text_in workers = flat_map (λ worked. reply_lines worked.process.number worked.completions.items) workers
 
 -- the processes of the shares were made with this system, and have no open wait
 pub record AreReady (mq : LockId) (shares : List (Share (Ticket Record))) : Type 0 where

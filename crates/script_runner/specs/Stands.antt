@@ -1,6 +1,6 @@
 -- What a phase leaves that comes to a stand: a process waits for ever.
 use Rattle.std.specs.Prelude.{◌≡◌, ◌≢◌, ◌++◌, ℕ, true, List, [], ◌∷◌, map, Option, None, Some}
-use Rattle.std.specs.List.{All, AllZip, list_all}
+use Rattle.std.specs.List.{All, AllZip, flat_map, list_all}
 use Rattle.fast_mutex.specs.Items.{Ticket}
 use Rattle.mq.specs.Blocked.{is_blocked}
 use Rattle.mq_model.specs.Record.{Record}
@@ -36,8 +36,7 @@ process_in (Some line) process = process ∷ []
 
 -- the processes that wait
 abbrev pub blocked_processes : List (Worked (Ticket Record)) → List ℕ
-blocked_processes [] = []
-blocked_processes (worked ∷ others) = process_in worked.blocked worked.process.number ++ blocked_processes others
+blocked_processes workers = flat_map (λ worked. process_in worked.blocked worked.process.number) workers
 
 abbrev pub line_in : Option ℕ → List ℕ
 line_in None = []
@@ -45,8 +44,7 @@ line_in (Some line) = line ∷ []
 
 -- the lines of the calls that wait, those of the first process first
 abbrev pub blocked_lines : List (Worked (Ticket Record)) → List ℕ
-blocked_lines [] = []
-blocked_lines (worked ∷ others) = line_in worked.blocked ++ blocked_lines others
+blocked_lines workers = flat_map (λ worked. line_in worked.blocked) workers
 
 -- a process of a phase: its calls ended so
 pub record EndsPhase (calls : List WrittenCall) (old : Ticket Record) (worked : Worked (Ticket Record)) : Type 0 where

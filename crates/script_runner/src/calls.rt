@@ -1,18 +1,16 @@
 //! The calls of commands, made by a process.
-ghost use Rattle.std.specs.Prelude.{◌≡◌, ℕ, IfNone, IfSome, [], length};
-ghost use Rattle.mq.specs.Calls.{IsFree, Exits};
-ghost use Rattle.mq.specs.Says.{attributes_says, done_says, notice_says, open_says};
-ghost use Rattle.mq_model.specs.declared.entries.Call.{Call};
+ghost use Rattle.std.specs.Prelude.{◌≡◌, IfNone, IfSome, length};
+ghost use Rattle.mq.specs.Calls.{IsFree};
 ghost use Rattle.script_text.specs.Grammar.{said};
 ghost use Rattle.script_text.specs.Replies.{HasMessage};
-ghost use Rattle.script_runner.specs.Runs.{Blocks, IsSameProcess, MakesNamed, Performs, outcome_by};
+ghost use Rattle.script_runner.specs.Runs.{Blocks, IsSameProcess, Performs, outcome_by};
 ghost use Rattle.script_text.specs.declared.reply.Outcome.TheVariants as outcomes;
 
 use crate::peers::Peer;
 use crate::waiting;
 use fast_mutex::Look;
 use mq::{Guarded, Mq, Process};
-use mq_model::entries::{Attr, Call, OpenFlags, Status};
+use mq_model::entries::{Call, Status};
 use mq_model::faults::Fault;
 use mq_model::names::Name;
 use script_text::clock::FixedClock;
@@ -44,21 +42,50 @@ pub fn perform<L: Look<Guarded>, R: Wait + Clock>(
 {
     let now = clock.moment;
     match *command {
-        Command::Open { name, flags, attr } => Some(open(rt, mq, process, name, flags, attr)),
+        Command::Open { name, flags, attr } => match Name::read(name) {
+            Ok(name) => Some(opened(process.open(rt, mq, &name, flags, attr))),
+            Err(fault) => Some(Outcome::Refused(fault)),
+        },
         Command::Close { d } => Some(done(process.close(rt, mq, d))),
-        Command::Unlink { name } => Some(unlink(rt, mq, process, name)),
+        Command::Unlink { name } => match Name::read(name) {
+            Ok(name) => Some(done(process.unlink(rt, mq, &name))),
+            Err(fault) => Some(Outcome::Refused(fault)),
+        },
         Command::Send { d, prio, message } => {
-            waiting::send(rt, mq, process, peers, d, message, prio)
+            let len = message.len() as u64;
+            let call = Call::MqSend { d, prio, len };
+            waiting::send(rt, mq, process, peers, call, message)
         }
-        Command::Receive { d, room: _ } => waiting::receive(rt, mq, process, peers, d, buffer),
+        Command::Receive { d, room: _ } => {
+            let room = buffer.len() as u64;
+            let call = Call::MqReceive { d, room };
+            waiting::receive(rt, mq, process, peers, call, buffer)
+        }
         Command::TimedSend {
             d,
             prio,
             until,
             message,
-        } => waiting::timed_send(rt, mq, process, peers, d, message, prio, until, now),
+        } => {
+            let len = message.len() as u64;
+            let call = Call::MqTimedSend {
+                d,
+                prio,
+                len,
+                until,
+                now,
+            };
+            waiting::send(rt, mq, process, peers, call, message)
+        }
         Command::TimedReceive { d, room: _, until } => {
-            waiting::timed_receive(rt, mq, process, peers, d, buffer, until, now)
+            let room = buffer.len() as u64;
+            let call = Call::MqTimedReceive {
+                d,
+                room,
+                until,
+                now,
+            };
+            waiting::receive(rt, mq, process, peers, call, buffer)
         }
         Command::Getattr { d } => Some(attributes(process.getattr(rt, mq, d))),
         Command::Setattr { d, nonblock } => {
@@ -68,48 +95,6 @@ pub fn perform<L: Look<Guarded>, R: Wait + Clock>(
         Command::Notify { d, value } => Some(done(process.notify(rt, mq, d, value))),
         Command::Notice => Some(notice(process.next_notice(rt, mq))),
         Command::Exit => Some(done(process.exit(rt, mq))),
-    }
-}
-
-fn open<L: Look<Guarded>, R: Wait>(
-    rt: &R,
-    mq: &Mq<L>,
-    process: &mut Process<L>,
-    name: &[u8],
-    flags: OpenFlags,
-    attr: Option<Attr>,
-) -> Outcome
-    requires made { process.old.lock ≡ mq.now }
-    requires free { IsFree process.old }
-    ensures free { IsFree process.new }
-    ensures same { IsSameProcess process.old process.new }
-    ensures message { (room : ℕ) → HasMessage result room }
-    ensures made { MakesNamed open_says outcomes.Opened
-        (Call.MqOpen flags attr) name.now process.old process.new result }
-{
-    match Name::read(name) {
-        Ok(name) => opened(process.open(rt, mq, &name, flags, attr)),
-        Err(fault) => Outcome::Refused(fault),
-    }
-}
-
-fn unlink<L: Look<Guarded>, R: Wait>(
-    rt: &R,
-    mq: &Mq<L>,
-    process: &mut Process<L>,
-    name: &[u8],
-) -> Outcome
-    requires made { process.old.lock ≡ mq.now }
-    requires free { IsFree process.old }
-    ensures free { IsFree process.new }
-    ensures same { IsSameProcess process.old process.new }
-    ensures message { (room : ℕ) → HasMessage result room }
-    ensures made { MakesNamed done_says (λ _. outcomes.Done) Call.MqUnlink name.now process.old
-        process.new result }
-{
-    match Name::read(name) {
-        Ok(name) => done(process.unlink(rt, mq, &name)),
-        Err(fault) => Outcome::Refused(fault),
     }
 }
 

@@ -1,41 +1,43 @@
 //! Calls that may wait, and end their wait where nobody can answer it any more.
-ghost use Rattle.std.specs.Prelude.{◌≡◌, ◌≤◌, true, Some, None, IsSome, IsTrue, IfSome, IfNone, [], length};
-ghost use Rattle.mq.specs.Calls.{Calls, Collects, IsFree, SendCall, TimedReceive, TimedSend, WholeReceive};
+ghost use Rattle.std.specs.Prelude.{◌≡◌, ◌≤◌, true, IsSome, IsTrue, IfSome, IfNone, [], length};
+ghost use Rattle.mq.specs.Calls.{Calls, Collects, IsFree};
 ghost use Rattle.mq.specs.Says.{FitsIn};
 ghost use Rattle.mq_model.specs.Legality.{Legal};
-ghost use Rattle.mq_model.specs.declared.entries.Call.{Call};
+ghost use Rattle.mq_model.specs.Messages.{is_receive, is_send};
 ghost use Rattle.mq_state.specs.Buffers.{waiting_room};
-ghost use Rattle.script_runner.specs.Runs.{IsSameProcess, Shows, WaitsFor};
+ghost use Rattle.mq_state.specs.Requests.{Brings};
+ghost use Rattle.script_runner.specs.Runs.{IsSameProcess, Receives, Sends, Shows, WaitsFor};
 ghost use Rattle.script_text.specs.Replies.{HasMessage, message_len};
 ghost use Rattle.script_text.specs.declared.reply.Outcome.TheVariants as outcomes;
 
 use crate::peers::{Peer, calling};
 use fast_mutex::Look;
-use mq::{Collected, Deadline, Guarded, Mq, Naps, Process};
+use mq::{Collected, Guarded, Mq, Naps, Process};
+use mq_model::entries::Call;
 use script_text::reply::Outcome;
 use std::sync::Wait;
 
-/// A send (`mq_send`). `None`: it waits for ever, since no process that may still call goes on.
+/// Makes a send, with a deadline or without (`mq_send`, `mq_timedsend`). `None`: it waits for ever, since no process that may still call goes on.
 pub fn send<L: Look<Guarded>, R: Wait>(
     rt: &R,
     mq: &Mq<L>,
     process: &mut Process<L>,
     peers: &[Peer],
-    d: u32,
+    call: Call,
     message: &[u8],
-    prio: u32,
 ) -> Option<Outcome>
     requires made { process.old.lock ≡ mq.now }
     requires free { IsFree process.old }
+    requires send { is_send call ≡ true }
+    requires brings { Brings call message.now 0 }
     ensures same { IsSameProcess process.old process.new }
     ensures free { IfSome result (λ _. IsFree process.new) }
     ensures call { IfSome result (Shows (λ _. outcomes.Done)
-        (SendCall process.old process.new d message.now prio)) }
+        (Sends process.old process.new call message.now)) }
     ensures message { IfSome result (λ came. message_len came ≡ 0) }
-    ensures waits { IfNone result (WaitsFor process.old process.new
-        (Call.MqSend d prio (length message.now)) message.now) }
+    ensures waits { IfNone result (WaitsFor process.old process.new call message.now) }
 {
-    match process.start_send(rt, mq, d, message, prio) {
+    match process.make(rt, mq, call, message, &mut []) {
         Ok(true) => Some(Outcome::Done),
         Ok(false) => match await_answer(rt, mq, process, peers, &mut []) {
             Some(_) => Some(Outcome::Done),
@@ -45,90 +47,28 @@ pub fn send<L: Look<Guarded>, R: Wait>(
     }
 }
 
-/// A receive into the front of the buffer (`mq_receive`). `None`: it waits for ever, since no process that may still call goes on.
+/// Makes a receive into the front of the buffer, with a deadline or without (`mq_receive`, `mq_timedreceive`). `None`: it waits for ever,
+/// since no process that may still call goes on.
 pub fn receive<L: Look<Guarded>, R: Wait>(
     rt: &R,
     mq: &Mq<L>,
     process: &mut Process<L>,
     peers: &[Peer],
-    d: u32,
+    call: Call,
     buffer: &mut [u8],
 ) -> Option<Outcome>
     requires made { process.old.lock ≡ mq.now }
     requires free { IsFree process.old }
+    requires receive { is_receive call ≡ true }
+    requires brings { Brings call [] (length buffer.old) }
     ensures same { IsSameProcess process.old process.new }
     ensures free { IfSome result (λ _. IsFree process.new) }
     ensures call { IfSome result (Shows outcomes.Got
-        (WholeReceive process.old process.new d buffer.old buffer.new)) }
+        (Receives process.old process.new call buffer.old buffer.new)) }
     ensures message { IfSome result (λ came. HasMessage came (length buffer.old)) }
-    ensures waits { IfNone result (WaitsFor process.old process.new
-        (Call.MqReceive d (length buffer.old)) []) }
+    ensures waits { IfNone result (WaitsFor process.old process.new call []) }
 {
-    match process.start_receive(rt, mq, d, buffer) {
-        Ok(Some(received)) => Some(Outcome::Got(received)),
-        Ok(None) => match await_answer(rt, mq, process, peers, buffer) {
-            Some(Collected::Got(received)) => Some(Outcome::Got(received)),
-            Some(Collected::Sent) => unreachable!(),
-            None => None,
-        },
-        Err(fault) => Some(Outcome::Refused(fault)),
-    }
-}
-
-/// A send with a deadline (`mq_timedsend`), of a clock that stands at the moment `now`. `None`: it waits for ever.
-pub fn timed_send<L: Look<Guarded>, R: Wait>(
-    rt: &R,
-    mq: &Mq<L>,
-    process: &mut Process<L>,
-    peers: &[Peer],
-    d: u32,
-    message: &[u8],
-    prio: u32,
-    until: Deadline,
-    now: Deadline,
-) -> Option<Outcome>
-    requires made { process.old.lock ≡ mq.now }
-    requires free { IsFree process.old }
-    ensures same { IsSameProcess process.old process.new }
-    ensures free { IfSome result (λ _. IsFree process.new) }
-    ensures call { IfSome result (Shows (λ _. outcomes.Done) (TimedSend (λ moment. moment ≡
-        now) process.old process.new d message.now prio until)) }
-    ensures message { IfSome result (λ came. message_len came ≡ 0) }
-    ensures waits { IfNone result (WaitsFor process.old process.new (Call.MqTimedSend d prio
-        (length message.now) until now) message.now) }
-{
-    match process.start_timed_send(rt, mq, d, message, prio, until, now) {
-        Ok(true) => Some(Outcome::Done),
-        Ok(false) => match await_answer(rt, mq, process, peers, &mut []) {
-            Some(_) => Some(Outcome::Done),
-            None => None,
-        },
-        Err(fault) => Some(Outcome::Refused(fault)),
-    }
-}
-
-/// A receive with a deadline (`mq_timedreceive`), of a clock that stands at the moment `now`. `None`: it waits for ever.
-pub fn timed_receive<L: Look<Guarded>, R: Wait>(
-    rt: &R,
-    mq: &Mq<L>,
-    process: &mut Process<L>,
-    peers: &[Peer],
-    d: u32,
-    buffer: &mut [u8],
-    until: Deadline,
-    now: Deadline,
-) -> Option<Outcome>
-    requires made { process.old.lock ≡ mq.now }
-    requires free { IsFree process.old }
-    ensures same { IsSameProcess process.old process.new }
-    ensures free { IfSome result (λ _. IsFree process.new) }
-    ensures call { IfSome result (Shows outcomes.Got (TimedReceive (λ moment. moment ≡
-        now) process.old process.new d buffer.old buffer.new until)) }
-    ensures message { IfSome result (λ came. HasMessage came (length buffer.old)) }
-    ensures waits { IfNone result (WaitsFor process.old process.new (Call.MqTimedReceive d
-        (length buffer.old) until now) []) }
-{
-    match process.start_timed_receive(rt, mq, d, buffer, until, now) {
+    match process.make(rt, mq, call, &[], buffer) {
         Ok(Some(received)) => Some(Outcome::Got(received)),
         Ok(None) => match await_answer(rt, mq, process, peers, buffer) {
             Some(Collected::Got(received)) => Some(Outcome::Got(received)),

@@ -1,9 +1,8 @@
-use Rattle.std.proofs.Common.{arith, rules, ◌≡◌, ◌≤◌, ◌++◌, [], ◌∙◌, All, ap, length, subst, sym, vec_len}
+use Rattle.std.proofs.Common.{arith, ◌≡◌, ◌≤◌, ◌++◌, [], ◌∙◌, All, ap, subst}
 use Rattle.std.proofs.lemmas.Grind.{common_steps}
-use Rattle.std.proofs.lemmas.List.Elements.{All-same, All-weaker}
 use Rattle.fast_mutex.specs.Items.{tickets_from}
 use Rattle.script_runner.specs.Notes.{lines_of}
-use Rattle.script_runner.specs.Runs.{IsReady, RunsPhases}
+use Rattle.script_runner.specs.Runs.{RunsPhases}
 use Rattle.script_text.specs.Script.{said_phases}
 use Rattle.mq.specs.Calls.{author}
 use Rattle.mq_model.specs.Record.{Record}
@@ -12,22 +11,13 @@ use Rattle.script_runner.proofs.Working.{new-count, new-ready}
 use Rattle.script_runner.proofs.noting.run_noted.Goals as goal
 
 pub run_noted_phases-requires-after_bounds : goal.run_noted_phases-requires-after_bounds
-run_noted_phases-requires-after_bounds g c κs within =
-    let mq = c.in-Ok.mq in let n = c.args.script.now.processes in
-    All-same (IsReady mq) c.in-Ok.processes.items (tickets_from mq 1 n) c.in-Ok.ensures.processes (new-ready mq n)
+run_noted_phases-requires-after_bounds g c h2 within = grind (arith, new-ready)
 
 pub finish-requires : goal.finish-requires
-finish-requires g c =
-    let mq = c.in-Ok.mq in
-    All-weaker (IsReady mq) (λ p. p.lock ≡ mq) (λ p ready. ready.made) c.in_ok-processes.processes.items c.in_ok-processes.ensures.ready
+finish-requires g c = grind arith
 
 pub unreachable-requires : goal.unreachable-requires
-unreachable-requires g c =
-    let mq = c.in-Ok.mq in let n = c.args.script.now.processes in
-    let made : length c.in-Ok.processes.items ≡ n = ap length c.in-Ok.ensures.processes ∙ new-count mq 1 n in
-    let first : vec_len c.in-Ok.processes ≡ n = grind (arith, common_steps) in
-    let count : vec_len c.in_ok-processes.processes ≡ mq.count = c.in_ok-processes.ensures.count ∙ (first ∙ sym c.in-Ok.ensures.count) in
-    let ok = c.in_default-finish.ensures.all.0 count in search rules
+unreachable-requires g c = grind (arith, common_steps, new-count)
 
 pub returns-clause-done : goal.returns-clause-done
 returns-clause-done g c =

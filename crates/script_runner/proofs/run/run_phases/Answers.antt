@@ -1,6 +1,6 @@
 use Rattle.std.proofs.Common.{inr}
+use Rattle.std.proofs.KnownBytes.{Appends-trans}
 use Rattle.script_runner.specs.Runs.{last_line}
-use Rattle.script_runner.proofs.KnownBytes.{Appends-then}
 use Rattle.script_runner.proofs.Stopping.{appends-into}
 use Rattle.script_runner.proofs.run.run_phases.Goals as goal
 
@@ -12,7 +12,7 @@ returns-clause-done g c =
       replies = ran.0;
       journal = c.in_ok-journal.journal.records;
       whole = ran.1;
-      written = Appends-then _ _ _ ran.0 last_line ran.2 last;
+      written = Appends-trans _ _ _ ran.0 last_line ran.2 last;
     }
 
 pub returns-in_err-write_last_line-clause-output : goal.returns-in_err-write_last_line-clause-output

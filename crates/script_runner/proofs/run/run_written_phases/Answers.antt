@@ -1,5 +1,6 @@
 use Rattle.std.proofs.Common.{arith, ◌≡◌, ◌++◌, ◌∙◌, ap, sym, subst, Err, drop, get_or, length, suc, take, vec_len, Vec, Global, Bor}
 use Rattle.std.proofs.lemmas.Grind.{common_steps}
+use Rattle.std.proofs.KnownBytes.{Appends-trans}
 use Rattle.std.specs.Io.KnownBytes.{Appends}
 use Rattle.std.specs.List.{take-map}
 use Rattle.text_io.specs.Words.{Word}
@@ -9,7 +10,6 @@ use Rattle.script_runner.specs.Stands.{ComesToAStand}
 use Rattle.script_text.specs.Script.{said_calls, said_phases}
 use Rattle.script_runner.specs.declared.stop.Stop.TheVariants.{NoMemory, Output, Stuck}
 use Rattle.script_text.specs.declared.line.ScriptCall.{ScriptCall}
-use Rattle.script_runner.proofs.KnownBytes.{Appends-then}
 use Rattle.script_runner.proofs.Standing.{stand-count, stand-made}
 use Rattle.script_runner.proofs.Stopping.{appends-into, phases-split}
 use Rattle.script_runner.proofs.Working.{phases-more}
@@ -28,7 +28,7 @@ loop-calls-preserved g c =
       ran = (
         was.ran.0 ++ now.ran.0,
         phases-more phases i d _ _ _ was.ran.0 now.ran.0 c.loop-calls-test.true was.ran.1 last,
-        Appends-then _ _ _ was.ran.0 now.ran.0 was.ran.2 now.ran.2,
+        Appends-trans _ _ _ was.ran.0 now.ran.0 was.ran.2 now.ran.2,
       );
     }
 

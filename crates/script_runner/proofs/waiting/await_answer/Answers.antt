@@ -1,17 +1,14 @@
-use Rattle.std.proofs.Common.{◌≤◌, ℕ, length, subst, sym, IfSome, Option}
-use Rattle.mq_state.specs.declared.collected.Collected.{Collected as Outcome}
-use Rattle.mq.specs.Calls.{Collects}
-use Rattle.script_runner.proofs.Blocking.{collects-later, room-later, if-some}
+use Rattle.mq.proofs.Others.{call-grown}
+use Rattle.std.proofs.Common.{arith}
+use Rattle.mq.proofs.Collecting.{collects-later}
+use Rattle.script_runner.proofs.Blocking.{room-later}
 use Rattle.script_runner.proofs.waiting.await_answer.Goals as goal
 
 pub collect-requires-clause-wait : goal.collect-requires-clause-wait
 collect-requires-clause-wait g c = rw (room-later c.look_for_answer.ensures.calls) c.requires.wait
 
 pub collect-requires-clause-room : goal.collect-requires-clause-room
-collect-requires-clause-room g c =
-    subst (λ (o : Option ℕ). IfSome o (λ room. room ≤ length c.args.buffer.now)) (sym (room-later c.look_for_answer.ensures.calls)) c.requires.room
+collect-requires-clause-room g c = grind (arith, room-later)
 
 pub returns-then-look_for_answer-clause-some : goal.returns-then-look_for_answer-clause-some
-returns-then-look_for_answer-clause-some g c =
-    if-some (λ (outcome : Outcome). Collects c.look_for_answer.new.process c.collect.new.self outcome c.args.buffer.now c.collect.new.buf) _ c.collect.result
-    (λ outcome has. collects-later c.look_for_answer.ensures.calls has) c.collect.ensures.some
+returns-then-look_for_answer-clause-some g c = grind (arith, collects-later, call-grown)
