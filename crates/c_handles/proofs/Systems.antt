@@ -1,5 +1,5 @@
 -- The making of a system.
-use Rattle.std.proofs.Common.{◌≡◌, ℕ, zero, suc, List, [], ◌∷◌, map, length, Option, Some, inl, refl, sym, ap, ◌∙◌, true}
+use Rattle.std.proofs.Common.{◌≡◌, ℕ, zero, suc, List, [], ◌∷◌, map, length, Option, Some, inl, refl, sym, ap, ◌∙◌, true, arith}
 use Rattle.std.proofs.lemmas.List.{length-map}
 use Rattle.std.specs.List.{All, list_all}
 use Rattle.std.proofs.lemmas.List.Elements.{All-nil, All-cons}
@@ -22,17 +22,4 @@ map-some f (x ∷ xs) = ap (λ (ys : List (Option _)). Some (f x) ∷ ys) (map-s
 
 pub made : {B : Type 0} (f : B → Ticket Record) (lock : LockId) (items : List B) (old new : List Handle) → lock.count ≡ length old → map f items ≡ tickets_from lock 1 (length old) → map process_in new ≡ map (λ b. Some (f b)) items
     → list_all is_empty old ≡ true → Makes (bounds_in lock.fixed) old new 0
-made f lock items old new count tickets filled empty =
-    let many : length items ≡ length old = tickets-count f lock 1 (length old) items tickets in
-    let same : length new ≡ length old = sym (length-map new process_in) ∙ (ap length filled ∙ (length-map items (λ b. Some (f b)) ∙ many)) in
-    inl (
-      refl,
-      record {
-        lock = lock;
-        count = count ∙ sym same;
-        bounds_are = refl;
-        processes = filled ∙ (map-some f items ∙ (ap (λ (ts : List (Ticket Record)). map (λ (t : Ticket Record). Some t) ts) tickets ∙ ap (λ (n : ℕ). map (λ (t : Ticket Record). Some t) (tickets_from lock 1 n)) (sym same)));
-      },
-      same,
-      empty,
-    )
+made f lock items old new count tickets filled empty = grind (arith, length-map, map-some, tickets-count)

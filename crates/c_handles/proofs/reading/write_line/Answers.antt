@@ -21,15 +21,7 @@ cut : (n m : ℕ) → m < n → ◌≡◌ {A = ℕ} 21 (if nat_le n m then 0 els
 cut n m lt = let no : nat_le n m ≡ false = grind (arith, nat_tests) in rw no refl
 
 pub returns-then-count-line : goal.returns-then-count-line
-returns-then-count-line c = record {
-  text = front-written c.args.line.now c.args.text.now c.copy_from_slice.new.self c.min-count.result c.min-count.ensures c.copy_from_slice.ensures.after;
-  len_is = refl;
-  code_is = done (length c.args.line.now) (length c.args.text.now) (omega arith);
-}
+returns-then-count-line c = grind (arith, done, front-written)
 
 pub returns-else-count-line : goal.returns-else-count-line
-returns-else-count-line c = record {
-  text = front-written c.args.line.now c.args.text.now c.copy_from_slice.new.self c.min-count.result c.min-count.ensures c.copy_from_slice.ensures.after;
-  len_is = refl;
-  code_is = cut (length c.args.line.now) (length c.args.text.now) (omega arith);
-}
+returns-else-count-line c = grind (arith, cut, front-written)

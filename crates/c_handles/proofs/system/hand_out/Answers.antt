@@ -1,4 +1,4 @@
-use Rattle.std.proofs.Common.{◌≡◌, ◌∙◌, [], length}
+use Rattle.std.proofs.Common.{◌≡◌, ◌∙◌, [], length, arith}
 use Rattle.std.proofs.lemmas.List.Elements.{All-same}
 use Rattle.mq.proofs.Seats.{tickets-left, tickets-count}
 use Rattle.c_handles.specs.Standings.{ticket_of}
@@ -12,8 +12,7 @@ pub members_of-requires-clause-new : goal.members_of-requires-clause-new
 members_of-requires-clause-new c = All-same (λ p. p.left ≡ []) _ _ c.requires.made (tickets-left c.args.mq 1 (length c.args.processes.now))
 
 pub fill-requires-clause-count : goal.fill-requires-clause-count
-fill-requires-clause-count c =
-    c.in-Ok-members_of.members.ok.0 ∙ tickets-count (λ b. ticket_of b.value.standing) c.args.mq 1 (length c.args.processes.now) c.in-Ok-members_of.members.items (c.in-Ok-members_of.ensures.ok ∙ c.requires.made)
+fill-requires-clause-count c = grind (arith, made, tickets-count)
 
 pub returns : goal.returns
 returns c = made (λ b. ticket_of b.value.standing) c.args.mq c.in-Ok-members_of.members.items c.args.processes.now c.fill.new.processes c.requires.count (c.in-Ok-members_of.ensures.ok ∙ c.requires.made) c.fill.ensures c.requires.empty

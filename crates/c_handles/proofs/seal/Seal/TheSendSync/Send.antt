@@ -1,4 +1,5 @@
 -- A handle may cross threads: its member may, and the heap's right to free names no thread.
+use Rattle.std.proofs.Common.{arith}
 use base.Fraction.{full_share}
 use base.Shift.{Keyless}
 use mir.Raw.{raw}
@@ -31,7 +32,4 @@ owned a p None = tt
 owned a p (Some d) = (lies Member.the_row member p d, heap.frees.frees a (raw (lone (Member.the_row).mir)) p)
 
 pub send : IsSend the_row
-send =
-    let all : AllSend (fields the_type) = (search sendable, (handle.the_field_send, tt)) in
-    owning_send the_type all (λ d. owned d.alloc d.at d.member)
-    (λ k. quiet (to the_type) (exits_of k (fields the_type)) ((struct_send (shape the_type) all).leaving k))
+send = grind (arith, member, owned, quiet)
