@@ -1,5 +1,4 @@
 //! Reading the journal from C.
-ghost use Rattle.std.specs.Prelude.{◌≡◌};
 ghost use Rattle.c_handles.specs.Handles.{process_in};
 ghost use Rattle.c_handles.specs.Readings.{Checks, GivesNobody, GivesRoom, ReadsAt};
 

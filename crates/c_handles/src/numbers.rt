@@ -1,6 +1,6 @@
 //! The numbers that exports give, and what they write.
 ghost use Rattle.std.specs.Prelude.{◌≡◌, Some, None};
-ghost use Rattle.c_handles.specs.Codes.{code_of, written, given_code, given, notice_code, notice_given, sent_code, got_code, message_of, message_got, attributes_of, attributes_got, end_code, end_message};
+ghost use Rattle.c_handles.specs.Codes.{code_of, written, given_code, given, notice_code, notice_given, sent_code, got_code, message_of, message_got, attributes_got, end_code, end_message};
 ghost use Rattle.c_handles.specs.Endings.{look_code};
 
 use crate::requests::{Attributes, Message};

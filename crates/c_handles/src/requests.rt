@@ -1,6 +1,6 @@
 //! What goes to and fro between a program in C and the exports.
 ghost use Rattle.std.specs.Prelude.{◌≡◌, Some, None, IfOk, IfErr, if◌then◌else◌};
-ghost use Rattle.c_handles.specs.Openings.{access_of, attr_of, name_fault, open_fault, flags_of, deadline_of};
+ghost use Rattle.c_handles.specs.Openings.{access_of, attr_of, name_fault, open_fault, flags_of};
 
 use mq::{Access, Attr, Deadline, Fault, Name, OpenFlags};
 

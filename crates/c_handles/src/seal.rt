@@ -1,5 +1,5 @@
 //! A box of a member whose type says nothing of what lies in it, so that it may cross to C.
-ghost use Rattle.std.specs.Prelude.{◌≡◌, Option, Some, None, IsSome, is_some};
+ghost use Rattle.std.specs.Prelude.{◌≡◌, Option, Some, None};
 ghost use Rattle.c_handles.specs.declared.member.Member.{Member};
 ghost use Rattle.c_handles.specs.Owning.{seal_owns, member_coded};
 

@@ -1,10 +1,8 @@
 //! The making of a system, and the end of a handle.
-ghost use Rattle.std.specs.Prelude.{◌≡◌, ◌≤◌, ◌<◌, ◌⊎◌, true, Some, None, Option, [], length, map, IfOk, IfErr, IfSome, vec_len};
+ghost use Rattle.std.specs.Prelude.{◌≡◌, ◌≤◌, ◌<◌, ◌⊎◌, true, Some, None, Option, [], length, map, IfOk, IfSome, vec_len};
 ghost use Rattle.std.specs.List.{All, list_all};
 ghost use Rattle.std.specs.Arc.{arc_value};
 ghost use Rattle.fast_mutex.specs.Items.{tickets_from};
-ghost use Rattle.mq_model.specs.Fault.{number_of};
-ghost use Rattle.mq_model.specs.declared.bounds.Bounds.{Bounds};
 ghost use Rattle.mq_model.specs.declared.faults.Fault.TheVariants.{Invalid, NoMemory};
 ghost use Rattle.mq.specs.Calls.{bounds_in};
 ghost use Rattle.c_handles.specs.Standings.{ticket_of};

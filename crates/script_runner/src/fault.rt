@@ -1,5 +1,5 @@
 //! Why a run ended before its end.
-ghost use Rattle.std.specs.Prelude.{◌≡◌, Some, length};
+ghost use Rattle.std.specs.Prelude.{◌≡◌, Some};
 ghost use Rattle.std.specs.Fmt.{DisplaysOnOk};
 ghost use Rattle.script_runner.specs.declared.fault.RunFault.TheVariants.{NoMemory, Output};
 ghost use Rattle.script_runner.specs.RunFault.{exit_status, fault_text, of_read_fault, of_script_fault, wait_text, waits_text};
