@@ -3,7 +3,7 @@
 //!
 //! A step is one load or one store of one shared word: x, y, or the flag b[i] of process i. `World` runs the
 //! machine. `mutual_exclusion`, `lines` and `alone` say what is proved of it; the functions named `*_laws` have what
-//! a lock over real words needs, line by line. Nothing is said of progress or fairness.
+//! a lock over real words needs, line by line. Progress is in `lamport_progress`.
 #![tactic(auto)]
 
 ghost use Rattle.std.specs.Prelude.{◌≡◌, ℕ, ◌+◌, ◌-◌, ◌^◌, ◌<◌, ◌≤◌, ◌↔◌, List, length, IfOk, IfSome, IfNone, Some};

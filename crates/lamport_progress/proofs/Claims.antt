@@ -1,0 +1,303 @@
+-- While y is 0 and each process is settled, the process that is closest to its store to y waits for
+-- no flag. So each fair round brings a process one step closer to it.
+use Rattle.std.proofs.Common.{◌≡◌, ◌≢◌, ◌==◌, ◌<◌, ◌≤◌, ◌+◌, ◌-◌, ◌⊎◌, ℕ, suc, Bool, true, false, cond, List, [], ◌∷◌, length, refl, sym, ◌∙◌, subst, inl, inr, arith}
+use Rattle.std.specs.List.{Contains}
+use Rattle.std.proofs.lemmas.Bool.{cases_eq, eq-eqb, ne_eqb, true≢false}
+use Rattle.std.proofs.lemmas.Bool.Decides.{eqb_tells}
+use Rattle.lamport_core.specs.State.{State, IsProcess, IsSchedule, IsInsidePoint, process_count, point_of, next, run, step_from, with_process, of_process, after_Scan, flag_of}
+use Rattle.lamport_core.specs.Safe.{IsPoint, FlagFits}
+use Rattle.lamport_core.proofs.Worlds.{of-with_same}
+use Rattle.lamport_progress.specs.Progress.{IsFairRound, IsEnabled, IsEntering}
+use Rattle.lamport_progress.proofs.Enabled.{free_enabled, down_enabled, at_zero_free}
+use Rattle.lamport_progress.proofs.Rounds.{Pending, others_next, contains_head}
+use Rattle.lamport_progress.proofs.Settled.{unsettled, StaysPending, settles_next, taken_run, pending_now}
+use Rattle.lamport_core.specs.declared.At.{At}
+use Rattle.lamport_core.specs.declared.At.TheVariants.{Rest, Start, SetX, TestY, BackB, AwaitY, SetY, TestX, SlowB, Scan, SlowY, SlowAwait, Fast, Slow, Leaving}
+
+-- the steps of a settled process in its entry until it is about to store to y
+abbrev pub claim_rank : ℕ → At → ℕ
+claim_rank n Start = 3
+claim_rank n SetX = 2
+claim_rank n TestY = 1
+claim_rank n AwaitY = 4
+claim_rank n SetY = 0
+claim_rank n (Scan j) = n + 6 - j
+claim_rank n SlowY = 5
+claim_rank n SlowAwait = 4
+claim_rank n _ = n + 6
+
+-- some process has fewer than m steps left
+abbrev pub Low : ℕ → ℕ → State → Type 0
+Low n m w = (q : ℕ) × (claim_rank n (point_of w q) < m)
+
+abbrev pub AllSettled : State → Type 0
+AllSettled w = (j : ℕ) → unsettled (point_of w j) ≤ 0
+
+-- a point from which a process goes on
+abbrev IsGoing : (ℕ → Bool) → At → Type 0
+IsGoing b Start = Unit {0}
+IsGoing b SetX = Unit {0}
+IsGoing b TestY = Unit {0}
+IsGoing b AwaitY = Unit {0}
+IsGoing b SetY = Unit {0}
+IsGoing b (Scan j) = b j ≡ false
+IsGoing b SlowY = Unit {0}
+IsGoing b SlowAwait = Unit {0}
+IsGoing b _ = ⊥
+
+module _ (w : State) (i : ℕ) (there : IsProcess (length w.points) i) (z : w.y ≡ 0) where
+  abbrev n : ℕ
+  n = process_count w
+
+  -- what a step of process i to v leaves, of at most m
+  abbrev Leaves : ℕ → State → Type 0
+  Leaves m v = (v.y ≢ 0) ⊎ (claim_rank n (point_of v i) ≤ m)
+
+  at_Q : (m : ℕ) (Q : At) → claim_rank n Q ≤ m →
+      claim_rank n (of_process Rest (with_process w.points i Q) i) ≤ m
+  at_Q m Q le = subst (λ a. claim_rank n a ≤ m) (sym (of-with_same Rest w.points i Q there)) le
+
+  free_load : (Q R : At) (m : ℕ) → claim_rank n Q ≤ m → claim_rank n (cond (w.y == 0) Q R) ≤ m
+  free_load Q R m le = subst (λ t. claim_rank n (cond t Q R) ≤ m) (sym (eq-eqb w.y 0 z)) le
+
+  top : (b : Bool) → claim_rank n (cond b Fast SlowB) ≤ n + 6
+  top true = omega arith
+  top false = omega arith
+
+  slow : (b : Bool) → w.y == i ≡ b → claim_rank n (cond b Slow SlowAwait) ≤ 4
+  slow true e = absurd (true≢false (sym e ∙ ne_eqb w.y i (λ h. omega arith)))
+  slow false e = omega arith
+
+  down : (j : ℕ) → IsProcess n j → claim_rank n (after_Scan n j false) ≤ n + 5 - j
+  down j r = elim (eqb_tells j n) [
+    | inl e ↦ subst (λ t. claim_rank n (cond t SlowY (Scan (j + 1))) ≤ n + 5 - j) (sym e.0) (omega arith)
+    | inr e ↦ subst (λ t. claim_rank n (cond t SlowY (Scan (j + 1))) ≤ n + 5 - j) (sym e.0) (omega arith)
+  ]
+
+  scan : (j : ℕ) (f : Bool) → IsProcess n j → claim_rank n (after_Scan n j f) ≤ n + 6 - j
+  scan j true r = omega arith
+  scan j false r = let h = down j r in omega arith
+
+  -- no step takes a process further away
+  keeps_from : (P : At) → IsPoint n P → (IsInsidePoint P → ⊥) → Leaves (claim_rank n P) (step_from P w i)
+  keeps_from Rest h out = inr (at_Q (n + 6) SetX (omega arith))
+  keeps_from Start h out = inr (at_Q 3 SetX (omega arith))
+  keeps_from SetX h out = inr (at_Q 2 TestY (omega arith))
+  keeps_from TestY h out = inr (at_Q 1 _ (free_load SetY BackB 1 (omega arith)))
+  keeps_from BackB h out = inr (at_Q (n + 6) AwaitY (omega arith))
+  keeps_from AwaitY h out = inr (at_Q 4 _ (free_load Start AwaitY 4 (omega arith)))
+  keeps_from SetY h out = inl (λ e. omega arith)
+  keeps_from TestX h out = inr (at_Q (n + 6) _ (top (w.x == i)))
+  keeps_from SlowB h out = inr (at_Q (n + 6) (Scan 1) (omega arith))
+  keeps_from (Scan j) h out = inr (at_Q (n + 6 - j) _ (scan j (flag_of w j) h))
+  keeps_from SlowY h out = inr (at_Q 5 _ (let le = slow (w.y == i) refl in omega arith))
+  keeps_from SlowAwait h out = inr (at_Q 4 _ (free_load Start SlowAwait 4 (omega arith)))
+  keeps_from Fast h out = absurd (out (inl refl))
+  keeps_from Slow h out = absurd (out (inr refl))
+  keeps_from Leaving h out = inr (at_Q (n + 6) Rest (omega arith))
+
+  -- and one that goes on comes closer
+  lowers_from : (P : At) → IsPoint n P → IsGoing (flag_of w) P →
+      Leaves (claim_rank n P - 1) (step_from P w i)
+  lowers_from Start h g = inr (at_Q 2 SetX (omega arith))
+  lowers_from SetX h g = inr (at_Q 1 TestY (omega arith))
+  lowers_from TestY h g = inr (at_Q 0 _ (free_load SetY BackB 0 (omega arith)))
+  lowers_from AwaitY h g = inr (at_Q 3 _ (free_load Start AwaitY 3 (omega arith)))
+  lowers_from SetY h g = inl (λ e. omega arith)
+  lowers_from (Scan j) h g = inr (at_Q (n + 6 - j - 1) _
+      (subst (λ f. claim_rank n (after_Scan n j f) ≤ n + 6 - j - 1) (sym g)
+      (let le = down j h in omega arith)))
+  lowers_from SlowY h g = inr (at_Q 4 _ (slow (w.y == i) refl))
+  lowers_from SlowAwait h g = inr (at_Q 3 _ (free_load Start SlowAwait 3 (omega arith)))
+  lowers_from _ h g = absurd g
+
+-- a process with its flag up that is settled is close to its store
+up_low : (n : ℕ) (P : At) → FlagFits P true → (IsInsidePoint P → ⊥) → unsettled P ≤ 0 →
+    claim_rank n P < 3
+up_low n Rest f out u = absurd (true≢false f)
+up_low n Start f out u = absurd (true≢false f)
+up_low n AwaitY f out u = absurd (true≢false f)
+up_low n (Scan j) f out u = absurd (true≢false f)
+up_low n SlowY f out u = absurd (true≢false f)
+up_low n SlowAwait f out u = absurd (true≢false f)
+up_low n Fast f out u = absurd (out (inl refl))
+up_low n Slow f out u = absurd (out (inr refl))
+up_low n SetX f out u = omega arith
+up_low n TestY f out u = omega arith
+up_low n SetY f out u = omega arith
+up_low n BackB f out u = absurd (omega arith)
+up_low n TestX f out u = absurd (omega arith)
+up_low n SlowB f out u = absurd (omega arith)
+up_low n Leaving f out u = absurd (omega arith)
+
+-- each process is settled, or some process is so close that it meets no scan
+abbrev pub Unblocked : ℕ → State → Type 0
+Unblocked m w = AllSettled w ⊎ (m ≤ 1)
+
+module _ (n p : ℕ) (m : ℕ) (most : suc m ≤ n + 6) where
+  module _ (w : State) (c : Pending n p w) where
+    scan_going : (j k : ℕ) (f : Bool) → flag_of w k ≡ f → IsProcess n k → n + 6 - k < suc m →
+        Unblocked m w → Low n m w ⊎ (flag_of w k ≡ false)
+    scan_going j k false e q lt u = inr e
+    scan_going j k true e q lt (inr few) = absurd (omega arith)
+    scan_going j k true e q lt (inl u) = inl (
+      k,
+      let low = up_low n (point_of w k) (subst (λ b. FlagFits (point_of w k) b) e (c.sound.safe.safe.flag k))
+          (λ h. c.outside (k, h)) (u k) in omega arith,
+    )
+
+    -- a process of so low a rank goes on, or waits for one that is closer
+    going : (j : ℕ) (P : At) → IsPoint n P → claim_rank n P < suc m → Unblocked m w →
+        Low n m w ⊎ IsGoing (flag_of w) P
+    going j (Scan k) h lt u = scan_going j k (flag_of w k) refl h lt u
+    going j Start h lt u = inr tt
+    going j SetX h lt u = inr tt
+    going j TestY h lt u = inr tt
+    going j AwaitY h lt u = inr tt
+    going j SetY h lt u = inr tt
+    going j SlowY h lt u = inr tt
+    going j SlowAwait h lt u = inr tt
+    going j Rest h lt u = absurd (omega arith)
+    going j BackB h lt u = absurd (omega arith)
+    going j TestX h lt u = absurd (omega arith)
+    going j SlowB h lt u = absurd (omega arith)
+    going j Fast h lt u = absurd (omega arith)
+    going j Slow h lt u = absurd (omega arith)
+    going j Leaving h lt u = absurd (omega arith)
+
+    going_point : (j : ℕ) → claim_rank n (point_of w j) < suc m → Unblocked m w →
+        Low n m w ⊎ IsGoing (flag_of w) (point_of w j)
+    going_point j = going j (point_of w j)
+        (subst (λ k. IsPoint k (point_of w j)) c.sound.counts (c.sound.safe.safe.point j))
+
+    going-ne-Rest : (P : At) → IsGoing (flag_of w) P → P ≢ Rest
+    going-ne-Rest P g e = subst (IsGoing (flag_of w)) e g
+
+    going_enabled : (j : ℕ) (P : At) → w.y ≡ 0 → point_of w j ≡ P → IsGoing (flag_of w) P → IsEnabled w j
+    going_enabled j (Scan k) z at g = down_enabled w c.sound.safe j k g at
+    going_enabled j P z at g = free_enabled w c.sound.safe j P at
+        (at_zero_free w.y P z (going-ne-Rest P g)) (λ k e. cc)
+
+  module _ (i : ℕ) (is : List ℕ) (w : State) (c : StaysPending n p w (i ∷ is)) (q : IsProcess n i) (z : w.y ≡ 0) where
+    there : IsProcess (length w.points) i
+    there = subst (λ k. IsProcess k i) (sym (c.0.sound.safe.same_count ∙ c.0.sound.counts)) q
+
+    -- the next world, in which y is taken or this holds
+    abbrev Or : Type 0 → Type 0
+    Or A = ((next w i).y ≢ 0) ⊎ A
+
+    keeps_next : Or (claim_rank n (point_of (next w i) i) ≤ claim_rank n (point_of w i))
+    keeps_next = subst
+        (λ k. ((next w i).y ≢ 0) ⊎ (claim_rank k (point_of (next w i) i) ≤ claim_rank k (point_of w i)))
+        c.0.sound.counts
+        (keeps_from w i there z (point_of w i) (c.0.sound.safe.safe.point i) (λ h. c.0.outside (i, h)))
+
+    lowers_next : IsGoing (flag_of w) (point_of w i) →
+        Or (claim_rank n (point_of (next w i) i) ≤ claim_rank n (point_of w i) - 1)
+    lowers_next g = subst
+        (λ k. ((next w i).y ≢ 0) ⊎ (claim_rank k (point_of (next w i) i) ≤ claim_rank k (point_of w i) - 1))
+        c.0.sound.counts
+        (lowers_from w i there z (point_of w i) (c.0.sound.safe.safe.point i) g)
+
+    low_next : Low n m w → Or (Low n m (next w i))
+    low_next l = elim (cases_eq l.0 i) [
+      | inr ne ↦ inr (l.0, subst (λ a. claim_rank n a < m) (sym (others_next w i l.0 ne)) l.1)
+      | inl e ↦ elim keeps_next [
+        | inl ne ↦ inl ne
+        | inr le ↦ inr (i, let lt = subst (λ k. claim_rank n (point_of w k) < m) e l.1 in omega arith)
+      ]
+    ]
+
+    settled_next : AllSettled w → Or (AllSettled (next w i))
+    settled_next u = elim (settles_next n p i is w c q z) [
+      | inl ne ↦ inl ne
+      | inr le ↦ inr (λ j. elim (cases_eq j i) [
+        | inl e ↦ subst (λ k. unsettled (point_of (next w i) k) ≤ 0) (sym e) (let h = u i in omega arith)
+        | inr ne ↦ subst (λ a. unsettled a ≤ 0) (sym (others_next w i j ne)) (u j)
+      ])
+    ]
+
+    unblocked_next : Unblocked m w → Or (Unblocked m (next w i))
+    unblocked_next (inr few) = inr (inr few)
+    unblocked_next (inl u) = elim (settled_next u) [ inl ne ↦ inl ne | inr h ↦ inr (inl h) ]
+
+  -- some process has fewer than m steps left, or m of them and it takes a step
+  abbrev LowDue : State → List ℕ → Type 0
+  LowDue w is = Low n m w ⊎ ((j : ℕ) × (claim_rank n (point_of w j) < suc m) × Contains is j)
+
+  due_next : (i : ℕ) (is : List ℕ) (w : State) → StaysPending n p w (i ∷ is) → IsProcess n i →
+      w.y ≡ 0 → Unblocked m w → LowDue w (i ∷ is) → ((next w i).y ≢ 0) ⊎ LowDue (next w i) is
+  due_next i is w c q z u (inl l) =
+      elim (low_next i is w c q z l) [ inl ne ↦ inl ne | inr h ↦ inr (inl h) ]
+  due_next i is w c q z u (inr d) = elim (cases_eq d.0 i) [
+    | inr ne ↦ elim (contains_head i d.0 is d.2.0 d.2.1 d.2.2) [
+      | inl e ↦ absurd (ne (sym e))
+      | inr t ↦ inr (inr (d.0, subst (λ a. claim_rank n a < suc m) (sym (others_next w i d.0 ne)) d.1, t))
+    ]
+    | inl e ↦
+        let lt : claim_rank n (point_of w i) < suc m =
+        subst (λ k. claim_rank n (point_of w k) < suc m) e d.1 in
+        elim (going_point w c.0 i lt u) [
+          | inl l ↦ elim (low_next i is w c q z l) [ inl ne ↦ inl ne | inr h ↦ inr (inl h) ]
+          | inr g ↦ elim (lowers_next i is w c q z g) [
+            | inl ne ↦ inl ne
+            | inr le ↦ first (claim_rank n (point_of w i)) refl lt le
+          ]
+        ]
+  ]
+    where
+      first : (k : ℕ) → claim_rank n (point_of w i) ≡ k → k < suc m →
+          claim_rank n (point_of (next w i) i) ≤ k - 1 → ((next w i).y ≢ 0) ⊎ LowDue (next w i) is
+      first k e lt le = elim (cases_eq m 0) [
+        | inr some ↦ inr (inl (i, omega arith))
+        | inl none ↦ inl (store (point_of w i) refl (omega arith))
+      ]
+        where
+          store : (P : At) → point_of w i ≡ P → claim_rank n P ≤ 0 → (step_from P w i).y ≢ 0
+          store SetY at le = λ e. omega arith
+          store (Scan j) at le = absurd (let h = subst (λ k. IsPoint k (Scan j)) c.0.sound.counts (subst (IsPoint (process_count w)) at (c.0.sound.safe.safe.point i)) in omega arith)
+          store _ at le = absurd (omega arith)
+
+  advance_run : (is : List ℕ) (w : State) → StaysPending n p w is → IsSchedule n is → Unblocked m w →
+      LowDue w is → ((run w is).y ≢ 0) ⊎ Low n m (run w is)
+  advance_run [] w c s u (inl l) = inr l
+  advance_run [] w c s u (inr d) = absurd (let lt = d.2.1 in omega arith)
+  advance_run (i ∷ is) w c s u d = elim (cases_eq w.y 0) [
+    | inr ne ↦ inl (taken_run n p (i ∷ is) w c s ne)
+    | inl z ↦ elim (unblocked_next i is w c s.0 z u) [
+      | inl ne ↦ inl (taken_run n p is (next w i) c.1 s.1 ne)
+      | inr v ↦ elim (due_next i is w c s.0 z u d) [
+        | inl ne ↦ inl (taken_run n p is (next w i) c.1 s.1 ne)
+        | inr e ↦ advance_run is (next w i) c.1 s.1 v e
+      ]
+    ]
+  ]
+
+  -- a fair round leaves one step less, or y is taken
+  pub advance_round : (is : List ℕ) (w : State) → StaysPending n p w is → IsSchedule n is →
+      IsFairRound w is → w.y ≡ 0 → Unblocked m w → Low n (suc m) w → ((run w is).y ≢ 0) ⊎ Low n m (run w is)
+  advance_round is w c s r z u l =
+      let now = pending_now n p is w c in
+      elim (going_point w now l.0 l.1 u) [
+        | inl low ↦ advance_run is w c s u (inl low)
+        | inr g ↦ advance_run is w c s u (inr (
+          l.0,
+          l.1,
+          r l.0 (going-ne-Rest w now (point_of w l.0) g) (going_enabled w now l.0 (point_of w l.0) z refl g),
+        ))
+      ]
+
+-- a settled process in its entry has a rank
+pub entering_low : (n : ℕ) (P : At) → IsPoint n P → IsEntering P → unsettled P ≤ 0 → claim_rank n P < n + 6
+entering_low n Start q h u = omega arith
+entering_low n SetX q h u = omega arith
+entering_low n TestY q h u = omega arith
+entering_low n AwaitY q h u = omega arith
+entering_low n SetY q h u = omega arith
+entering_low n (Scan j) q h u = let some = q.0 in omega arith
+entering_low n SlowY q h u = omega arith
+entering_low n SlowAwait q h u = omega arith
+entering_low n BackB q h u = absurd (omega arith)
+entering_low n TestX q h u = absurd (omega arith)
+entering_low n SlowB q h u = absurd (omega arith)
+entering_low n _ q h u = absurd h

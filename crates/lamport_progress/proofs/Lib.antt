@@ -1,0 +1,17 @@
+pub mod Sums
+pub mod Measure
+pub mod Falls
+pub mod Enabled
+pub mod Work
+pub mod Rounds
+pub mod Clear
+pub mod Helping
+pub mod Settled
+pub mod Claims
+pub mod Spent
+pub mod Entries
+pub mod Bound
+pub mod Leader
+pub mod Turns
+pub mod Delay
+pub mod Access

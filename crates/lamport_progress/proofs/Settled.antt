@@ -1,0 +1,176 @@
+-- After two fair rounds y is taken, or each process is settled: none is at TestX, SlowB, BackB or
+-- Leaving.
+use Rattle.std.proofs.Common.{◌≡◌, ◌≢◌, ◌==◌, ◌<◌, ◌≤◌, ◌+◌, ◌-◌, ◌⊎◌, ℕ, suc, Bool, true, false, cond, List, [], ◌∷◌, length, refl, sym, ◌∙◌, subst, inl, inr, arith}
+use Rattle.std.specs.List.{Contains}
+use Rattle.std.proofs.lemmas.Bool.{cases_eq, cases_lt, eq-eqb}
+use Rattle.lamport_core.specs.State.{State, IsProcess, IsSchedule, IsInside, IsInsidePoint, process_count, point_of, next, run, step_from, with_process, of_process, flag_of}
+use Rattle.lamport_core.specs.Safe.{IsSafe}
+use Rattle.lamport_core.proofs.Worlds.{of-with_same}
+use Rattle.lamport_progress.specs.Progress.{IsFairRound}
+use Rattle.lamport_progress.proofs.Enabled.{IsSteady, steady_enabled, steady-ne-Rest}
+use Rattle.lamport_progress.proofs.Rounds.{Pending, others_next, contains_head, taken_from}
+use Rattle.lamport_core.specs.declared.At.{At}
+use Rattle.lamport_core.specs.declared.At.TheVariants.{Rest, Start, SetX, TestY, BackB, AwaitY, SetY, TestX, SlowB, Scan, SlowY, SlowAwait, Fast, Slow, Leaving}
+
+-- the steps of a process until it is settled, while y is 0
+abbrev pub unsettled : At → ℕ
+unsettled TestX = 2
+unsettled SlowB = 1
+unsettled BackB = 1
+unsettled Leaving = 1
+unsettled _ = 0
+
+abbrev pub Settled : ℕ → State → Type 0
+Settled m w = (w.y ≢ 0) ⊎ ((j : ℕ) → unsettled (point_of w j) ≤ m)
+
+-- process p is in its entry and nobody is inside, throughout the schedule
+abbrev pub StaysPending : ℕ → ℕ → State → List ℕ → Type 0
+StaysPending n p w [] = Pending n p w
+StaysPending n p w (i ∷ is) = Pending n p w × StaysPending n p (next w i) is
+
+unsettled-le : (P : At) → unsettled P ≤ 2
+unsettled-le TestX = omega arith
+unsettled-le SlowB = omega arith
+unsettled-le BackB = omega arith
+unsettled-le Leaving = omega arith
+unsettled-le _ = omega arith
+
+pub settled_two : (w : State) → Settled 2 w
+settled_two w = inr (λ j. unsettled-le (point_of w j))
+
+unsettled_steady : (P : At) → 0 < unsettled P → IsSteady P
+unsettled_steady TestX h = tt
+unsettled_steady SlowB h = tt
+unsettled_steady BackB h = tt
+unsettled_steady Leaving h = tt
+unsettled_steady _ h = absurd (omega arith)
+
+module _ (w : State) (i : ℕ) (there : IsProcess (length w.points) i) where
+  -- what a step of process i to v leaves to settle, where it was k + 1 or 0
+  abbrev Settles : ℕ → State → Type 0
+  Settles k v = IsInside v i ⊎ ((v.y ≢ 0) ⊎ (unsettled (point_of v i) ≤ k))
+
+  at_Q : (k : ℕ) (Q : At) → unsettled Q ≤ k →
+      unsettled (of_process Rest (with_process w.points i Q) i) ≤ k
+  at_Q k Q le = subst (λ a. unsettled a ≤ k) (sym (of-with_same Rest w.points i Q there)) le
+
+  inside_Q : (Q : At) → IsInsidePoint Q → IsInsidePoint (of_process Rest (with_process w.points i Q) i)
+  inside_Q Q h = subst IsInsidePoint (sym (of-with_same Rest w.points i Q there)) h
+
+  settles_from : (P : At) → w.y ≡ 0 → (IsInsidePoint P → ⊥) → Settles (unsettled P - 1) (step_from P w i)
+  settles_from Rest z out = inr (inr (at_Q 0 SetX (omega arith)))
+  settles_from Start z out = inr (inr (at_Q 0 SetX (omega arith)))
+  settles_from SetX z out = inr (inr (at_Q 0 TestY (omega arith)))
+  settles_from TestY z out = inr (inr (at_Q 0 _
+      (subst (λ t. unsettled (cond t SetY BackB) ≤ 0) (sym (eq-eqb w.y 0 z)) (omega arith))))
+  settles_from BackB z out = inr (inr (at_Q 0 AwaitY (omega arith)))
+  settles_from AwaitY z out = inr (inr (at_Q 0 _
+      (subst (λ t. unsettled (cond t Start AwaitY) ≤ 0) (sym (eq-eqb w.y 0 z)) (omega arith))))
+  settles_from SetY z out = inr (inl (λ e. omega arith))
+  settles_from TestX z out = test_x (w.x == i)
+    where
+      test_x : (t : Bool) → (IsInsidePoint (of_process Rest (with_process w.points i (cond t Fast SlowB)) i)) ⊎ ((w.y ≢ 0) ⊎ (unsettled (of_process Rest (with_process w.points i (cond t Fast SlowB)) i) ≤ 1))
+      test_x true = inl (inside_Q Fast (inl refl))
+      test_x false = inr (inr (at_Q 1 SlowB (omega arith)))
+  settles_from SlowB z out = inr (inr (at_Q 0 (Scan 1) (omega arith)))
+  settles_from (Scan j) z out = inr (inr (at_Q 0 _ (scan (flag_of w j) (j == process_count w))))
+    where
+      scan : (f t : Bool) → unsettled (cond f (Scan j) (cond t SlowY (Scan (j + 1)))) ≤ 0
+      scan true t = omega arith
+      scan false true = omega arith
+      scan false false = omega arith
+  settles_from SlowY z out = inr (inr (at_Q 0 _ (slow_y (w.y == i))))
+    where
+      slow_y : (t : Bool) → unsettled (cond t Slow SlowAwait) ≤ 0
+      slow_y true = omega arith
+      slow_y false = omega arith
+  settles_from SlowAwait z out = inr (inr (at_Q 0 _
+      (subst (λ t. unsettled (cond t Start SlowAwait) ≤ 0) (sym (eq-eqb w.y 0 z)) (omega arith))))
+  settles_from Fast z out = absurd (out (inl refl))
+  settles_from Slow z out = absurd (out (inr refl))
+  settles_from Leaving z out = inr (inr (at_Q 0 Rest (omega arith)))
+
+-- process j has at most m steps left by the measure f, or one more and it takes a step
+abbrev pub Due : (At → ℕ) → ℕ → ℕ → State → List ℕ → Type 0
+Due f j m w is = (f (point_of w j) ≤ m) ⊎ ((f (point_of w j) ≤ suc m) × Contains is j)
+
+pub due-le : (f : At → ℕ) (j m : ℕ) (w : State) (is : List ℕ) → Due f j m w is →
+    f (point_of w j) ≤ suc m
+due-le f j m w is (inl h) = omega arith
+due-le f j m w is (inr h) = h.0
+
+-- the same after a step of another
+pub due_on : (f : At → ℕ) (i j m : ℕ) (w : State) (is : List ℕ) → j ≢ i → Due f j m w (i ∷ is) →
+    Due f j m (next w i) is
+due_on f i j m w is ne (inl h) = inl (subst (λ a. f a ≤ m) (sym (others_next w i j ne)) h)
+due_on f i j m w is ne (inr h) = elim (contains_head i j is h.1.0 h.1.1 h.1.2) [
+  | inl e ↦ absurd (ne (sym e))
+  | inr u ↦ inr (subst (λ a. f a ≤ suc m) (sym (others_next w i j ne)) h.0, u)
+]
+
+-- and so it is in a fair round
+pub due_now : (f : At → ℕ) (j m : ℕ) (w : State) (is : List ℕ) → IsSafe w → IsFairRound w is →
+    (0 < f (point_of w j) → IsSteady (point_of w j)) → f (point_of w j) ≤ suc m → Due f j m w is
+due_now f j m w is s r steady le = elim (cases_lt m (f (point_of w j))) [
+  | inr h ↦ inl h
+  | inl h ↦
+      let goes = steady (omega arith) in
+      inr (le, r j (steady-ne-Rest (point_of w j) goes) (steady_enabled w s j goes))
+]
+
+module _ (n p : ℕ) where
+  pub taken_run : (is : List ℕ) (w : State) → StaysPending n p w is → IsSchedule n is → w.y ≢ 0 →
+      (run w is).y ≢ 0
+  taken_run [] w c s ne = ne
+  taken_run (i ∷ is) w c s ne = taken_run is (next w i) c.1 s.1
+      (taken_from (point_of w i) w i s.0.0 (λ h. c.0.outside (i, h)) ne)
+
+  pub pending_now : (is : List ℕ) (w : State) → StaysPending n p w is → Pending n p w
+  pending_now [] w c = c
+  pending_now (i ∷ is) w c = c.0
+
+  pub pending_end : (is : List ℕ) (w : State) → StaysPending n p w is → Pending n p (run w is)
+  pending_end [] w c = c
+  pending_end (i ∷ is) w c = pending_end is (next w i) c.1
+
+  pub settles_next : (i : ℕ) (is : List ℕ) (w : State) → StaysPending n p w (i ∷ is) → IsProcess n i →
+      w.y ≡ 0 → ((next w i).y ≢ 0) ⊎ (unsettled (point_of (next w i) i) ≤ unsettled (point_of w i) - 1)
+  settles_next i is w c q z =
+      let there = subst (λ m. IsProcess m i) (sym (c.0.sound.safe.same_count ∙ c.0.sound.counts)) q in
+      elim (settles_from w i there (point_of w i) z (λ h. c.0.outside (i, h))) [
+        | inl h ↦ absurd ((pending_now is (next w i) c.1).outside (i, h))
+        | inr h ↦ h
+      ]
+
+  settles_run : (j m : ℕ) (is : List ℕ) (w : State) → StaysPending n p w is → IsSchedule n is →
+      Due unsettled j m w is → ((run w is).y ≢ 0) ⊎ (unsettled (point_of (run w is) j) ≤ m)
+  settles_run j m [] w c s (inl h) = inr h
+  settles_run j m [] w c s (inr h) = absurd (let lt = h.1.1 in omega arith)
+  settles_run j m (i ∷ is) w c s d = elim (cases_eq w.y 0) [
+    | inr ne ↦ inl (taken_run (i ∷ is) w c s ne)
+    | inl z ↦ elim (cases_eq j i) [
+      | inr ne ↦ settles_run j m is (next w i) c.1 s.1 (due_on unsettled i j m w is ne d)
+      | inl e ↦ elim (settles_next i is w c s.0 z) [
+        | inl ne ↦ inl (taken_run is (next w i) c.1 s.1 ne)
+        | inr h ↦
+            let le = due-le unsettled j m w (i ∷ is) d in
+            let least : unsettled (point_of w i) ≤ suc m =
+            subst (λ k. unsettled (point_of w k) ≤ suc m) e le in
+            settles_run j m is (next w i) c.1 s.1
+            (inl (subst (λ k. unsettled (point_of (next w i) k) ≤ m) (sym e) (omega arith)))
+      ]
+    ]
+  ]
+
+  -- a fair round leaves one step less
+  pub settles_round : (m : ℕ) (is : List ℕ) (w : State) → StaysPending n p w is → IsSchedule n is →
+      IsFairRound w is → Settled (suc m) w → Settled m (run w is)
+  settles_round m is w c s r (inl ne) = inl (taken_run is w c s ne)
+  settles_round m is w c s r (inr le) = elim (cases_eq (run w is).y 0) [
+    | inr ne ↦ inl ne
+    | inl z ↦ inr (λ j. elim (settles_run j m is w c s
+        (due_now unsettled j m w is (pending_now is w c).sound.safe r (unsettled_steady (point_of w j)) (le j))) [
+          | inl ne ↦ absurd (ne z)
+          | inr h ↦ h
+        ])
+  ]
