@@ -1,6 +1,7 @@
 //! Systems to be measured.
-ghost use Rattle.std.specs.Prelude.{◌≡◌, IfOk};
+ghost use Rattle.std.specs.Prelude.{◌≡◌, true, IfOk};
 ghost use Rattle.fast_mutex.specs.Items.{tickets_from};
+ghost use Rattle.mq.specs.Calls.{stored_in};
 
 use bench_line::fault::WorkFault;
 use fast_mutex::Look;
@@ -15,6 +16,7 @@ pub fn make<L: Look<Guarded>>(
     bounds: Option<Bounds>,
 ) -> Result<(Mq<L>, Vec<Process<L>>), WorkFault>
     ensures count { IfOk result (λ r. r.0.count ≡ n) }
+    ensures stored { IfOk result (λ r. stored_in r.0.fixed ≡ true) }
     ensures processes { IfOk result (λ r. r.1.items ≡ tickets_from r.0 1 n) }
 {
     match bounds {

@@ -61,7 +61,8 @@ pub fn journal_of(
 fn call(books: &mut Books, p: u32, round: u32) -> Result<(), WorkFault>
     requires process { (1 ≤ p) × (p ≤ books.old.n) }
     requires few { p ≤ 32 }
-    ensures { books.new.n ≡ books.old.n }
+    ensures processes { books.new.n ≡ books.old.n }
+    ensures stored { books.new.stored ≡ books.old.stored }
 {
     if books.waiting(p).is_some() {
         return Err(WorkFault::Refused(Fault::Busy));

@@ -1,5 +1,5 @@
 //! The making of a system, and the end of a handle, as C asks for them.
-ghost use Rattle.std.specs.Prelude.{◌≡◌, Some, None};
+ghost use Rattle.std.specs.Prelude.{◌≡◌, true, false, Some, None};
 ghost use Rattle.c_handles.specs.Handles.{process_in};
 ghost use Rattle.c_handles.specs.Codes.{freed_code};
 ghost use Rattle.c_handles.specs.Systems.{Makes};
@@ -13,7 +13,7 @@ use std::alloc::Global;
 /// their order.
 #[unsafe(no_mangle)]
 pub extern "C" fn yak_new(alloc: Global, processes: &mut [Handle]) -> u32
-    ensures { Makes None processes.old processes.new result }
+    ensures { Makes None true processes.old processes.new result }
 {
     system::new(alloc, processes)
 }
@@ -27,10 +27,19 @@ pub extern "C" fn yak_bounded(
     entries: u64,
     bytes: u64,
 ) -> u32
-    ensures { Makes (Some (record { entries = entries; bytes = bytes })) processes.old
-        processes.new result }
+    ensures { Makes (Some (record { entries = entries; bytes = bytes })) true
+        processes.old processes.new result }
 {
     system::bounded(alloc, processes, entries, bytes)
+}
+
+/// The same, with a journal that is a history variable: contracts speak of it, and no byte of it is stored. Its memory stays as it is while
+/// no more and no longer messages are present than ever before.
+#[unsafe(no_mangle)]
+pub extern "C" fn yak_unstored(alloc: Global, processes: &mut [Handle]) -> u32
+    ensures { Makes None false processes.old processes.new result }
+{
+    system::unstored(alloc, processes)
 }
 
 /// Empties a handle: 0, or 18 where it was empty. Its process is lost: what it holds stays held, and where it was on its way into the lock it can keep all others

@@ -1,9 +1,8 @@
 -- What an export gives, by what a try came to.
-use Rattle.std.proofs.Common.{◌≡◌, ℕ, Option, Some, None, ap, ◌∙◌, arith, rules}
+use Rattle.std.proofs.Common.{◌≡◌, ℕ, Option, arith, rules}
 use Rattle.fast_mutex.specs.Items.{Ticket}
 use Rattle.mq_model.specs.Record.{Record}
 use Rattle.c_handles.specs.declared.tried.Tried.{Tried}
-use Rattle.c_handles.specs.declared.tried.Tried.TheVariants.{Waiting, Retry, Made}
 use Rattle.c_handles.specs.Tries.{Tries, TriesWith, Gives, GivesWith}
 use Rattle.c_handles.specs.Codes.{told}
 

@@ -1,11 +1,11 @@
 -- What a member keeps.
-use Rattle.std.proofs.Common.{◌≡◌, ℕ, ◌==◌, true, [], ◌∷◌, Option, Some, None, is_some, refl, ap, ◌∙◌, sym, arith, rules}
+use Rattle.std.proofs.Common.{◌≡◌, ℕ, true, [], ◌∷◌, Option, Some, None, is_some, refl, arith, rules}
 use Rattle.fast_mutex.specs.Items.{Ticket}
 use Rattle.mq_model.specs.declared.entries.Deadline.{Deadline}
 use Rattle.mq.specs.Calls.{Calls}
 use Rattle.mq.proofs.Others.{deadline-grown}
 use Rattle.mq_model.specs.Record.{Record, Past}
-use Rattle.mq_model.specs.Waits.{open_wait, wait_deadline, is_wait}
+use Rattle.mq_model.specs.Waits.{open_wait, wait_deadline}
 use Rattle.mq_model.proofs.Places.{split}
 
 pub some-value : {A : Type 0} (o : Option A) → is_some o ≡ true → (x : A) × (o ≡ Some x)

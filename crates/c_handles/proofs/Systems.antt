@@ -1,11 +1,11 @@
 -- The making of a system.
-use Rattle.std.proofs.Common.{◌≡◌, ℕ, zero, suc, List, [], ◌∷◌, map, length, Option, Some, inl, refl, sym, ap, ◌∙◌, true, arith}
+use Rattle.std.proofs.Common.{◌≡◌, ℕ, zero, suc, List, [], ◌∷◌, map, length, Option, Some, refl, ap, true, arith}
 use Rattle.std.proofs.lemmas.List.{length-map}
 use Rattle.std.specs.List.{All, list_all}
 use Rattle.std.proofs.lemmas.List.Elements.{All-nil, All-cons}
 use Rattle.fast_mutex.specs.Items.{LockId, Ticket, tickets_from}
 use Rattle.mq_model.specs.Record.{Record}
-use Rattle.mq.specs.Calls.{bounds_in}
+use Rattle.mq.specs.Calls.{bounds_in, stored_in}
 use Rattle.mq.proofs.Seats.{tickets-count}
 use Rattle.c_handles.specs.declared.handle.Handle.{Handle}
 use Rattle.c_handles.specs.Handles.{process_in}
@@ -21,5 +21,5 @@ map-some f [] = refl
 map-some f (x ∷ xs) = ap (λ (ys : List (Option _)). Some (f x) ∷ ys) (map-some f xs)
 
 pub made : {B : Type 0} (f : B → Ticket Record) (lock : LockId) (items : List B) (old new : List Handle) → lock.count ≡ length old → map f items ≡ tickets_from lock 1 (length old) → map process_in new ≡ map (λ b. Some (f b)) items
-    → list_all is_empty old ≡ true → Makes (bounds_in lock.fixed) old new 0
+    → list_all is_empty old ≡ true → Makes (bounds_in lock.fixed) (stored_in lock.fixed) old new 0
 made f lock items old new count tickets filled empty = grind (arith, length-map, map-some, tickets-count)

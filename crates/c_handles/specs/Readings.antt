@@ -1,18 +1,25 @@
 -- What reading the journal leaves and gives.
-use Rattle.std.specs.Prelude.{ℕ, ◌≡◌, ◌⊎◌, nat_le, List, [], length, take, Option, Some, None, if◌then◌else◌}
+use Rattle.std.specs.Prelude.{ℕ, ◌≡◌, ◌⊎◌, true, false, nat_le, List, [], length, take, Option, Some, None, if◌then◌else◌}
 use Rattle.fast_mutex.specs.Items.{Ticket}
 use Rattle.mq_model.specs.Record.{Record, record_at}
 use Rattle.mq_model.specs.declared.bounds.Bounds.{Bounds}
 use Rattle.mq_state.specs.Buffers.{with_front}
 use Rattle.mq_state.specs.Room.{NobodyCanCall, room_left}
 use Rattle.journal_format.specs.Text.{line_text}
-use Rattle.mq.specs.Calls.{Calls, bounds_of}
+use Rattle.mq.specs.Calls.{Calls, bounds_of, stored_in}
 use Rattle.c_handles.specs.declared.requests.Room.{Room}
 
--- a check that came inside says that the journal is legal, 0, and made no call
+-- whether the journal of the system that a process belongs to is stored
+abbrev pub IsStored : Ticket Record → Type 0
+IsStored t = stored_in t.lock.fixed ≡ true
+
+abbrev pub IsUnstored : Ticket Record → Type 0
+IsUnstored t = stored_in t.lock.fixed ≡ false
+
+-- a check that came inside says that the journal is legal, 0, and made no call; 27 if the journal is not stored
 abbrev pub Checks : Option (Ticket Record) → Option (Ticket Record) → ℕ → Type 0
 Checks None None code = code ≡ 18
-Checks (Some old) (Some new) code = ((code ≡ 0) × Calls old new []) ⊎ ((code ≡ 16) × (new ≡ old))
+Checks (Some old) (Some new) code = ((code ≡ 0) × Calls old new [] × IsStored old) ⊎ ((code ≡ 16) × (new ≡ old) × IsStored old) ⊎ ((code ≡ 27) × (new ≡ old) × IsUnstored old)
 Checks None (Some new) code = ⊥
 Checks (Some old) None code = ⊥
 
@@ -42,11 +49,13 @@ abbrev pub WritesRecord : ℕ → Option Record → Wrote → Type 0
 WritesRecord place None w = IsUntouched w 25
 WritesRecord place (Some r) w = WritesLine (line_text place r) w
 
--- a reading that came inside made no call, and wrote the line of the record at the place; or memory for that was refused, 11
+-- a reading that came inside made no call, and wrote the line of the record at the place; or memory for that was refused, 11; or the
+-- journal is not stored, 27
 abbrev pub ReadsAt : ℕ → Option (Ticket Record) → Option (Ticket Record) → Wrote → Type 0
 ReadsAt place None None w = IsUntouched w 18
 ReadsAt place (Some old) (Some new) w =
-    (Calls old new [] × WritesRecord place (record_at new.left place) w) ⊎ (Calls old new [] × IsUntouched w 11) ⊎ ((new ≡ old) × IsUntouched w 16)
+    (Calls old new [] × WritesRecord place (record_at new.left place) w × IsStored old) ⊎ (Calls old new [] × IsUntouched w 11 × IsStored old) ⊎ ((new ≡ old) × IsUntouched w 16 × IsStored old)
+    ⊎ ((new ≡ old) × IsUntouched w 27 × IsUnstored old)
 ReadsAt place None (Some new) w = ⊥
 ReadsAt place (Some old) None w = ⊥
 

@@ -4,12 +4,12 @@ use Rattle.fast_mutex.specs.Items.{Ticket}
 use Rattle.mq_model.specs.Record.{Record}
 use Rattle.mq_model.specs.Waits.{is_answered}
 use Rattle.mq_state.specs.Buffers.{waiting_room}
-use Rattle.mq.specs.Calls.{no_ticket}
+use Rattle.mq.specs.Calls.{Entrant, no_ticket}
 use Rattle.c_handles.specs.declared.standing.Standing.{Standing}
 
-abbrev pub ticket_in : Option (Ticket Record) → Option (Ticket Record) → Ticket Record
+abbrev pub ticket_in : Option (Ticket Record) → Option Entrant → Ticket Record
 ticket_in (Some process) way = process
-ticket_in None (Some approach) = approach
+ticket_in None (Some approach) = approach.process
 ticket_in None None = no_ticket
 
 abbrev pub ticket_of : Standing → Ticket Record

@@ -177,17 +177,25 @@ impl Member {
 }
 
 impl Member {
-    ghost use Rattle.std.specs.Prelude.{◌≡◌, ◌↔◌, None, Some, IfNone, IfSome, OnSome, IfOk, IsOk, IsTrue, []};
+    ghost use Rattle.std.specs.Prelude.{◌≡◌, ◌↔◌, true, None, Some, IfNone, IfSome, OnSome, IfOk, IsOk, IsTrue, []};
     ghost use Rattle.std.specs.Option.{option_map};
     ghost use Rattle.mq_model.specs.Record.{record_at};
     ghost use Rattle.mq_state.specs.Room.{NobodyCanCall, room_left};
-    ghost use Rattle.mq.specs.Calls.{Calls, bounds_of};
+    ghost use Rattle.mq.specs.Calls.{Calls, bounds_of, stored_in};
     ghost use Rattle.mq.specs.Readings.{record_of};
     ghost use Rattle.c_handles.specs.Standings.{ticket_of, is_under_way};
     ghost use Rattle.c_handles.specs.Endings.{Ends, Looks};
 
-    /// Tries to check the journal: `None` where the process has not come inside yet.
+    /// Whether the journal of the system is stored.
+    pub fn is_stored(&self) -> bool
+        ensures { result ≡ stored_in (ticket_of self.now.standing).lock.fixed }
+    {
+        self.mq.is_stored()
+    }
+
+    /// Tries to check the stored journal: `None` where the process has not come inside yet.
     pub fn check(&mut self, alloc: Global) -> Option<Result<(), u64>>
+        requires stored { stored_in (ticket_of self.old.standing).lock.fixed ≡ true }
         ensures none { IfNone result (ticket_of self.new.standing ≡ ticket_of self.old.standing) }
         ensures legal { IfSome result (λ checked. IsOk checked ×
             Calls (ticket_of self.old.standing) (ticket_of self.new.standing) []) }
@@ -198,12 +206,13 @@ impl Member {
         Some(checked)
     }
 
-    /// Tries to read the entry at a place with its payload: `None` where the process has not come inside yet.
+    /// Tries to read the entry of the stored journal at a place with its payload: `None` where the process has not come inside yet.
     pub fn record(
         &mut self,
         alloc: Global,
         place: u64,
     ) -> Option<Result<Option<(Entry, Vec<u8>)>, AllocError>>
+        requires stored { stored_in (ticket_of self.old.standing).lock.fixed ≡ true }
         ensures none { IfNone result (ticket_of self.new.standing ≡ ticket_of self.old.standing) }
         ensures record { IfSome result (λ read. IfOk read (λ found. option_map record_of found ≡
             record_at (ticket_of self.new.standing).left place)) }

@@ -43,6 +43,9 @@ pub const NO_ENTRY: u32 = 25;
 /// A process can make a call.
 pub const GOES_ON: u32 = 26;
 
+/// The system's journal is not stored, and so can't be read.
+pub const UNSTORED: u32 = 27;
+
 /// The number of what a call gave that is done or refused.
 pub fn done(tried: Option<Tried<Result<(), Fault>>>) -> u32
     ensures { result ≡ code_of given_code tried }

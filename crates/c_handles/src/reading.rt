@@ -1,10 +1,12 @@
 //! Reading the journal from C.
-ghost use Rattle.std.specs.Prelude.{◌≡◌};
+ghost use Rattle.std.specs.Prelude.{◌≡◌, Some};
 ghost use Rattle.c_handles.specs.Handles.{process_in};
+ghost use Rattle.c_handles.specs.Standings.{ticket_of};
 ghost use Rattle.c_handles.specs.Readings.{Checks, GivesNobody, GivesRoom, ReadsAt, WritesLine, room_shown};
 
 use crate::handle::Handle;
-use crate::numbers::{DONE, EMPTY, GOES_ON, NO_ENTRY, RETRY, SHORT};
+use crate::member::Member;
+use crate::numbers::{DONE, EMPTY, GOES_ON, NO_ENTRY, RETRY, SHORT, UNSTORED};
 use crate::requests::Room;
 use crate::with_member;
 use journal_format::line::line_of;
@@ -16,11 +18,9 @@ use std::alloc::Global;
 pub fn check(alloc: Global, process: &mut Handle) -> u32
     ensures { Checks (process_in process.old) (process_in process.new) result }
 {
-    match with_member!(process, alloc, |member| member.check(alloc)) {
+    match with_member!(process, alloc, |member| check_in(alloc, &mut *member)) {
         None => EMPTY,
-        Some(None) => RETRY,
-        Some(Some(Ok(()))) => DONE,
-        Some(Some(Err(_))) => unreachable!(),
+        Some(code) => code,
     }
 }
 
@@ -42,12 +42,49 @@ pub fn entry(
           code = result;
         }) }
 {
-    match with_member!(process, alloc, |member| member.record(alloc, place)) {
+    match with_member!(process, alloc, |member| {
+        read_in(alloc, &mut *member, place, text, len)
+    }) {
         None => EMPTY,
-        Some(None) => RETRY,
-        Some(Some(Err(_))) => Fault::NoMemory.number(),
-        Some(Some(Ok(None))) => NO_ENTRY,
-        Some(Some(Ok(Some((entry, payload))))) => {
+        Some(code) => code,
+    }
+}
+
+// Checks the journal of the system of a member.
+fn check_in(alloc: Global, member: &mut Member) -> u32
+    ensures { Checks (Some (ticket_of member.old.standing))
+        (Some (ticket_of member.new.standing)) result }
+{
+    if !member.is_stored() {
+        return UNSTORED;
+    }
+    match member.check(alloc) {
+        None => RETRY,
+        Some(Ok(())) => DONE,
+        Some(Err(_)) => unreachable!(),
+    }
+}
+
+// Reads the entry at a place of the journal of the system of a member.
+fn read_in(alloc: Global, member: &mut Member, place: u64, text: &mut [u8], len: &mut usize) -> u32
+    ensures { ReadsAt place (Some (ticket_of member.old.standing))
+        (Some (ticket_of member.new.standing))
+        (record {
+          before = text.old;
+          after = text.new;
+          len_before = len.old;
+          len = len.new;
+          code = result;
+        }) }
+{
+    if !member.is_stored() {
+        return UNSTORED;
+    }
+    match member.record(alloc, place) {
+        None => RETRY,
+        Some(Err(_)) => Fault::NoMemory.number(),
+        Some(Ok(None)) => NO_ENTRY,
+        Some(Ok(Some((entry, payload)))) => {
             match line_of(alloc, place, entry, payload.as_slice()) {
                 Ok(line) => write_line(line.as_bytes(), text, len),
                 Err(_) => Fault::NoMemory.number(),

@@ -35,7 +35,7 @@ pub fn at_rest(process: FastProcess) -> Standing
 pub fn arrive(mq: &FastMq, standing: &mut Standing) -> Option<FastArrived>
     requires there { is_there standing.old ≡ true }
     requires made { (ticket_of standing.old).lock ≡ mq.now }
-    ensures arrived { IfSome result (λ arrived. arrived ≡ ticket_of standing.old) }
+    ensures arrived { IfSome result (λ arrived. arrived.process ≡ ticket_of standing.old) }
     ensures same { IfNone result (ticket_of standing.new ≡ ticket_of standing.old) }
     ensures there { IfNone result (is_there standing.new ≡ true) }
 {
@@ -58,9 +58,9 @@ pub fn arrive(mq: &FastMq, standing: &mut Standing) -> Option<FastArrived>
 // It stands apart, so that of a process that sets out each step is known.
 #[inline(never)]
 fn go_on(mq: &FastMq, approach: FastApproach) -> Result<FastArrived, FastApproach>
-    requires made { approach.lock ≡ mq.now }
-    ensures arrived { IfOk result (λ arrived. arrived ≡ approach) }
-    ensures under_way { IfErr result (λ nearer. nearer ≡ approach) }
+    requires made { approach.process.lock ≡ mq.now }
+    ensures arrived { IfOk result (λ arrived. arrived.process ≡ approach.process) }
+    ensures under_way { IfErr result (λ nearer. nearer.process ≡ approach.process) }
 {
     approach.advance(mq, STEPS)
 }
@@ -70,8 +70,8 @@ fn go_on(mq: &FastMq, approach: FastApproach) -> Result<FastArrived, FastApproac
 pub fn set_out(mq: &FastMq, standing: &mut Standing) -> Result<FastArrived, FastApproach>
     requires rest { is_some standing.old.rest ≡ true }
     requires made { (ticket_of standing.old).lock ≡ mq.now }
-    ensures arrived { IfOk result (λ arrived. arrived ≡ ticket_of standing.old) }
-    ensures under_way { IfErr result (λ approach. approach ≡ ticket_of standing.old) }
+    ensures arrived { IfOk result (λ arrived. arrived.process ≡ ticket_of standing.old) }
+    ensures under_way { IfErr result (λ approach. approach.process ≡ ticket_of standing.old) }
     ensures none { standing.new.rest ≡ None }
 {
     match standing.rest.take() {
@@ -120,7 +120,7 @@ pub fn settle(standing: &mut Standing, process: FastProcess)
 #[inline(always)]
 pub fn walk_on(standing: &mut Standing, approach: FastApproach)
     requires none { standing.old.rest ≡ None }
-    ensures process { ticket_of standing.new ≡ approach }
+    ensures process { ticket_of standing.new ≡ approach.process }
     ensures there { is_there standing.new ≡ true }
 {
     mem::forget(mem::replace(&mut standing.way, Some(approach)));

@@ -1,10 +1,10 @@
 //! The making of a system, and the end of a handle.
-ghost use Rattle.std.specs.Prelude.{◌≡◌, ◌≤◌, ◌<◌, ◌⊎◌, true, Some, None, Option, [], length, map, IfOk, IfSome, vec_len};
+ghost use Rattle.std.specs.Prelude.{◌≡◌, ◌≤◌, ◌<◌, ◌⊎◌, true, false, Some, None, Option, [], length, map, IfOk, IfSome, vec_len};
 ghost use Rattle.std.specs.List.{All, list_all};
 ghost use Rattle.std.specs.Arc.{arc_value};
 ghost use Rattle.fast_mutex.specs.Items.{tickets_from};
 ghost use Rattle.mq_model.specs.declared.faults.Fault.TheVariants.{Invalid, NoMemory};
-ghost use Rattle.mq.specs.Calls.{bounds_in};
+ghost use Rattle.mq.specs.Calls.{bounds_in, stored_in};
 ghost use Rattle.c_handles.specs.Standings.{ticket_of};
 ghost use Rattle.c_handles.specs.Handles.{process_in};
 ghost use Rattle.c_handles.specs.Codes.{freed_code};
@@ -21,14 +21,14 @@ use std::sync::Arc;
 /// Makes a system with as many processes as there are handles, 1 to 32 of them and all empty, and puts its processes into them, in
 /// their order.
 pub fn new(alloc: Global, processes: &mut [Handle]) -> u32
-    ensures { Makes None processes.old processes.new result }
+    ensures { Makes None true processes.old processes.new result }
 {
-    if !are_empty(processes) {
-        return FULL;
-    }
     let Some(n) = count_of(processes) else {
         return Fault::Invalid.number();
     };
+    if !are_empty(processes) {
+        return FULL;
+    }
     match FastMq::new(alloc, n) {
         Ok((mq, made)) => hand_out(alloc, mq, made, processes),
         Err(fault) => fault.number(),
@@ -38,16 +38,32 @@ pub fn new(alloc: Global, processes: &mut [Handle]) -> u32
 /// The same, with a journal that may hold so many entries and so many payload bytes: all the memory that later calls could need is taken
 /// here.
 pub fn bounded(alloc: Global, processes: &mut [Handle], entries: u64, bytes: u64) -> u32
-    ensures { Makes (Some (record { entries = entries; bytes = bytes })) processes.old
+    ensures { Makes (Some (record { entries = entries; bytes = bytes })) true processes.old
         processes.new result }
 {
-    if !are_empty(processes) {
-        return FULL;
-    }
     let Some(n) = count_of(processes) else {
         return Fault::Invalid.number();
     };
+    if !are_empty(processes) {
+        return FULL;
+    }
     match FastMq::bounded(alloc, n, entries, bytes) {
+        Ok((mq, made)) => hand_out(alloc, mq, made, processes),
+        Err(fault) => fault.number(),
+    }
+}
+
+/// The same, with a journal that is a history variable: contracts speak of it, and no byte of it is stored.
+pub fn unstored(alloc: Global, processes: &mut [Handle]) -> u32
+    ensures { Makes None false processes.old processes.new result }
+{
+    let Some(n) = count_of(processes) else {
+        return Fault::Invalid.number();
+    };
+    if !are_empty(processes) {
+        return FULL;
+    }
+    match FastMq::unstored(alloc, n) {
         Ok((mq, made)) => hand_out(alloc, mq, made, processes),
         Err(fault) => fault.number(),
     }
@@ -88,7 +104,7 @@ fn hand_out(alloc: Global, mq: FastMq, made: Vec<FastProcess>, processes: &mut [
     requires some { 1 ≤ length processes.old }
     requires count { mq.count ≡ length processes.old }
     requires made { made.items ≡ tickets_from mq 1 (length processes.old) }
-    ensures { Makes (bounds_in mq.fixed) processes.old processes.new result }
+    ensures { Makes (bounds_in mq.fixed) (stored_in mq.fixed) processes.old processes.new result }
 {
     let Ok(mq) = Arc::new(alloc, mq) else {
         return Fault::NoMemory.number();

@@ -1,7 +1,7 @@
 // The journal at the end: every call with its reply, in the order in which they were made inside the lock.
-ghost use Rattle.std.specs.Prelude.{◌≡◌};
+ghost use Rattle.std.specs.Prelude.{◌≡◌, true};
 ghost use Rattle.fast_mutex.specs.Items.{tickets_from};
-ghost use Rattle.mq.specs.Calls.{IsFree};
+ghost use Rattle.mq.specs.Calls.{IsFree, stored_in};
 
 use fast_mutex::Look;
 use mq::{Attr, FastMq, Guarded, Journal, Mq, Name, OpenFlags, Process, check_history};
@@ -24,6 +24,7 @@ fn journal_of<L: Look<Guarded>>(
 ) -> anyhow::Result<Journal>
     requires count { mq.count ≡ 2 }
     requires all { processes.items ≡ tickets_from mq 1 2 }
+    requires stored { stored_in mq.fixed ≡ true }
 {
     let mut two = processes.pop().unwrap();
     let mut one = processes.pop().unwrap();

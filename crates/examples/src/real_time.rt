@@ -2,7 +2,7 @@
 // jumps from one event to the next, so each run has the same output.
 ghost use Rattle.std.specs.Prelude.{◌≡◌, true};
 ghost use Rattle.fast_mutex.specs.Items.{tickets_from};
-ghost use Rattle.mq.specs.Calls.{IsFree};
+ghost use Rattle.mq.specs.Calls.{IsFree, stored_in};
 ghost use Rattle.mq_model.specs.Deadlines.{is_moment};
 
 use fast_mutex::Look;
@@ -253,6 +253,7 @@ fn journal_of<L: Look<Guarded>>(
 ) -> anyhow::Result<Journal>
     requires count { mq.count ≡ 4 }
     requires all { processes.items ≡ tickets_from mq 1 4 }
+    requires stored { stored_in mq.fixed ≡ true }
 {
     let mut watchdog = processes.pop().unwrap();
     let mut logger = processes.pop().unwrap();

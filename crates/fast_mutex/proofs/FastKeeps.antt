@@ -51,8 +51,8 @@ module _ {S I : Type 0} (shows : S → List I) (fixes : S → List ℕ) (author 
   many v = length v.claims
 
   -- the view of seat k, with those joined to it, at a point
-  abbrev seat : At → ℕ → List I → Fixed → List I → List (Claim I) → Plan I → View I
-  seat p k found fixed left more plan = seat_view p found fixed ((k, left) ∷ more) plan
+  abbrev seat : At → ℕ → List I → Fixed → List I → List (Claim I) → Plan I → ℕ → View I
+  seat p k found fixed left more plan n = seat_view p found fixed ((k, left) ∷ more) plan n
 
   -- the processes of other claims stay where they are
   rests_else : (at : ℕ → At) (k : ℕ) (p : At) (cs : List (Claim I)) → times k cs ≡ 0 → Each (λ (c : Claim I). at c.0 ≡ Rest) cs → Each (λ (c : Claim I). moved_to at k p c.0 ≡ Rest) cs
@@ -93,12 +93,12 @@ module _ {S I : Type 0} (shows : S → List I) (fixes : S → List ℕ) (author 
   comes_now at c none_in h = ⊎_elim (λ e. e) (λ t. let q : true ≡ false = sym t.1 ∙ none_in t.0 in absurd (cc)) h
 
   -- a step of seat k that neither enters nor leaves
-  quiet : (s : St) (r : Rule s) (id k : ℕ) (old p : At) (found : List I) (fixed : Fixed) (l : List I) (more : List (Claim I)) (plan : Plan I) → get_elem? s.views id ≡ some (seat old k found fixed l more plan)
+  quiet : (s : St) (r : Rule s) (id k : ℕ) (old p : At) (found : List I) (fixed : Fixed) (l : List I) (more : List (Claim I)) (plan : Plan I) (n : ℕ) → get_elem? s.views id ≡ some (seat old k found fixed l more plan n)
       → is_inside old ≡ false → is_inside p ≡ false → (words : List ℕ) → IsSafeWorld about.count words r.course.marks (moved_to r.at k p)
-      → Rule record { words = words; homes = s.homes; views = set s.views id (seat p k found fixed l more plan) }
-  quiet s r id k old p found fixed l more plan at out out' words world =
-      let v : View I = seat old k found fixed l more plan in
-      let w : View I = seat p k found fixed l more plan in
+      → Rule record { words = words; homes = s.homes; views = set s.views id (seat p k found fixed l more plan (n + 1)) }
+  quiet s r id k old p found fixed l more plan n at out out' words world =
+      let v : View I = seat old k found fixed l more plan n in
+      let w : View I = seat p k found fixed l more plan (n + 1) in
       let mine : Fit r.at r.course v = r.seats id v at in
       let lack = others_lack s r id k v l more at refl in
       let back : ((i : ℕ) → is_inside (moved_to r.at k p i) ≡ false) → (i : ℕ) → is_inside (r.at i) ≡ false =
@@ -127,12 +127,12 @@ module _ {S I : Type 0} (shows : S → List I) (fixes : S → List ℕ) (author 
       }
 
   -- a step that admits seat k
-  enters : (s : St) (r : Rule s) (id k : ℕ) (old p : At) (found : List I) (fixed : Fixed) (l : List I) (more : List (Claim I)) (plan : Plan I) → get_elem? s.views id ≡ some (seat old k found fixed l more plan)
+  enters : (s : St) (r : Rule s) (id k : ℕ) (old p : At) (found : List I) (fixed : Fixed) (l : List I) (more : List (Claim I)) (plan : Plan I) (n : ℕ) → get_elem? s.views id ≡ some (seat old k found fixed l more plan n)
       → is_inside p ≡ true → ((i : ℕ) → is_inside (r.at i) ≡ false) → (st : S) → s.homes ≡ some (Some st) ∷ [] → shows st ≡ r.course.now → (words : List ℕ) → IsSafeWorld about.count words r.course.marks (moved_to r.at k p)
-      → Rule record { words = words; homes = set s.homes 0 none; views = set s.views id (seat p k (shows st) fixed l more (plan_of (shows st) [] plan.told)) }
-  enters s r id k old p found fixed l more plan at is nobody st homes shown words world =
-      let v : View I = seat old k found fixed l more plan in
-      let w : View I = seat p k (shows st) fixed l more (plan_of (shows st) [] plan.told) in
+      → Rule record { words = words; homes = set s.homes 0 none; views = set s.views id (seat p k (shows st) fixed l more (plan_of (shows st) [] plan.told) (n + 1)) }
+  enters s r id k old p found fixed l more plan n at is nobody st homes shown words world =
+      let v : View I = seat old k found fixed l more plan n in
+      let w : View I = seat p k (shows st) fixed l more (plan_of (shows st) [] plan.told) (n + 1) in
       let mine : Fit r.at r.course v = r.seats id v at in
       let same : r.course.next ≡ r.course.now = comes_now r.at r.course nobody r.comes in
       let lack = others_lack s r id k v l more at refl in record {
@@ -158,13 +158,13 @@ module _ {S I : Type 0} (shows : S → List I) (fixes : S → List ℕ) (author 
       }
 
   -- a line that stores, and neither enters nor leaves
-  stores : (slots id k word v : ℕ) (old : At) (found : List I) (fixed : Fixed) (l : List I) (more : List (Claim I)) (plan : Plan I) → stores_line old ≡ true → word ≡ word_stored k old → v ≡ value_stored k old → is_inside old ≡ false → is_inside (after_store old) ≡ false
+  stores : (slots id k word v : ℕ) (old : At) (found : List I) (fixed : Fixed) (l : List I) (more : List (Claim I)) (plan : Plan I) (n : ℕ) → stores_line old ≡ true → word ≡ word_stored k old → v ≡ value_stored k old → is_inside old ≡ false → is_inside (after_store old) ≡ false
       → ((words marks : List ℕ) (at : ℕ → At) → IsSafeWorld about.count words marks at → at k ≡ old → IsProcess about.count k → IsSafeWorld about.count (set words word v) marks (moved_to at k (after_store old)))
-      → Allows Rule slots id (seat old k found fixed l more plan, []) word (λ _. v) (λ _. IsStore (step slots word v 0 none) (seat old k found fixed l more plan, []) v)
-  stores slots id k word v old found fixed l more plan is_line on_word with_value out out' line s r len at small =
-      let mine : Fit r.at r.course (seat old k found fixed l more plan) = r.seats id _ at in
+      → Allows Rule slots id (seat old k found fixed l more plan n, []) word (λ _. v) (λ _. IsStore (step slots word v 0 none) (seat old k found fixed l more plan n, []) v)
+  stores slots id k word v old found fixed l more plan n is_line on_word with_value out out' line s r len at small =
+      let mine : Fit r.at r.course (seat old k found fixed l more plan n) = r.seats id _ at in
       let world = line s.words r.course.marks r.at r.world mine.stands.0 (number_good k fixed r.course.now l mine.good.0) in
-      (seat (after_store old) k found fixed l more plan, keeps, tt, quiet s r id k old (after_store old) found fixed l more plan at out out' (set s.words word v) world, record { line = is_line; on = (on_word, with_value, refl); stores = with_value; goes = refl })
+      (seat (after_store old) k found fixed l more plan (n + 1), keeps, tt, quiet s r id k old (after_store old) found fixed l more plan n at out out' (set s.words word v) world, record { line = is_line; on = (on_word, with_value, refl); stores = with_value; goes = refl })
 
   set_back : (ws : List ℕ) (i : ℕ) → set ws i (get_or ws i 0) ≡ ws
   set_back [] i = refl
@@ -172,25 +172,25 @@ module _ {S I : Type 0} (shows : S → List I) (fixes : S → List ℕ) (author 
   set_back (w ∷ ws) (suc i) = λ j. w ∷ set_back ws i j
 
   -- a line that loads, and admits nobody
-  loads : (slots id k word : ℕ) (old : At) (found : List I) (fixed : Fixed) (l : List I) (more : List (Claim I)) (plan : Plan I) → loads_line old ≡ true → word ≡ word_loaded old → is_inside old ≡ false → ((v : ℕ) → is_inside (after_load fixed.0 old v) ≡ false)
+  loads : (slots id k word : ℕ) (old : At) (found : List I) (fixed : Fixed) (l : List I) (more : List (Claim I)) (plan : Plan I) (n : ℕ) → loads_line old ≡ true → word ≡ word_loaded old → is_inside old ≡ false → ((v : ℕ) → is_inside (after_load fixed.0 old v) ≡ false)
       → ((words marks : List ℕ) (at : ℕ → At) → IsSafeWorld about.count words marks at → at k ≡ old → IsSafeWorld about.count words marks (moved_to at k (after_load about.count old (get_or words word 0))))
-      → Allows Rule slots id (seat old k found fixed l more plan, []) word (λ n. n) (IsLoad (step slots word 0 0 none) (seat old k found fixed l more plan, []))
-  loads slots id k word old found fixed l more plan is_line on_word out out' line s r len at small =
-      let mine : Fit r.at r.course (seat old k found fixed l more plan) = r.seats id _ at in
+      → Allows Rule slots id (seat old k found fixed l more plan n, []) word (λ n. n) (IsLoad (step slots word 0 0 none) (seat old k found fixed l more plan n, []))
+  loads slots id k word old found fixed l more plan n is_line on_word out out' line s r len at small =
+      let mine : Fit r.at r.course (seat old k found fixed l more plan n) = r.seats id _ at in
       let v : ℕ = get_or s.words word 0 in
       let count : fixed.0 ≡ about.count = ap (λ z. z.0) mine.good.0.0 in
       let P : ℕ → Type 0 = λ n. IsSafeWorld about.count s.words r.course.marks (moved_to r.at k (after_load n old v)) in
       let world = subst P (sym count) (line s.words r.course.marks r.at r.world mine.stands.0) in
-      let next = quiet s r id k old (after_load fixed.0 old v) found fixed l more plan at out (out' v) s.words world in
-      (seat (after_load fixed.0 old v) k found fixed l more plan, keeps, tt, subst (λ ws. Rule record { words = ws; homes = s.homes; views = set s.views id (seat (after_load fixed.0 old v) k found fixed l more plan) }) (sym (set_back s.words word)) next, record { line = is_line; on = (on_word, refl, refl); goes = refl })
+      let next = quiet s r id k old (after_load fixed.0 old v) found fixed l more plan n at out (out' v) s.words world in
+      (seat (after_load fixed.0 old v) k found fixed l more plan (n + 1), keeps, tt, subst (λ ws. Rule record { words = ws; homes = s.homes; views = set s.views id (seat (after_load fixed.0 old v) k found fixed l more plan (n + 1)) }) (sym (set_back s.words word)) next, record { line = is_line; on = (on_word, refl, refl); goes = refl })
 
   -- a line that loads, and admits a seat that finds its number
-  tests : (slots id k word : ℕ) (old : At) (found : List I) (fixed : Fixed) (l : List I) (plan : Plan I) → tests_line old ≡ true → word ≡ word_loaded old → is_inside old ≡ false → is_inside (point_admitted old) ≡ true → is_inside (point_refused old) ≡ false
+  tests : (slots id k word : ℕ) (old : At) (found : List I) (fixed : Fixed) (l : List I) (plan : Plan I) (n : ℕ) → tests_line old ≡ true → word ≡ word_loaded old → is_inside old ≡ false → is_inside (point_admitted old) ≡ true → is_inside (point_refused old) ≡ false
       → ((words marks : List ℕ) (at : ℕ → At) → IsSafeWorld about.count words marks at → get_or words word 0 ≡ k → at k ≡ old → IsSafeWorld about.count words marks (moved_to at k (point_admitted old)))
       → ((words marks : List ℕ) (at : ℕ → At) → IsSafeWorld about.count words marks at → get_or words word 0 ≢ k → at k ≡ old → IsSafeWorld about.count words marks (moved_to at k (point_refused old)))
-      → Allows Rule slots id (seat old k found fixed l [] plan, []) word (λ n. n) (IsTest shows fixes author answered (step slots word 0 0 none) (seat old k found fixed l [] plan, []))
-  tests slots id k word old found fixed l plan is_line on_word out is out' hit miss s r len at small =
-      let mine : Fit r.at r.course (seat old k found fixed l [] plan) = r.seats id _ at in
+      → Allows Rule slots id (seat old k found fixed l [] plan n, []) word (λ n. n) (IsTest shows fixes author answered (step slots word 0 0 none) (seat old k found fixed l [] plan n, []))
+  tests slots id k word old found fixed l plan n is_line on_word out is out' hit miss s r len at small =
+      let mine : Fit r.at r.course (seat old k found fixed l [] plan n) = r.seats id _ at in
       let v : ℕ = get_or s.words word 0 in
       let back : s.words ≡ set s.words word v = sym (set_back s.words word) in
       dite (ℕ_discrete v k)
@@ -199,10 +199,10 @@ module _ {S I : Type 0} (shows : S → List I) (fixes : S → List ℕ) (author 
       let home = r.home nobody in
       let st : S = home.0 in
       let number = number_good k fixed r.course.now l mine.good.0 in (
-        seat (point_admitted old) k (shows st) fixed l [] (plan_of (shows st) [] plan.told),
+        seat (point_admitted old) k (shows st) fixed l [] (plan_of (shows st) [] plan.told) (n + 1),
         takes 0 (Some st),
         ap (λ h. get_elem? h 0) home.1,
-        subst (λ ws. Rule record { words = ws; homes = set s.homes 0 none; views = set s.views id (seat (point_admitted old) k (shows st) fixed l [] (plan_of (shows st) [] plan.told)) }) back (enters s r id k old (point_admitted old) found fixed l [] plan at is nobody st home.1 home.2 s.words world),
+        subst (λ ws. Rule record { words = ws; homes = set s.homes 0 none; views = set s.views id (seat (point_admitted old) k (shows st) fixed l [] (plan_of (shows st) [] plan.told) (n + 1)) }) back (enters s r id k old (point_admitted old) found fixed l [] plan n at is nobody st home.1 home.2 s.words world),
         record {
           line = is_line;
           on = (on_word, refl, refl);
@@ -217,10 +217,10 @@ module _ {S I : Type 0} (shows : S → List I) (fixes : S → List ℕ) (author 
         },
       ))
       (λ ne. let world = miss s.words r.course.marks r.at r.world ne mine.stands.0 in (
-        seat (point_refused old) k found fixed l [] plan,
+        seat (point_refused old) k found fixed l [] plan (n + 1),
         keeps,
         tt,
-        subst (λ ws. Rule record { words = ws; homes = s.homes; views = set s.views id (seat (point_refused old) k found fixed l [] plan) }) back (quiet s r id k old (point_refused old) found fixed l [] plan at out out' s.words world),
+        subst (λ ws. Rule record { words = ws; homes = s.homes; views = set s.views id (seat (point_refused old) k found fixed l [] plan (n + 1)) }) back (quiet s r id k old (point_refused old) found fixed l [] plan n at out out' s.words world),
         record { line = is_line; on = (on_word, refl, refl); refused = λ _. refl; admitted = λ e. absurd (ne e) },
       ))
 
@@ -231,12 +231,12 @@ module _ {S I : Type 0} (shows : S → List I) (fixes : S → List ℕ) (author 
       (λ e. let t = times_here c.0 c.1 cs in let P : ℕ → Type 0 = λ i. times i (c ∷ cs) ≡ 0 in let u = subst P (sym e) z in absurd (omega arith))
       (λ ne. ap is_inside (sym on.0) ∙ others_outside about.count words marks at h k is c.0 ne)
 
-  left_home : (s : St) (r : Rule s) (id k : ℕ) (p : At) (found : List I) (fixed : Fixed) (l : List I) (more : List (Claim I)) (plan : Plan I) (st : S) → is_inside p ≡ true → GrowsBy author k found (shows st) → fixes st ≡ fixed.1
-      → Shows answered fixed.0 found plan (shows st) → get_elem? s.views id ≡ some (seat p k found fixed l more plan)
-      → Rule record { words = set s.words 1 0; homes = set s.homes 0 (some (Some st)); views = set s.views id (seat Leaving k (shows st) fixed (shows st) more no_plan) }
-  left_home s r id k p found fixed l more plan st is adds same shown at =
-      let v : View I = seat p k found fixed l more plan in
-      let w : View I = seat Leaving k (shows st) fixed (shows st) more no_plan in
+  left_home : (s : St) (r : Rule s) (id k : ℕ) (p : At) (found : List I) (fixed : Fixed) (l : List I) (more : List (Claim I)) (plan : Plan I) (n : ℕ) (st : S) → is_inside p ≡ true → GrowsBy author k found (shows st) → fixes st ≡ fixed.1
+      → Shows answered fixed.0 found plan (shows st) → get_elem? s.views id ≡ some (seat p k found fixed l more plan n)
+      → Rule record { words = set s.words 1 0; homes = set s.homes 0 (some (Some st)); views = set s.views id (seat Leaving k (shows st) fixed (shows st) more no_plan (n + 1)) }
+  left_home s r id k p found fixed l more plan n st is adds same shown at =
+      let v : View I = seat p k found fixed l more plan n in
+      let w : View I = seat Leaving k (shows st) fixed (shows st) more no_plan (n + 1) in
       let mine : Fit r.at r.course v = r.seats id v at in
       let mine_in : is_inside (r.at k) ≡ true = ap is_inside mine.stands.0 ∙ is in
       let lack = others_lack s r id k v l more at refl in
@@ -278,9 +278,9 @@ module _ {S I : Type 0} (shows : S → List I) (fixes : S → List ℕ) (author 
       }
 
   -- the store of 0 to y
-  leaves : (slots id k : ℕ) (p : At) (found : List I) (fixed : Fixed) (l : List I) (more : List (Claim I)) (plan : Plan I) (st : S) → is_inside p ≡ true → GrowsBy author k found (shows st) → fixes st ≡ fixed.1 → Shows answered fixed.0 found plan (shows st)
-      → Allows Rule slots id (seat p k found fixed l more plan, (0, Some st) ∷ []) 1 (λ _. 0) (λ _. IsLeave shows (step slots 1 0 0 none) (seat p k found fixed l more plan, (0, Some st) ∷ []) 0)
-  leaves slots id k p found fixed l more plan st is adds same shown s r len at small = (seat Leaving k (shows st) fixed (shows st) more no_plan, gives, tt, left_home s r id k p found fixed l more plan st is adds same shown at, record { inside = is; on = (refl, refl, refl); stores = refl; goes = refl })
+  leaves : (slots id k : ℕ) (p : At) (found : List I) (fixed : Fixed) (l : List I) (more : List (Claim I)) (plan : Plan I) (n : ℕ) (st : S) → is_inside p ≡ true → GrowsBy author k found (shows st) → fixes st ≡ fixed.1 → Shows answered fixed.0 found plan (shows st)
+      → Allows Rule slots id (seat p k found fixed l more plan n, (0, Some st) ∷ []) 1 (λ _. 0) (λ _. IsLeave shows (step slots 1 0 0 none) (seat p k found fixed l more plan n, (0, Some st) ∷ []) 0)
+  leaves slots id k p found fixed l more plan n st is adds same shown s r len at small = (seat Leaving k (shows st) fixed (shows st) more no_plan (n + 1), gives, tt, left_home s r id k p found fixed l more plan n st is adds same shown at, record { inside = is; on = (refl, refl, refl); stores = refl; goes = refl })
 
   -- the one seat of a new table
   only_first : (id : ℕ) (v : View I) → get_elem? (first_view (resting {I = I}) fixes about ∷ []) id ≡ some v → v ≡ first_view resting fixes about
@@ -342,11 +342,11 @@ module _ {S I : Type 0} (shows : S → List I) (fixes : S → List ℕ) (author 
   told_on at c comes m stays k q given i adds same low high p fixed (d ∷ ds) on out good up = shown_on answered about.count author stays at c comes m d.0 (ap is_inside on.0 ∙ out) (good.0.1) (good.0.2) k q given i adds same low high up
 
   -- the store of the word s of process q, inside
-  marks_home : (s : St) (r : Rule s) → Stays → (id k : ℕ) (p : At) (found : List I) (fixed : Fixed) (l : List I) (plan : Plan I) (st : S) (q : ℕ) → is_inside p ≡ true → GrowsBy author k found (shows st) → MayCome answered plan (shows st) → 1 ≤ q → q ≤ fixed.0
-      → get_elem? s.views id ≡ some (seat p k found fixed l [] plan)
-      → Rule record { words = set s.words (fixed.0 + 1 + q) (flag (answered q (shows st))); homes = s.homes; views = set s.views id (view_marked q (shows st) (seat p k found fixed l [] plan)) }
-  marks_home s r stays id k p found fixed l plan st q is adds may low high at =
-      let v : View I = seat p k found fixed l [] plan in
+  marks_home : (s : St) (r : Rule s) → Stays → (id k : ℕ) (p : At) (found : List I) (fixed : Fixed) (l : List I) (plan : Plan I) (n : ℕ) (st : S) (q : ℕ) → is_inside p ≡ true → GrowsBy author k found (shows st) → MayCome answered plan (shows st) → 1 ≤ q → q ≤ fixed.0
+      → get_elem? s.views id ≡ some (seat p k found fixed l [] plan n)
+      → Rule record { words = set s.words (fixed.0 + 1 + q) (flag (answered q (shows st))); homes = s.homes; views = set s.views id (view_marked q (shows st) (seat p k found fixed l [] plan n)) }
+  marks_home s r stays id k p found fixed l plan n st q is adds may low high at =
+      let v : View I = seat p k found fixed l [] plan n in
       let w : View I = view_marked q (shows st) v in
       let mine : Fit r.at r.course v = r.seats id v at in
       let mine_in : is_inside (r.at k) ≡ true = ap is_inside mine.stands.0 ∙ is in
@@ -382,14 +382,14 @@ module _ {S I : Type 0} (shows : S → List I) (fixes : S → List ℕ) (author 
         total = total_same many s.views id v w at refl about.count r.total;
       }
 
-  marks : Stays → (slots id k : ℕ) (p : At) (found : List I) (fixed : Fixed) (l : List I) (plan : Plan I) (st : S) (q : ℕ) → is_inside p ≡ true → GrowsBy author k found (shows st) → MayCome answered plan (shows st) → 1 ≤ q → q ≤ fixed.0
-      → Allows Rule slots id (seat p k found fixed l [] plan, (0, Some st) ∷ []) (fixed.0 + 1 + q) (λ _. flag (answered q (shows st)))
-      (λ _. IsMark shows answered (step slots (fixed.0 + 1 + q) (flag (answered q (shows st))) 0 none) (seat p k found fixed l [] plan, (0, Some st) ∷ []) (flag (answered q (shows st))))
-  marks stays slots id k p found fixed l plan st q is adds may low high s r len at small = (
-    view_marked q (shows st) (seat p k found fixed l [] plan),
+  marks : Stays → (slots id k : ℕ) (p : At) (found : List I) (fixed : Fixed) (l : List I) (plan : Plan I) (n : ℕ) (st : S) (q : ℕ) → is_inside p ≡ true → GrowsBy author k found (shows st) → MayCome answered plan (shows st) → 1 ≤ q → q ≤ fixed.0
+      → Allows Rule slots id (seat p k found fixed l [] plan n, (0, Some st) ∷ []) (fixed.0 + 1 + q) (λ _. flag (answered q (shows st)))
+      (λ _. IsMark shows answered (step slots (fixed.0 + 1 + q) (flag (answered q (shows st))) 0 none) (seat p k found fixed l [] plan n, (0, Some st) ∷ []) (flag (answered q (shows st))))
+  marks stays slots id k p found fixed l plan n st q is adds may low high s r len at small = (
+    view_marked q (shows st) (seat p k found fixed l [] plan n),
     keeps,
     tt,
-    marks_home s r stays id k p found fixed l plan st q is adds may low high at,
+    marks_home s r stays id k p found fixed l plan n st q is adds may low high at,
     record { inside = is; process = q; on = (refl, refl, refl); stores = refl; goes = refl },
   )
 
@@ -399,10 +399,10 @@ module _ {S I : Type 0} (shows : S → List I) (fixes : S → List ℕ) (author 
   or_told false word mark is before t = sym is ∙ eqb-true word 1 t
 
   -- the load of the own word s
-  looks_home : (s : St) (r : Rule s) (id k : ℕ) (found : List I) (fixed : Fixed) (l : List I) (plan : Plan I) (word : ℕ) → word ≡ mark_in r.course.marks k → get_elem? s.views id ≡ some (seat Rest k found fixed l [] plan)
-      → Rule record { words = s.words; homes = s.homes; views = set s.views id (view_told (word == 1) (seat Rest k found fixed l [] plan)) }
-  looks_home s r id k found fixed l plan word is at =
-      let v : View I = seat Rest k found fixed l [] plan in
+  looks_home : (s : St) (r : Rule s) (id k : ℕ) (found : List I) (fixed : Fixed) (l : List I) (plan : Plan I) (n : ℕ) (word : ℕ) → word ≡ mark_in r.course.marks k → get_elem? s.views id ≡ some (seat Rest k found fixed l [] plan n)
+      → Rule record { words = s.words; homes = s.homes; views = set s.views id (view_told (word == 1) (seat Rest k found fixed l [] plan n)) }
+  looks_home s r id k found fixed l plan n word is at =
+      let v : View I = seat Rest k found fixed l [] plan n in
       let w : View I = view_told (word == 1) v in
       let mine : Fit r.at r.course v = r.seats id v at in record {
         at = r.at;
@@ -420,17 +420,17 @@ module _ {S I : Type 0} (shows : S → List I) (fixes : S → List ℕ) (author 
         total = total_same many s.views id v w at refl about.count r.total;
       }
 
-  looks : Stays → (slots id k : ℕ) (found : List I) (fixed : Fixed) (l : List I) (plan : Plan I)
-      → Allows Rule slots id (seat Rest k found fixed l [] plan, []) (fixed.0 + 1 + k) (λ n. n) (IsLook answered (step slots (fixed.0 + 1 + k) 0 0 none) (seat Rest k found fixed l [] plan, []))
-  looks stays slots id k found fixed l plan s r len at small =
-      let v : View I = seat Rest k found fixed l [] plan in
+  looks : Stays → (slots id k : ℕ) (found : List I) (fixed : Fixed) (l : List I) (plan : Plan I) (n : ℕ)
+      → Allows Rule slots id (seat Rest k found fixed l [] plan n, []) (fixed.0 + 1 + k) (λ n. n) (IsLook answered (step slots (fixed.0 + 1 + k) 0 0 none) (seat Rest k found fixed l [] plan n, []))
+  looks stays slots id k found fixed l plan n s r len at small =
+      let v : View I = seat Rest k found fixed l [] plan n in
       let mine : Fit r.at r.course v = r.seats id v at in
       let number = number_good k fixed r.course.now l mine.good.0 in
       let count : fixed.0 ≡ about.count = ap (λ z. z.0) mine.good.0.0 in
       let word : ℕ = get_or s.words (fixed.0 + 1 + k) 0 in
       let is : word ≡ mark_in r.course.marks k = ap (λ n. get_or s.words (n + 1 + k) 0) count ∙ mark_loaded about.count s.words r.course.marks r.at r.world k number.0 in
       let out : is_inside (r.at k) ≡ false = ap is_inside mine.stands.0 in
-      let next = looks_home s r id k found fixed l plan word is at in (
+      let next = looks_home s r id k found fixed l plan n word is at in (
         view_told (word == 1) v,
         keeps,
         tt,
@@ -439,11 +439,11 @@ module _ {S I : Type 0} (shows : S → List I) (fixes : S → List ℕ) (author 
       )
 
   -- the first claim goes to a new seat
-  splits : (id : ℕ) (fixed : Fixed) (c : Claim I) (cs : List (Claim I)) → Splits Rule id (seat_view Rest [] fixed (c ∷ cs) no_plan) (seat_view Rest [] fixed cs no_plan) (seat_view Rest [] fixed (c ∷ []) no_plan)
+  splits : (id : ℕ) (fixed : Fixed) (c : Claim I) (cs : List (Claim I)) → Splits Rule id (seat_view Rest [] fixed (c ∷ cs) no_plan 0) (seat_view Rest [] fixed cs no_plan 0) (seat_view Rest [] fixed (c ∷ []) no_plan 0)
   splits id fixed c cs s r at =
-      let v : View I = seat_view Rest [] fixed (c ∷ cs) no_plan in
-      let l : View I = seat_view Rest [] fixed cs no_plan in
-      let h : View I = seat_view Rest [] fixed (c ∷ []) no_plan in
+      let v : View I = seat_view Rest [] fixed (c ∷ cs) no_plan 0 in
+      let l : View I = seat_view Rest [] fixed cs no_plan 0 in
+      let h : View I = seat_view Rest [] fixed (c ∷ []) no_plan 0 in
       let mine : Fit r.at r.course v = r.seats id v at in
       let fit_l : Fit r.at r.course l = record { stands = all_rest r.at cs mine.stands.1; found = λ e. absurd (cc); planned = λ e. absurd (cc); told = λ _ t. absurd (cc); good = mine.good.1 } in
       let fit_h : Fit r.at r.course h = record { stands = (mine.stands.0, tt); found = λ e. absurd (cc); planned = λ e. absurd (cc); told = λ _ t. absurd (cc); good = (mine.good.0, tt) } in
@@ -462,13 +462,13 @@ module _ {S I : Type 0} (shows : S → List I) (fixes : S → List ℕ) (author 
       }
 
   -- one seat takes in the claims of another
-  joins : (id : ℕ) (found : List I) (fixed : Fixed) (cs : List (Claim I)) (plan : Plan I) (other : ℕ) (found' : List I) (ds : List (Claim I)) (plan' : Plan I)
-      → Joins Rule id (seat_view Rest found fixed cs plan) other (seat_view Rest found' fixed ds plan') (seat_view Rest [] fixed (ds ++ cs) no_plan) (seat_view Rest [] (0, []) [] no_plan)
-  joins id found fixed cs plan other found' ds plan' s r at apart that =
-      let v : View I = seat_view Rest found fixed cs plan in
-      let b : View I = seat_view Rest [] fixed (ds ++ cs) no_plan in
-      let spent : View I = seat_view Rest [] (0, []) [] no_plan in
-      let d : View I = seat_view Rest found' fixed ds plan' in
+  joins : (id : ℕ) (found : List I) (fixed : Fixed) (cs : List (Claim I)) (plan : Plan I) (n : ℕ) (other : ℕ) (found' : List I) (ds : List (Claim I)) (plan' : Plan I) (n' : ℕ)
+      → Joins Rule id (seat_view Rest found fixed cs plan n) other (seat_view Rest found' fixed ds plan' n') (seat_view Rest [] fixed (ds ++ cs) no_plan 0) (seat_view Rest [] (0, []) [] no_plan 0)
+  joins id found fixed cs plan n other found' ds plan' n' s r at apart that =
+      let v : View I = seat_view Rest found fixed cs plan n in
+      let b : View I = seat_view Rest [] fixed (ds ++ cs) no_plan 0 in
+      let spent : View I = seat_view Rest [] (0, []) [] no_plan 0 in
+      let d : View I = seat_view Rest found' fixed ds plan' n' in
       let vs : List (View I) = set s.views id b in
       let mine : Fit r.at r.course v = r.seats id v at in
       let at' : get_elem? s.views other ≡ some d = sym (set_else s.views id other b apart) ∙ that in
@@ -502,10 +502,10 @@ module _ {S I : Type 0} (shows : S → List I) (fixes : S → List ℕ) (author 
   some_claim at p (c ∷ cs) h i = omega arith
 
   -- who has all claims finds the state at home
-  ends : (id : ℕ) (found : List I) (fixed : Fixed) (cs : List (Claim I)) (plan : Plan I) (ws : List ℕ) (xs : List (Opt S)) → about.count ≤ length cs → Final (Seen Rule id (seat_view Rest found fixed cs plan)) ws xs
+  ends : (id : ℕ) (found : List I) (fixed : Fixed) (cs : List (Claim I)) (plan : Plan I) (n : ℕ) (ws : List ℕ) (xs : List (Opt S)) → about.count ≤ length cs → Final (Seen Rule id (seat_view Rest found fixed cs plan n)) ws xs
       → (st : S) × (get_elem? xs 0 ≡ some (Some st)) × (fixes st ≡ fixes about.state.value) × Each (λ (c : Claim I). Grows author c.0 c.1 (shows st) []) cs
-  ends id found fixed cs plan ws xs all fin =
-      let v : View I = seat_view Rest found fixed cs plan in
+  ends id found fixed cs plan n ws xs all fin =
+      let v : View I = seat_view Rest found fixed cs plan n in
       let s : St = fin.0 in
       let at : get_elem? s.views id ≡ some v = fin.1.1 in
       let r : Rule s = fin.1.0 in
@@ -523,67 +523,67 @@ module _ {S I : Type 0} (shows : S → List I) (fixes : S → List ℕ) (author 
       (st, fin.4 0 (Some st) (ap (λ h. get_elem? h 0) home.1), home.3, subst P (sym home.2) (good_grows shows fixes author about fixed r.course.now cs mine.good))
 
   -- The same, for a seat alone that is known by an equation.
-  abbrev me_at : At → ℕ → List I → Fixed → List I → Plan I → Me (Opt S) (View I)
-  me_at p k found fixed l plan = (seat p k found fixed l [] plan, [])
+  abbrev me_at : At → ℕ → List I → Fixed → List I → Plan I → ℕ → Me (Opt S) (View I)
+  me_at p k found fixed l plan n = (seat p k found fixed l [] plan n, [])
 
-  stores_at : (slots id k word v : ℕ) (old : At) (me : Me (Opt S) (View I)) (found : List I) (fixed : Fixed) (l : List I) (plan : Plan I) → stores_line old ≡ true → word ≡ word_stored k old → v ≡ value_stored k old → is_inside old ≡ false → is_inside (after_store old) ≡ false
+  stores_at : (slots id k word v : ℕ) (old : At) (me : Me (Opt S) (View I)) (found : List I) (fixed : Fixed) (l : List I) (plan : Plan I) (n : ℕ) → stores_line old ≡ true → word ≡ word_stored k old → v ≡ value_stored k old → is_inside old ≡ false → is_inside (after_store old) ≡ false
       → ((words marks : List ℕ) (at : ℕ → At) → IsSafeWorld about.count words marks at → at k ≡ old → IsProcess about.count k → IsSafeWorld about.count (set words word v) marks (moved_to at k (after_store old)))
-      → me ≡ me_at old k found fixed l plan → Allows Rule slots id me word (λ _. v) (λ _. IsStore (step slots word v 0 none) me v)
-  stores_at slots id k word v old me found fixed l plan is_line on_word with_value out out' line e = let P : Me (Opt S) (View I) → Type 0 = λ m. Allows Rule slots id m word (λ _. v) (λ _. IsStore (step slots word v 0 none) m v) in
-      subst P (sym e) (stores slots id k word v old found fixed l [] plan is_line on_word with_value out out' line)
+      → me ≡ me_at old k found fixed l plan n → Allows Rule slots id me word (λ _. v) (λ _. IsStore (step slots word v 0 none) me v)
+  stores_at slots id k word v old me found fixed l plan n is_line on_word with_value out out' line e = let P : Me (Opt S) (View I) → Type 0 = λ m. Allows Rule slots id m word (λ _. v) (λ _. IsStore (step slots word v 0 none) m v) in
+      subst P (sym e) (stores slots id k word v old found fixed l [] plan n is_line on_word with_value out out' line)
 
-  loads_at : (slots id k word : ℕ) (old : At) (me : Me (Opt S) (View I)) (found : List I) (fixed : Fixed) (l : List I) (plan : Plan I) → loads_line old ≡ true → word ≡ word_loaded old → is_inside old ≡ false → ((v : ℕ) → is_inside (after_load fixed.0 old v) ≡ false)
+  loads_at : (slots id k word : ℕ) (old : At) (me : Me (Opt S) (View I)) (found : List I) (fixed : Fixed) (l : List I) (plan : Plan I) (n : ℕ) → loads_line old ≡ true → word ≡ word_loaded old → is_inside old ≡ false → ((v : ℕ) → is_inside (after_load fixed.0 old v) ≡ false)
       → ((words marks : List ℕ) (at : ℕ → At) → IsSafeWorld about.count words marks at → at k ≡ old → IsSafeWorld about.count words marks (moved_to at k (after_load about.count old (get_or words word 0))))
-      → me ≡ me_at old k found fixed l plan → Allows Rule slots id me word (λ n. n) (IsLoad (step slots word 0 0 none) me)
-  loads_at slots id k word old me found fixed l plan is_line on_word out out' line e = let P : Me (Opt S) (View I) → Type 0 = λ m. Allows Rule slots id m word (λ n. n) (IsLoad (step slots word 0 0 none) m) in
-      subst P (sym e) (loads slots id k word old found fixed l [] plan is_line on_word out out' line)
+      → me ≡ me_at old k found fixed l plan n → Allows Rule slots id me word (λ n. n) (IsLoad (step slots word 0 0 none) me)
+  loads_at slots id k word old me found fixed l plan n is_line on_word out out' line e = let P : Me (Opt S) (View I) → Type 0 = λ m. Allows Rule slots id m word (λ n. n) (IsLoad (step slots word 0 0 none) m) in
+      subst P (sym e) (loads slots id k word old found fixed l [] plan n is_line on_word out out' line)
 
-  tests_at : (slots id k word : ℕ) (old : At) (me : Me (Opt S) (View I)) (found : List I) (fixed : Fixed) (l : List I) (plan : Plan I) → tests_line old ≡ true → word ≡ word_loaded old → is_inside old ≡ false → is_inside (point_admitted old) ≡ true → is_inside (point_refused old) ≡ false
+  tests_at : (slots id k word : ℕ) (old : At) (me : Me (Opt S) (View I)) (found : List I) (fixed : Fixed) (l : List I) (plan : Plan I) (n : ℕ) → tests_line old ≡ true → word ≡ word_loaded old → is_inside old ≡ false → is_inside (point_admitted old) ≡ true → is_inside (point_refused old) ≡ false
       → ((words marks : List ℕ) (at : ℕ → At) → IsSafeWorld about.count words marks at → get_or words word 0 ≡ k → at k ≡ old → IsSafeWorld about.count words marks (moved_to at k (point_admitted old)))
       → ((words marks : List ℕ) (at : ℕ → At) → IsSafeWorld about.count words marks at → get_or words word 0 ≢ k → at k ≡ old → IsSafeWorld about.count words marks (moved_to at k (point_refused old)))
-      → me ≡ me_at old k found fixed l plan → Allows Rule slots id me word (λ n. n) (IsTest shows fixes author answered (step slots word 0 0 none) me)
-  tests_at slots id k word old me found fixed l plan is_line on_word out is out' hit miss e = let P : Me (Opt S) (View I) → Type 0 = λ m. Allows Rule slots id m word (λ n. n) (IsTest shows fixes author answered (step slots word 0 0 none) m) in
-      subst P (sym e) (tests slots id k word old found fixed l plan is_line on_word out is out' hit miss)
+      → me ≡ me_at old k found fixed l plan n → Allows Rule slots id me word (λ n. n) (IsTest shows fixes author answered (step slots word 0 0 none) me)
+  tests_at slots id k word old me found fixed l plan n is_line on_word out is out' hit miss e = let P : Me (Opt S) (View I) → Type 0 = λ m. Allows Rule slots id m word (λ n. n) (IsTest shows fixes author answered (step slots word 0 0 none) m) in
+      subst P (sym e) (tests slots id k word old found fixed l plan n is_line on_word out is out' hit miss)
 
   -- Each line of the algorithm, for the seat of a walk.
-  module _ (slots id k : ℕ) (me : Me (Opt S) (View I)) (found : List I) (fixed : Fixed) (l : List I) (plan : Plan I) where
-    raises_rest_at : me ≡ me_at Rest k found fixed l plan → Allows Rule slots id me (k + 1) (λ _. 1) (λ _. IsStore (step slots (k + 1) 1 0 none) me 1)
-    raises_rest_at = stores_at slots id k (k + 1) 1 Rest me found fixed l plan refl refl refl refl refl (λ ws ms at w e p. raises_rest about.count ws ms at w k e p)
+  module _ (slots id k : ℕ) (me : Me (Opt S) (View I)) (found : List I) (fixed : Fixed) (l : List I) (plan : Plan I) (n : ℕ) where
+    raises_rest_at : me ≡ me_at Rest k found fixed l plan n → Allows Rule slots id me (k + 1) (λ _. 1) (λ _. IsStore (step slots (k + 1) 1 0 none) me 1)
+    raises_rest_at = stores_at slots id k (k + 1) 1 Rest me found fixed l plan n refl refl refl refl refl (λ ws ms at w e p. raises_rest about.count ws ms at w k e p)
 
-    raises_start_at : me ≡ me_at Start k found fixed l plan → Allows Rule slots id me (k + 1) (λ _. 1) (λ _. IsStore (step slots (k + 1) 1 0 none) me 1)
-    raises_start_at = stores_at slots id k (k + 1) 1 Start me found fixed l plan refl refl refl refl refl (λ ws ms at w e p. raises_start about.count ws ms at w k e p)
+    raises_start_at : me ≡ me_at Start k found fixed l plan n → Allows Rule slots id me (k + 1) (λ _. 1) (λ _. IsStore (step slots (k + 1) 1 0 none) me 1)
+    raises_start_at = stores_at slots id k (k + 1) 1 Start me found fixed l plan n refl refl refl refl refl (λ ws ms at w e p. raises_start about.count ws ms at w k e p)
 
-    pub raises_at : (old : At) → (old ≡ Rest) ⊎ (old ≡ Start) → me ≡ (seat old k found fixed l [] plan, slots_at old) → Allows Rule slots id me (k + 1) (λ _. 1) (λ _. IsStore (step slots (k + 1) 1 0 none) me 1)
-    raises_at old is e = let P : At → Type 0 = λ p. me ≡ (seat p k found fixed l [] plan, slots_at p) in
+    pub raises_at : (old : At) → (old ≡ Rest) ⊎ (old ≡ Start) → me ≡ (seat old k found fixed l [] plan n, slots_at old) → Allows Rule slots id me (k + 1) (λ _. 1) (λ _. IsStore (step slots (k + 1) 1 0 none) me 1)
+    raises_at old is e = let P : At → Type 0 = λ p. me ≡ (seat p k found fixed l [] plan n, slots_at p) in
         ⊎_elim (λ q. raises_rest_at (subst P q e)) (λ q. raises_start_at (subst P q e)) is
 
-    pub lowers_back_at : me ≡ me_at BackB k found fixed l plan → Allows Rule slots id me (k + 1) (λ _. 0) (λ _. IsStore (step slots (k + 1) 0 0 none) me 0)
-    lowers_back_at = stores_at slots id k (k + 1) 0 BackB me found fixed l plan refl refl refl refl refl (λ ws ms at w e p. lowers_back about.count ws ms at w k e p)
+    pub lowers_back_at : me ≡ me_at BackB k found fixed l plan n → Allows Rule slots id me (k + 1) (λ _. 0) (λ _. IsStore (step slots (k + 1) 0 0 none) me 0)
+    lowers_back_at = stores_at slots id k (k + 1) 0 BackB me found fixed l plan n refl refl refl refl refl (λ ws ms at w e p. lowers_back about.count ws ms at w k e p)
 
-    pub lowers_slow_at : me ≡ me_at SlowB k found fixed l plan → Allows Rule slots id me (k + 1) (λ _. 0) (λ _. IsStore (step slots (k + 1) 0 0 none) me 0)
-    lowers_slow_at = stores_at slots id k (k + 1) 0 SlowB me found fixed l plan refl refl refl refl refl (λ ws ms at w e p. lowers_slow about.count ws ms at w k e p)
+    pub lowers_slow_at : me ≡ me_at SlowB k found fixed l plan n → Allows Rule slots id me (k + 1) (λ _. 0) (λ _. IsStore (step slots (k + 1) 0 0 none) me 0)
+    lowers_slow_at = stores_at slots id k (k + 1) 0 SlowB me found fixed l plan n refl refl refl refl refl (λ ws ms at w e p. lowers_slow about.count ws ms at w k e p)
 
-    pub lowers_leaving_at : me ≡ me_at Leaving k found fixed l plan → Allows Rule slots id me (k + 1) (λ _. 0) (λ _. IsStore (step slots (k + 1) 0 0 none) me 0)
-    lowers_leaving_at = stores_at slots id k (k + 1) 0 Leaving me found fixed l plan refl refl refl refl refl (λ ws ms at w e p. lowers_leaving about.count ws ms at w k e p)
+    pub lowers_leaving_at : me ≡ me_at Leaving k found fixed l plan n → Allows Rule slots id me (k + 1) (λ _. 0) (λ _. IsStore (step slots (k + 1) 0 0 none) me 0)
+    lowers_leaving_at = stores_at slots id k (k + 1) 0 Leaving me found fixed l plan n refl refl refl refl refl (λ ws ms at w e p. lowers_leaving about.count ws ms at w k e p)
 
-    pub sets_x_at : me ≡ me_at SetX k found fixed l plan → Allows Rule slots id me 0 (λ _. k) (λ _. IsStore (step slots 0 k 0 none) me k)
-    sets_x_at = stores_at slots id k 0 k SetX me found fixed l plan refl refl refl refl refl (λ ws ms at w e p. sets_x about.count ws ms at w k e)
+    pub sets_x_at : me ≡ me_at SetX k found fixed l plan n → Allows Rule slots id me 0 (λ _. k) (λ _. IsStore (step slots 0 k 0 none) me k)
+    sets_x_at = stores_at slots id k 0 k SetX me found fixed l plan n refl refl refl refl refl (λ ws ms at w e p. sets_x about.count ws ms at w k e)
 
-    pub sets_y_at : me ≡ me_at SetY k found fixed l plan → Allows Rule slots id me 1 (λ _. k) (λ _. IsStore (step slots 1 k 0 none) me k)
-    sets_y_at = stores_at slots id k 1 k SetY me found fixed l plan refl refl refl refl refl (λ ws ms at w e p. sets_y about.count ws ms at w k e)
+    pub sets_y_at : me ≡ me_at SetY k found fixed l plan n → Allows Rule slots id me 1 (λ _. k) (λ _. IsStore (step slots 1 k 0 none) me k)
+    sets_y_at = stores_at slots id k 1 k SetY me found fixed l plan n refl refl refl refl refl (λ ws ms at w e p. sets_y about.count ws ms at w k e)
 
-    pub loads_test_y_at : me ≡ me_at TestY k found fixed l plan → Allows Rule slots id me 1 (λ n. n) (IsLoad (step slots 1 0 0 none) me)
-    loads_test_y_at = loads_at slots id k 1 TestY me found fixed l plan refl refl refl
+    pub loads_test_y_at : me ≡ me_at TestY k found fixed l plan n → Allows Rule slots id me 1 (λ n. n) (IsLoad (step slots 1 0 0 none) me)
+    loads_test_y_at = loads_at slots id k 1 TestY me found fixed l plan n refl refl refl
         (λ v. let B : Bool → Type 0 = λ b. is_inside (cond b SetY BackB) ≡ false in elim (eqb v 0) as B [ true ↦ refl | false ↦ refl ])
         (λ ws ms at w e. loads_test_y about.count ws ms at w k e)
 
-    pub loads_await_y_at : me ≡ me_at AwaitY k found fixed l plan → Allows Rule slots id me 1 (λ n. n) (IsLoad (step slots 1 0 0 none) me)
-    loads_await_y_at = loads_at slots id k 1 AwaitY me found fixed l plan refl refl refl
+    pub loads_await_y_at : me ≡ me_at AwaitY k found fixed l plan n → Allows Rule slots id me 1 (λ n. n) (IsLoad (step slots 1 0 0 none) me)
+    loads_await_y_at = loads_at slots id k 1 AwaitY me found fixed l plan n refl refl refl
         (λ v. let B : Bool → Type 0 = λ b. is_inside (cond b Start AwaitY) ≡ false in elim (eqb v 0) as B [ true ↦ refl | false ↦ refl ])
         (λ ws ms at w e. loads_await_y about.count ws ms at w k e)
 
-    pub loads_slow_await_at : me ≡ me_at SlowAwait k found fixed l plan → Allows Rule slots id me 1 (λ n. n) (IsLoad (step slots 1 0 0 none) me)
-    loads_slow_await_at = loads_at slots id k 1 SlowAwait me found fixed l plan refl refl refl
+    pub loads_slow_await_at : me ≡ me_at SlowAwait k found fixed l plan n → Allows Rule slots id me 1 (λ n. n) (IsLoad (step slots 1 0 0 none) me)
+    loads_slow_await_at = loads_at slots id k 1 SlowAwait me found fixed l plan n refl refl refl
         (λ v. let B : Bool → Type 0 = λ b. is_inside (cond b Start SlowAwait) ≡ false in elim (eqb v 0) as B [ true ↦ refl | false ↦ refl ])
         (λ ws ms at w e. loads_slow_await about.count ws ms at w k e)
 
@@ -592,27 +592,27 @@ module _ {S I : Type 0} (shows : S → List I) (fixes : S → List ℕ) (author 
     scan_outside j false true = refl
     scan_outside j false false = refl
 
-    pub loads_flag_at : (j : ℕ) → me ≡ me_at (Scan j) k found fixed l plan → Allows Rule slots id me (j + 1) (λ n. n) (IsLoad (step slots (j + 1) 0 0 none) me)
-    loads_flag_at j = loads_at slots id k (j + 1) (Scan j) me found fixed l plan refl refl refl (λ v. scan_outside j (eqb v 1) (eqb j fixed.0)) (λ ws ms at w e. loads_flag about.count ws ms at w k j e)
+    pub loads_flag_at : (j : ℕ) → me ≡ me_at (Scan j) k found fixed l plan n → Allows Rule slots id me (j + 1) (λ n. n) (IsLoad (step slots (j + 1) 0 0 none) me)
+    loads_flag_at j = loads_at slots id k (j + 1) (Scan j) me found fixed l plan n refl refl refl (λ v. scan_outside j (eqb v 1) (eqb j fixed.0)) (λ ws ms at w e. loads_flag about.count ws ms at w k j e)
 
-    pub tests_x_at : me ≡ me_at TestX k found fixed l plan → Allows Rule slots id me 0 (λ n. n) (IsTest shows fixes author answered (step slots 0 0 0 none) me)
-    tests_x_at = tests_at slots id k 0 TestX me found fixed l plan refl refl refl refl refl (λ ws ms at w is e. admits_fast about.count ws ms at w k is e) (λ ws ms at w ne e. refuses_fast about.count ws ms at w k ne e)
+    pub tests_x_at : me ≡ me_at TestX k found fixed l plan n → Allows Rule slots id me 0 (λ n. n) (IsTest shows fixes author answered (step slots 0 0 0 none) me)
+    tests_x_at = tests_at slots id k 0 TestX me found fixed l plan n refl refl refl refl refl (λ ws ms at w is e. admits_fast about.count ws ms at w k is e) (λ ws ms at w ne e. refuses_fast about.count ws ms at w k ne e)
 
-    pub tests_y_at : me ≡ me_at SlowY k found fixed l plan → Allows Rule slots id me 1 (λ n. n) (IsTest shows fixes author answered (step slots 1 0 0 none) me)
-    tests_y_at = tests_at slots id k 1 SlowY me found fixed l plan refl refl refl refl refl (λ ws ms at w is e. admits_slow about.count ws ms at w k is e) (λ ws ms at w ne e. refuses_slow about.count ws ms at w k ne e)
+    pub tests_y_at : me ≡ me_at SlowY k found fixed l plan n → Allows Rule slots id me 1 (λ n. n) (IsTest shows fixes author answered (step slots 1 0 0 none) me)
+    tests_y_at = tests_at slots id k 1 SlowY me found fixed l plan n refl refl refl refl refl (λ ws ms at w is e. admits_slow about.count ws ms at w k is e) (λ ws ms at w ne e. refuses_slow about.count ws ms at w k ne e)
 
-    pub leaves_at : (p : At) (st : S) → me ≡ (seat p k found fixed l [] plan, (0, Some st) ∷ []) → is_inside p ≡ true → GrowsBy author k found (shows st) → fixes st ≡ fixed.1 → Shows answered fixed.0 found plan (shows st)
+    pub leaves_at : (p : At) (st : S) → me ≡ (seat p k found fixed l [] plan n, (0, Some st) ∷ []) → is_inside p ≡ true → GrowsBy author k found (shows st) → fixes st ≡ fixed.1 → Shows answered fixed.0 found plan (shows st)
         → Allows Rule slots id me 1 (λ _. 0) (λ _. IsLeave shows (step slots 1 0 0 none) me 0)
     leaves_at p st e is adds same shown = let P : Me (Opt S) (View I) → Type 0 = λ m. Allows Rule slots id m 1 (λ _. 0) (λ _. IsLeave shows (step slots 1 0 0 none) m 0) in
-        subst P (sym e) (leaves slots id k p found fixed l [] plan st is adds same shown)
+        subst P (sym e) (leaves slots id k p found fixed l [] plan n st is adds same shown)
 
-  pub looks_at : Stays → (slots id k word : ℕ) (me : Me (Opt S) (View I)) (found : List I) (fixed : Fixed) (l : List I) (plan : Plan I) → word ≡ fixed.0 + 1 + k → me ≡ me_at Rest k found fixed l plan → Allows Rule slots id me word (λ n. n) (IsLook answered (step slots word 0 0 none) me)
-  looks_at stays slots id k word me found fixed l plan on_word e = let P : ℕ → Me (Opt S) (View I) → Type 0 = λ w m. Allows Rule slots id m w (λ n. n) (IsLook answered (step slots w 0 0 none) m) in
-      subst (λ w. P w me) (sym on_word) (subst (P (fixed.0 + 1 + k)) (sym e) (looks stays slots id k found fixed l plan))
+  pub looks_at : Stays → (slots id k word : ℕ) (me : Me (Opt S) (View I)) (found : List I) (fixed : Fixed) (l : List I) (plan : Plan I) (n : ℕ) → word ≡ fixed.0 + 1 + k → me ≡ me_at Rest k found fixed l plan n → Allows Rule slots id me word (λ n. n) (IsLook answered (step slots word 0 0 none) me)
+  looks_at stays slots id k word me found fixed l plan n on_word e = let P : ℕ → Me (Opt S) (View I) → Type 0 = λ w m. Allows Rule slots id m w (λ n. n) (IsLook answered (step slots w 0 0 none) m) in
+      subst (λ w. P w me) (sym on_word) (subst (P (fixed.0 + 1 + k)) (sym e) (looks stays slots id k found fixed l plan n))
 
   -- the view of a seat that is ready to leave
-  ready_is : (me : Me (Opt S) (View I)) (r : IsReady shows fixes author answered me) → me ≡ (seat me.0.at (number_in me.0.claims) me.0.found me.0.fixed (last_left me.0.claims) [] me.0.plan, (0, Some r.full.0) ∷ [])
-  ready_is me r = λ i. (seat_view me.0.at me.0.found me.0.fixed (r.alone i) me.0.plan, r.full.1 i)
+  ready_is : (me : Me (Opt S) (View I)) (r : IsReady shows fixes author answered me) → me ≡ (seat me.0.at (number_in me.0.claims) me.0.found me.0.fixed (last_left me.0.claims) [] me.0.plan me.0.accesses, (0, Some r.full.0) ∷ [])
+  ready_is me r = λ i. (seat_view me.0.at me.0.found me.0.fixed (r.alone i) me.0.plan me.0.accesses, r.full.1 i)
 
   pub marks_at : Stays → (slots id q word v : ℕ) (me : Me (Opt S) (View I)) → IsReady shows fixes author answered me → 1 ≤ q → q ≤ me.0.fixed.0 → word ≡ me.0.fixed.0 + 1 + q → v ≡ flag (answered q (list_in shows me.1))
       → Allows Rule slots id me word (λ _. v) (λ _. IsMark shows answered (step slots word v 0 none) me v)
@@ -621,7 +621,7 @@ module _ {S I : Type 0} (shows : S → List I) (fixes : S → List ℕ) (author 
       let given : list_in shows me.1 ≡ shows st = ap (list_in shows) r.full.1 in
       let G : List I → Type 0 = λ l. GrowsBy author (number_in me.0.claims) me.0.found l in
       let M : List I → Type 0 = λ l. MayCome answered me.0.plan l in
-      let one = marks stays slots id (number_in me.0.claims) me.0.at me.0.found me.0.fixed (last_left me.0.claims) me.0.plan st q r.inside (subst G given r.adds) (subst M given r.may) low high in
+      let one = marks stays slots id (number_in me.0.claims) me.0.at me.0.found me.0.fixed (last_left me.0.claims) me.0.plan me.0.accesses st q r.inside (subst G given r.adds) (subst M given r.may) low high in
       let P : Me (Opt S) (View I) → Type 0 = λ m. Allows Rule slots id m (me.0.fixed.0 + 1 + q) (λ _. flag (answered q (shows st))) (λ _. IsMark shows answered (step slots (me.0.fixed.0 + 1 + q) (flag (answered q (shows st))) 0 none) m (flag (answered q (shows st)))) in
       let two = subst P (sym (ready_is me r)) one in
       let Q : ℕ → ℕ → Type 0 = λ w x. Allows Rule slots id me w (λ _. x) (λ _. IsMark shows answered (step slots w x 0 none) me x) in
@@ -634,15 +634,15 @@ module _ {S I : Type 0} (shows : S → List I) (fixes : S → List ℕ) (author 
       let given : list_in shows me.1 ≡ shows st = ap (list_in shows) r.full.1 in
       let G : List I → Type 0 = λ l. GrowsBy author (number_in me.0.claims) me.0.found l in
       let H : List I → Type 0 = λ l. Shows answered me.0.fixed.0 me.0.found me.0.plan l in
-      leaves_at slots id (number_in me.0.claims) me me.0.found me.0.fixed (last_left me.0.claims) me.0.plan me.0.at st (ready_is me r) r.inside (subst G given r.adds) r.full.2 (subst H given shown)
+      leaves_at slots id (number_in me.0.claims) me me.0.found me.0.fixed (last_left me.0.claims) me.0.plan me.0.accesses me.0.at st (ready_is me r) r.inside (subst G given r.adds) r.full.2 (subst H given shown)
 
   -- seats at rest are dealt and joined
   pub fast_deals : Deals resting shows fixes author about Rule
   fast_deals = record {
     splits = λ id v f c cs e. let P : View I → Type 0 = λ x. Splits Rule id x (view_of_others resting x) (view_of_first resting x) in subst P (sym e) (splits id f c cs);
     joins = λ id v other w f cs ds e d. let P : View I → View I → Type 0 = λ x y. Joins Rule id x other y (joint_view resting x y) (resting {I = I}).blank in
-        subst (λ x. P x w) (sym e) (subst (λ y. P (seat_view Rest v.found f cs v.plan) y) (sym d) (joins id v.found f cs v.plan other w.found ds w.plan));
-    ends = λ id v f cs ws xs e all fin. let P : View I → Type 0 = λ x. Final (Seen Rule id x) ws xs in ends id v.found f cs v.plan ws xs all (subst P e fin);
+        subst (λ x. P x w) (sym e) (subst (λ y. P (seat_view Rest v.found f cs v.plan v.accesses) y) (sym d) (joins id v.found f cs v.plan v.accesses other w.found ds w.plan w.accesses));
+    ends = λ id v f cs ws xs e all fin. let P : View I → Type 0 = λ x. Final (Seen Rule id x) ws xs in ends id v.found f cs v.plan v.accesses ws xs all (subst P e fin);
   }
 
 -- a scan is at the flag of a process
@@ -652,9 +652,9 @@ scan_process n j steps p h e = let P : At → Type 0 = λ q. IsCounted n q steps
 -- what is known of a seat that stores words s
 module _ {S I : Type 0} (shows : S → List I) (fixes : S → List ℕ) (author : I → ℕ) (answered : ℕ → List I → Bool) where
   -- a seat that has its state in the slot again is ready
-  pub ready_from : (me : Me (Opt S) (View I)) (p : At) (k : ℕ) (found : List I) (fixed : Fixed) (l : List I) (plan : Plan I) (st : S) → me ≡ (seat_view p found fixed ((k, l) ∷ []) plan, (0, Some st) ∷ []) → is_inside p ≡ true → GrowsBy author k found (shows st) → fixes st ≡ fixed.1 → plan.stored ≡ []
+  pub ready_from : (me : Me (Opt S) (View I)) (p : At) (k : ℕ) (found : List I) (fixed : Fixed) (l : List I) (plan : Plan I) (n : ℕ) (st : S) → me ≡ (seat_view p found fixed ((k, l) ∷ []) plan n, (0, Some st) ∷ []) → is_inside p ≡ true → GrowsBy author k found (shows st) → fixes st ≡ fixed.1 → plan.stored ≡ []
       → IsReady shows fixes author answered me
-  ready_from me p k found fixed l plan st e is adds same blank = let P : Me (Opt S) (View I) → Type 0 = λ m. IsReady shows fixes author answered m in
+  ready_from me p k found fixed l plan n st e is adds same blank = let P : Me (Opt S) (View I) → Type 0 = λ m. IsReady shows fixes author answered m in
       subst P (sym e) record { inside = is; alone = refl; full = (st, refl, same); adds = adds; may = inr blank }
 
   -- it stays so when it has stored a word s
@@ -663,30 +663,33 @@ module _ {S I : Type 0} (shows : S → List I) (fixes : S → List ℕ) (author 
       subst P (sym e) record { inside = r.inside; alone = r.alone; full = r.full; adds = r.adds; may = inl refl }
 
   -- what is known of the seat before it stored the words, of the seat after
-  pub shows_after : (me0 me : Me (Opt S) (View I)) → me ≡ (view_planned me.0.plan me0.0, me0.1) → Shows answered me0.0.fixed.0 me0.0.found me.0.plan (list_in shows me0.1) → Shows answered me.0.fixed.0 me.0.found me.0.plan (list_in shows me.1)
+  pub shows_after : (me0 me : Me (Opt S) (View I)) → me ≡ (view_planned me.0.plan me.0.accesses me0.0, me0.1) → Shows answered me0.0.fixed.0 me0.0.found me.0.plan (list_in shows me0.1) → Shows answered me.0.fixed.0 me.0.found me.0.plan (list_in shows me.1)
   shows_after me0 me view h = let P : Me (Opt S) (View I) → Type 0 = λ m. Shows answered m.0.fixed.0 m.0.found me.0.plan (list_in shows m.1) in subst P (sym view) h
 
   -- The seat was as `me0` with its state in the slot, and has stored the words of the processes below k that differ.
   pub record IsMarking (me0 : Me (Opt S) (View I)) (k : ℕ) (me : Me (Opt S) (View I)) : Type 0 where
-    pub view : me ≡ (view_planned me.0.plan me0.0, me0.1)
+    pub view : me ≡ (view_planned me.0.plan me.0.accesses me0.0, me0.1)
     pub ready : IsReady shows fixes author answered me
     pub done : Done answered me0.0.found (list_in shows me0.1) k me.0.plan.stored
+    pub few : me.0.accesses + 1 ≤ me0.0.accesses + k
 
   pub marking_none : (me : Me (Opt S) (View I)) → IsReady shows fixes author answered me → IsMarking me 1 me
-  marking_none me r = record { view = refl; ready = r; done = done_none answered me.0.found (list_in shows me.1) me.0.plan.stored }
+  marking_none me r = record { view = refl; ready = r; done = done_none answered me.0.found (list_in shows me.1) me.0.plan.stored; few = omega arith }
 
   pub marking_same : (me0 me me' : Me (Opt S) (View I)) (k : ℕ) → IsMarking me0 k me → answered k me0.0.found ≡ answered k (list_in shows me0.1) → me' ≡ me → IsMarking me0 (k + 1) me'
   marking_same me0 me me' k h same e = let P : Me (Opt S) (View I) → Type 0 = λ m. IsMarking me0 (k + 1) m in
-      subst P (sym e) record { view = h.view; ready = h.ready; done = done_same answered me0.0.found (list_in shows me0.1) k me.0.plan.stored same h.done }
+      subst P (sym e) record { view = h.view; ready = h.ready; done = done_same answered me0.0.found (list_in shows me0.1) k me.0.plan.stored same h.done; few = omega (arith, h.few) }
 
   pub marking_stored : (me0 me me' : Me (Opt S) (View I)) (k : ℕ) → IsMarking me0 k me → me' ≡ (view_marked k (list_in shows me.1) me.0, me.1) → IsMarking me0 (k + 1) me'
   marking_stored me0 me me' k h e =
       let stored : me'.0.plan.stored ≡ k ∷ me.0.plan.stored = ap (λ (m : Me (Opt S) (View I)). m.0.plan.stored) e in
+      let more : me'.0.accesses ≡ me.0.accesses + 1 = ap (λ (m : Me (Opt S) (View I)). m.0.accesses) e in
       let D : List ℕ → Type 0 = λ l. Done answered me0.0.found (list_in shows me0.1) (k + 1) l in
-      let P : Me (Opt S) (View I) → Type 0 = λ m. m ≡ (view_planned m.0.plan me0.0, me0.1) in record {
-        view = subst P (sym e) (ap (λ (m : Me (Opt S) (View I)). (view_planned (plan_of (list_in shows me.1) (k ∷ me.0.plan.stored) me.0.plan.told) m.0, m.1)) h.view);
+      let P : Me (Opt S) (View I) → Type 0 = λ m. m ≡ (view_planned m.0.plan m.0.accesses me0.0, me0.1) in record {
+        view = subst P (sym e) (ap (λ (m : Me (Opt S) (View I)). (view_planned (plan_of (list_in shows me.1) (k ∷ me.0.plan.stored) me.0.plan.told) (me.0.accesses + 1) m.0, m.1)) h.view);
         ready = ready_on me me' k h.ready e;
         done = subst D (sym stored) (done_stored answered me0.0.found (list_in shows me0.1) k me.0.plan.stored h.done);
+        few = omega (arith, h.few, more);
       }
 
   -- once all words are done, they show the list that is given back
@@ -699,14 +702,14 @@ module _ {S I : Type 0} (shows : S → List I) (fixes : S → List ℕ) (author 
 -- what is known of the view of a seat
 module _ {S I : Type 0} where
   -- the seat of a walk that stands at p
-  pub stands_at : (me : Me (Opt S) (View I)) (at p : At) (k : ℕ) → me ≡ (seat_view at me.0.found me.0.fixed ((k, last_left me.0.claims) ∷ []) me.0.plan, slots_at at) → at ≡ p
-      → me ≡ (seat_view p me.0.found me.0.fixed ((k, last_left me.0.claims) ∷ []) me.0.plan, slots_at p)
-  stands_at me at p k e q = e ∙ ap (λ z. (seat_view z me.0.found me.0.fixed ((k, last_left me.0.claims) ∷ []) me.0.plan, slots_at z)) q
+  pub stands_at : (me : Me (Opt S) (View I)) (at p : At) (k : ℕ) → me ≡ (seat_view at me.0.found me.0.fixed ((k, last_left me.0.claims) ∷ []) me.0.plan me.0.accesses, slots_at at) → at ≡ p
+      → me ≡ (seat_view p me.0.found me.0.fixed ((k, last_left me.0.claims) ∷ []) me.0.plan me.0.accesses, slots_at p)
+  stands_at me at p k e q = e ∙ ap (λ z. (seat_view z me.0.found me.0.fixed ((k, last_left me.0.claims) ∷ []) me.0.plan me.0.accesses, slots_at z)) q
 
   -- the seat that has given the state back
-  pub left_is : (shows : S → List I) (me me' : Me (Opt S) (View I)) (p : At) (found : List I) (fixed : Fixed) (k : ℕ) (left : List I) (plan : Plan I) (st : S) → me ≡ (seat_view p found fixed ((k, left) ∷ []) plan, (0, Some st) ∷ [])
-      → me' ≡ (view_left shows me me.1, []) → me' ≡ (seat_view Leaving (shows st) fixed ((k, shows st) ∷ []) no_plan, [])
-  left_is shows me me' p found fixed k left plan st e a = let P : Me (Opt S) (View I) → Type 0 = λ m. me' ≡ (view_left shows m m.1, []) in subst P e a
+  pub left_is : (shows : S → List I) (me me' : Me (Opt S) (View I)) (p : At) (found : List I) (fixed : Fixed) (k : ℕ) (left : List I) (plan : Plan I) (n : ℕ) (st : S) → me ≡ (seat_view p found fixed ((k, left) ∷ []) plan n, (0, Some st) ∷ [])
+      → me' ≡ (view_left shows me me.1, []) → me' ≡ (seat_view Leaving (shows st) fixed ((k, shows st) ∷ []) no_plan (n + 1), [])
+  left_is shows me me' p found fixed k left plan n st e a = let P : Me (Opt S) (View I) → Type 0 = λ m. me' ≡ (view_left shows m m.1, []) in subst P e a
 
   -- the step that a mark tells of is that of this process
   pub marked_is : (shows : S → List I) (answered : ℕ → List I → Bool) (slots word v found q : ℕ) (me me' : Me (Opt S) (View I)) → IsMark shows answered (step slots word v 0 none) me found me' → word ≡ me.0.fixed.0 + 1 + q → me' ≡ (view_marked q (list_in shows me.1) me.0, me.1)
@@ -714,5 +717,5 @@ module _ {S I : Type 0} where
       let same : h.process ≡ q = omega arith in h.goes ∙ ap (λ z. (view_marked z (list_in shows me.1) me.0, me.1)) same
 
   -- the seat that has stored words s
-  pub planned_is : (me me' : Me (Opt S) (View I)) (v : View I) (slots : List (ℕ × Opt S)) → me ≡ (v, slots) → me' ≡ (view_planned me'.0.plan me.0, me.1) → me' ≡ (view_planned me'.0.plan v, slots)
-  planned_is me me' v slots e a = a ∙ ap (λ (m : Me (Opt S) (View I)). (view_planned me'.0.plan m.0, m.1)) e
+  pub planned_is : (me me' : Me (Opt S) (View I)) (v : View I) (slots : List (ℕ × Opt S)) → me ≡ (v, slots) → me' ≡ (view_planned me'.0.plan me'.0.accesses me.0, me.1) → me' ≡ (view_planned me'.0.plan me'.0.accesses v, slots)
+  planned_is me me' v slots e a = a ∙ ap (λ (m : Me (Opt S) (View I)). (view_planned me'.0.plan me'.0.accesses m.0, m.1)) e

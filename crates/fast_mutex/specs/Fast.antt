@@ -50,28 +50,28 @@ module _ {I : Type 0} where
   abbrev pub no_plan : Plan I
   no_plan = plan_of [] [] false
 
-  abbrev pub seat_view : At → List I → Fixed → List (Claim I) → Plan I → View I
-  seat_view at found fixed claims plan = record { at = at; found = found; fixed = fixed; claims = claims; plan = plan }
+  abbrev pub seat_view : At → List I → Fixed → List (Claim I) → Plan I → ℕ → View I
+  seat_view at found fixed claims plan accesses = record { at = at; found = found; fixed = fixed; claims = claims; plan = plan; accesses = accesses }
 
-  -- the seat goes on to a point
+  -- By one access the seat goes on to a point.
   abbrev pub view_at : At → View I → View I
-  view_at p v = seat_view p v.found v.fixed v.claims v.plan
+  view_at p v = seat_view p v.found v.fixed v.claims v.plan (v.accesses + 1)
 
-  -- the seat goes inside, and finds this list
+  -- By one access the seat goes inside, and finds this list.
   abbrev pub view_inside : At → List I → View I → View I
-  view_inside p found v = seat_view p found v.fixed v.claims (plan_of found [] v.plan.told)
+  view_inside p found v = seat_view p found v.fixed v.claims (plan_of found [] v.plan.told) (v.accesses + 1)
 
-  -- a look told the seat what the word shows
+  -- By one access, a look, the seat was told what the word shows.
   abbrev pub view_told : Bool → View I → View I
-  view_told shown v = seat_view v.at v.found v.fixed v.claims (plan_of v.plan.next v.plan.stored (v.plan.told || shown))
+  view_told shown v = seat_view v.at v.found v.fixed v.claims (plan_of v.plan.next v.plan.stored (v.plan.told || shown)) (v.accesses + 1)
 
-  -- the view of who stored the word s of process p as the list `given` has it
+  -- By one access the seat stored the word s of process p as the list `given` has it.
   abbrev pub view_marked : ℕ → List I → View I → View I
-  view_marked p given v = seat_view v.at v.found v.fixed v.claims (plan_of given (p ∷ v.plan.stored) v.plan.told)
+  view_marked p given v = seat_view v.at v.found v.fixed v.claims (plan_of given (p ∷ v.plan.stored) v.plan.told) (v.accesses + 1)
 
-  -- the seat has another plan
-  abbrev pub view_planned : Plan I → View I → View I
-  view_planned plan v = seat_view v.at v.found v.fixed v.claims plan
+  -- the seat has another plan, and has made so many accesses
+  abbrev pub view_planned : Plan I → ℕ → View I → View I
+  view_planned plan accesses v = seat_view v.at v.found v.fixed v.claims plan accesses
 
   -- of seats at rest
   abbrev pub resting : Resting (View I) I
@@ -79,8 +79,8 @@ module _ {I : Type 0} where
     fixed = λ v. v.fixed;
     claims = λ v. v.claims;
     told = λ v. v.plan.told;
-    rest = λ v fixed claims. seat_view Rest v.found fixed claims v.plan;
-    blank = seat_view Rest [] (0, []) [] no_plan;
+    rest = λ v fixed claims. seat_view Rest v.found fixed claims v.plan v.accesses;
+    blank = seat_view Rest [] (0, []) [] no_plan 0;
     rest_fixed = λ v f cs. refl;
     rest_claims = λ v f cs. refl;
     rest_again = λ v f g cs ds. refl;
@@ -252,11 +252,11 @@ module _ {S I : Type 0} (shows : S → List I) where
     pub stores : found ≡ flag (answered process (list_in me.1))
     pub goes : me' ≡ (view_marked process (list_in me.1) me.0, me.1)
 
-  -- the view of who has put back the state in its slot
+  -- By one access the seat has given back the state in its slot.
   abbrev pub view_left : Me (Opt S) (View I) → List (ℕ × Opt S) → View I
   view_left me [] = me.0
   view_left me ((i, None) ∷ slots) = me.0
-  view_left me ((i, Some st) ∷ slots) = seat_view Leaving (shows st) me.0.fixed (claims_after (shows st) me.0.claims) no_plan
+  view_left me ((i, Some st) ∷ slots) = seat_view Leaving (shows st) me.0.fixed (claims_after (shows st) me.0.claims) no_plan (me.0.accesses + 1)
 
   -- the store of 0 to y
   pub record IsLeave (t : Step (Opt S)) (me : Me (Opt S) (View I)) (found : ℕ) (me' : Me (Opt S) (View I)) : Type 0 where
@@ -291,6 +291,10 @@ module _ {S I : Type 0} where
 
   abbrev pub stay_of : ℕ → Seat (Opt S) (View I) → Ticket I
   stay_of k s = record { lock = lock_id s.table_id s.me.0.fixed; number = k; left = s.me.0.found; told = s.me.0.plan.told }
+
+  -- how many accesses to words of the lock the seat has made: each load and each store of one is one
+  abbrev pub accesses_of : Seat (Opt S) (View I) → ℕ
+  accesses_of s = s.me.0.accesses
 
 -- the seat is one of the lock that has this table
 module _ {S I : Type 0} (fixes : S → List ℕ) where

@@ -1,5 +1,5 @@
 //! The entry that waits, by the steps of any lock.
-ghost use Rattle.std.specs.Prelude.{◌≡◌, ◌≤◌, true, false, []};
+ghost use Rattle.std.specs.Prelude.{◌≡◌, ◌≤◌, ◌+◌, true, false, []};
 ghost use Rattle.fast_mutex.specs.Items.{Grows};
 
 use crate::lock::Lock;
@@ -18,7 +18,8 @@ pub trait Enter<S: Logged>: Lock<S> {
     /// Takes at most [`HASTE`] steps, and none once the walk has come in. It never waits.
     fn hasten(&self, walk: Self::Walk) -> Self::Walk
         requires { (Self.walking walk).lock ≡ Self.id self.now }
-        ensures { Self.walking result ≡ Self.walking walk };
+        ensures ticket { Self.walking result ≡ Self.walking walk }
+        ensures few { Self.walk_accesses result ≤ Self.walk_accesses walk + 5 };
 
     /// Takes the walk on until it has come in, which waits until nobody else is inside.
     fn come_in<R: Wait>(&self, rt: &R, walk: Self::Walk) -> Self::Walk
@@ -140,7 +141,8 @@ fn nap<S: Logged, L: Lock<S>, R: Wait>(lock: &L, rt: &R, walk: L::Walk) -> (L::W
 #[inline(always)]
 fn next<S: Logged, L: Lock<S>>(lock: &L, walk: L::Walk) -> L::Walk
     requires { (L.walking walk).lock ≡ L.id lock.now }
-    ensures { L.walking result ≡ L.walking walk }
+    ensures ticket { L.walking result ≡ L.walking walk }
+    ensures one { L.walk_accesses result ≤ L.walk_accesses walk + 1 }
 {
     if !L::is_admitted(&walk) {
         return lock.step(walk).0;

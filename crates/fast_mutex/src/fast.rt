@@ -11,7 +11,7 @@ ghost use Rattle.fast_mutex.specs.Items.{tickets_from, Grows, GrowsBy};
 ghost use Rattle.fast_mutex.specs.Seats.{first_view, last_left, lock_id, made_with};
 ghost use Rattle.fast_mutex.specs.Word.{HasGrown};
 ghost use Rattle.fast_mutex.specs.Marks.{flag, answer_bits};
-ghost use Rattle.fast_mutex.specs.Fast.{seat_view, view_planned, view_marked, list_in, IsReady, Shows, resting, is_inside, slots_at, state_shown, state_at, counted_prop, ticket_of, stay_of, IsSeatOf};
+ghost use Rattle.fast_mutex.specs.Fast.{seat_view, view_planned, view_marked, list_in, IsReady, Shows, resting, is_inside, slots_at, state_shown, state_at, counted_prop, ticket_of, stay_of, accesses_of, IsSeatOf};
 
 use crate::bells::Bells;
 use crate::lock::Missing;
@@ -64,7 +64,7 @@ pub struct Walk<S: Logged> {
     ghost range: { (1 ≤ number) × (number ≤ seat.me.0.fixed.0) },
     ghost alone: { seat.me ≡ (
       seat_view at seat.me.0.found seat.me.0.fixed
-          ((number, last_left seat.me.0.claims) ∷ []) seat.me.0.plan,
+          ((number, last_left seat.me.0.claims) ∷ []) seat.me.0.plan seat.me.0.accesses,
       slots_at at,
     ) },
     ghost held: { state_shown S.items S.fixed state ≡ state_at at seat.me.0.found seat.me.0.fixed },
@@ -90,7 +90,7 @@ pub struct FastInside<S: Logged> {
     ghost known: { answers ≡ answer_bits (λ p. S.is_answered p seat.me.0.found) 1 32 },
     ghost alone: { seat.me ≡ (
       seat_view at seat.me.0.found seat.me.0.fixed
-          ((number, last_left seat.me.0.claims) ∷ []) seat.me.0.plan,
+          ((number, last_left seat.me.0.claims) ∷ []) seat.me.0.plan seat.me.0.accesses,
       (0, None) ∷ [],
     ) },
     ghost counted: { IsCounted seat.me.0.fixed.0 at steps } by { counted_prop seat.me.0.fixed.0 at steps },
@@ -113,6 +113,7 @@ impl<S: Logged> FastMutex<S> {
         requires at { (walk.at ≡ Rest) ⊎ (walk.at ≡ Start) }
         ensures at { result.at ≡ SetX }
         ensures steps { result.steps ≡ 1 }
+        ensures access { accesses_of result.seat ≡ accesses_of walk.seat + 1 }
         ensures ticket { ticket_of result.number result.seat ≡ ticket_of walk.number walk.seat }
     {
         let flag = walk.number as usize + 1;
@@ -130,6 +131,7 @@ impl<S: Logged> FastMutex<S> {
         requires at { walk.at ≡ SetX }
         ensures at { result.at ≡ TestY }
         ensures steps { result.steps ≡ one_more walk.steps }
+        ensures access { accesses_of result.seat ≡ accesses_of walk.seat + 1 }
         ensures ticket { ticket_of result.number result.seat ≡ ticket_of walk.number walk.seat }
     {
         let number = walk.number as u64;
@@ -147,6 +149,7 @@ impl<S: Logged> FastMutex<S> {
         requires at { walk.at ≡ TestY }
         ensures at { (result.at ≡ SetY) ⊎ (result.at ≡ BackB) }
         ensures steps { result.steps ≡ one_more walk.steps }
+        ensures access { accesses_of result.seat ≡ accesses_of walk.seat + 1 }
         ensures ticket { ticket_of result.number result.seat ≡ ticket_of walk.number walk.seat }
     {
         let ahead = self.table.shared.load::<Loads>(&mut walk.seat, Y);
@@ -162,6 +165,7 @@ impl<S: Logged> FastMutex<S> {
         requires at { walk.at ≡ BackB }
         ensures at { result.at ≡ AwaitY }
         ensures steps { result.steps ≡ one_more walk.steps }
+        ensures access { accesses_of result.seat ≡ accesses_of walk.seat + 1 }
         ensures ticket { ticket_of result.number result.seat ≡ ticket_of walk.number walk.seat }
     {
         let flag = walk.number as usize + 1;
@@ -178,6 +182,7 @@ impl<S: Logged> FastMutex<S> {
         requires at { walk.at ≡ AwaitY }
         ensures at { (result.at ≡ Start) ⊎ (result.at ≡ AwaitY) }
         ensures steps { result.steps ≡ one_more walk.steps }
+        ensures access { accesses_of result.seat ≡ accesses_of walk.seat + 1 }
         ensures ticket { ticket_of result.number result.seat ≡ ticket_of walk.number walk.seat }
     {
         let found = self.table.shared.load::<Loads>(&mut walk.seat, Y);
@@ -194,6 +199,7 @@ impl<S: Logged> FastMutex<S> {
         requires at { walk.at ≡ SetY }
         ensures at { result.at ≡ TestX }
         ensures steps { result.steps ≡ one_more walk.steps }
+        ensures access { accesses_of result.seat ≡ accesses_of walk.seat + 1 }
         ensures ticket { ticket_of result.number result.seat ≡ ticket_of walk.number walk.seat }
     {
         let number = walk.number as u64;
@@ -211,6 +217,7 @@ impl<S: Logged> FastMutex<S> {
         requires at { walk.at ≡ TestX }
         ensures at { (result.at ≡ Fast) ⊎ (result.at ≡ SlowB) }
         ensures steps { result.steps ≡ one_more walk.steps }
+        ensures access { accesses_of result.seat ≡ accesses_of walk.seat + 1 }
         ensures ticket { ticket_of result.number result.seat ≡ ticket_of walk.number walk.seat }
     {
         let number = walk.number as u64;
@@ -234,6 +241,7 @@ impl<S: Logged> FastMutex<S> {
         requires at { walk.at ≡ SlowB }
         ensures at { result.at ≡ Scan 1 }
         ensures steps { result.steps ≡ one_more walk.steps }
+        ensures access { accesses_of result.seat ≡ accesses_of walk.seat + 1 }
         ensures ticket { ticket_of result.number result.seat ≡ ticket_of walk.number walk.seat }
     {
         let flag = walk.number as usize + 1;
@@ -250,6 +258,7 @@ impl<S: Logged> FastMutex<S> {
         requires at { walk.at ≡ Scan j }
         ensures at { IsLine self.now.count (Scan j) result.at }
         ensures steps { result.steps ≡ one_more walk.steps }
+        ensures access { accesses_of result.seat ≡ accesses_of walk.seat + 1 }
         ensures ticket { ticket_of result.number result.seat ≡ ticket_of walk.number walk.seat }
     {
         let flag = j as usize + 1;
@@ -272,6 +281,7 @@ impl<S: Logged> FastMutex<S> {
         requires at { walk.at ≡ SlowY }
         ensures at { (result.at ≡ Slow) ⊎ (result.at ≡ SlowAwait) }
         ensures steps { result.steps ≡ one_more walk.steps }
+        ensures access { accesses_of result.seat ≡ accesses_of walk.seat + 1 }
         ensures ticket { ticket_of result.number result.seat ≡ ticket_of walk.number walk.seat }
     {
         let number = walk.number as u64;
@@ -295,6 +305,7 @@ impl<S: Logged> FastMutex<S> {
         requires at { walk.at ≡ SlowAwait }
         ensures at { (result.at ≡ Start) ⊎ (result.at ≡ SlowAwait) }
         ensures steps { result.steps ≡ one_more walk.steps }
+        ensures access { accesses_of result.seat ≡ accesses_of walk.seat + 1 }
         ensures ticket { ticket_of result.number result.seat ≡ ticket_of walk.number walk.seat }
     {
         let found = self.table.shared.load::<Loads>(&mut walk.seat, Y);
@@ -313,6 +324,7 @@ impl<S: Logged> FastMutex<S> {
             self.now.table.shared.key seat.seat }
         ensures at { result.at ≡ Rest }
         ensures steps { result.steps ≡ 0 }
+        ensures untouched { accesses_of result.seat ≡ accesses_of seat.seat }
         ensures ticket { ticket_of result.number result.seat ≡ ticket_of seat.number seat.seat }
     {
         let LockSeat {
@@ -346,6 +358,7 @@ impl<S: Logged> FastMutex<S> {
         requires outside { is_inside walk.at ≡ false }
         ensures line { IsLine self.now.count walk.at result.at }
         ensures steps { result.steps ≡ pass_steps walk.at walk.steps }
+        ensures access { accesses_of result.seat ≡ accesses_of walk.seat + 1 }
         ensures ticket { ticket_of result.number result.seat ≡ ticket_of walk.number walk.seat }
     {
         match walk.at {
@@ -378,6 +391,7 @@ impl<S: Logged> FastMutex<S> {
         ensures number { (1 ≤ walk.number) ×
             (walk.number ≤ (ticket_of walk.number walk.seat).lock.count) }
         ensures steps { (result.0.at ≡ walk.at) × (result.0.steps ≡ walk.steps) }
+        ensures untouched { accesses_of result.0.seat ≡ accesses_of walk.seat }
     {
         let Walk {
             number,
@@ -431,10 +445,14 @@ impl<S: Logged> FastMutex<S> {
         requires after { after ≡ answer_bits (λ p.
             S.is_answered p (list_in S.items seat.me.1)) 1 32 }
         ensures own { (result.table_id ≡ seat.table_id) × (result.id ≡ seat.id) }
-        ensures view { result.me ≡ (view_planned result.me.0.plan seat.me.0, seat.me.1) }
+        ensures view { result.me ≡ (
+          view_planned result.me.0.plan result.me.0.accesses seat.me.0,
+          seat.me.1,
+        ) }
         ensures ready { IsReady S.items S.fixed S.author S.is_answered result.me }
         ensures shows { Shows S.is_answered seat.me.0.fixed.0 seat.me.0.found result.me.0.plan
             (list_in S.items seat.me.1) }
+        ensures few { accesses_of result ≤ accesses_of seat + self.now.count }
     {
         let mut old = before;
         let mut new = after;
@@ -461,6 +479,7 @@ impl<S: Logged> FastMutex<S> {
         ensures again { (ticket_of seat.old.number seat.old.seat).told ≡ true → result ≡ true }
         ensures left { S.is_answered seat.old.number
             (ticket_of seat.old.number seat.old.seat).left ≡ true → result ≡ true }
+        ensures access { accesses_of seat.new.seat ≡ accesses_of seat.old.seat + 1 }
     {
         let word = self.count as usize + 1 + seat.number as usize;
         let found = self.table.shared.load::<Looks<S>>(&mut seat.seat, word);
@@ -497,8 +516,9 @@ impl<S: Logged> FastMutex<S> {
             inside.seat }
         requires fixed { S.fixed state ≡ S.fixed self.now.table.shared.key.state.value }
         requires grows { GrowsBy S.author inside.number inside.seat.me.0.found (S.items state) }
-        ensures { ticket_of result.number result.seat ≡
+        ensures ticket { ticket_of result.number result.seat ≡
             record (stay_of inside.number inside.seat) { left = S.items state; told = false } }
+        ensures few { accesses_of result.seat ≤ accesses_of inside.seat + self.now.count + 2 }
     {
         let FastInside {
             number,

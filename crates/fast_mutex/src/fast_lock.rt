@@ -4,7 +4,7 @@ ghost use Rattle.std.specs.List.{All};
 ghost use Rattle.lamport_core.specs.declared.At.TheVariants.{Fast as FastAt, Slow as SlowAt};
 ghost use Rattle.fast_mutex.specs.Items.{Grows};
 ghost use Rattle.fast_mutex.specs.Word.{lock_id, made_with};
-ghost use Rattle.fast_mutex.specs.Fast.{is_inside, ticket_of, stay_of};
+ghost use Rattle.fast_mutex.specs.Fast.{is_inside, ticket_of, stay_of, accesses_of};
 ghost use Rattle.fast_mutex.specs.declared.lock.Path.TheVariants.{Fast};
 
 use crate::bells::Bells;
@@ -30,6 +30,12 @@ impl<S: Logged + Drop> Lock<S> for FastMutex<S> {
     ghost is_in = { λ w. is_inside w.at };
 
     ghost stay = { λ s. stay_of s.number s.seat };
+
+    ghost seat_accesses = { λ s. accesses_of s.seat };
+
+    ghost walk_accesses = { λ w. accesses_of w.seat };
+
+    ghost stay_accesses = { λ s. accesses_of s.seat };
 
     fn new(
         alloc: Global,

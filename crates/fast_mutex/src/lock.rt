@@ -1,5 +1,5 @@
 //! The contract of a lock: what a process finds when it enters, and what it owes when it leaves.
-ghost use Rattle.std.specs.Prelude.{◌≡◌, ◌≤◌, ◌↔◌, ◌||◌, ℕ, Bool, true, false, List, [], map, length, IfOk, IfErr, IsOk};
+ghost use Rattle.std.specs.Prelude.{◌≡◌, ◌≤◌, ◌+◌, ◌↔◌, ◌||◌, ℕ, Bool, true, false, List, [], map, length, IfOk, IfErr, IsOk};
 ghost use Rattle.std.specs.List.{All};
 ghost use Rattle.fast_mutex.specs.Items.{LockId, Ticket, tickets_from, Grows, GrowsBy};
 
@@ -55,6 +55,15 @@ pub trait Lock<S: Logged>: Sized + Drop {
     // what who is inside knows: its `left` is the list found
     ghost stay: { Self.Inside → Ticket S.Item };
 
+    // how many accesses to words of the lock the process of a seat has made
+    ghost seat_accesses: { Self.Seat → ℕ };
+
+    // how many the process of a walk has made
+    ghost walk_accesses: { Self.Walk → ℕ };
+
+    // how many the process of a stay has made
+    ghost stay_accesses: { Self.Inside → ℕ };
+
     /// A lock for the processes 1 to `n`, and their seats in order, which have left the empty list.
     /// It takes all the memory that later calls need. At want of memory it hands the state back.
     fn new(alloc: Global, n: u32, state: S) -> Result<(Self, Vec<Self::Seat>), (S, AllocError)>
@@ -72,14 +81,16 @@ pub trait Lock<S: Logged>: Sized + Drop {
     fn begin(&self, seat: Self::Seat) -> Self::Walk
         requires { (ticket seat).lock ≡ id self.now }
         ensures ticket { walking result ≡ ticket seat }
-        ensures outside { is_in result ≡ false };
+        ensures outside { is_in result ≡ false }
+        ensures untouched { walk_accesses result ≡ seat_accesses seat };
 
-    /// The next step of an entry: one atomic step on one word. It never waits. Gives the walk, and whether it has moved: else
+    /// The next step of an entry: one access to one word. It never waits. Gives the walk, and whether it has moved: else
     /// what it waits for was not there, and it is worth backing off.
     fn step(&self, walk: Self::Walk) -> (Self::Walk, bool)
         requires lock { (walking walk).lock ≡ id self.now }
         requires outside { is_in walk ≡ false }
-        ensures { walking result.0 ≡ walking walk };
+        ensures ticket { walking result.0 ≡ walking walk }
+        ensures access { walk_accesses result.0 ≡ walk_accesses walk + 1 };
 
     /// Whether the walk has come in.
     fn is_admitted(walk: &Self::Walk) -> bool
@@ -95,7 +106,8 @@ pub trait Lock<S: Logged>: Sized + Drop {
         ensures told { (walking walk).told ≡ true →
             S.is_answered (walking walk).number (S.items result.1) ≡ true }
         ensures number { (1 ≤ (walking walk).number) ×
-            ((walking walk).number ≤ (walking walk).lock.count) };
+            ((walking walk).number ≤ (walking walk).lock.count) }
+        ensures untouched { stay_accesses result.0 ≡ walk_accesses walk };
 
     /// How this stay was entered. Each lock says which paths it has.
     fn path(inside: &Self::Inside) -> Path;
@@ -103,12 +115,17 @@ pub trait Lock<S: Logged>: Sized + Drop {
     /// The atomic steps of the pass that was admitted, in Lamport's algorithm from its last `b[i] := true` on, at most `u64::MAX`.
     fn steps(inside: &Self::Inside) -> u64;
 
-    /// Gives the state back, whose list is the one found with items of this process alone in front. It never waits.
+    /// Gives the state back, whose list is the one found with items of this process alone in front. It never waits, and makes at most an
+    /// access for each process and two more.
     fn leave(&self, inside: Self::Inside, state: S) -> Self::Seat
         requires lock { (stay inside).lock ≡ id self.now }
         requires fixed { S.fixed state ≡ (id self.now).fixed }
         requires grows { GrowsBy S.author (stay inside).number (stay inside).left (S.items state) }
-        ensures { ticket result ≡ record (stay inside) { left = S.items state; told = false } };
+        ensures ticket { ticket result ≡ record (stay inside) {
+          left = S.items state;
+          told = false;
+        } }
+        ensures few { seat_accesses result ≤ stay_accesses inside + (id self.now).count + 2 };
 
     /// The words that threads sleep on, beside those of the lock.
     fn bells(&self) -> &Bells;
@@ -143,5 +160,6 @@ pub trait Look<S: Logged>: Lock<S> {
             record (Self.ticket seat.old) { told = (Self.ticket seat.old).told || result } }
         ensures again { (Self.ticket seat.old).told ≡ true → result ≡ true }
         ensures left { S.is_answered (Self.ticket seat.old).number (Self.ticket seat.old).left ≡
-            true → result ≡ true };
+            true → result ≡ true }
+        ensures access { Self.seat_accesses seat.new ≡ Self.seat_accesses seat.old + 1 };
 }

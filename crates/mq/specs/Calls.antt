@@ -33,14 +33,22 @@ recorded p call given reply = record { entry = record { process = p; call = call
 abbrev pub made : ℕ → Call → List ℕ → Reply → Past
 made p call given reply = if has_entry reply then recorded p call given reply ∷ [] else []
 
--- the fixed part of the state: the number of processes, and the bounds of the journal
-abbrev pub fixed_of : ℕ → Option Bounds → List ℕ
-fixed_of n None = n ∷ []
-fixed_of n (Some b) = n ∷ b.entries ∷ b.bytes ∷ []
+-- the fixed part of the state: the number of processes, the bounds of the journal, and whether it is stored
+abbrev pub fixed_of : ℕ → Option Bounds → Bool → List ℕ
+fixed_of n None true = n ∷ []
+fixed_of n None false = n ∷ 0 ∷ []
+fixed_of n (Some b) true = n ∷ b.entries ∷ b.bytes ∷ []
+fixed_of n (Some b) false = n ∷ b.entries ∷ b.bytes ∷ 0 ∷ []
 
 abbrev pub bounds_in : List ℕ → Option Bounds
-bounds_in (n ∷ entries ∷ bytes ∷ []) = Some (record { entries = entries; bytes = bytes })
+bounds_in (n ∷ entries ∷ bytes ∷ rest) = Some (record { entries = entries; bytes = bytes })
 bounds_in _ = None
+
+-- whether the journal is stored
+abbrev pub stored_in : List ℕ → Bool
+stored_in (n ∷ k ∷ []) = false
+stored_in (n ∷ entries ∷ bytes ∷ k ∷ rest) = false
+stored_in _ = true
 
 -- the bounds of the system that a process belongs to
 abbrev pub bounds_of : Ticket Record → Option Bounds
@@ -218,11 +226,9 @@ pub record Exits (old new : Ticket Record) (result : Result (Unit {0}) Fault) : 
 abbrev pub answered_bits : Past → ℕ
 answered_bits past = answer_bits (λ p. is_answered past p) 1 32
 
--- what who is inside knows of the journal found: its own number, the answers, its own answer, and how many records there are
-pub record Knows (stay : Ticket Record) (p answers places : ℕ) (own : Bool) : Type 0 where
-  pub process : p ≡ stay.number
+-- what who is inside knows of the journal found: the answers, and how many records there are
+pub record Knows (stay : Ticket Record) (answers places : ℕ) : Type 0 where
   pub answers_are : answers ≡ answered_bits stay.left
-  pub own_is : own ≡ is_answered stay.left stay.number
   pub places_are : places ≡ length stay.left
 
 -- what a process without its seat shows
@@ -243,12 +249,18 @@ pub record Came (old : Ticket Record) (system : LockId) (stay : Ticket Record) (
   pub few : p ≤ books.n
   pub n : books.n ≡ system.count
   pub bounds : books.bounds ≡ bounds_in system.fixed
+  pub stored : books.stored ≡ stored_in system.fixed
   pub found : stay.left ≡ books.records
   pub grows : Grows author old.number old.left books.records []
   pub told : old.told ≡ true → is_answered books.records old.number ≡ true
+
+-- a process on its way into the lock, or inside: the process that set out, and how many accesses to words of the lock it has made
+pub record Entrant : Type 0 where
+  pub process : Ticket Record
+  pub accesses : ℕ
 
 -- a process on its way in: its number, the room that its open wait needs, and that its lock is that of a system
 pub record UnderWay (t : Ticket Record) (number : ℕ) (waits : Option ℕ) : Type 0 where
   pub number_is : number ≡ t.number
   pub waits_is : waits ≡ waiting_room t.left t.number
-  pub fixed_is : t.lock.fixed ≡ fixed_of t.lock.count (bounds_in t.lock.fixed)
+  pub fixed_is : t.lock.fixed ≡ fixed_of t.lock.count (bounds_in t.lock.fixed) (stored_in t.lock.fixed)

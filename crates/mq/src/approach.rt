@@ -10,7 +10,7 @@ use std::sync::Wait;
 
 /// A process on its way into the lock, made by [`Process::approach`]. It goes on step by step, without waiting, until it is an
 /// [`Arrived`], which makes one call and is a [`Process`] again. So code that must not wait can make calls, and do other work
-/// between the steps. Contracts see the process that set out.
+/// between the steps. Contracts see the process that set out, and how many accesses to words of the lock it has made.
 ///
 /// From its first step on it stands in the way of the others: one that is dropped, or is not taken on to its end, can keep
 /// them out for good.
@@ -22,31 +22,29 @@ pub struct Approach<L: Look<Guarded>> {
 }
 
 impl<L: Look<Guarded>> Model for Approach<L> {
-    ghost use Rattle.fast_mutex.specs.Items.{Ticket};
-    ghost use Rattle.mq_model.specs.Record.{Record};
-    ghost use Rattle.mq.specs.Calls.{UnderWay};
+    ghost use Rattle.mq.specs.Calls.{Entrant, UnderWay};
 
-    ghost Value = { Ticket Record };
+    ghost Value = { Entrant };
 
-    ghost view = { λ a. L.walking a.walk };
+    ghost view = { λ a. record { process = L.walking a.walk; accesses = L.walk_accesses a.walk } };
 
     ghost invariant = { λ a. UnderWay (L.walking a.walk) a.number a.waits };
 }
 
 impl<L: Look<Guarded>> Approach<L> {
-    ghost use Rattle.std.specs.Prelude.{◌≡◌, IfOk, IfErr};
+    ghost use Rattle.std.specs.Prelude.{◌≡◌, ◌≤◌, ◌+◌, IfOk, IfErr};
     ghost use Rattle.mq_state.specs.Buffers.{waiting_room};
 
     /// As [`Process::waiting`], of the process that set out.
     pub fn waiting(&self) -> Option<usize>
-        ensures { result ≡ waiting_room self.now.left self.now.number }
+        ensures { result ≡ waiting_room self.now.process.left self.now.process.number }
     {
         self.waits
     }
 
     /// The number of the process.
     pub fn number(&self) -> u32
-        ensures { result ≡ self.now.number }
+        ensures { result ≡ self.now.process.number }
     {
         self.number
     }
@@ -56,14 +54,17 @@ impl<L: Look<Guarded>> Approach<L> {
         L::bell(&self.walk)
     }
 
-    /// Takes at most so many atomic steps, none of which waits. It stops once it is inside, and beyond the fifth at a step that did not move
-    /// it. No call promises that steps lead inside; where nobody else is under way five do, and with others it is worth letting them run
-    /// before the next try.
+    /// Takes at most so many atomic steps, each one access to a word of the lock, none of which waits. It stops once it is inside, and beyond
+    /// the fifth at a step that did not move it. No call promises that steps lead inside; where nobody else is under way five do, and with
+    /// others it is worth letting them run before the next try.
     #[inline(always)]
     pub fn advance(self, mq: &Mq<L>, steps: u32) -> Result<Arrived<L>, Approach<L>>
-        requires made { self.lock ≡ mq.now }
-        ensures arrived { IfOk result (λ arrived. arrived ≡ self) }
-        ensures under_way { IfErr result (λ approach. approach ≡ self) }
+        requires made { self.process.lock ≡ mq.now }
+        ensures arrived { IfOk result (λ arrived. arrived.process ≡ self.process) }
+        ensures under_way { IfErr result (λ approach. approach.process ≡ self.process) }
+        ensures few_inside { IfOk result (λ arrived. arrived.accesses ≤ self.accesses + steps) }
+        ensures few_on_the_way { IfErr result (λ approach.
+            approach.accesses ≤ self.accesses + steps) }
     {
         if steps < HASTE {
             return self.go_on(mq, steps);
@@ -96,16 +97,19 @@ impl<L: Look<Guarded>> Approach<L> {
     // apart, so that the way of an entry that meets nobody has no more than that needs.
     #[inline(never)]
     fn go_on(self, mq: &Mq<L>, steps: u32) -> Result<Arrived<L>, Approach<L>>
-        requires made { self.lock ≡ mq.now }
-        ensures arrived { IfOk result (λ arrived. arrived ≡ self) }
-        ensures under_way { IfErr result (λ approach. approach ≡ self) }
+        requires made { self.process.lock ≡ mq.now }
+        ensures arrived { IfOk result (λ arrived. arrived.process ≡ self.process) }
+        ensures under_way { IfErr result (λ approach. approach.process ≡ self.process) }
+        ensures few_inside { IfOk result (λ arrived. arrived.accesses ≤ self.accesses + steps) }
+        ensures few_on_the_way { IfErr result (λ approach.
+            approach.accesses ≤ self.accesses + steps) }
     {
         let Approach {
             number,
             mut walk,
             waits,
         } = self;
-        'steps: for _ in 0..steps {
+        'steps: for taken in 0..steps {
             if L::is_admitted(&walk) {
                 break;
             }
@@ -132,8 +136,8 @@ impl<L: Look<Guarded>> Approach<L> {
     /// Takes the process inside, which waits until nobody else is there.
     #[inline(always)]
     pub(crate) fn come_in<R: Wait>(self, rt: &R, mq: &Mq<L>) -> Arrived<L>
-        requires made { self.lock ≡ mq.now }
-        ensures { result ≡ self }
+        requires made { self.process.lock ≡ mq.now }
+        ensures { result.process ≡ self.process }
     {
         Arrived {
             number: self.number,
@@ -151,7 +155,7 @@ impl<L: Look<Guarded>> Process<L> {
     #[inline(always)]
     pub fn approach(self, mq: &Mq<L>) -> Approach<L>
         requires made { self.lock ≡ mq.now }
-        ensures { result ≡ self }
+        ensures { result.process ≡ self }
     {
         let Process { seat, waits } = self;
         let seat = seat.unwrap();

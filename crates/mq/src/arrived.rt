@@ -19,7 +19,7 @@ use mq_state::books::Books;
 use std::marker::Model;
 
 /// A process inside the lock, where it makes one call, which never waits, and is a [`Process`] again. Contracts see the process
-/// that set out, so each call here promises what the call of [`Process`] does. While there is an `Arrived` all others stay out, and for
+/// that set out, so each call here promises what the call of [`Process`] does, and how many accesses to words of the lock it has made. While there is an `Arrived` all others stay out, and for
 /// good where it is dropped.
 #[derive(Drop)]
 pub struct Arrived<L: Look<Guarded>> {
@@ -30,13 +30,11 @@ pub struct Arrived<L: Look<Guarded>> {
 
 impl<L: Look<Guarded>> Model for Arrived<L> {
     ghost use Rattle.std.specs.Prelude.{◌≡◌, true};
-    ghost use Rattle.fast_mutex.specs.Items.{Ticket};
-    ghost use Rattle.mq_model.specs.Record.{Record};
-    ghost use Rattle.mq.specs.Calls.{UnderWay};
+    ghost use Rattle.mq.specs.Calls.{Entrant, UnderWay};
 
-    ghost Value = { Ticket Record };
+    ghost Value = { Entrant };
 
-    ghost view = { λ a. L.walking a.walk };
+    ghost view = { λ a. record { process = L.walking a.walk; accesses = L.walk_accesses a.walk } };
 
     ghost invariant = { λ a. UnderWay (L.walking a.walk) a.number a.waits ×
         (L.is_in a.walk ≡ true) };
@@ -60,12 +58,12 @@ impl<L: Look<Guarded>> Arrived<L> {
         given: &[u8],
         buf: &mut [u8],
     ) -> (Process<L>, A)
-        requires made { self.lock ≡ mq.now }
-        requires free { IsFree self }
+        requires made { self.process.lock ≡ mq.now }
+        requires free { IsFree self.process }
         requires brings { Brings call given.now (length buf.old) }
         requires kind { IsOf A.kind call }
         ensures call { let kind = A.kind in
-            IsCall kind.says self result.0 call given.now buf.old buf.new result.1 }
+            IsCall kind.says self.process result.0 call given.now buf.old buf.new result.1 }
         ensures waits { let kind = A.kind in IsWaiting kind.waiting result.1 →
             WaitsIn result.0 call }
         ensures free { let kind = A.kind in IsOver kind.waiting result.1 → IsFree result.0 }
@@ -82,11 +80,11 @@ impl<L: Look<Guarded>> Arrived<L> {
 
     /// As [`Process::are_blocked`].
     pub fn are_blocked(self, mq: &Mq<L>, processes: &[u32]) -> (Process<L>, bool)
-        requires made { self.lock ≡ mq.now }
+        requires made { self.process.lock ≡ mq.now }
         ensures blocked { result.1 ≡ list_all (is_blocked result.0.left) processes.now }
-        ensures calls { Calls self result.0 [] }
+        ensures calls { Calls self.process result.0 [] }
         ensures wait { waiting_room result.0.left result.0.number ≡
-            waiting_room self.left self.number }
+            waiting_room self.process.left self.process.number }
     {
         let (inside, state) = begin::<L>(self.walk, self.number);
         let blocked = all_blocked(&state.books, processes);
@@ -95,9 +93,10 @@ impl<L: Look<Guarded>> Arrived<L> {
 
     /// Leaves without a call.
     pub fn leave(self, mq: &Mq<L>) -> Process<L>
-        requires made { self.lock ≡ mq.now }
-        ensures calls { Calls self result [] }
-        ensures wait { waiting_room result.left result.number ≡ waiting_room self.left self.number }
+        requires made { self.process.lock ≡ mq.now }
+        ensures calls { Calls self.process result [] }
+        ensures wait { waiting_room result.left result.number ≡
+            waiting_room self.process.left self.process.number }
     {
         self.are_blocked(mq, &[]).0
     }

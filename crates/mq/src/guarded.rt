@@ -2,7 +2,7 @@
 ghost use Rattle.std.specs.Prelude.{◌≡◌, ◌≤◌, false, length, is_some};
 ghost use Rattle.fast_mutex.specs.Marks.{flag};
 ghost use Rattle.mq_model.specs.Record.{first};
-ghost use Rattle.mq_model.specs.Waits.{is_answered, named_wait};
+ghost use Rattle.mq_model.specs.Waits.{named_wait};
 ghost use Rattle.mq.specs.Calls.{answered_bits};
 
 use fast_mutex::Logged;
@@ -28,7 +28,7 @@ impl Model for LoggedRecord {
 }
 
 /// The queues of one thread, guarded by a lock: its list is the journal, the latest record first, and its fixed part the
-/// number of processes and the bounds of the journal.
+/// number of processes, the bounds of the journal, and whether it is stored.
 #[derive(Drop)]
 pub struct Guarded {
     pub(crate) books: Books,
@@ -57,7 +57,7 @@ impl Logged for Guarded {
 
     ghost items = { λ s. s.books.records };
 
-    ghost fixed = { λ s. fixed_of s.books.n s.books.bounds };
+    ghost fixed = { λ s. fixed_of s.books.n s.books.bounds s.books.stored };
 
     ghost author = { author };
 
@@ -76,54 +76,44 @@ impl Logged for Guarded {
     ghost stays = { answered-stays };
 }
 
-/// The queues while a process is inside, with what it knows of the journal that it found: which waits were answered, whether
-/// its own was, and how many records there were.
+/// The queues while a process is inside, with what it knows of the journal that it found: which waits were answered, and how
+/// many records there were.
 #[derive(Drop)]
 pub(crate) struct Visit {
     pub(crate) books: Books,
-    pub(crate) process: u32,
     pub(crate) answered: u32,
-    pub(crate) own: bool,
     pub(crate) places: u64,
 }
 
 impl Visit {
     #[inline(always)]
-    pub(crate) fn begin(state: Guarded, process: u32) -> Visit
+    pub(crate) fn begin(state: Guarded) -> Visit
         ensures books { result.books ≡ state.books }
-        ensures process { result.process ≡ process }
         ensures answered { result.answered ≡ answered_bits state.books.records }
-        ensures own { result.own ≡ is_answered state.books.records process }
         ensures places { result.places ≡ length state.books.records }
     {
         let Guarded { books, answered } = state;
-        let own = books.answered(process);
-        let places = books.journal().len();
+        let places = books.journal_len();
         Visit {
             books,
-            process,
             answered,
-            own,
             places,
         }
     }
 
-    /// The state to give back. The answers are counted anew only where a record of this stay may have changed one.
+    /// The state to give back. The answers are counted again only if there are more records.
     #[inline(always)]
     pub(crate) fn end(self) -> Guarded
         requires places { self.places ≤ length self.books.records }
         requires answered { self.answered ≡ answered_bits (first self.places self.books.records) }
-        requires own { self.own ≡ is_answered (first self.places self.books.records) self.process }
         ensures { result.books ≡ self.books }
     {
         let Visit {
             books,
-            process,
             answered,
-            own,
             places,
         } = self;
-        let answered = answered_now(&books, process, answered, own, places);
+        let answered = answered_now(&books, answered, places);
         Guarded { books, answered }
     }
 
@@ -136,9 +126,7 @@ impl Visit {
     {
         let Visit {
             books,
-            process: _,
             answered,
-            own: _,
             places: _,
         } = self;
         let answered = if names_wait(reply) {
@@ -150,26 +138,18 @@ impl Visit {
     }
 }
 
-// Which waits are answered, where `answered` has those of the first `places` records, and `own` that of the process.
+// Which waits are answered, if `answered` has those of the first `places` records.
 #[inline(always)]
-fn answered_now(books: &Books, process: u32, answered: u32, own: bool, places: u64) -> u32
+fn answered_now(books: &Books, answered: u32, places: u64) -> u32
     requires places { places ≤ length books.now.records }
     requires answered { answered ≡ answered_bits (first places books.now.records) }
-    requires own { own ≡ is_answered (first places books.now.records) process }
     ensures { result ≡ answered_bits books.now.records }
 {
-    if own {
-        return all_answered(books);
+    if books.journal_len() == places {
+        answered
+    } else {
+        all_answered(books)
     }
-    let journal = books.journal();
-    let end = journal.len();
-    for place in places..end {
-        let (entry, _) = journal.record(place);
-        if entry.process != process || names_wait(entry.reply) {
-            return all_answered(books);
-        }
-    }
-    answered
 }
 
 #[inline(always)]

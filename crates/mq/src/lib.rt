@@ -24,6 +24,7 @@ pub use guarded::{Guarded, LoggedRecord};
 pub use judging::verdict;
 pub use monotonic::Monotonic;
 pub use mq_checker::checker::check_history;
+pub use mq_ledger::history::History;
 pub use mq_model::bounds::Bounds;
 pub use mq_model::clock::Clock;
 pub use mq_model::entries::{

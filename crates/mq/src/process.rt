@@ -266,7 +266,7 @@ fn arrive<L: Look<Guarded>, R: Wait>(
     requires made { (ticket_of L.ticket seat.old).lock ≡ mq.now }
     requires waits { waits ≡ waiting_room (ticket_of L.ticket seat.old).left
         (ticket_of L.ticket seat.old).number }
-    ensures { result ≡ ticket_of L.ticket seat.old }
+    ensures { result.process ≡ ticket_of L.ticket seat.old }
 {
     let process = process_of(seat.take().unwrap(), waits);
     process.approach(mq).come_in(rt, mq)

@@ -4,14 +4,13 @@ ghost use Rattle.std.specs.Prelude.{true, Some, None};
 use mq_model::entries::{Call, Received, Reply, Status};
 use mq_model::faults::Fault;
 use mq_state::books::Books;
-use mq_state::collected::received;
 
 /// What a kind of call returns. The type is the kind.
 pub trait Returned: Drop {
     ghost use Rattle.std.specs.Prelude.{◌≡◌, ◌≤◌, true, Some, None, length};
     ghost use Rattle.mq_model.specs.Messages.{is_receive};
     ghost use Rattle.mq_model.specs.Waits.{open_wait};
-    ghost use Rattle.mq_state.specs.Buffers.{filled};
+    ghost use Rattle.mq_state.specs.Buffers.{filled, GivesLast};
     ghost use Rattle.mq_state.specs.Kept.{IsMade};
     ghost use Rattle.mq_state.specs.Requests.{Brings};
     ghost use Rattle.mq.specs.Kinds.{Kind, IsKind};
@@ -33,7 +32,8 @@ pub trait Returned: Drop {
 
     /// What the call with this reply returns, by the journal that it left.
     fn of_reply(books: &Books, reply: Reply) -> Self
-        requires { kind.replies reply ≡ true }
+        requires replies { kind.replies reply ≡ true }
+        requires last { GivesLast books.now.records reply }
         ensures { kind.says books.now.records reply ≡ Some result };
 
     ghost is_kind: { IsKind kind };
@@ -162,7 +162,7 @@ impl Returned for Result<Option<Received>, Fault> {
     #[inline(always)]
     fn of_reply(books: &Books, reply: Reply) -> Result<Option<Received>, Fault> {
         match reply {
-            Reply::Got { place, .. } => Ok(Some(received(books.journal(), place))),
+            Reply::Got { place, .. } => Ok(Some(books.received(place))),
             Reply::Waits => Ok(None),
             Reply::Refused(fault) => Err(fault),
             _ => unreachable!(),

@@ -5,6 +5,7 @@ ghost use Rattle.std.specs.List.{All};
 use crate::guarded::Guarded;
 use crate::process::{Process, process_of, seat_of};
 use fast_mutex::{Look, Missing};
+use mq_ledger::history::History;
 use mq_model::faults::Fault;
 use mq_model::journals::Journal;
 use mq_model::limits::PROCESSES;
@@ -25,6 +26,7 @@ struct Room<T> {
 pub struct Mq<L: Look<Guarded>> {
     lock: L,
     n: u32,
+    stored: bool,
     // Nothing ever locks it: threads share an `Mq`, and seats go from thread to thread but are not shared.
     room: Mutex<Room<L::Seat>>,
 }
@@ -32,23 +34,24 @@ pub struct Mq<L: Look<Guarded>> {
 impl<L: Look<Guarded>> Model for Mq<L> {
     ghost use Rattle.std.specs.Prelude.{◌≡◌, ◌≤◌};
     ghost use Rattle.fast_mutex.specs.Items.{LockId};
-    ghost use Rattle.mq.specs.Calls.{fixed_of, bounds_in};
+    ghost use Rattle.mq.specs.Calls.{fixed_of, bounds_in, stored_in};
 
     ghost Value = { LockId };
 
     ghost view = { λ q. L.id q.lock };
 
     ghost invariant = { λ q. ((L.id q.lock).fixed ≡ fixed_of (L.id q.lock).count
-        (bounds_in (L.id q.lock).fixed)) × (q.n ≡ (L.id q.lock).count) × (q.n ≤ 32) };
+        (bounds_in (L.id q.lock).fixed) (stored_in (L.id q.lock).fixed)) ×
+        (q.n ≡ (L.id q.lock).count) × (q.n ≤ 32) × (q.stored ≡ stored_in (L.id q.lock).fixed) };
 }
 
 impl<L: Look<Guarded>> Mq<L> {
-    ghost use Rattle.std.specs.Prelude.{◌≡◌, ◌≤◌, ◌<◌, ◌⊎◌, ◌↔◌, [], Some, None, Err, IfOk, IfErr, IsOk, vec_len};
+    ghost use Rattle.std.specs.Prelude.{◌≡◌, ◌≤◌, ◌<◌, ◌⊎◌, ◌↔◌, true, false, [], Some, None, Err, IfOk, IfErr, IsOk, vec_len};
     ghost use Rattle.std.specs.List.{All};
     ghost use Rattle.fast_mutex.specs.Items.{Grows, tickets_from};
     ghost use Rattle.mq_model.specs.Legality.{Legal};
     ghost use Rattle.mq_model.specs.declared.faults.Fault.TheVariants.{Invalid, NoMemory};
-    ghost use Rattle.mq.specs.Calls.{author, fixed_of, bounds_in};
+    ghost use Rattle.mq.specs.Calls.{author, fixed_of, bounds_in, stored_in};
 
     // The system over these queues of n processes, with an empty journal.
     fn over(alloc: Global, n: u32, books: Books) -> Result<(Mq<L>, Vec<Process<L>>), Fault>
@@ -59,6 +62,7 @@ impl<L: Look<Guarded>> Mq<L> {
         ensures faults { IfErr result (λ e. e ≡ NoMemory) }
         ensures count { IfOk result (λ r. r.0.count ≡ n) }
         ensures bounds { IfOk result (λ r. bounds_in r.0.fixed ≡ books.bounds) }
+        ensures stored { IfOk result (λ r. stored_in r.0.fixed ≡ books.stored) }
         ensures processes { IfOk result (λ r. r.1.items ≡ tickets_from r.0 1 n) }
     {
         let Ok(seats) = Vec::with_capacity(alloc, PROCESSES as usize) else {
@@ -68,10 +72,17 @@ impl<L: Look<Guarded>> Mq<L> {
         let Ok(processes) = Vec::with_capacity(alloc, n as usize) else {
             return Err(Fault::NoMemory);
         };
+        let stored = books.is_stored();
         let Ok((lock, seats)) = L::new(alloc, n, Guarded::holding(books)) else {
             return Err(Fault::NoMemory);
         };
-        Ok((Mq { lock, n, room }, processes_of(seats, processes)))
+        let mq = Mq {
+            lock,
+            n,
+            stored,
+            room,
+        };
+        Ok((mq, processes_of(seats, processes)))
     }
 
     /// The queues of n processes, none yet, and the processes 1 to n in order, each of which has left the empty journal.
@@ -82,6 +93,7 @@ impl<L: Look<Guarded>> Mq<L> {
             ((e ≡ Invalid) × ((n ≡ 0) ⊎ (32 < n)))) }
         ensures count { IfOk result (λ r. r.0.count ≡ n) }
         ensures bounds { IfOk result (λ r. bounds_in r.0.fixed ≡ None) }
+        ensures stored { IfOk result (λ r. stored_in r.0.fixed ≡ true) }
         ensures processes { IfOk result (λ r. r.1.items ≡ tickets_from r.0 1 n) }
     {
         if n == 0 || n > PROCESSES {
@@ -108,6 +120,7 @@ impl<L: Look<Guarded>> Mq<L> {
         ensures count { IfOk result (λ r. r.0.count ≡ n) }
         ensures bounds { IfOk result (λ r.
             bounds_in r.0.fixed ≡ Some (record { entries = entries; bytes = bytes })) }
+        ensures stored { IfOk result (λ r. stored_in r.0.fixed ≡ true) }
         ensures processes { IfOk result (λ r. r.1.items ≡ tickets_from r.0 1 n) }
     {
         if n == 0 || n > PROCESSES {
@@ -119,16 +132,83 @@ impl<L: Look<Guarded>> Mq<L> {
         Mq::over(alloc, n, books)
     }
 
-    /// Ends the queues and gives their journal, where all n processes are there; else everything comes back as it was.
+    /// The queues of n processes whose journal is a history variable: contracts speak of it, and no byte of it is stored. What later replies
+    /// depend on is kept, and its memory serves again (see [`Books::unstored`]). `Invalid` if n is not from 1 to 32, else `NoMemory` if an
+    /// allocation was refused.
+    pub fn unstored(alloc: Global, n: u32) -> Result<(Mq<L>, Vec<Process<L>>), Fault>
+        ensures invalid { ((1 ≤ n) × (n ≤ 32)) ⊎ (result ≡ Err Invalid) }
+        ensures faults { IfErr result (λ e. (e ≡ NoMemory) ⊎
+            ((e ≡ Invalid) × ((n ≡ 0) ⊎ (32 < n)))) }
+        ensures count { IfOk result (λ r. r.0.count ≡ n) }
+        ensures bounds { IfOk result (λ r. bounds_in r.0.fixed ≡ None) }
+        ensures stored { IfOk result (λ r. stored_in r.0.fixed ≡ false) }
+        ensures processes { IfOk result (λ r. r.1.items ≡ tickets_from r.0 1 n) }
+    {
+        if n == 0 || n > PROCESSES {
+            return Err(Fault::Invalid);
+        }
+        let Ok(books) = Books::unstored(alloc, n) else {
+            return Err(Fault::NoMemory);
+        };
+        Mq::over(alloc, n, books)
+    }
+
+    /// Whether the journal is stored.
+    pub fn is_stored(&self) -> bool
+        ensures { result ≡ stored_in self.now.fixed }
+    {
+        self.stored
+    }
+
+    /// Ends the queues and gives their stored journal, if all n processes are there; else everything comes back as it was.
     /// Takes no memory, and never waits. Open waits are allowed. The journal has entries of the processes 1 to n alone.
     pub fn finish(self, processes: Vec<Process<L>>) -> Result<Journal, Missing<Mq<L>, Process<L>>>
-        requires { All (λ p. p.lock ≡ self) processes.items }
+        requires made { All (λ p. p.lock ≡ self) processes.items }
+        requires stored { stored_in self.fixed ≡ true }
         ensures all { (vec_len processes ≡ self.count) ↔ IsOk result }
         ensures legal { IfOk result (λ journal. Legal journal.records) }
         ensures processes { IfOk result (λ journal.
             All (λ r. r.entry.process ≤ self.count) journal.records) }
         ensures grows { IfOk result (λ journal.
             All (λ p. Grows author p.number p.left journal.records []) processes.items) }
+        ensures back { IfErr result (λ m. (m.whole ≡ self) × (m.parts ≡ processes)) }
+    {
+        match self.retire(processes) {
+            Ok(books) => Ok(books.into_journal()),
+            Err(missing) => Err(missing),
+        }
+    }
+
+    /// Ends queues whose journal is not stored, and gives its history, if all n processes are there; else everything comes back as it
+    /// was. The history has no bytes: what [`finish`](Mq::finish) promises of the journal holds of it.
+    pub fn finish_unstored(
+        self,
+        processes: Vec<Process<L>>,
+    ) -> Result<History, Missing<Mq<L>, Process<L>>>
+        requires made { All (λ p. p.lock ≡ self) processes.items }
+        requires stored { stored_in self.fixed ≡ false }
+        ensures all { (vec_len processes ≡ self.count) ↔ IsOk result }
+        ensures legal { IfOk result (λ history. Legal history.past) }
+        ensures processes { IfOk result (λ history.
+            All (λ r. r.entry.process ≤ self.count) history.past) }
+        ensures grows { IfOk result (λ history.
+            All (λ p. Grows author p.number p.left history.past []) processes.items) }
+        ensures back { IfErr result (λ m. (m.whole ≡ self) × (m.parts ≡ processes)) }
+    {
+        match self.retire(processes) {
+            Ok(books) => Ok(books.into_history()),
+            Err(missing) => Err(missing),
+        }
+    }
+
+    // Ends the queues and gives the books, if all n processes are there.
+    fn retire(self, processes: Vec<Process<L>>) -> Result<Books, Missing<Mq<L>, Process<L>>>
+        requires { All (λ p. p.lock ≡ self) processes.items }
+        ensures all { (vec_len processes ≡ self.count) ↔ IsOk result }
+        ensures count { IfOk result (λ books. books.n ≡ self.count) }
+        ensures stored { IfOk result (λ books. books.stored ≡ stored_in self.fixed) }
+        ensures grows { IfOk result (λ books.
+            All (λ p. Grows author p.number p.left books.records []) processes.items) }
         ensures back { IfErr result (λ m. (m.whole ≡ self) × (m.parts ≡ processes)) }
     {
         if processes.len() != self.n as usize {
@@ -141,7 +221,7 @@ impl<L: Look<Guarded>> Mq<L> {
             .lock
             .finish(seats_of(processes, self.room.into_inner().seats))
         {
-            Ok(state) => Ok(state.books.into_journal()),
+            Ok(state) => Ok(state.books),
             Err(_) => unreachable!(),
         }
     }
@@ -153,7 +233,8 @@ impl<L: Look<Guarded>> Mq<L> {
 
     pub(crate) fn lock(&self) -> &L
         ensures id { L.id result.now ≡ self.now }
-        ensures fixed { self.now.fixed ≡ fixed_of self.now.count (bounds_in self.now.fixed) }
+        ensures fixed { self.now.fixed ≡ fixed_of self.now.count (bounds_in self.now.fixed)
+            (stored_in self.now.fixed) }
     {
         &self.lock
     }

@@ -187,12 +187,12 @@ notified-fresh past r legal next j k e old =
 -- causes -----------------------------------------------------------------------------------------------------------------
 
 -- what answers a wait names it
-record IsNamedBy (past : Past) (p by : ℕ) : Type 0 where
-  w : ℕ
-  opened : open_wait past p ≡ Some w
-  named : Has named_wait past by w
+pub record IsNamedBy (past : Past) (p by : ℕ) : Type 0 where
+  pub w : ℕ
+  pub opened : open_wait past p ≡ Some w
+  pub named : Has named_wait past by w
 
-answered-named : (past : Past) (p by : ℕ) → answered_by past p ≡ Some by → IsNamedBy past p by
+pub answered-named : (past : Past) (p by : ℕ) → answered_by past p ≡ Some by → IsNamedBy past p by
 answered-named [] p by e = absurd (cc)
 answered-named (r ∷ past) p by e = split (r.entry.process == p)
     (λ own. let bad : None ≡ Some by = rw own at e in absurd (cc))
@@ -215,11 +215,11 @@ answered-named (r ∷ past) p by e = split (r.entry.process == p)
         record { w = w; opened = rw other is; named = subst P place (has-here named_wait past r w (is-named (named_wait r.entry.reply) w t)) }
 
 -- a collect's cause answered its process
-record IsCollected (past : Past) (r : Record) (by : ℕ) : Type 0 where
-  answered : answered_by past r.entry.process ≡ Some by
-  reply : r.entry.reply ≡ Collected by
+pub record IsCollected (past : Past) (r : Record) (by : ℕ) : Type 0 where
+  pub answered : answered_by past r.entry.process ≡ Some by
+  pub reply : r.entry.reply ≡ Collected by
 
-collected : (past : Past) (r : Record) → IsLegalNext past r → (by : ℕ) → cause r.entry.reply ≡ Some by → IsCollected past r by
+pub collected : (past : Past) (r : Record) → IsLegalNext past r → (by : ℕ) → cause r.entry.reply ≡ Some by → IsCollected past r by
 collected past r next by e = cases r.entry.call r.entry.reply refl refl (legal_says past r next) e
   where
     some-by : (o : Option ℕ) → is_some o ≡ true → o ≡ Some (unwrap_or o 0)
@@ -255,7 +255,7 @@ collected past r next by e = cases r.entry.call r.entry.reply refl refl (legal_s
     cases call Done c is says e = absurd (cc)
     cases call (Refused f) c is says e = absurd (cc)
 
-cause-below : (past : Past) → Legal past → (j by : ℕ) → Has cause past j by → by < length past
+pub cause-below : (past : Past) → Legal past → (j by : ℕ) → Has cause past j by → by < length past
 cause-below [] legal j by e = absurd (cc)
 cause-below (r ∷ past) legal j by e = has-cases cause past r j by e
     (λ here is. let x = answered-named past r.entry.process by (collected past r legal.1 by is).answered in
@@ -267,7 +267,7 @@ has-same : (part : Reply → Option ℕ) (past : Past) (k m n : ℕ) → Has par
 has-same part past k m n e f = let same : Some m ≡ Some n = sym e ∙ f in cc
 
 -- a wait whose answer was collected is open no longer
-closed : (past : Past) → Legal past → (j by w p : ℕ) → Has cause past j by → Has named_wait past by w → open_wait past p ≡ Some w → ⊥
+pub closed : (past : Past) → Legal past → (j by w p : ℕ) → Has cause past j by → Has named_wait past by w → open_wait past p ≡ Some w → ⊥
 closed [] legal j by w p e h o = absurd (cc)
 closed (r ∷ past) legal j by w p e h o = has-cases cause past r j by e
     (λ here is.

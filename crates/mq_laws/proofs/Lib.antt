@@ -9,6 +9,8 @@ pub mod GoneQueues
 pub mod SendingOrder
 pub mod Refusals
 pub mod Registered
+pub mod Needing
+pub mod Needs
 pub mod WorkedJournals
 pub mod WorkedWaits
 pub mod WorkedDeadlines

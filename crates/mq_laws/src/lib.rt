@@ -5,6 +5,7 @@ ghost use Rattle.mq_model.specs.Legality.{Legal};
 ghost use Rattle.mq_laws.specs.Laws.{GivesOnce, GivesBest, LeavesInOrder, HoldsDescriptors, EndsForGood, WaitsForCause};
 ghost use Rattle.mq_laws.specs.Refusals.{RefusalsChangeNothing};
 ghost use Rattle.mq_laws.specs.Registrations.{RegistersLatest};
+ghost use Rattle.mq_laws.specs.Needed.{NeedsWhatIsAsked, StaysEnough};
 ghost use Rattle.mq_model.specs.Waits.{OthersLeave};
 
 use mq_model::journals::Journal;
@@ -69,4 +70,18 @@ pub fn refusals_change_nothing(journal: &Journal)
 pub fn registers_latest(journal: &Journal)
     requires { Legal journal.now.records }
     ensures { RegistersLatest journal.now.records }
+{}
+
+/// What a later reply can ask for is needed: the names of the queues that exist, the messages that are present in them, the sends that
+/// wait on them, and the messages that were handed over and not yet collected. So a system that stores no journal can forget the rest.
+pub fn needs_what_is_asked(journal: &Journal)
+    requires { Legal journal.now.records }
+    ensures { NeedsWhatIsAsked journal.now.records }
+{}
+
+/// A store that has all that is needed still has it, if it drops what the latest entry ended and adds a new one that is of a kind that is
+/// kept; or drops what is lost with a queue that exists no longer.
+pub fn stays_enough(journal: &Journal)
+    requires { Legal journal.now.records }
+    ensures { StaysEnough journal.now.records }
 {}

@@ -2,7 +2,8 @@
 use Rattle.std.proofs.Common.{◌≡◌, ℕ, ◌+◌, ◌≤◌, true, false, List, ◌∷◌, length, Option, None, Result, Ok, Err, arith, rules}
 use Rattle.std.specs.Prelude.{IsOk}
 use Rattle.std.specs.Result.{is_err}
-use Rattle.mq_model.specs.Record.{Record, Past, Shown, payload_bytes}
+use Rattle.mq_model.specs.Record.{Record, Past, payload_bytes}
+use Rattle.mq_ledger.specs.Ledgers.{Shown}
 use Rattle.mq_model.specs.Bounds.{open_waits, exceeds, entries_needed, bytes_needed, finds_full}
 use Rattle.mq_model.specs.Legality.{Appends, reply_to, payload_of}
 use Rattle.mq_model.specs.declared.bounds.Bounds.{Bounds}
@@ -38,14 +39,14 @@ not-both r ok err = grind arith
 
 -- a call that is refused for want of room
 pub called-refused : (j j' : Shown) (t : Tables) (p : ℕ) (call : Call) (given : List ℕ) (k m : ℕ) (fault : Fault) (result : Result (Unit {0}) Fault) → finds_full t.bounds j.records p call given ≡ exceeds t.bounds (length j.records + open_waits j.records + k) (payload_bytes j.records + m) →
-    IsRoomRefused t.bounds (length j.records + open_waits j.records + k) (payload_bytes j.records + m) result → result ≡ Err fault → j'.records ≡ j.records → j.byte_room ≤ j'.byte_room → IsKeptBy j' t → IsPooled None t → IsCalled j j' t t p call given (Refused fault)
-called-refused j j' t p call given k m fault result full room is same no_less kept pool = grind arith
+    IsRoomRefused t.bounds (length j.records + open_waits j.records + k) (payload_bytes j.records + m) result → result ≡ Err fault → j'.records ≡ j.records → j.byte_room ≤ j'.byte_room → IsKeptBy j' t → IsPooled None t → j'.stored ≡ j.stored → IsCalled j j' t t p call given (Refused fault)
+called-refused j j' t p call given k m fault result full room is same no_less kept pool stored = grind arith
 
 -- one that gets its reply: `between` is the journal with room made
 pub called : (j between j' : Shown) (t t' : Tables) (p : ℕ) (call : Call) (given : List ℕ) (reply : Reply) (k m : ℕ) (result : Result (Unit {0}) Fault) → finds_full t.bounds j.records p call given ≡ exceeds t.bounds (length j.records + open_waits j.records + k) (payload_bytes j.records + m) →
     IsRoomRefused t.bounds (length j.records + open_waits j.records + k) (payload_bytes j.records + m) result → result ≡ Ok tt → reply ≡ reply_to j.records p call given → between.records ≡ j.records →
-    Appends between.records j'.records p call given reply → IsKeptBy j' t' → IsPooled None t' → t'.n ≡ t.n → t'.bounds ≡ t.bounds → IsCalled j j' t t' p call given reply
-called j between j' t t' p call given reply k m result full room is answers same appends kept pool n bounds =
+    Appends between.records j'.records p call given reply → IsKeptBy j' t' → IsPooled None t' → t'.n ≡ t.n → t'.bounds ≡ t.bounds → j'.stored ≡ j.stored → IsCalled j j' t t' p call given reply
+called j between j' t t' p call given reply k m result full room is answers same appends kept pool n bounds stored =
     grind (arith, replies-other j.records p call given reply answers, replies-room j.records p call given reply answers)
 
 -- what is full, by the needs of the call

@@ -65,7 +65,7 @@ blocked-roomy past legal q w h r at =
     let alive = called-alive (first w past) y.before r.entry.process r.entry.call q in
     grind (arith, legal_says (first w past) r y.next, blocked-at past q w h r at, alive, alive-below (first w past) q, record_at-first past w q, length-first w past, record_at-below past w r)
 
-answered-at : (past : Past) (p w b : ℕ) → open_wait past p ≡ Some w → answered_by past p ≡ Some b → (s : Record) × (record_at past b ≡ Some s) × (names_wait s.entry.reply (Some w) ≡ true) × (w < b)
+pub answered-at : (past : Past) (p w b : ℕ) → open_wait past p ≡ Some w → answered_by past p ≡ Some b → (s : Record) × (record_at past b ≡ Some s) × (names_wait s.entry.reply (Some w) ≡ true) × (w < b)
 answered-at [] p w b open_at answered = absurd (cc)
 answered-at (s ∷ past) p w b open_at answered = grind (arith, open_wait-below past p w, record_at-below past b, answered-at past p w b)
 

@@ -1,3 +1,6 @@
+pub mod Calling
+pub mod Finding
+pub mod Reachable
 pub mod BestSlots
 pub mod QueueLines
 pub mod Moving

@@ -1,6 +1,7 @@
 -- The whole journal, as the first entries of it that tables are those of.
 use Rattle.std.proofs.Common.{◌≡◌, ℕ, ◌≤◌, length, sym, subst, arith, None}
-use Rattle.mq_model.specs.Record.{Past, Shown, record_at, first}
+use Rattle.mq_model.specs.Record.{Past, record_at, first}
+use Rattle.mq_ledger.specs.Ledgers.{Shown}
 use Rattle.mq_model.proofs.Prefixes.{length-first}
 use Rattle.mq_model.proofs.Records.{record_at-past}
 use Rattle.mq_state.specs.Kept.{AreThoseOf, IsKeptBy}

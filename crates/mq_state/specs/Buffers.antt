@@ -1,12 +1,13 @@
 -- What a receive and a collect put into their buffer.
-use Rattle.std.specs.Prelude.{ℕ, ◌≡◌, true, ◌≤◌, List, [], ◌++◌, drop, length, Option, Some, None, if◌then◌else◌}
+use Rattle.std.specs.Prelude.{ℕ, ◌≡◌, true, ◌≤◌, List, [], ◌∷◌, ◌++◌, drop, length, Option, Some, None, if◌then◌else◌}
 use Rattle.std.specs.Option.{option_map, option_and_then, unwrap_or}
 use Rattle.mq_model.specs.Record.{Past, record_at}
+use Rattle.mq_laws.specs.Laws.{message_given}
 use Rattle.mq_model.specs.Messages.{priority, is_receive}
 use Rattle.mq_model.specs.Waits.{open_wait, answered_by}
 use Rattle.mq_model.specs.declared.entries.Received.{Received}
 use Rattle.mq_model.specs.declared.entries.Call.{Call}
-use Rattle.mq_model.specs.declared.entries.Call.TheVariants.{MqSend, MqReceive, MqTimedSend, MqTimedReceive, Collect}
+use Rattle.mq_model.specs.declared.entries.Call.TheVariants.{MqReceive, MqTimedReceive, Collect}
 use Rattle.mq_model.specs.declared.entries.Reply.{Reply}
 use Rattle.mq_model.specs.declared.entries.Reply.TheVariants.{Got}
 use Rattle.mq_state.specs.declared.collected.Collected.{Collected}
@@ -34,6 +35,16 @@ Fits past _ room = Unit {0}
 abbrev pub received_at : Past → ℕ → Received
 received_at past place = record { len = length (message_at past place); prio = priority past place }
 
+-- the message that the latest entry gave its receive
+abbrev pub given_last : Past → Option ℕ
+given_last [] = None
+given_last (r ∷ past) = message_given r.entry.reply
+
+-- the message that a reply gives is that of the latest entry
+abbrev pub GivesLast : Past → Reply → Type 0
+GivesLast past (Got place admitted notified) = given_last past ≡ Some place
+GivesLast past _ = Unit {0}
+
 -- the call that waits. The collect never stands for a process that has an open wait
 abbrev pub waiting_call : Past → ℕ → Call
 waiting_call past p = unwrap_or (option_map (λ r. r.entry.call) (option_and_then (record_at past) (open_wait past p))) Collect
@@ -59,12 +70,6 @@ abbrev pub room_of : Call → ℕ
 room_of (MqReceive d room) = room
 room_of (MqTimedReceive d room until now) = room
 room_of _ = 0
-
--- the length of a send's message, and 0 of any other call
-abbrev pub length_sent : Call → ℕ
-length_sent (MqSend d prio len) = len
-length_sent (MqTimedSend d prio len until now) = len
-length_sent _ = 0
 
 -- the length of the buffer of the receive that waits, or 0 for a send
 abbrev pub waiting_room : Past → ℕ → Option ℕ

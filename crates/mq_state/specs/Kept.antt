@@ -1,5 +1,6 @@
-use Rattle.std.specs.Prelude.{ℕ, ◌≡◌, ◌≢◌, ◌+◌, ◌≤◌, true, false, List, length, Option, Some, None, Result, Ok, Err, ◌⊎◌}
-use Rattle.mq_model.specs.Record.{Past, Shown, payload_bytes}
+use Rattle.std.specs.Prelude.{ℕ, Bool, ◌≡◌, ◌≢◌, ◌+◌, ◌≤◌, true, false, List, length, Option, Some, None, Result, Ok, Err, ◌⊎◌}
+use Rattle.mq_model.specs.Record.{Past, payload_bytes}
+use Rattle.mq_ledger.specs.Ledgers.{Shown, IsReadable}
 use Rattle.mq_model.specs.Legality.{Legal, Appends}
 use Rattle.mq_model.specs.Waits.{open_wait}
 use Rattle.mq_model.specs.declared.entries.Call.{Call}
@@ -13,17 +14,18 @@ use Rattle.mq_model.specs.declared.entries.Reply.TheVariants.{Waits, Collected, 
 use Rattle.mq_state.specs.Pool.{IsPooled}
 use Rattle.mq_state.specs.InboxShown.{InboxShown}
 use Rattle.mq_state.specs.Inboxes.{notices_in, room_in}
-use Rattle.mq_state.specs.Tables.{TablesMirror, AreAtMost, HasNoticeRoom}
+use Rattle.mq_state.specs.Tables.{TablesMirror, AreAtMost, HasNoticeRoom, AreCalls}
 use Rattle.mq_state.specs.WaitBits.{KnowWaits}
 use Rattle.mq_state.specs.declared.tables.Tables.{Tables}
 
--- what a `Books` shows: its records, the latest first, how many processes it has, the bounds of its journal, and for how many more
--- payload bytes there is room
+-- what a `Books` shows: its records, the latest first, how many processes it has, the bounds of its journal, for how many more
+-- payload bytes there is room, and whether the journal is stored
 pub record Kept : Type 0 where
   pub records : Past
   pub n : ℕ
   pub bounds : Option Bounds
   pub byte_room : ℕ
+  pub stored : Bool
 
 -- the tables are those of the journal
 abbrev pub Mirrors : Shown → Tables → Type 0
@@ -38,6 +40,7 @@ pub record AreThoseOf (past : Past) (t : Tables) : Type 0 where
   pub waits : t.waits ≡ waits_count t.owners.items
   pub known : KnowWaits t.owners.items t.queues.items
   pub notice_room : HasNoticeRoom t.queues.items t.inboxes.items
+  pub calls : AreCalls past t.n t.calls.items
 
 -- tables that say the same, with as much room for notices at least
 pub record SaysSame (old new : Tables) : Type 0 where
@@ -45,6 +48,7 @@ pub record SaysSame (old new : Tables) : Type 0 where
   pub bounds : new.bounds ≡ old.bounds
   pub waits : new.waits ≡ old.waits
   pub owners : new.owners.items ≡ old.owners.items
+  pub calls : new.calls.items ≡ old.calls.items
   pub queues : new.queues.items ≡ old.queues.items
   pub inbox_count : length new.inboxes.items ≡ length old.inboxes.items
   pub notices : (p : ℕ) → notices_in new.inboxes.items p ≡ notices_in old.inboxes.items p
@@ -65,13 +69,15 @@ HasRoomWithin None j = Unit {0}
 HasRoomWithin (Some b) j = (b.entries ≤ length j.records + j.entry_room) × (b.bytes ≤ payload_bytes j.records + j.byte_room)
 
 -- the tables are those of the journal, which has entries of the first n processes alone, and there is room for the entry that ends each
--- open wait and for all that the bounds allow
+-- open wait and for all that the bounds allow; what can still be asked for can be read, and with bounds the journal is stored
 pub record IsKeptBy (j : Shown) (t : Tables) : Type 0 where
   pub tables : AreThoseOf j.records t
   pub processes : AreAtMost t.n j.records
   pub room : waits_count t.owners.items ≤ j.entry_room
   pub bounded : HasRoomWithin t.bounds j
   pub notices : HasNotices t.bounds (length j.records) t.n t.inboxes.items
+  pub readable : IsReadable j
+  pub stored : t.bounds ≢ None → j.stored ≡ true
 
 -- the same, and the orders of the queues
 pub record IsWhole (j : Shown) (t : Tables) : Type 0 where
@@ -95,6 +101,7 @@ pub record IsCalled (j j' : Shown) (t t' : Tables) (p : ℕ) (call : Call) (give
   pub pool : IsPooled None t'
   pub n : t'.n ≡ t.n
   pub bounds : t'.bounds ≡ t.bounds
+  pub stored : j'.stored ≡ j.stored
 
 -- what a call of process p with this reply made of the queues: its entry, or nothing where the reply has none, and then no room for
 -- bytes is lost. The reply is that the journal is full exactly where the call finds it full, and with bounds never that memory was
@@ -106,6 +113,7 @@ pub record IsMade (old new : Kept) (p : ℕ) (call : Call) (given : List ℕ) (r
   pub full : HeedsBounds old.bounds old.records p call given reply
   pub processes : new.n ≡ old.n
   pub bounds : new.bounds ≡ old.bounds
+  pub stored : new.stored ≡ old.stored
 
 -- room for the entry, for the entry that ends each open wait, and for that of a wait that the entry begins. A collect or a
 -- withdrawal itself stands in the room that was kept for it

@@ -44,6 +44,9 @@ registrations_in queues p = count_by (λ x. is_of p x.registration) queues
 unfoldable pub is_named_in : List QueueShown → ℕ → Bool
 is_named_in queues q = unwrap_or (option_map (λ x. x.named) (queue_in queues q)) false
 
+abbrev pub is_bound_to : Past → List ℕ → QueueShown → Bool
+is_bound_to past name x = x.named && bytes_eq (name_of past x.place) name
+
 -- the queue that a name is bound to
 unfoldable pub bound_in : Past → List QueueShown → List ℕ → Option ℕ
 bound_in past queues name = option_map (λ x. x.place) (find (λ x. x.named && bytes_eq (name_of past x.place) name) queues)

@@ -1,12 +1,14 @@
 -- The tables beside the journal say what the definitions say of it.
-use Rattle.std.specs.Prelude.{ℕ, Bool, ◌≡◌, ◌+◌, ◌≤◌, ◌<◌, true, false, List, [], ◌∷◌, ◌++◌, ◌&&◌, ◌==◌, if◌then◌else◌, drop, All, length, Option, Some, None, int_le, pos}
+use Rattle.std.specs.Prelude.{ℕ, Bool, ◌≡◌, ◌+◌, ◌≤◌, ◌<◌, true, false, List, [], ◌∷◌, ◌++◌, ◌&&◌, ◌==◌, if◌then◌else◌, drop, All, slice_set, slice_index_or, length, Option, Some, None, int_le, pos}
 use Rattle.std.specs.Option.{unwrap_or}
 use Rattle.mq_model.specs.Names.{bound_queue, creates, attributes_given, are_within_limits}
 use Rattle.mq_model.specs.Descriptors.{called_queue}
 use Rattle.mq_model.specs.declared.entries.Attr.{Attr}
 use Rattle.mq_model.specs.declared.entries.Registration.{Registration}
 use Rattle.mq_model.specs.declared.entries.Call.{Call}
-use Rattle.mq_model.specs.declared.entries.Call.TheVariants.{MqOpen, MqUnlink, MqNotify}
+use Rattle.mq_model.specs.declared.entries.Call.TheVariants.{MqOpen, MqUnlink, MqNotify, Collect}
+use Rattle.mq_model.specs.Waits.{open_wait}
+use Rattle.mq_state.specs.Buffers.{waiting_call}
 use Rattle.mq_model.specs.declared.entries.Reply.{Reply}
 use Rattle.mq_model.specs.declared.entries.Reply.TheVariants.{Done}
 use Rattle.mq_model.specs.Record.{Past}
@@ -47,6 +49,16 @@ abbrev pub MovesOwnWait : WaitMove → Option OpenWait → Type 0
 MovesOwnWait Stays wait = Unit {0}
 MovesOwnWait Begins wait = wait ≡ None
 MovesOwnWait Ends wait = (w : OpenWait) × (wait ≡ Some w)
+
+-- the calls in which processes wait, after an entry of a process that moves its wait so
+abbrev pub calls_noted : WaitMove → ℕ → Call → List Call → List Call
+calls_noted Begins p call calls = slice_set calls p call
+calls_noted _ p call calls = calls
+
+-- the call in which each process waits stands at its index
+pub record AreCalls (past : Past) (n : ℕ) (calls : List Call) : Type 0 where
+  pub count : length calls ≡ n + 1
+  pub at : (p w : ℕ) → open_wait past p ≡ Some w → slice_index_or calls p Collect ≡ waiting_call past p
 
 -- a new queue's messages have their room, and the table of queues has room for the queue
 pub record IsFresh (call : Call) (queues : ℕ) (capacity : ℕ) (o : Held) : Type 0 where

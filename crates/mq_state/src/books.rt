@@ -8,19 +8,23 @@ ghost use Rattle.std.specs.Prelude.{◌≡◌, ◌≢◌, ◌<◌, ◌≤◌, If
 ghost use Rattle.mq_model.specs.Deadlines.{is_over};
 ghost use Rattle.mq_model.specs.Waits.{open_wait, wait_deadline, answered_by, is_answered};
 ghost use Rattle.mq_model.specs.Descriptors.{lowest_held};
-ghost use Rattle.mq_model.specs.Legality.{Appends, Legal};
-ghost use Rattle.mq_state.specs.Buffers.{filled, collected, collected_into, collected_by, into_by, waiting_call, waiting_room, room_of, FitsOutcome};
+ghost use Rattle.mq_model.specs.Legality.{Appends, Legal, may_call};
+ghost use Rattle.mq_state.specs.Buffers.{filled, collected, collected_into, collected_by, into_by, waiting_call, waiting_room, room_of, FitsOutcome, given_last, received_at};
+ghost use Rattle.mq_ledger.specs.Ledgers.{CanRead};
 ghost use Rattle.mq_state.specs.Kept.{IsKeptBy, IsMade, HasRoomWithin};
 ghost use Rattle.mq_state.specs.Requests.{Brings};
 ghost use Rattle.mq_state.specs.Room.{NobodyCanCall, room_left};
 ghost use Rattle.mq_model.specs.Messages.{is_send, is_receive};
 
 use crate::buffers;
-use crate::collected::{Collected, received};
+use crate::collected::{Collected, received_from};
 use crate::prefixes::Prefix;
 use crate::tables::Tables;
+use mq_ledger::history::History;
+use mq_ledger::ledger::Ledger;
+use mq_ledger::unstored::Unstored;
 use mq_model::bounds::Bounds;
-use mq_model::entries::{Attr, Call, Deadline, OpenFlags, Reply, Status};
+use mq_model::entries::{Attr, Call, Deadline, OpenFlags, Received, Reply, Status};
 use mq_model::faults::Fault;
 use mq_model::journals::Journal;
 use mq_model::names::Name;
@@ -28,15 +32,15 @@ use std::alloc::{AllocError, Global};
 use std::marker::Model;
 
 /// The queues of one thread. It takes one word, so to hand it over, as a lock does, is cheap.
-#[derive(Debug, Drop)]
+#[derive(Drop)]
 pub struct Books {
     shelf: Box<Shelf>,
 }
 
 /// What a `Books` has.
-#[derive(Debug, Drop)]
+#[derive(Drop)]
 struct Shelf {
-    journal: Journal,
+    journal: Ledger,
     tables: Tables,
 }
 
@@ -58,9 +62,10 @@ impl Books {
         ensures empty { IfOk result (λ b. b.records ≡ []) }
         ensures processes { IfOk result (λ b. b.n ≡ n) }
         ensures bounds { IfOk result (λ b. b.bounds ≡ bounds) }
+        ensures stored { IfOk result (λ b. b.stored ≡ true) }
     {
         let shelf = Shelf {
-            journal: empty_journal(alloc, bounds)?,
+            journal: Ledger::stored(empty_journal(alloc, bounds)?),
             tables: Tables::new(alloc, n, bounds)?,
         };
         Ok(Books {
@@ -74,6 +79,7 @@ impl Books {
         ensures empty { IfOk result (λ b. b.records ≡ []) }
         ensures processes { IfOk result (λ b. b.n ≡ n) }
         ensures bounds { IfOk result (λ b. b.bounds ≡ None) }
+        ensures stored { IfOk result (λ b. b.stored ≡ true) }
     {
         Books::start(alloc, n, None)
     }
@@ -86,8 +92,28 @@ impl Books {
         ensures processes { IfOk result (λ b. b.n ≡ n) }
         ensures bounds { IfOk result (λ b.
             b.bounds ≡ Some (record { entries = entries; bytes = bytes })) }
+        ensures stored { IfOk result (λ b. b.stored ≡ true) }
     {
         Books::start(alloc, n, Some(Bounds { entries, bytes }))
+    }
+
+    /// The queues of n processes whose journal is a history variable: contracts speak of it, and no byte of it is stored. What later replies
+    /// depend on is kept, and its memory serves again: the names of the queues that exist, and the messages that are present, that wait to be
+    /// accepted, or that were handed over and not yet collected. Without bounds.
+    pub fn unstored(alloc: Global, n: u32) -> Result<Books, AllocError>
+        requires { (1 ≤ n) × (n ≤ 32) }
+        ensures empty { IfOk result (λ b. b.records ≡ []) }
+        ensures processes { IfOk result (λ b. b.n ≡ n) }
+        ensures bounds { IfOk result (λ b. b.bounds ≡ None) }
+        ensures stored { IfOk result (λ b. b.stored ≡ false) }
+    {
+        let shelf = Shelf {
+            journal: Ledger::unstored(Unstored::new(alloc)),
+            tables: Tables::new(alloc, n, None)?,
+        };
+        Ok(Books {
+            shelf: Box::new(alloc, shelf)?,
+        })
     }
 
     /// A call of process p, whichever: with its name, the bytes of its message or none, and the buffer that a receive fills. Replies as the
@@ -286,6 +312,7 @@ impl Books {
         ensures buffer { buf.new ≡ collected_into self.old.records p buf.old }
         ensures processes { self.new.n ≡ self.old.n }
         ensures bounds { self.new.bounds ≡ self.old.bounds }
+        ensures stored { self.new.stored ≡ self.old.stored }
     {
         let Shelf { journal, tables } = &mut *self.shelf;
         let by = tables.answer(p)?;
@@ -309,10 +336,11 @@ impl Books {
         ensures none { result ≡ false → self.new ≡ self.old }
         ensures processes { self.new.n ≡ self.old.n }
         ensures bounds { self.new.bounds ≡ self.old.bounds }
+        ensures stored { self.new.stored ≡ self.old.stored }
     {
         let Shelf { journal, tables } = &mut *self.shelf;
         let call = Call::Withdraw { now };
-        if !tables.may_call(&Prefix::whole(journal), p, call) {
+        if !may_withdraw(journal, tables, p, call) {
             return false;
         }
         tables.end_wait(journal, p, call);
@@ -343,34 +371,84 @@ impl Books {
         tables.room(journal)
     }
 
-    /// The journal.
+    /// How many entries the journal has, stored or not.
+    pub fn journal_len(&self) -> u64
+        ensures count { result ≡ length self.now.records }
+        ensures legal { Legal self.now.records }
+        ensures processes { All (λ r. r.entry.process ≤ self.now.n) self.now.records }
+    {
+        self.shelf.journal.len()
+    }
+
+    /// The length and the priority of the message that the latest entry gave.
+    pub fn received(&self, place: u64) -> Received
+        requires { given_last self.now.records ≡ Some place }
+        ensures { result ≡ received_at self.now.records place }
+    {
+        received_from(&Prefix::whole(&self.shelf.journal), place)
+    }
+
+    /// Whether the journal is stored.
+    pub fn is_stored(&self) -> bool
+        ensures { result ≡ self.now.stored }
+    {
+        self.shelf.journal.is_stored()
+    }
+
+    /// The stored journal.
     pub fn journal(&self) -> &Journal
+        requires { self.now.stored ≡ true }
         ensures value { result.now.records ≡ self.now.records }
         ensures legal { Legal result.now.records }
         ensures processes { All (λ r. r.entry.process ≤ self.now.n) result.now.records }
     {
-        &self.shelf.journal
+        self.shelf.journal.journal()
     }
 
-    /// The journal, which is all that is left.
+    /// The stored journal, which is all that is left.
     pub fn into_journal(self) -> Journal
+        requires { self.stored ≡ true }
         ensures value { result.records ≡ self.records }
         ensures legal { Legal result.records }
         ensures processes { All (λ r. r.entry.process ≤ self.n) result.records }
     {
-        Box::into_inner(self.shelf).journal
+        Box::into_inner(self.shelf).journal.into_journal()
+    }
+
+    /// The history of a journal that is not stored, which is all that is left. It has no bytes: contracts say what it is.
+    pub fn into_history(self) -> History
+        requires { self.stored ≡ false }
+        ensures value { result.past ≡ self.records }
+        ensures legal { Legal result.past }
+        ensures processes { All (λ r. r.entry.process ≤ self.n) result.past }
+    {
+        Box::into_inner(self.shelf).journal.into_history()
     }
 }
 
 // An empty journal, with room for all that the bounds allow.
 fn empty_journal(alloc: Global, bounds: Option<Bounds>) -> Result<Journal, AllocError>
     ensures empty { IfOk result (λ j. j.records ≡ []) }
-    ensures room { IfOk result (HasRoomWithin bounds) }
+    ensures room { IfOk result (λ j. HasRoomWithin bounds (record {
+      records = j.records;
+      entry_room = j.entry_room;
+      byte_room = j.byte_room;
+      stored = true;
+      places = [];
+    })) }
 {
     match bounds {
         None => Ok(Journal::new(alloc)),
         Some(b) => Journal::with_room(alloc, b.entries as usize, b.bytes as usize),
     }
+}
+
+// Process p may end its wait so.
+fn may_withdraw(journal: &Ledger, tables: &Tables, p: u32, call: Call) -> bool
+    requires { IsKeptBy journal.now tables.now }
+    ensures { result ≡ may_call journal.now.records p call }
+{
+    tables.may_call(&Prefix::whole(journal), p, call)
 }
 
 fn room_of(call: Call) -> usize
@@ -389,22 +467,20 @@ fn room_of(call: Call) -> usize
 }
 
 // The call that process p waits in.
-fn waiting_call(journal: &Journal, tables: &Tables, p: u32) -> Call
+fn waiting_call(journal: &Ledger, tables: &Tables, p: u32) -> Call
     requires { IsKeptBy journal.now tables.now }
     ensures { result ≡ waiting_call journal.now.records p }
 {
     match tables.wait(p) {
         None => Call::Collect,
-        Some(place) => match journal.entry(place) {
-            None => Call::Collect,
-            Some(entry) => entry.call,
-        },
+        Some(_) => tables.waiting_call(p),
     }
 }
 
 // What a wait in a call comes to, which the entry at place `by` answers.
-fn outcome(journal: &Journal, call: Call, by: u64, buf: &mut [u8]) -> Collected
-    requires { FitsOutcome journal.now.records call by (length buf.old) }
+fn outcome(journal: &Ledger, call: Call, by: u64, buf: &mut [u8]) -> Collected
+    requires readable { is_receive call ≡ true → CanRead journal.now by }
+    requires room { FitsOutcome journal.now.records call by (length buf.old) }
     ensures value { Some result ≡ collected_by journal.now.records call (Some by) }
     ensures buffer { buf.new ≡ into_by journal.now.records call (Some by) buf.old }
 {
@@ -412,5 +488,5 @@ fn outcome(journal: &Journal, call: Call, by: u64, buf: &mut [u8]) -> Collected
         return Collected::Sent;
     }
     buffers::put_message(journal, by, buf);
-    Collected::Got(received(journal, by))
+    Collected::Got(received_from(&Prefix::whole(journal), by))
 }

@@ -1,7 +1,6 @@
 //! What an open wait comes to.
 ghost use Rattle.std.specs.Prelude.{◌≡◌};
 
-use crate::buffers;
 use crate::prefixes::Prefix;
 use mq_model::entries::Received;
 use mq_model::journals::Journal;
@@ -14,9 +13,19 @@ pub enum Collected {
 }
 
 ghost use Rattle.mq_state.specs.Buffers.{received_at};
+ghost use Rattle.mq_ledger.specs.Ledgers.{CanRead};
 
 /// The length and the priority of the message that was sent at a place.
 pub fn received(journal: &Journal, place: u64) -> Received
+    ensures { result ≡ received_at journal.now.records place }
+{
+    received_from(&Prefix::of(journal), place)
+}
+
+/// The same, of a message that can be read.
+#[inline(always)]
+pub(crate) fn received_from(journal: &Prefix<'_>, place: u64) -> Received
+    requires { CanRead journal.now place }
     ensures { result ≡ received_at journal.now.records place }
 {
     let len = match journal.payload(place) {
@@ -25,6 +34,6 @@ pub fn received(journal: &Journal, place: u64) -> Received
     };
     Received {
         len,
-        prio: buffers::priority_at(&Prefix::whole(journal), place),
+        prio: journal.priority(place),
     }
 }

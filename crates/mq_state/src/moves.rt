@@ -3,8 +3,9 @@ ghost use Rattle.std.specs.Prelude.{◌≡◌};
 ghost use Rattle.std.specs.Option.{option_map};
 ghost use Rattle.mq_state.specs.Queues.{slot_of};
 ghost use Rattle.mq_state.specs.Moves.{moves_of};
+ghost use Rattle.mq_model.specs.Messages.{admits};
+ghost use Rattle.mq_ledger.specs.Ledgers.{CanReadAdmitted};
 
-use crate::buffers;
 use crate::prefixes::Prefix;
 use mq_model::entries::{Call, Entry, Reply};
 
@@ -50,17 +51,31 @@ pub struct Moves {
 // The message of the send that is admitted, as its priority and its place.
 #[inline(always)]
 fn message(journal: &Prefix<'_>, admitted: Option<u64>) -> Option<(u32, u64)>
+    requires { CanReadAdmitted journal.now admitted }
     ensures { result ≡ option_map (slot_of journal.now.records) admitted }
 {
     match admitted {
         None => None,
-        Some(place) => Some((buffers::priority_at(journal, place), place)),
+        Some(place) => Some((journal.priority(place), place)),
+    }
+}
+
+/// Whether nobody may need the queue of an entry any longer: an unlink or a close was done.
+#[inline(always)]
+pub fn frees(entry: Entry) -> bool {
+    match entry.reply {
+        Reply::Done => match entry.call {
+            Call::MqUnlink | Call::MqClose { .. } => true,
+            _ => false,
+        },
+        _ => false,
     }
 }
 
 /// What the next entry of a journal moves.
 #[inline(always)]
 pub fn moves_of(journal: &Prefix<'_>, entry: Entry) -> Moves
+    requires { CanReadAdmitted journal.now (admits entry.reply) }
     ensures { result ≡ moves_of journal.now.records entry.call entry.reply }
 {
     let mut moves = Moves {

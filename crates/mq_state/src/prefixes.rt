@@ -1,21 +1,29 @@
 //! The first entries of a journal, which the tables can be those of.
-ghost use Rattle.std.specs.Prelude.{◌≡◌, ◌≤◌, length};
+ghost use Rattle.std.specs.Prelude.{◌≡◌, ◌≤◌, length, true};
 ghost use Rattle.std.specs.Option.{option_map};
 ghost use Rattle.mq_model.specs.Record.{first, record_at};
+ghost use Rattle.mq_model.specs.Messages.{priority};
+ghost use Rattle.mq_ledger.specs.Ledgers.{CanRead};
 
-use mq_model::entries::Entry;
+use mq_ledger::ledger::{Ledger, priority_in};
 use mq_model::journals::Journal;
 use std::marker::Model;
 
 /// The first entries of a journal, all or some. It shows their records, and the room that the journal has.
 #[derive(Drop)]
 pub struct Prefix<'a> {
-    journal: &'a Journal,
+    source: Source<'a>,
     len: u64,
 }
 
+#[derive(Clone, Copy)]
+enum Source<'a> {
+    Journal(&'a Journal),
+    Ledger(&'a Ledger),
+}
+
 impl<'a> Model for Prefix<'a> {
-    ghost use Rattle.mq_model.specs.Record.{Shown};
+    ghost use Rattle.mq_ledger.specs.Ledgers.{Shown};
 
     ghost Value = { Shown };
 
@@ -27,12 +35,23 @@ impl<'a> Model for Prefix<'a> {
 }
 
 impl<'a> Prefix<'a> {
-    /// The whole of a journal.
-    pub fn whole(journal: &'a Journal) -> Prefix<'a>
-        ensures { result ≡ journal.now }
+    /// The whole of the journal that the tables stand beside.
+    pub fn whole(ledger: &'a Ledger) -> Prefix<'a>
+        ensures { result ≡ ledger.now }
     {
         Prefix {
-            journal,
+            source: Source::Ledger(ledger),
+            len: ledger.len(),
+        }
+    }
+
+    /// The whole of a journal.
+    pub fn of(journal: &'a Journal) -> Prefix<'a>
+        ensures records { result.records ≡ journal.now.records }
+        ensures stored { result.stored ≡ true }
+    {
+        Prefix {
+            source: Source::Journal(journal),
             len: journal.len(),
         }
     }
@@ -40,9 +59,13 @@ impl<'a> Prefix<'a> {
     /// The first `len` entries of a journal.
     pub fn first(journal: &'a Journal, len: u64) -> Prefix<'a>
         requires { len ≤ length journal.now.records }
-        ensures { result.records ≡ first len journal.now.records }
+        ensures records { result.records ≡ first len journal.now.records }
+        ensures stored { result.stored ≡ true }
     {
-        Prefix { journal, len }
+        Prefix {
+            source: Source::Journal(journal),
+            len,
+        }
     }
 
     /// How many entries there are.
@@ -52,24 +75,31 @@ impl<'a> Prefix<'a> {
         self.len
     }
 
-    /// The entry at a place, or `None` at the length and beyond.
-    pub fn entry(&self, place: u64) -> Option<Entry>
-        ensures { result ≡ option_map (λ r. r.entry) (record_at self.now.records place) }
+    /// The priority of the message that was sent at a place that can be read.
+    pub fn priority(&self, place: u64) -> u32
+        ensures { CanRead self.now place → result ≡ priority self.now.records place }
     {
         if place >= self.len {
-            return None;
+            return 0;
         }
-        self.journal.entry(place)
+        match self.source {
+            Source::Journal(journal) => priority_in(journal, place),
+            Source::Ledger(ledger) => ledger.priority(place),
+        }
     }
 
-    /// The payload of the entry at a place, or `None` at the length and beyond.
+    /// The payload of the entry at a place that can be read.
     pub fn payload(&self, place: u64) -> Option<&[u8]>
-        ensures { option_map (λ p. p.now) result ≡ option_map (λ r. r.payload)
+        ensures { CanRead self.now place →
+            option_map (λ p. p.now) result ≡ option_map (λ r. r.payload)
             (record_at self.now.records place) }
     {
         if place >= self.len {
             return None;
         }
-        self.journal.payload(place)
+        match self.source {
+            Source::Journal(journal) => journal.payload(place),
+            Source::Ledger(ledger) => ledger.payload(place),
+        }
     }
 }

@@ -3,7 +3,8 @@ ghost use Rattle.std.specs.Prelude.{◌≡◌, ◌<◌, ◌^◌, ◌==◌, ◌++
 ghost use Rattle.std.specs.Option.{option_map};
 ghost use Rattle.std.specs.Str.{bytes_eq};
 ghost use Rattle.mq_model.specs.Names.{name_of, are_within_limits};
-ghost use Rattle.mq_state.specs.Queues.{queue_in, slots_in, registration_in, attributes_in, is_named_in, bound_in, changed, renewed, Allows, AllowsIn, reregistered, without_queue, fresh, released, noted_queues, waiting_in, with_waiting, HaveRisingPlaces};
+ghost use Rattle.mq_state.specs.Queues.{queue_in, slots_in, registration_in, attributes_in, is_named_in, bound_in, is_bound_to, changed, renewed, Allows, AllowsIn, reregistered, without_queue, fresh, released, noted_queues, waiting_in, with_waiting, HaveRisingPlaces};
+ghost use Rattle.mq_ledger.specs.Ledgers.{CanRead};
 ghost use Rattle.mq_state.specs.Order.{best_slot, slots_for};
 ghost use Rattle.mq_state.specs.Pool.{Pool, IsSpare, emptied};
 
@@ -296,7 +297,8 @@ pub fn is_named(queues: &[Queue], q: u64) -> bool
 
 // The queue that was created at a place has this name.
 fn has_name(journal: &Prefix<'_>, place: u64, name: &[u8]) -> bool
-    ensures { result ≡ bytes_eq (name_of journal.now.records place) name.now }
+    ensures { CanRead journal.now place →
+        result ≡ bytes_eq (name_of journal.now.records place) name.now }
 {
     match journal.payload(place) {
         None => name.is_empty(),
@@ -307,15 +309,24 @@ fn has_name(journal: &Prefix<'_>, place: u64, name: &[u8]) -> bool
 /// The queue that a name is bound to.
 #[tactic(auto, unfolding(crate::specs::Queues::bound_in))]
 pub fn bound(journal: &Prefix<'_>, queues: &[Queue], name: &[u8]) -> Option<u64>
+    requires { All (λ x. CanRead journal.now x.place) queues.now }
     ensures { result ≡ bound_in journal.now.records queues.now name.now }
 {
-    let found = queues
-        .iter()
-        .find(|x| x.is_named() && has_name(journal, x.place(), name));
-    match found {
-        None => None,
-        Some(x) => Some(x.place()),
+    for i in 0..queues.len() {
+        let queue = &queues[i];
+        if is_bound(journal, queue, name) {
+            return Some(queue.place());
+        }
     }
+    None
+}
+
+// The queue is still bound to this name.
+fn is_bound(journal: &Prefix<'_>, queue: &Queue, name: &[u8]) -> bool
+    requires { CanRead journal.now queue.now.place }
+    ensures { result ≡ is_bound_to journal.now.records name.now queue.now }
+{
+    queue.is_named() && has_name(journal, queue.place(), name)
 }
 
 // Keeps an order, emptied, for a queue to come, where there is a place for it.

@@ -2,6 +2,7 @@
 //! each call replies, and note each entry.
 ghost use Rattle.std.specs.Prelude.{◌≡◌, ◌↔◌, IfOk, IfSome, None};
 ghost use Rattle.mq_model.specs.Legality.{Legal, IsLegalNext};
+ghost use Rattle.mq_ledger.specs.Ledgers.{IsReadable};
 ghost use Rattle.mq_state.specs.Kept.{AreThoseOf};
 
 use crate::prefixes::Prefix;
@@ -38,7 +39,8 @@ ghost use Rattle.mq_state.specs.Replays.{IsCause, IsDeparture};
 
 // Why an entry may not stand after those that the tables are those of, if it may not.
 fn cause_at(past: &Prefix<'_>, tables: &Tables, entry: Entry, payload: &[u8]) -> Option<Cause>
-    requires { AreThoseOf past.now.records tables.now }
+    requires readable { IsReadable past.now }
+    requires tables { AreThoseOf past.now.records tables.now }
     ensures legal { result ≡ None →
         IsLegalNext past.now.records (record { entry = entry; payload = payload.now }) }
     ensures cause { IfSome result (IsCause past.now.records

@@ -6,6 +6,8 @@ ghost use Rattle.mq_model.specs.Owners.{waits_count, free_owner};
 ghost use Rattle.std.specs.Option.{option_map, unwrap_or};
 ghost use Rattle.mq_model.specs.Names.{bound_queue, attributes_given};
 ghost use Rattle.mq_state.specs.Tables.{entry_queue};
+ghost use Rattle.mq_ledger.specs.Ledgers.{IsReadable};
+ghost use Rattle.mq_model.specs.Legality.{Legal};
 ghost use Rattle.mq_state.specs.Kept.{Mirrors, notice_room};
 ghost use Rattle.mq_state.specs.Pool.{order_count};
 
@@ -35,6 +37,8 @@ pub struct Tables {
     owners: Vec<Owner>,
     // how many processes have an open wait
     waits: usize,
+    // the call in which each process waits, if it does
+    calls: Vec<Call>,
     queues: Vec<Queue>,
     // the orders of queues to come, where the tables have bounds
     spares: Vec<Slots>,
@@ -61,11 +65,13 @@ impl Tables {
             HasNoticeRoom t.queues.items t.inboxes.items) }
         ensures known { IfOk result (λ t. KnowWaits t.owners.items t.queues.items) }
         ensures bounds { IfOk result (λ t. t.bounds ≡ bounds) }
+        ensures calls { IfOk result (λ t. length t.calls.items ≡ n + 1) }
         ensures notices { IfOk result (λ t. HasNotices bounds 0 n t.inboxes.items) }
         ensures pool { IfOk result (IsPooled None) }
     {
         let count = n as usize + 1;
         let owners = free_owners(alloc, count)?;
+        let calls = vec![in alloc; Call::Collect; count]?;
         let inboxes = notices::empty(alloc, count, notice_room(bounds)?)?;
         let orders = order_count(bounds);
         let queues = Vec::with_capacity(alloc, orders)?;
@@ -76,6 +82,7 @@ impl Tables {
             bounds,
             owners,
             waits: 0,
+            calls,
             queues,
             spares,
             inboxes,
@@ -107,6 +114,8 @@ impl Tables {
 
     // The queue that a name is bound to, or the place of the entry.
     fn named_queue(&self, journal: &Prefix<'_>, name: &[u8]) -> u64
+        requires legal { Legal journal.now.records }
+        requires readable { IsReadable journal.now }
         requires mirror { Mirrors journal.now self.now }
         ensures { result ≡ unwrap_or (bound_queue journal.now.records name.now)
             (length journal.now.records) }
@@ -120,6 +129,8 @@ impl Tables {
     // The queue that an entry is made on.
     #[inline(always)]
     fn entry_queue(&self, journal: &Prefix<'_>, p: u32, call: Call, name: &[u8]) -> u64
+        requires legal { Legal journal.now.records }
+        requires readable { IsReadable journal.now }
         requires mirror { Mirrors journal.now self.now }
         ensures { result ≡ entry_queue journal.now.records p call name.now }
     {
@@ -146,7 +157,7 @@ impl Tables {
     ghost use Rattle.mq_state.specs.Queues.{noted_queues, registration_in, AllowsIn, HaveRisingPlaces};
     ghost use Rattle.mq_state.specs.Inboxes.{notices_in, room_in};
     ghost use Rattle.mq_state.specs.Pool.{IsPooled};
-    ghost use Rattle.mq_state.specs.Tables.{BringsOrder, MovesOwnWait, notices_brought, noted_values, with_fresh};
+    ghost use Rattle.mq_state.specs.Tables.{BringsOrder, MovesOwnWait, calls_noted, notices_brought, noted_values, with_fresh};
 
     // Notes in the inboxes what an entry of process p, made on queue q, brings and takes.
     #[inline(always)]
@@ -183,10 +194,13 @@ impl Tables {
         requires waits { self.old.waits ≡ waits_count self.old.owners.items }
         requires moves { wait ≡ wait_move entry.reply }
         requires own { MovesOwnWait wait (wait_in self.old.owners.items entry.process) }
+        requires calls { entry.process < length self.old.calls.items }
         ensures same { self.new ≡ record self.old {
           owners = self.new.owners;
           waits = self.new.waits;
+          calls = self.new.calls;
         } }
+        ensures calls { self.new.calls.items ≡ calls_noted wait entry.process entry.call self.old.calls.items }
         ensures owners { self.new.owners.items ≡
             noted self.old.owners.items here entry.process entry.call entry.reply q }
         ensures waits { self.new.waits ≡ waits_count
@@ -195,7 +209,10 @@ impl Tables {
         owners::note(&mut self.owners, here, entry, q);
         match wait {
             WaitMove::Stays => {}
-            WaitMove::Begins => self.waits += 1,
+            WaitMove::Begins => {
+                self.waits += 1;
+                self.calls[entry.process as usize] = entry.call;
+            }
             WaitMove::Ends => self.waits -= 1,
         }
     }

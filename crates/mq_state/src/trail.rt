@@ -50,14 +50,14 @@ impl Trail {
         ensures { result ≡ reply_to self.now p call given.now }
     {
         self.tables
-            .reply_to(&Prefix::whole(&self.journal), p, call, given)
+            .reply_to(&Prefix::of(&self.journal), p, call, given)
     }
 
     /// Process p may make a call now, which is given these bytes.
     pub fn can_make(&self, p: u32, call: Call, given: &[u8]) -> bool
         ensures { result ≡ can_call self.now p call given.now }
     {
-        let past = Prefix::whole(&self.journal);
+        let past = Prefix::of(&self.journal);
         if !is_process(p) || !self.tables.may_call(&past, p, call) {
             return false;
         }
@@ -74,7 +74,7 @@ impl Trail {
         ensures stays { IfOk result (λ made. IsFalse made → self.new ≡ self.old) }
         ensures err { OnErr result (self.new ≡ self.old) }
     {
-        let past = Prefix::whole(&self.journal);
+        let past = Prefix::of(&self.journal);
         if !is_process(p) || !self.tables.may_call(&past, p, call) {
             return Ok(false);
         }
@@ -89,7 +89,7 @@ impl Trail {
             reply,
         };
         self.journal.reserve(1, payload.len())?;
-        let past = Prefix::whole(&self.journal);
+        let past = Prefix::of(&self.journal);
         self.tables.follow(&past, entry, payload)?;
         self.journal.push(entry, payload);
         Ok(true)

@@ -87,6 +87,7 @@ fn finish<L: Look<Guarded>, A: Abort>(
 {
     processes.push(one).ok().expect(rt, "memory");
     processes.push(two).ok().expect(rt, "memory");
+    assert!(rt; mq.is_stored(), "the journal is stored");
     mq.finish(processes).ok().expect(rt, "both processes")
 }
 

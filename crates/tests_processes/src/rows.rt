@@ -119,6 +119,7 @@ fn finish<L: Look<Guarded>, A: Abort>(
     requires empty { room.items ≡ [] }
 {
     room.push(process).ok().expect(rt, "memory");
+    assert!(rt; mq.is_stored(), "the journal is stored");
     mq.finish(room).ok().expect(rt, "the end")
 }
 

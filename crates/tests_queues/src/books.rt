@@ -21,6 +21,7 @@ mod bounded;
 mod deadlines;
 mod memory;
 mod replays;
+mod unstored;
 
 // What a process asks of the queues.
 #[derive(Clone, Copy)]
@@ -151,11 +152,11 @@ fn outcome_of(trial: &mut Trial, p: u32, ask: Ask, buf: &mut [u8]) -> Outcome {
         Answered => Is(trial.books.answered(p)),
         LowestOpen => Lowest(trial.books.lowest_open(p)),
         Front => buf.first().map_or(Nothing, |byte| Byte(*byte)),
-        ReplyAt(place) => match trial.books.journal().entry(place) {
+        ReplyAt(place) if trial.books.is_stored() => match trial.books.journal().entry(place) {
             Some(entry) => Replied(entry.reply),
             None => Nothing,
         },
-        Entries => Count(trial.books.journal().len()),
+        Entries => Count(trial.books.journal_len()),
         Collect if 1 <= p && p <= 5 => collect(trial, p, buf),
         Withdraw(now) if 1 <= p && p <= 5 => Is(trial.books.withdraw(p, now)),
         _ if may_call(trial, p) => match call(trial, p, ask, buf) {
@@ -163,6 +164,15 @@ fn outcome_of(trial: &mut Trial, p: u32, ask: Ask, buf: &mut [u8]) -> Outcome {
             None => Nothing,
         },
         _ => Nothing,
+    }
+}
+
+// The journal in a number, or how long it is if it is not stored.
+fn state_of(books: &Books) -> u64 {
+    if books.is_stored() {
+        fingerprint(books.journal())
+    } else {
+        books.journal_len()
     }
 }
 
@@ -174,12 +184,12 @@ fn asked<A: Abort + Print>(
     ask: Ask,
     buf: &mut [u8; 8],
 ) -> Outcome {
-    let before = (fingerprint(trial.books.journal()), *buf);
+    let before = (state_of(&trial.books), *buf);
     let outcome = outcome_of(trial, p, ask, buf);
     if outcome != REFUSED_MEMORY {
         return outcome;
     }
-    assert_eq!(rt; (fingerprint(trial.books.journal()), *buf), before);
+    assert_eq!(rt; (state_of(&trial.books), *buf), before);
     say_refused(rt, "a call");
     outcome_of(trial, p, ask, buf)
 }

@@ -108,6 +108,9 @@ fn call(books: &mut Books, p: u32, call: Call, given: &[u8], buf: &mut [u8]) -> 
 }
 
 fn last_reply(books: &Books) -> Option<Reply> {
+    if !books.is_stored() {
+        return None;
+    }
     let journal = books.journal();
     match journal.entry(journal.len().saturating_sub(1)) {
         Some(entry) => Some(entry.reply),
@@ -178,11 +181,11 @@ fn expect_made<A: Abort + Print>(
     reply: Reply,
 ) {
     let mut buf = [0; 8];
-    let place = row.books.journal().len();
+    let place = row.books.journal_len();
     let found = told_at_last(rt, row, p, asked, given, &mut buf);
     assert_eq!(rt; found, Some(reply), "at {place}");
     assert_eq!(rt;
-        row.books.journal().len(),
+        row.books.journal_len(),
         place.saturating_add(1),
         "at {place}"
     );
@@ -197,10 +200,10 @@ fn gives_message(asked: Call, reply: Reply) -> bool {
 
 // The call has no entry.
 fn expect_none<A: Abort + Print>(rt: &A, row: &mut Row, p: u32, asked: Call, reply: Option<Reply>) {
-    let place = row.books.journal().len();
+    let place = row.books.journal_len();
     let found = told_at_last(rt, row, p, asked, &[], &mut [0; 8]);
     assert_eq!(rt; found, reply, "before {place}");
-    assert_eq!(rt; row.books.journal().len(), place);
+    assert_eq!(rt; row.books.journal_len(), place);
 }
 
 fn expect_step<A: Abort + Print>(rt: &A, row: &mut Row, step: Step) {
@@ -224,6 +227,7 @@ fn expect<A: Abort + Print>(rt: &A, row: &mut Row, steps: &[Step]) {
             entries = entries.saturating_add(1);
         }
     }
-    assert_eq!(rt; row.books.journal().len(), entries);
+    assert_eq!(rt; row.books.journal_len(), entries);
+    assert!(rt; row.books.is_stored(), "the journal is stored");
     assert_eq!(rt; check_history(row.books.journal()), Ok(()));
 }

@@ -22,6 +22,8 @@ pub struct View<I> {
     /// The number of this seat with the list that it last left, and those of the seats joined to it.
     pub claims: LinkedList<(u64, LinkedList<I>)>,
     pub plan: Plan<I>,
+    /// How many accesses to words of the table the seat has made.
+    pub accesses: u64,
 }
 
 impl<I> RestView<I> for View<I> {

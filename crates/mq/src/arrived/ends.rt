@@ -27,16 +27,17 @@ impl<L: Look<Guarded>> Arrived<L> {
 
     /// As [`Process::collect`].
     pub fn collect(self, mq: &Mq<L>, buf: &mut [u8]) -> (Process<L>, Option<Collected>)
-        requires made { self.lock ≡ mq.now }
-        requires wait { IsSome (waiting_room self.left self.number) }
-        requires room { IfSome (waiting_room self.left self.number)
+        requires made { self.process.lock ≡ mq.now }
+        requires wait { IsSome (waiting_room self.process.left self.process.number) }
+        requires room { IfSome (waiting_room self.process.left self.process.number)
             (λ room. room ≤ length buf.old) }
-        ensures none { IfNone result.1 (StillWaits self result.0) }
+        ensures none { IfNone result.1 (StillWaits self.process result.0) }
         ensures same { IfNone result.1 (buf.new ≡ buf.old) }
-        ensures some { IfSome result.1 (λ outcome. Collects self result.0 outcome buf.old buf.new) }
+        ensures some { IfSome result.1 (λ outcome.
+            Collects self.process result.0 outcome buf.old buf.new) }
         ensures free { IfSome result.1 (λ outcome. IsFree result.0) }
         ensures fits { IfSome result.1 (λ outcome. FitsIn outcome (length buf.old)) }
-        ensures told { self.told ≡ true → IsSome result.1 }
+        ensures told { self.process.told ≡ true → IsSome result.1 }
     {
         let (inside, mut state) = begin::<L>(self.walk, self.number);
         let outcome = state.books.collect(self.number, buf);
@@ -55,13 +56,14 @@ impl<L: Look<Guarded>> Arrived<L> {
         buf: &mut [u8],
         now: Deadline,
     ) -> (Process<L>, Option<Collected>)
-        requires made { self.lock ≡ mq.now }
-        requires wait { IsSome (waiting_room self.left self.number) }
-        requires room { IfSome (waiting_room self.left self.number)
+        requires made { self.process.lock ≡ mq.now }
+        requires wait { IsSome (waiting_room self.process.left self.process.number) }
+        requires room { IfSome (waiting_room self.process.left self.process.number)
             (λ room. room ≤ length buf.old) }
-        requires over { is_over (wait_deadline self.left self.number) now ≡ true }
-        ensures some { IfSome result.1 (λ outcome. Collects self result.0 outcome buf.old buf.new) }
-        ensures none { IfNone result.1 (WithdrawsAt now self result.0) }
+        requires over { is_over (wait_deadline self.process.left self.process.number) now ≡ true }
+        ensures some { IfSome result.1 (λ outcome.
+            Collects self.process result.0 outcome buf.old buf.new) }
+        ensures none { IfNone result.1 (WithdrawsAt now self.process result.0) }
         ensures same { IfNone result.1 (buf.new ≡ buf.old) }
         ensures fits { IfSome result.1 (λ outcome. FitsIn outcome (length buf.old)) }
         ensures free { IsFree result.0 }
@@ -90,6 +92,7 @@ fn end_wait(books: &mut Books, p: u32, buf: &mut [u8], now: Deadline) -> Option<
     ensures buffer { buf.new ≡ collected_into books.old.records p buf.old }
     ensures processes { books.new.n ≡ books.old.n }
     ensures bounds { books.new.bounds ≡ books.old.bounds }
+    ensures stored { books.new.stored ≡ books.old.stored }
 {
     match books.collect(p, buf) {
         Some(outcome) => Some(outcome),

@@ -34,6 +34,7 @@ fn close_lowest(books: &mut Books, p: u32, d: u32) -> Result<(), Fault>
         (books.new.records ≡ books.old.records)) }
     ensures processes { books.new.n ≡ books.old.n }
     ensures bounds { books.new.bounds ≡ books.old.bounds }
+    ensures stored { books.new.stored ≡ books.old.stored }
 {
     match books.close(p, d) {
         Reply::Done => Ok(()),
@@ -52,6 +53,7 @@ fn close_all(books: &mut Books, p: u32) -> Result<(), Fault>
     ensures free { open_wait books.new.records p ≡ None }
     ensures processes { books.new.n ≡ books.old.n }
     ensures bounds { books.new.bounds ≡ books.old.bounds }
+    ensures stored { books.new.stored ≡ books.old.stored }
 {
     'descriptors: for d in 0..DESCRIPTORS {
         if books.lowest_open(p) == Some(d) {
@@ -67,9 +69,9 @@ impl<L: Look<Guarded>> Arrived<L> {
 
     /// As [`Process::exit`].
     pub fn exit(self, mq: &Mq<L>) -> (Process<L>, Result<(), Fault>)
-        requires made { self.lock ≡ mq.now }
-        requires free { IsFree self }
-        ensures call { Exits self result.0 result.1 }
+        requires made { self.process.lock ≡ mq.now }
+        requires free { IsFree self.process }
+        ensures call { Exits self.process result.0 result.1 }
         ensures free { IsFree result.0 }
     {
         let (inside, mut state) = begin::<L>(self.walk, self.number);

@@ -17,41 +17,43 @@ use mq_model::journals::Journal;
 use std::alloc::{AllocError, Global};
 
 impl<L: Look<Guarded>> Arrived<L> {
-    ghost use Rattle.std.specs.Prelude.{◌≡◌, ◌↔◌, IsTrue, IsOk, IfOk, length, []};
+    ghost use Rattle.std.specs.Prelude.{◌≡◌, ◌↔◌, true, IsTrue, IsOk, IfOk, length, []};
     ghost use Rattle.std.specs.Option.{option_map};
     ghost use Rattle.mq_model.specs.Record.{record_at};
     ghost use Rattle.mq_state.specs.Buffers.{waiting_room};
     ghost use Rattle.mq_state.specs.Room.{NobodyCanCall, room_left};
-    ghost use Rattle.mq.specs.Calls.{Calls, bounds_of};
+    ghost use Rattle.mq.specs.Calls.{Calls, bounds_of, stored_in};
     ghost use Rattle.mq.specs.Readings.{record_of};
 
-    /// Checks the journal from its first entry on, as [`verdict`] does. It is legal. Leaves without a call.
+    /// Checks the stored journal from its first entry on, as [`verdict`] does. It is legal. Leaves without a call.
     pub fn check(self, alloc: Global, mq: &Mq<L>) -> (Process<L>, Result<(), u64>)
-        requires made { self.lock ≡ mq.now }
+        requires made { self.process.lock ≡ mq.now }
+        requires stored { stored_in self.process.lock.fixed ≡ true }
         ensures legal { IsOk result.1 }
-        ensures calls { Calls self result.0 [] }
+        ensures calls { Calls self.process result.0 [] }
         ensures wait { waiting_room result.0.left result.0.number ≡
-            waiting_room self.left self.number }
+            waiting_room self.process.left self.process.number }
     {
         let (inside, state) = begin::<L>(self.walk, self.number);
         let checked = verdict(alloc, state.books.journal());
         (process_of(depart(mq, inside, state), self.waits), checked)
     }
 
-    /// The entry of the journal at a place, or `None` at its length and beyond. Leaves without a call.
+    /// The entry of the stored journal at a place, or `None` at its length and beyond. Leaves without a call.
     pub fn entry(self, mq: &Mq<L>, place: u64) -> (Process<L>, Option<Entry>)
-        requires made { self.lock ≡ mq.now }
+        requires made { self.process.lock ≡ mq.now }
+        requires stored { stored_in self.process.lock.fixed ≡ true }
         ensures entry { result.1 ≡ option_map (λ r. r.entry) (record_at result.0.left place) }
-        ensures calls { Calls self result.0 [] }
+        ensures calls { Calls self.process result.0 [] }
         ensures wait { waiting_room result.0.left result.0.number ≡
-            waiting_room self.left self.number }
+            waiting_room self.process.left self.process.number }
     {
         let (inside, state) = begin::<L>(self.walk, self.number);
         let entry = state.books.journal().entry(place);
         (process_of(depart(mq, inside, state), self.waits), entry)
     }
 
-    /// The entry at a place with its payload, or `None` at the length of the journal and beyond. Leaves without a call. The error is
+    /// The entry of the stored journal at a place with its payload, or `None` at the length of the journal and beyond. Leaves without a call. The error is
     /// that memory for the payload was refused.
     pub fn record(
         self,
@@ -59,12 +61,13 @@ impl<L: Look<Guarded>> Arrived<L> {
         mq: &Mq<L>,
         place: u64,
     ) -> (Process<L>, Result<Option<(Entry, Vec<u8>)>, AllocError>)
-        requires made { self.lock ≡ mq.now }
+        requires made { self.process.lock ≡ mq.now }
+        requires stored { stored_in self.process.lock.fixed ≡ true }
         ensures record { IfOk result.1 (λ read. option_map record_of read ≡
             record_at result.0.left place) }
-        ensures calls { Calls self result.0 [] }
+        ensures calls { Calls self.process result.0 [] }
         ensures wait { waiting_room result.0.left result.0.number ≡
-            waiting_room self.left self.number }
+            waiting_room self.process.left self.process.number }
     {
         let (inside, state) = begin::<L>(self.walk, self.number);
         let read = record_at(alloc, state.books.journal(), place);
@@ -73,11 +76,11 @@ impl<L: Look<Guarded>> Arrived<L> {
 
     /// For how many more entries and payload bytes the journal has room, as [`Process::room`].
     pub fn room(self, mq: &Mq<L>) -> (Process<L>, Option<Bounds>)
-        requires made { self.lock ≡ mq.now }
-        ensures room { result.1 ≡ room_left (bounds_of self) result.0.left }
-        ensures calls { Calls self result.0 [] }
+        requires made { self.process.lock ≡ mq.now }
+        ensures room { result.1 ≡ room_left (bounds_of self.process) result.0.left }
+        ensures calls { Calls self.process result.0 [] }
         ensures wait { waiting_room result.0.left result.0.number ≡
-            waiting_room self.left self.number }
+            waiting_room self.process.left self.process.number }
     {
         let (inside, state) = begin::<L>(self.walk, self.number);
         let room = state.books.room();
@@ -86,25 +89,25 @@ impl<L: Look<Guarded>> Arrived<L> {
 
     /// How many entries the journal has, as [`Process::journal_len`].
     pub fn journal_len(self, mq: &Mq<L>) -> (Process<L>, u64)
-        requires made { self.lock ≡ mq.now }
+        requires made { self.process.lock ≡ mq.now }
         ensures count { result.1 ≡ length result.0.left }
-        ensures calls { Calls self result.0 [] }
+        ensures calls { Calls self.process result.0 [] }
         ensures wait { waiting_room result.0.left result.0.number ≡
-            waiting_room self.left self.number }
+            waiting_room self.process.left self.process.number }
     {
         let (inside, state) = begin::<L>(self.walk, self.number);
-        let count = state.books.journal().len();
+        let count = state.books.journal_len();
         (process_of(depart(mq, inside, state), self.waits), count)
     }
 
     /// Whether nobody can make a call any more, as [`Process::nobody_can_call`].
     pub fn nobody_can_call(self, mq: &Mq<L>) -> (Process<L>, bool)
-        requires made { self.lock ≡ mq.now }
+        requires made { self.process.lock ≡ mq.now }
         ensures nobody { IsTrue result.1 ↔ NobodyCanCall
-            (bounds_of self) result.0.left self.lock.count }
-        ensures calls { Calls self result.0 [] }
+            (bounds_of self.process) result.0.left self.process.lock.count }
+        ensures calls { Calls self.process result.0 [] }
         ensures wait { waiting_room result.0.left result.0.number ≡
-            waiting_room self.left self.number }
+            waiting_room self.process.left self.process.number }
     {
         let (inside, state) = begin::<L>(self.walk, self.number);
         let nobody = state.books.nobody_can_call();

@@ -1,5 +1,5 @@
 //! The calls: each makes room, decides its reply, and appends its entry, which the tables note.
-ghost use Rattle.std.specs.Prelude.{◌≡◌, ◌<◌, ◌≤◌, ◌+◌, ◌^◌, IfOk, OnOk, OnErr, Err, IsTrue, Some, None, true, false, ℕ, length, [], ◌∷◌, vec_len, vec_capacity};
+ghost use Rattle.std.specs.Prelude.{◌≡◌, ◌<◌, ◌≤◌, ◌+◌, ◌^◌, IfOk, OnOk, OnErr, Err, IsTrue, Some, None, true, false, ℕ, length, [], ◌∷◌, vec_len, vec_capacity, slice_index_or};
 ghost use Rattle.mq_model.specs.Names.{creates};
 ghost use Rattle.mq_model.specs.Legality.{Appends, reply_to, may_call, is_payload, payload_of, IsLegalNext};
 ghost use Rattle.std.specs.Option.{option_map};
@@ -12,6 +12,7 @@ ghost use Rattle.mq_model.specs.Record.{payload_bytes};
 ghost use Rattle.mq_model.specs.Bounds.{open_waits, exceeds, entries_needed, bytes_needed};
 ghost use Rattle.mq_state.specs.Inboxes.{room_in};
 ghost use Rattle.mq_state.specs.Pool.{IsPooled};
+ghost use Rattle.mq_ledger.specs.Ledgers.{IsReadable};
 ghost use Rattle.mq_state.specs.Kept.{AreThoseOf, SaysSame, IsKeptBy, HasEntryRoom, MayCall, IsCalled, IsRoomRefused, SparesBytes};
 ghost use Rattle.mq_state.specs.Requests.{Brings};
 ghost use Rattle.mq_state.specs.Room.{ends_wait};
@@ -20,9 +21,9 @@ use crate::prefixes::Prefix;
 use crate::tables::facts::by_deadline;
 use crate::tables::{Tables, queue_of, waiting};
 use crate::{buffers, moves, notices, queues};
+use mq_ledger::ledger::Ledger;
 use mq_model::entries::{Call, Entry, Reply};
 use mq_model::faults::Fault;
-use mq_model::journals::Journal;
 use mq_model::{bounds, ladder, owners};
 use mq_slots::Slots;
 use std::alloc::{AllocError, Global};
@@ -62,7 +63,7 @@ fn entries_needed(call: Call) -> usize
 impl Tables {
     // With so many more entries and payload bytes, and the entries that end the open waits, there would be more than the bounds allow.
     #[inline(always)]
-    pub(super) fn exceeds(&self, journal: &Journal, entries: usize, bytes: usize) -> bool
+    pub(super) fn exceeds(&self, journal: &Ledger, entries: usize, bytes: usize) -> bool
         requires kept { IsKeptBy journal.now self.now }
         requires few { entries ≤ 2 }
         requires slice { bytes < 2 ^ 63 }
@@ -83,7 +84,7 @@ impl Tables {
     #[inline(always)]
     fn make_room(
         &self,
-        journal: &mut Journal,
+        journal: &mut Ledger,
         entries: usize,
         most: usize,
         bytes: usize,
@@ -103,6 +104,7 @@ impl Tables {
         ensures no_less { journal.old.byte_room ≤ journal.new.byte_room }
         ensures enough { bytes ≤ journal.old.byte_room →
             journal.new.byte_room ≡ journal.old.byte_room }
+        ensures stored { journal.new.stored ≡ journal.old.stored }
     {
         if self.exceeds(journal, entries, most) {
             return Err(Fault::JournalFull);
@@ -132,6 +134,7 @@ impl Tables {
         q: u64,
         fresh: Option<Slots>,
     )
+        requires readable { IsReadable journal.now }
         requires queue { q ≡ entry_queue journal.now.records entry.process entry.call payload.now }
         requires tables { AreThoseOf journal.now.records self.old }
         requires next { IsLegalNext journal.now.records
@@ -168,6 +171,7 @@ impl Tables {
         entry: Entry,
         payload: &[u8],
     ) -> Result<(), AllocError>
+        requires readable { IsReadable journal.now }
         requires tables { AreThoseOf journal.now.records self.old }
         requires next { IsLegalNext journal.now.records
             (record { entry = entry; payload = payload.now }) }
@@ -190,7 +194,7 @@ impl Tables {
     #[inline(always)]
     fn append(
         &mut self,
-        journal: &mut Journal,
+        journal: &mut Ledger,
         entry: Entry,
         payload: &[u8],
         q: u64,
@@ -216,16 +220,17 @@ impl Tables {
         ensures pool { IsPooled None self.new }
         ensures n { self.new.n ≡ self.old.n }
         ensures bounds { self.new.bounds ≡ self.old.bounds }
+        ensures stored { journal.new.stored ≡ journal.old.stored }
     {
         self.note_next(&Prefix::whole(journal), entry, payload, q, fresh);
-        journal.push(entry, payload);
+        journal.push(entry, payload, q);
     }
 
     // Appends the entry of a call on queue q that was given these bytes.
     #[inline(always)]
     fn record(
         &mut self,
-        journal: &mut Journal,
+        journal: &mut Ledger,
         entry: Entry,
         given: &[u8],
         q: u64,
@@ -256,15 +261,33 @@ impl Tables {
         ensures pool { IsPooled None self.new }
         ensures n { self.new.n ≡ self.old.n }
         ensures bounds { self.new.bounds ≡ self.old.bounds }
+        ensures stored { journal.new.stored ≡ journal.old.stored }
     {
         let payload = payload_of(entry.call, entry.reply, given);
         self.append(journal, entry, payload, q, fresh);
+        if moves::frees(entry) {
+            self.forget(journal, q);
+        }
+    }
+
+    // Forgets what is lost with queue q, if it exists no longer.
+    #[inline(never)]
+    fn forget(&self, journal: &mut Ledger, q: u64)
+        requires { IsKeptBy journal.old self.now }
+        ensures records { journal.new.records ≡ journal.old.records }
+        ensures kept { IsKeptBy journal.new self.now }
+        ensures byte_room { journal.new.byte_room ≡ journal.old.byte_room }
+        ensures stored { journal.new.stored ≡ journal.old.stored }
+    {
+        if let None = queues::find(&self.queues, q) {
+            journal.forget(q);
+        }
     }
 
     /// Makes a call of process p, which is given a name, the bytes of its message or none, and the buffer that a receive fills.
     pub fn make(
         &mut self,
-        journal: &mut Journal,
+        journal: &mut Ledger,
         p: u32,
         call: Call,
         given: &[u8],
@@ -308,7 +331,7 @@ impl Tables {
     #[inline(always)]
     fn settle(
         &mut self,
-        journal: &mut Journal,
+        journal: &mut Ledger,
         p: u32,
         call: Call,
         reply: Reply,
@@ -346,7 +369,7 @@ impl Tables {
 
     /// A send of a message (`mq_send`). Most are queued and notify nobody: these the compiler knows apart from the others.
     #[inline(always)]
-    pub fn send(&mut self, journal: &mut Journal, p: u32, d: u32, bytes: &[u8], prio: u32) -> Reply
+    pub fn send(&mut self, journal: &mut Ledger, p: u32, d: u32, bytes: &[u8], prio: u32) -> Reply
         requires { MayCall journal.old self.old p }
         ensures called { IsCalled journal.old journal.new self.old self.new p
             (Call.MqSend d prio (length bytes.now)) bytes.now result }
@@ -368,14 +391,7 @@ impl Tables {
 
     // Between a send and `send_apart`, so that there is no place for the reply of that where it is not called.
     #[inline(always)]
-    fn other_send(
-        &mut self,
-        journal: &mut Journal,
-        p: u32,
-        d: u32,
-        bytes: &[u8],
-        prio: u32,
-    ) -> Reply
+    fn other_send(&mut self, journal: &mut Ledger, p: u32, d: u32, bytes: &[u8], prio: u32) -> Reply
         requires { MayCall journal.old self.old p }
         ensures called { IsCalled journal.old journal.new self.old self.new p
             (Call.MqSend d prio (length bytes.now)) bytes.now result }
@@ -386,14 +402,7 @@ impl Tables {
 
     // Any send without a deadline: where its call is built the usual send has no place for it.
     #[inline(never)]
-    fn send_apart(
-        &mut self,
-        journal: &mut Journal,
-        p: u32,
-        d: u32,
-        bytes: &[u8],
-        prio: u32,
-    ) -> Reply
+    fn send_apart(&mut self, journal: &mut Ledger, p: u32, d: u32, bytes: &[u8], prio: u32) -> Reply
         requires { MayCall journal.old self.old p }
         ensures called { IsCalled journal.old journal.new self.old self.new p
             (Call.MqSend d prio (length bytes.now)) bytes.now result }
@@ -405,7 +414,7 @@ impl Tables {
 
     /// A receive (`mq_receive`). Most get a message, admit none and notify nobody: these the compiler knows apart from the others.
     #[inline(always)]
-    pub fn receive(&mut self, journal: &mut Journal, p: u32, d: u32, buf: &mut [u8]) -> Reply
+    pub fn receive(&mut self, journal: &mut Ledger, p: u32, d: u32, buf: &mut [u8]) -> Reply
         requires { MayCall journal.old self.old p }
         ensures called { IsCalled journal.old journal.new self.old self.new p
             (Call.MqReceive d (length buf.old)) [] result }
@@ -435,7 +444,7 @@ impl Tables {
 
     // Between a receive and `receive_apart`, in the same way.
     #[inline(always)]
-    fn other_receive(&mut self, journal: &mut Journal, p: u32, d: u32, buf: &mut [u8]) -> Reply
+    fn other_receive(&mut self, journal: &mut Ledger, p: u32, d: u32, buf: &mut [u8]) -> Reply
         requires { MayCall journal.old self.old p }
         ensures called { IsCalled journal.old journal.new self.old self.new p
             (Call.MqReceive d (length buf.old)) [] result }
@@ -446,7 +455,7 @@ impl Tables {
 
     // Any receive without a deadline.
     #[inline(never)]
-    fn receive_apart(&mut self, journal: &mut Journal, p: u32, d: u32, buf: &mut [u8]) -> Reply
+    fn receive_apart(&mut self, journal: &mut Ledger, p: u32, d: u32, buf: &mut [u8]) -> Reply
         requires { MayCall journal.old self.old p }
         ensures called { IsCalled journal.old journal.new self.old self.new p
             (Call.MqReceive d (length buf.old)) [] result }
@@ -530,6 +539,16 @@ impl Tables {
         }
     }
 
+    /// The call in which process p waits, if it does.
+    pub fn waiting_call(&self, p: u32) -> Call
+        ensures { result ≡ slice_index_or self.now.calls.items p Call.Collect }
+    {
+        if p as usize >= self.calls.len() {
+            return Call::Collect;
+        }
+        self.calls[p as usize]
+    }
+
     /// The lowest descriptor that process p holds.
     pub fn lowest_open(&self, p: u32) -> Option<u32>
         ensures { result ≡ lowest_held_in self.now.owners.items p }
@@ -538,7 +557,7 @@ impl Tables {
     }
 
     /// The end of the open wait of process p, by a collect or a withdrawal that it may make now.
-    pub fn end_wait(&mut self, journal: &mut Journal, p: u32, call: Call)
+    pub fn end_wait(&mut self, journal: &mut Ledger, p: u32, call: Call)
         requires kept { IsKeptBy journal.old self.old }
         requires pool { IsPooled None self.old }
         requires process { (1 ≤ p) × (p ≤ self.old.n) }
@@ -550,6 +569,7 @@ impl Tables {
         ensures pool { IsPooled None self.new }
         ensures n { self.new.n ≡ self.old.n }
         ensures bounds { self.new.bounds ≡ self.old.bounds }
+        ensures stored { journal.new.stored ≡ journal.old.stored }
     {
         let past = Prefix::whole(journal);
         let entry = Entry {

@@ -7,6 +7,7 @@ ghost use Rattle.mq_model.specs.Record.{Past};
 ghost use Rattle.mq_model.specs.Messages.{is_in, present, best};
 ghost use Rattle.mq_model.specs.Notices.{registered};
 ghost use Rattle.mq_model.specs.Legality.{Legal, may_call, reply_to, reply_to_send, reply_to_receive};
+ghost use Rattle.mq_ledger.specs.Ledgers.{IsReadable};
 ghost use Rattle.mq_state.specs.Kept.{Mirrors, AreThoseOf};
 ghost use Rattle.mq_state.specs.Queues.{waiting_in};
 ghost use Rattle.mq_state.specs.WaitBits.{KnowWaits};
@@ -69,6 +70,8 @@ impl Tables {
 
     // The queue that a name is bound to.
     pub(super) fn bound(&self, journal: &Prefix<'_>, name: &[u8]) -> Option<u64>
+        requires legal { Legal journal.now.records }
+        requires readable { IsReadable journal.now }
         requires mirror { Mirrors journal.now self.now }
         ensures { result ≡ bound_queue journal.now.records name.now }
     {
@@ -154,7 +157,8 @@ impl Tables {
 
     // The reply to a call of process p without its deadline, a name being that of an open or an unlink.
     pub(super) fn plain_reply(&self, journal: &Prefix<'_>, p: u32, call: Call, name: &[u8]) -> Reply
-        requires { AreThoseOf journal.now.records self.now }
+        requires readable { IsReadable journal.now }
+        requires tables { AreThoseOf journal.now.records self.now }
         ensures { result ≡ reply_to journal.now.records p (without_deadline call) name.now }
     {
         match call {
@@ -205,7 +209,8 @@ impl Tables {
 
     // The reply to a call of process p, a name being that of an open or an unlink.
     pub(crate) fn reply_to(&self, journal: &Prefix<'_>, p: u32, call: Call, name: &[u8]) -> Reply
-        requires { AreThoseOf journal.now.records self.now }
+        requires readable { IsReadable journal.now }
+        requires tables { AreThoseOf journal.now.records self.now }
         ensures { result ≡ reply_to journal.now.records p call name.now }
     {
         by_deadline(call, self.plain_reply(journal, p, call, name))

@@ -4,13 +4,13 @@ ghost use Rattle.mq_state.specs.Kept.{IsKeptBy};
 ghost use Rattle.mq_state.specs.Room.{NobodyCanCall, can_call, is_full, room_left};
 
 use crate::tables::Tables;
+use mq_ledger::ledger::Ledger;
 use mq_model::bounds::Bounds;
-use mq_model::journals::Journal;
 use mq_model::owners;
 
 impl Tables {
     // Whether process p can make some call, now or at some moment, where the journal is full or is not.
-    fn can_call(&self, journal: &Journal, p: u32, full: bool) -> bool
+    fn can_call(&self, journal: &Ledger, p: u32, full: bool) -> bool
         requires kept { IsKeptBy journal.now self.now }
         requires full { full ≡ is_full self.now.bounds journal.now.records }
         ensures { result ≡ can_call self.now.bounds journal.now.records p }
@@ -22,7 +22,7 @@ impl Tables {
     }
 
     /// None of the processes can make any call, and so none ever can.
-    pub fn nobody_can_call(&self, journal: &Journal) -> bool
+    pub fn nobody_can_call(&self, journal: &Ledger) -> bool
         requires kept { IsKeptBy journal.now self.now }
         ensures { IsTrue result ↔ NobodyCanCall self.now.bounds journal.now.records self.now.n }
     {
@@ -36,7 +36,7 @@ impl Tables {
     }
 
     /// For how many more entries and payload bytes the journal has room, where it has bounds.
-    pub fn room(&self, journal: &Journal) -> Option<Bounds>
+    pub fn room(&self, journal: &Ledger) -> Option<Bounds>
         requires kept { IsKeptBy journal.now self.now }
         ensures { result ≡ room_left self.now.bounds journal.now.records }
     {

@@ -58,6 +58,7 @@ fn finish_alone<L: Look<Guarded>, A: Abort>(
     requires empty { room.items ≡ [] }
 {
     room.push(process).ok().expect(rt, "memory");
+    assert!(rt; mq.is_stored(), "the journal is stored");
     mq.finish(room).ok().expect(rt, "the one process").len()
 }
 

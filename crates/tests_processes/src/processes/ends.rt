@@ -19,6 +19,7 @@ use std::time::Clock;
 fn finish_empty<L: Look<Guarded>, A: Abort>(rt: &A, alloc: Global, mq: Mq<L>) -> Mq<L>
     ensures { result ≡ mq }
 {
+    assert!(rt; mq.is_stored(), "the journal is stored");
     let Err(Missing { whole, parts }) = mq.finish(Vec::new(alloc)) else {
         panic!(rt; "all handed back")
     };
@@ -38,6 +39,7 @@ fn finish_early<L: Look<Guarded>, A: Abort>(
     ensures { (result.0 ≡ mq) × (result.1.lock ≡ mq) × (result.2.items ≡ []) }
 {
     processes.push(one).ok().expect(rt, "memory");
+    assert!(rt; mq.is_stored(), "the journal is stored");
     let Err(Missing { whole, mut parts }) = mq.finish(processes) else {
         panic!(rt; "all handed back")
     };

@@ -31,8 +31,8 @@ const OPEN: Call = Call::MqOpen {
 
 // The process that has tried to open a queue, and whether memory was refused.
 fn opens<L: Look<Guarded>, A: Abort>(rt: &A, mq: &Mq<L>, arrived: Arrived<L>) -> (Process<L>, bool)
-    requires made { arrived.lock ≡ mq.now }
-    requires free { IsFree arrived }
+    requires made { arrived.process.lock ≡ mq.now }
+    requires free { IsFree arrived.process }
     ensures { (result.0.lock ≡ mq.now) × IsFree result.0 }
 {
     let name = Name::read(b"/q").ok().expect(rt, "a name");
@@ -42,8 +42,8 @@ fn opens<L: Look<Guarded>, A: Abort>(rt: &A, mq: &Mq<L>, arrived: Arrived<L>) ->
 
 // The process that has opened a queue. A growth may be refused from outside.
 fn opened<L: Look<Guarded>, R: Abort + Print>(rt: &R, mq: &Mq<L>, arrived: Arrived<L>) -> Process<L>
-    requires made { arrived.lock ≡ mq.now }
-    requires free { IsFree arrived }
+    requires made { arrived.process.lock ≡ mq.now }
+    requires free { IsFree arrived.process }
     ensures { (result.lock ≡ mq.now) × IsFree result }
 {
     let (process, is_refused) = opens(rt, mq, arrived);
@@ -61,7 +61,7 @@ fn in_by_the_fifth<L: Look<Guarded>, A: Abort>(
     process: Process<L>,
 ) -> Arrived<L>
     requires { process.lock ≡ mq.now }
-    ensures { result ≡ process }
+    ensures { result.process ≡ process }
 {
     let Err(process) = process.approach(mq).advance(mq, 4) else {
         panic!(rt; "inside by four steps")
@@ -75,7 +75,7 @@ fn in_by_the_fifth<L: Look<Guarded>, A: Abort>(
 // The process does not come in.
 fn kept_out<L: Look<Guarded>, A: Abort>(rt: &A, mq: &Mq<L>, process: Process<L>) -> Approach<L>
     requires { process.lock ≡ mq.now }
-    ensures { result ≡ process }
+    ensures { result.process ≡ process }
 {
     match process.approach(mq).advance(mq, 1_000) {
         Err(process) => process,
@@ -85,7 +85,7 @@ fn kept_out<L: Look<Guarded>, A: Abort>(rt: &A, mq: &Mq<L>, process: Process<L>)
 
 // The process comes in and leaves without a call.
 fn in_and_out<L: Look<Guarded>, A: Abort>(rt: &A, mq: &Mq<L>, process: Approach<L>) -> Process<L>
-    requires { process.lock ≡ mq.now }
+    requires { process.process.lock ≡ mq.now }
     ensures { result.lock ≡ mq.now }
 {
     let arrived = process
@@ -116,6 +116,7 @@ fn read<L: Look<Guarded>, A: Abort>(
     requires { process.lock ≡ mq.now }
     ensures { result.0.lock ≡ mq.now }
 {
+    assert!(rt; mq.is_stored(), "the journal is stored");
     inside(rt, mq, process).entry(mq, place)
 }
 
@@ -123,6 +124,7 @@ fn read<L: Look<Guarded>, A: Abort>(
 fn readings<L: Look<Guarded>, R: Abort + Print>(rt: &R, alloc: Global) -> Readings {
     let Pair { mq, one, two: _ } = make_pair::<L, R>(rt, alloc);
     let one = opened(rt, &mq, inside(rt, &mq, one));
+    assert!(rt; mq.is_stored(), "the journal is stored");
     let (one, checked) = inside(rt, &mq, one).check(alloc, &mq);
     let (one, first) = read(rt, &mq, one, 0);
     let (_, second) = read(rt, &mq, one, 1);
@@ -134,7 +136,7 @@ type Readings = (Result<(), u64>, Option<Entry>, Option<Entry>);
 // The process inside, where nobody else is.
 fn inside<L: Look<Guarded>, A: Abort>(rt: &A, mq: &Mq<L>, process: Process<L>) -> Arrived<L>
     requires { process.lock ≡ mq.now }
-    ensures { result ≡ process }
+    ensures { result.process ≡ process }
 {
     process
         .approach(mq)

@@ -73,6 +73,7 @@ fn waits_end_without_memory(rt: HostRuntime) {
     refuse_all(&rt, rt.alloc());
     expect_steps(&rt, &mut trial, &WITHOUT_MEMORY);
     let Trial { books } = trial;
+    assert!(rt; books.is_stored(), "the journal is stored");
     let journal = books.into_journal();
     same(&rt, journal.len(), 11, "the length");
     same(&rt, check_history(&journal), Ok(()), "the verdict");

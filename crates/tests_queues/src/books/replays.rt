@@ -43,7 +43,7 @@ const NONBLOCKING: Status = Status {
 };
 
 // One entry each, of every call and of most replies.
-static CALLS: [Step; 25] = [
+pub(super) static CALLS: [Step; 25] = [
     (1, Open(b"/q", CREATE, ONE), CREATED),
     (2, Open(b"/q", OPEN, None), OPENED),
     (3, Open(b"/r", CREATE, ONE), CREATED),
@@ -107,6 +107,7 @@ fn journal_of<A: Abort + Print>(rt: &A, alloc: Global) -> Journal {
     let mut trial = make_trial(rt, alloc);
     expect_steps(rt, &mut trial, &CALLS);
     let Trial { books } = trial;
+    assert!(rt; books.is_stored(), "the journal is stored");
     books.into_journal()
 }
 

@@ -383,6 +383,7 @@ fn timed_calls_of_two_processes(rt: HostRuntime) -> Result<(), Fail> {
     let alloc = rt.alloc();
     let mut row = make_row(&rt, alloc, 2)?;
     expect(&rt, &mut row, &DEADLINES);
+    assert!(rt; row.books.is_stored(), "the journal is stored");
     let other = withdrawn_too_early(&rt, alloc, row.books.journal()).expect(&rt, "memory");
     assert_eq!(rt; check_history(&other), Err(6));
     Ok(())
@@ -458,7 +459,8 @@ fn sixty_four_queues_of_five_processes(rt: HostRuntime) -> Result<(), Fail> {
     for step in LIMITS {
         expect_step(&rt, &mut row, step);
     }
-    assert_eq!(rt; row.books.journal().len(), 73);
+    assert_eq!(rt; row.books.journal_len(), 73);
+    assert!(rt; row.books.is_stored(), "the journal is stored");
     assert_eq!(rt; check_history(row.books.journal()), Ok(()));
     Ok(())
 }

@@ -6,11 +6,11 @@ use Rattle.mq_state.proofs.buffers.put_message.Goals as goal
 pub returns-in-Some : goal.returns-in-Some
 unfolding with_front
 returns-in-Some c =
-    let e : message_at c.args.journal.now.records c.args.place ≡ c.in-Some.message.now = ap (λ (o : Option (List ℕ)). unwrap_or o []) (sym c.in-Some.ensures) in
+    let e : message_at c.args.journal.now.records c.args.place ≡ c.in-Some.message.now = ap (λ (o : Option (List ℕ)). unwrap_or o []) (sym (c.in-Some.ensures c.requires.readable)) in
     rw (e, c.copy_from_slice.ensures.after) refl
 
 pub returns-in_default : goal.returns-in_default
 unfolding with_front
 returns-in_default c =
-    let e : message_at c.args.journal.now.records c.args.place ≡ [] = ap (λ (o : Option (List ℕ)). unwrap_or o []) (sym c.in_default.ensures) in
+    let e : message_at c.args.journal.now.records c.args.place ≡ [] = ap (λ (o : Option (List ℕ)). unwrap_or o []) (sym (c.in_default.ensures c.requires.readable)) in
     rw e refl

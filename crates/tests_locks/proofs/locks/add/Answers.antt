@@ -17,4 +17,4 @@ returns-in-Ok-clause-added g c =
     let before : List (ℕ × ℕ) = c.enter-inside.result.1.items.items in
     let more : reverse c.push.new.self.items ≡ x ∷ reverse before = ap reverse c.in-Ok.ensures.items ∙ reverse-append before (x ∷ []) in
     let own : x ∷ reverse before ≡ ((g.L.Lock.ticket c.args.seat).number, c.args.value) ∷ reverse before = ap (λ (n : ℕ). (n, c.args.value) ∷ reverse before) c.number-number.ensures in
-    grows_one (λ z. z.0) _ _ _ _ _ c.enter-inside.ensures.grows (ap (λ (t : Ticket (ℕ × ℕ)). t.left) c.leave.ensures ∙ more ∙ own) refl
+    grows_one (λ z. z.0) _ _ _ _ _ c.enter-inside.ensures.grows (ap (λ (t : Ticket (ℕ × ℕ)). t.left) c.leave.ensures.ticket ∙ more ∙ own) refl

@@ -7,17 +7,15 @@ use denote.Exit.{Exit, unchanged, leaves, hidden, under}
 use denote.Memory.{lone}
 use denote.RattleType.{RattleType}
 use denote.RawPtr.{Ptr, block_ptr, null_ptr, lies_at}
-use denote.Struct.Struct.{exits_of}
-use denote.Struct.Owning.{shape, fields, to}
-use denote.Param.Send.{IsSend, AllSend, Quiet, part_keyless, owning_send, struct_send, sendable}
+use denote.Struct.Owning.{to}
+use denote.Param.Send.{IsSend, Quiet, part_keyless}
 use Rattle.std.specs.Prelude.{Option, Some, None}
 use Rattle.std.specs.Global.{Global}
 use Rattle.std.proofs.Crossing as heap
-use Rattle.std.proofs.alloc.Global.TheSendSync as handle
 use Rattle.c_handles.specs.Owning.{seal_owns}
 use Rattle.c_handles.specs.contracts.member.Member as Member
 use Rattle.c_handles.proofs.member.Member.TheSendSync.{the_send as member}
-use Rattle.c_handles.specs.contracts.seal.Seal.{the_row, the_type}
+use Rattle.c_handles.specs.contracts.seal.Seal.{the_row}
 
 quiet : {D X : Type 0} (to : D → X) (e : Exit X) → Quiet e → Quiet (hidden (under to e))
 quiet to unchanged q = λ x w. tt

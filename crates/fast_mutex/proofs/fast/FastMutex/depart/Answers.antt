@@ -11,7 +11,7 @@ set_marks-seat-requires-clause-lock g c = let fixed = ap (λ m. m.0.fixed) c.put
 
 pub set_marks-seat-requires-clause-ready : goal.set_marks-seat-requires-clause-ready
 set_marks-seat-requires-clause-ready g c = let w = c.args.inside in
-    ready_from _ _ _ _ _ w.at w.number _ _ _ _ c.args.state (c.put_in.ensures.state ∙ ap (λ m. (m.0, (0, Some c.args.state) ∷ [])) w.alone) w.is_in c.requires.grows (c.requires.fixed ∙ sym (ap (λ (l : LockId). l.fixed) c.requires.lock)) w.unstored
+    ready_from _ _ _ _ _ w.at w.number _ _ _ _ _ c.args.state (c.put_in.ensures.state ∙ ap (λ m. (m.0, (0, Some c.args.state) ∷ [])) w.alone) w.is_in c.requires.grows (c.requires.fixed ∙ sym (ap (λ (l : LockId). l.fixed) c.requires.lock)) w.unstored
 
 pub set_marks-seat-requires-clause-before : goal.set_marks-seat-requires-clause-before
 set_marks-seat-requires-clause-before g c = let found = ap (λ m. m.0.found) c.put_in.ensures.state in c.args.inside.known ∙ ap (λ l. answer_bits (λ p. g.S.Logged.is_answered p l) 1 32) (sym found)
@@ -32,5 +32,5 @@ store-requires-2 g c = let w = c.args.inside in
     let held = planned_is _ c.set_marks-seat.result.me _ _ (c.put_in.ensures.state ∙ ap (λ m. (m.0, (0, Some c.args.state) ∷ [])) w.alone) c.set_marks-seat.ensures.view in (
       c.store.ensures.0 ∙ (c.set_marks-seat.ensures.own.0 ∙ c.put_in.ensures.own.0 ∙ ap (λ (l : LockId). l.table) c.requires.lock),
       omega (arith, c.args.self.now.shape, c.args.inside.range),
-      lowers_leaving_at _ _ _ _ _ _ _ _ _ _ _ _ _ (left_is g.S.Logged.items _ _ _ _ _ _ _ _ c.args.state held c.store.ensures.2.goes),
+      lowers_leaving_at _ _ _ _ _ _ _ _ _ _ _ _ _ _ (left_is g.S.Logged.items _ _ _ _ _ _ _ _ _ c.args.state held c.store.ensures.2.goes),
     )

@@ -8,7 +8,7 @@ pub load-found-requires : goal.load-found-requires
 load-found-requires g c = let s = c.args.seat.now in
     let same : s.seat.me.0.fixed.0 ≡ c.args.self.now.table.shared.key.count = ap (λ (l : LockId). l.count) c.requires in
     let word : c.args.self.now.count + 1 + s.number ≡ s.seat.me.0.fixed.0 + 1 + s.number = omega (arith, c.args.self.now.shape) in
-    (ap (λ (l : LockId). l.table) c.requires, omega (arith, c.args.self.now.shape, s.range), looks_at _ _ _ _ _ g.met.S.Logged.stays _ _ _ _ _ _ _ _ _ word s.alone)
+    (ap (λ (l : LockId). l.table) c.requires, omega (arith, c.args.self.now.shape, s.range), looks_at _ _ _ _ _ g.met.S.Logged.stays _ _ _ _ _ _ _ _ _ _ word s.alone)
 
 -- by an equation and not by a search, so that a look that gives anything else is refused at once
 pub returns-clause-ticket : goal.returns-clause-ticket

@@ -69,3 +69,6 @@ returns-after-loop-old-clause-shows g c =
     let k : ℕ = c.loop-old.process in
     let same : c.args.seat.me.0.fixed.0 ≡ c.args.self.now.table.shared.key.count = ap (λ (l : LockId). l.count) c.requires.lock in
     marking_all _ _ _ _ _ _ k (33 - k) _ c.loop-old.old c.loop-old.invariant.marking c.loop-old.invariant.before (c.loop-old-test.false ∙ c.loop-old.invariant.after) (omega (arith, c.args.self.now.shape))
+
+pub returns-after-loop-old-clause-few : goal.returns-after-loop-old-clause-few
+returns-after-loop-old-clause-few g c = omega (arith, c.loop-old.invariant.marking.few, c.loop-old.invariant.high)

@@ -1,5 +1,5 @@
-use Rattle.std.proofs.Common.{arith}
-use Rattle.mq.specs.Calls.{closes}
+use Rattle.std.proofs.Common.{arith, ap}
+use Rattle.mq.specs.Calls.{Entrant, closes}
 use Rattle.mq.proofs.Calling.{came-in, came-calls, came-in_turn, came-stops, same-number}
 use Rattle.mq.proofs.Closings.{own-closes, all-closes}
 use Rattle.mq.proofs.arrived.Arrived.exit.Goals as goal
@@ -9,7 +9,7 @@ depart-requires-clause-grows g c = grind (arith, all-closes, came-in)
 
 pub returns-clause-call : goal.returns-clause-call
 returns-clause-call g c =
-    let came = came-in c.begin-inside.ensures.came c.self.view_is c.requires.made in
+    let came = came-in c.begin-inside.ensures.came (ap (λ (e : Entrant). e.process) c.self.view_is) c.requires.made in
     let closing = c.close_all-done.ensures.closing in
     rw (c.process_of.ensures, c.depart.ensures.left) (record {
       found = c.begin-inside.result.1.books.records;

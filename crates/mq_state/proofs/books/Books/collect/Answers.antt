@@ -4,6 +4,7 @@ use Rattle.mq_state.specs.Kept.{IsKeptBy}
 use Rattle.mq_state.specs.declared.books.Shelf.{Shelf}
 use Rattle.mq_model.specs.Waits.{answered_by}
 use Rattle.mq_state.proofs.Collecting.{collect-fits}
+use Rattle.mq_state.proofs.Reachable.{collect-readable}
 use Rattle.mq_state.proofs.books.Books.collect.Goals as goal
 
 pub outcome-outcome-requires : goal.outcome-outcome-requires
@@ -15,4 +16,7 @@ outcome-outcome-requires c =
     let inside = subst (λ v. room_of (waiting_call v.records c.args.p) ≤ length c.args.buf.now) (sym c.self.view_is) c.requires.room in
     let room = subst (λ (s : Shelf). room_of (waiting_call s.journal.records c.args.p) ≤ length c.args.buf.now) same inside in
     let fits = collect-fits shelf.journal.records kept.tables.legal c.args.p c.in_ok-by.by (length c.args.buf.now) answered room in
-    subst (λ call. FitsOutcome shelf.journal.records call c.in_ok-by.by (length c.args.buf.now)) (sym c.waiting_call-call.ensures) fits
+    record {
+      readable = λ receives. collect-readable shelf.journal kept.readable kept.tables.legal c.args.p c.in_ok-by.by answered (rw c.waiting_call-call.ensures at receives);
+      room = subst (λ call. FitsOutcome shelf.journal.records call c.in_ok-by.by (length c.args.buf.now)) (sym c.waiting_call-call.ensures) fits;
+    }

@@ -1,11 +1,13 @@
-use Rattle.std.proofs.Common.{◌≡◌, ◌≤◌, length, arith, refl}
+use Rattle.std.proofs.Common.{◌≡◌, ◌≤◌, length, arith, refl, ◌∙◌}
 use Rattle.std.proofs.lemmas.List.Elements.{All-cons}
 use Rattle.mq_model.specs.Record.{Record}
 use Rattle.mq_model.specs.Owners.{waits_count}
 use Rattle.mq_model.specs.OwnersNoted.{noted}
 use Rattle.mq_model.proofs.LegalReplies.{legal_says}
 use Rattle.mq_state.proofs.WaitsNoted.{waits-noted}
-use Rattle.mq_state.proofs.Bounded.{room-keeps}
+use Rattle.mq_state.proofs.Reachable.{room-stays, goes-to}
+use Rattle.mq_laws.proofs.Needing.{enough-push}
+use Rattle.mq_ledger.specs.Ledgers.{CanRead}
 use Rattle.mq_state.proofs.Wholes.{those-of_whole}
 use Rattle.mq_state.proofs.tables.Tables.append.Goals as goal
 
@@ -19,6 +21,11 @@ push-requires-clause-entry_room c =
     let count = c.requires.kept.tables.mirror.owner_count in
     let room = waits-noted past c.args.self.now.owners.items c.requires.kept.tables.mirror.lines e.process e.call e.reply c.args.q c.args.journal.now.entry_room (legal_says past (record { entry = e; payload = c.args.payload.now }) c.requires.next) c.requires.next.turn (let le = c.requires.at_most in omega (arith, le, count)) c.requires.entries in
     omega (arith, room)
+
+pub push-requires-clause-queue : goal.push-requires-clause-queue
+push-requires-clause-queue c =
+    let e = c.args.entry in
+    goes-to c.args.journal.now.records e.process e.call e.reply c.args.payload.now c.args.q c.requires.queue c.requires.next
 
 pub returns-clause-kept : goal.returns-clause-kept
 returns-clause-kept c =
@@ -35,9 +42,11 @@ returns-clause-kept c =
       tables = rw c.push.ensures.records (rw c.whole.ensures at c.note_next.ensures.tables);
       processes = rw (c.push.ensures.records, c.note_next.ensures.n) (All-cons (λ (x : Record). x.entry.process ≤ before.n) r past c.requires.at_most c.requires.kept.processes);
       room = omega (arith, waits, room, pushed);
-      bounded = rw c.note_next.ensures.bounds (room-keeps before.bounds c.args.journal.now c.push.new.self r c.requires.kept.bounded c.push.ensures.records c.push.ensures.entry_room c.push.ensures.byte_room);
+      bounded = rw c.note_next.ensures.bounds (room-stays before.bounds c.args.journal.now c.push.new.self r c.requires.kept.stored c.requires.kept.bounded c.push.ensures.records c.push.ensures.entry_room c.push.ensures.byte_room);
       notices = λ k le.
           let has = c.requires.kept.notices k (let same = c.note_next.ensures.n in omega (arith, le, same)) in
           let kept = c.note_next.ensures.notice_room k in
           rw (c.note_next.ensures.bounds, c.push.ensures.records) (omega (arith, has, kept));
+      readable = rw c.push.ensures.records (enough-push past r (CanRead c.args.journal.now) (CanRead c.push.new.self) (c.requires.kept.tables.legal, c.requires.next) c.push.ensures.kept c.push.ensures.keeps c.requires.kept.readable);
+      stored = λ some. c.push.ensures.stored ∙ c.requires.kept.stored (λ none. some (c.note_next.ensures.bounds ∙ none));
     }

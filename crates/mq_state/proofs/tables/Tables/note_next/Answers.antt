@@ -15,6 +15,8 @@ use Rattle.mq_state.specs.QueueShown.{QueueShown}
 use Rattle.mq_state.specs.Queues.{noted_queues, registration_in, QueuesMirror}
 use Rattle.mq_state.specs.Tables.{TablesMirror, entry_queue, noted_values, with_fresh, notices_brought, HasNoticeRoom}
 use Rattle.mq_state.specs.WaitBits.{KnowWaits, moved_queue, waits_noted}
+use Rattle.mq_state.proofs.Calling.{calls-keep}
+use Rattle.mq_state.proofs.Reachable.{admitted-readable}
 use Rattle.mq_state.proofs.Arriving.{line-allows}
 use Rattle.mq_state.proofs.Moving.{rec, EntryOn, entry-on}
 use Rattle.mq_state.proofs.NoticeRoom.{notice-room-keeps, notice-room-waiting, room-to-notify}
@@ -108,6 +110,10 @@ returns-clause-tables c =
       };
       waits = rw (c.note_queues.ensures.same, c.note_process.ensures.owners) c.note_process.ensures.waits;
       known = known;
+      calls = rw same_n (rw (c.note_queues.ensures.same, c.note_process.ensures.calls, c.note_notices.ensures.same, c.moves_of-moves.ensures) (calls-keep past r before.n before.calls.items c.requires.tables.calls c.requires.at_most));
       notice_room = subst (λ (xs : List QueueShown). HasNoticeRoom xs made.inboxes.items) (sym lines) (notice-room-waiting (moved_queue before.owners.items e.process moves.wait q) made.owners.items made.queues.items made.inboxes.items notice_room);
     } in
     subst (AreThoseOf (r ∷ past)) (sym c.note_waiting.ensures.same) those
+
+pub moves_of-moves-requires : goal.moves_of-moves-requires
+moves_of-moves-requires c = admitted-readable c.args.journal.now c.requires.readable c.requires.tables.legal (record { entry = c.args.entry; payload = c.args.payload.now }) c.requires.next

@@ -3,7 +3,7 @@ use Rattle.std.proofs.lemmas.List.Elements.{All-same, All-map, All-weaker}
 use Rattle.fast_mutex.specs.Items.{Grows}
 use Rattle.mq.specs.Calls.{author}
 use Rattle.mq.proofs.Seats.{all-unmap}
-use Rattle.mq.proofs.system.Mq.finish.Goals as goal
+use Rattle.mq.proofs.system.Mq.retire.Goals as goal
 
 pub finish-requires : goal.finish-requires
 finish-requires g c =
@@ -12,8 +12,5 @@ finish-requires g c =
 
 pub returns-clause-grows : goal.returns-clause-grows
 returns-clause-grows g c =
-    All-same (λ t. Grows author t.number t.left c.into_journal.result.records []) _ _ (sym c.seats_of.ensures.items)
-    (All-map (λ t. Grows author t.number t.left c.into_journal.result.records []) g.L.Lock.ticket c.seats_of.result.items (rw c.into_journal.ensures.value c.in-Ok.ensures.grows))
-
-pub returns-clause-processes : goal.returns-clause-processes
-returns-clause-processes g c = grind (arith)
+    All-same (λ t. Grows author t.number t.left c.in-Ok.state.books.records []) _ _ (sym c.seats_of.ensures.items)
+    (All-map (λ t. Grows author t.number t.left c.in-Ok.state.books.records []) g.L.Lock.ticket c.seats_of.result.items c.in-Ok.ensures.grows)

@@ -1,0 +1,9 @@
+-- What is kept of an entry that later replies may need.
+use Rattle.std.specs.Prelude.{ℕ, List, Option}
+
+-- its place, the priority of the message that it sends, the queue with which it is lost, and its payload
+pub record Kept : Type 0 where
+  pub place : ℕ
+  pub prio : ℕ
+  pub home : Option ℕ
+  pub bytes : List ℕ

@@ -1,0 +1,38 @@
+//! The history variable: the list of all records, which contracts read and no code keeps.
+ghost use Rattle.std.specs.Prelude.{◌≡◌, List, [], ◌∷◌};
+ghost use Rattle.std.specs.Borrow.{ftrue};
+ghost use Rattle.mq_model.specs.Record.{Record};
+
+use mq_model::entries::Entry;
+use std::marker::{Model, PhantomData};
+
+/// The records made so far, the latest first. It has no bytes.
+#[derive(Drop)]
+pub struct History {
+    marker: PhantomData<u8>,
+    pub ghost past: { List Record },
+}
+
+impl Model for History {
+    ghost also_owns = { λ _. ftrue };
+}
+
+// It owns nothing.
+unsafe impl Send for History {}
+
+impl History {
+    /// The empty history.
+    pub fn new() -> History
+        ensures { result.past ≡ [] }
+    {
+        History {
+            marker: PhantomData,
+        }
+    }
+
+    /// Notes an entry with its payload after all others. Does nothing at run time.
+    #[inline(always)]
+    pub fn note(&mut self, _entry: &Entry, _payload: &[u8])
+        ensures { self.new.past ≡ record { entry = _entry.now; payload = _payload.now } ∷ self.old.past }
+    {}
+}

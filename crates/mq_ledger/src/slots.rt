@@ -1,0 +1,389 @@
+//! The slots of what is kept: each has what is kept of one entry, or is vacant.
+ghost use Rattle.std.specs.Prelude.{◌≡◌, ◌≢◌, ◌+◌, ◌-◌, ◌<◌, ◌≤◌, ◌∷◌, ◌↔◌, [], ℕ, Option, Some, None, IsTrue, IfSome, OnOk, IsOk, length, is_none, slice_index_or, slice_set, vec_len, vec_capacity};
+ghost use Rattle.mq_ledger.specs.Kept.{Kept};
+ghost use Rattle.mq_ledger.specs.Keeping.{AreTrue, places_of, vacant_in, HasMoreVacant, Forgets};
+ghost use Rattle.mq_ledger.specs.Seen.{HasPlace};
+ghost use Rattle.mq_laws.specs.Needed.{home_of};
+ghost use Rattle.mq_model.specs.Messages.{priority_given};
+ghost use Rattle.mq_model.specs.Record.{Record, Past};
+
+use crate::index::{Index, NOBODY};
+use std::alloc::{AllocError, Global};
+use std::marker::Model;
+use std::mem;
+
+/// The place of no entry.
+const NOWHERE: u64 = 18_446_744_073_709_551_615;
+
+/// A slot. It shows what it keeps, or nothing if it is vacant: then its buffer serves a later payload.
+#[derive(Debug, Drop)]
+pub struct Slot {
+    place: u64,
+    home: Option<u64>,
+    prio: u32,
+    bytes: Vec<u8>,
+}
+
+impl Model for Slot {
+    ghost use Rattle.std.specs.Prelude.{Option};
+    ghost use Rattle.mq_ledger.specs.Kept.{Kept};
+
+    ghost Value = { Option Kept };
+
+    ghost use Rattle.mq_ledger.specs.SlotModel.{kept_in};
+
+    ghost view = { kept_in };
+}
+
+impl Slot {
+    /// A slot that is vacant.
+    fn vacant(alloc: Global) -> Slot
+        ensures { result ≡ None }
+    {
+        Slot {
+            place: NOWHERE,
+            home: None,
+            prio: 0,
+            bytes: Vec::new(alloc),
+        }
+    }
+
+    /// Whether the slot is vacant.
+    #[inline(always)]
+    fn is_vacant(&self) -> bool
+        ensures { result ≡ is_none self.now }
+    {
+        self.place == NOWHERE
+    }
+
+    /// Whether the slot keeps the entry at a place.
+    #[inline(always)]
+    fn is_at(&self, place: u64) -> bool
+        ensures some { IsTrue result → (x : Kept) × (self.now ≡ Some x) × (x.place ≡ place) }
+        ensures none { (x : Kept) → self.now ≡ Some x → x.place ≡ place → IsTrue result }
+    {
+        self.place == place && place != NOWHERE
+    }
+
+    /// Whether what the slot keeps is lost with a queue.
+    fn is_lost_with(&self, queue: u64) -> bool
+        ensures { IsTrue result → (x : Kept) → self.now ≡ Some x → x.home ≡ Some queue }
+    {
+        self.home == Some(queue)
+    }
+
+    /// The place of the entry that the slot keeps.
+    #[inline(always)]
+    pub fn place(&self) -> u64
+        ensures { (x : Kept) → self.now ≡ Some x → result ≡ x.place }
+    {
+        self.place
+    }
+
+    /// The priority of the message that it sends.
+    #[inline(always)]
+    pub fn prio(&self) -> u32
+        ensures { (x : Kept) → self.now ≡ Some x → result ≡ x.prio }
+    {
+        self.prio
+    }
+
+    /// Its payload.
+    #[inline(always)]
+    pub fn bytes(&self) -> &[u8]
+        ensures { (x : Kept) → self.now ≡ Some x → result.now ≡ x.bytes }
+    {
+        &self.bytes
+    }
+
+    #[inline(always)]
+    fn vacate(&mut self)
+        ensures { self.new ≡ None }
+    {
+        self.place = NOWHERE;
+    }
+
+    // Keeps this of an entry. The payload goes into the next buffer, which becomes the slot's; the slot's own is the next one then.
+    #[inline(always)]
+    fn occupy(
+        &mut self,
+        place: u64,
+        prio: u32,
+        home: Option<u64>,
+        next: &mut Vec<u8>,
+        payload: &[u8],
+    )
+        requires place { place < NOWHERE }
+        requires empty { vec_len next.old ≡ 0 }
+        requires room { length payload.now ≤ vec_capacity next.old }
+        ensures kept { self.new ≡ Some (record {
+          place = place;
+          prio = prio;
+          home = home;
+          bytes = payload.now;
+        }) }
+        ensures empty { vec_len next.new ≡ 0 }
+        ensures none { payload.now ≡ [] → next.new ≡ next.old }
+    {
+        self.place = place;
+        self.prio = prio;
+        self.home = home;
+        fill(&mut self.bytes, next, payload);
+    }
+}
+
+// Puts a payload into the next buffer, and exchanges the two. Of no bytes the next buffer stays.
+#[inline(always)]
+fn fill(bytes: &mut Vec<u8>, next: &mut Vec<u8>, payload: &[u8])
+    requires empty { vec_len next.old ≡ 0 }
+    requires room { length payload.now ≤ vec_capacity next.old }
+    ensures bytes { bytes.new.items ≡ payload.now }
+    ensures empty { vec_len next.new ≡ 0 }
+    ensures none { payload.now ≡ [] → next.new ≡ next.old }
+{
+    if payload.is_empty() {
+        bytes.clear();
+        return;
+    }
+    let _ = next.extend_from_slice(payload);
+    mem::swap(bytes, next);
+    next.clear();
+}
+
+/// The slot of the entry at a place, if it is this one or the index leads to it.
+#[inline(always)]
+pub fn guess(slots: &[Slot], index: &Index, last: usize, place: u64) -> Option<usize>
+    ensures { IfSome result (λ key. (x : Kept) ×
+        (slice_index_or slots.now key None ≡ Some x) × (x.place ≡ place)) }
+{
+    if is_there(slots, last, place) {
+        return Some(last);
+    }
+    let mut key = index.first(place);
+    for _ in 0..STEPS {
+        if is_there(slots, key, place) {
+            return Some(key);
+        }
+        if key == NOBODY {
+            return None;
+        }
+        key = index.after(key);
+    }
+    None
+}
+
+// How many slots of a chain are looked at.
+const STEPS: usize = 64;
+
+// Whether a slot keeps the entry at a place.
+#[inline(always)]
+fn is_there(slots: &[Slot], key: usize, place: u64) -> bool
+    ensures some { IsTrue result → (x : Kept) ×
+        (slice_index_or slots.now key None ≡ Some x) × (x.place ≡ place) }
+    ensures none { (x : Kept) → slice_index_or slots.now key None ≡ Some x → x.place ≡ place →
+        IsTrue result }
+{
+    key < slots.len() && slots[key].is_at(place)
+}
+
+/// The slot of the entry at a place. If neither this one nor the index leads to it, all slots are looked through.
+#[inline(always)]
+pub fn find(slots: &[Slot], index: &Index, last: usize, place: u64) -> Option<usize>
+    ensures some { IfSome result (λ key. (x : Kept) ×
+        (slice_index_or slots.now key None ≡ Some x) × (x.place ≡ place)) }
+    ensures none { result ≡ None → (key : ℕ) (x : Kept) →
+        slice_index_or slots.now key None ≡ Some x → x.place ≢ place }
+{
+    match guess(slots, index, last, place) {
+        Some(key) => Some(key),
+        None => search(slots, place),
+    }
+}
+
+// The slot of the entry at a place, by a look at each.
+#[inline(never)]
+fn search(slots: &[Slot], place: u64) -> Option<usize>
+    ensures some { IfSome result (λ key. (x : Kept) ×
+        (slice_index_or slots.now key None ≡ Some x) × (x.place ≡ place)) }
+    ensures none { result ≡ None → (key : ℕ) (x : Kept) →
+        slice_index_or slots.now key None ≡ Some x → x.place ≢ place }
+{
+    for key in 0..slots.len() {
+        if is_there(slots, key, place) {
+            return Some(key);
+        }
+    }
+    None
+}
+
+// A vacant slot, perhaps this one.
+#[inline(always)]
+fn vacant_slot(slots: &[Slot], hint: usize) -> usize
+    requires { 0 < vacant_in slots.now }
+    ensures within { result < length slots.now }
+    ensures vacant { slice_index_or slots.now result None ≡ None }
+{
+    if hint < slots.len() && slots[hint].is_vacant() {
+        return hint;
+    }
+    first_vacant(slots)
+}
+
+// The first vacant slot.
+#[inline(never)]
+fn first_vacant(slots: &[Slot]) -> usize
+    requires { 0 < vacant_in slots.now }
+    ensures within { result < length slots.now }
+    ensures vacant { slice_index_or slots.now result None ≡ None }
+{
+    for key in 0..slots.len() {
+        if slots[key].is_vacant() {
+            return key;
+        }
+    }
+    unreachable!()
+}
+
+/// Keeps this of the entry at a place in a vacant slot, of which there are some.
+#[inline(always)]
+pub fn put(
+    slots: &mut Vec<Slot>,
+    index: &mut Index,
+    place: u64,
+    prio: u32,
+    home: Option<u64>,
+    next: &mut Vec<u8>,
+    payload: &[u8],
+)
+    requires place { place < NOWHERE }
+    requires vacant { 0 < vacant_in slots.old.items }
+    requires empty { vec_len next.old ≡ 0 }
+    requires room { length payload.now ≤ vec_capacity next.old }
+    ensures vacant { vacant_in slots.new.items + 1 ≡ vacant_in slots.old.items }
+    ensures has { HasPlace (places_of slots.new.items) place }
+    ensures keeps { (k : ℕ) → HasPlace (places_of slots.old.items) k →
+        HasPlace (places_of slots.new.items) k }
+    ensures are_true { (past : Past) (r : Record) → place ≡ length past →
+        prio ≡ priority_given r.entry.call → home ≡ home_of past r r.entry.reply →
+        payload.now ≡ r.payload → AreTrue past slots.old.items →
+        AreTrue (r ∷ past) slots.new.items }
+    ensures empty { vec_len next.new ≡ 0 }
+    ensures none { payload.now ≡ [] → next.new ≡ next.old }
+{
+    let key = vacant_slot(slots, index.vacant());
+    slots[key].occupy(place, prio, home, next, payload);
+    index.occupy(place, key);
+}
+
+/// Vacates a slot.
+#[inline(always)]
+pub fn vacate(slots: &mut Vec<Slot>, index: &mut Index, key: usize)
+    requires { key < length slots.old.items }
+    ensures { slots.new.items ≡ slice_set slots.old.items key None }
+{
+    let slot = &mut slots[key];
+    index.vacate(slot.place(), key);
+    slot.vacate();
+}
+
+/// Vacates the slots of the entries that are lost with a queue.
+#[inline(never)]
+pub fn forget(slots: &mut Vec<Slot>, index: &mut Index, queue: u64, vacant: &mut usize)
+    requires { vacant.old ≡ vacant_in slots.old.items }
+    ensures { Forgets queue slots.old.items slots.new.items vacant.old vacant.new }
+{
+    for key in 0..slots.len() {
+        forget_at(slots, index, key, queue, vacant);
+    }
+}
+
+// Vacates a slot if what it keeps is lost with a queue.
+fn forget_at(slots: &mut Vec<Slot>, index: &mut Index, key: usize, queue: u64, vacant: &mut usize)
+    requires within { key < length slots.old.items }
+    requires count { vacant.old ≡ vacant_in slots.old.items }
+    ensures { Forgets queue slots.old.items slots.new.items vacant.old vacant.new }
+{
+    let slot = &slots[key];
+    if !slot.is_vacant() && slot.is_lost_with(queue) {
+        vacate(slots, index, key);
+        *vacant += 1;
+    }
+}
+
+/// Sees to it that so many slots are vacant.
+#[inline(always)]
+pub fn make_room(
+    alloc: Global,
+    slots: &mut Vec<Slot>,
+    index: &mut Index,
+    vacant: &mut usize,
+    wanted: usize,
+) -> Result<(), AllocError>
+    requires { vacant.old ≡ vacant_in slots.old.items }
+    ensures added { HasMoreVacant slots.old.items slots.new.items vacant.old vacant.new }
+    ensures room { OnOk result (wanted ≤ vacant.new) }
+    ensures succeeds { wanted ≤ vacant.old → IsOk result }
+{
+    if wanted <= *vacant {
+        return Ok(());
+    }
+    grow(alloc, slots, index, vacant, wanted)
+}
+
+// The same, by slots that are added.
+#[inline(never)]
+fn grow(
+    alloc: Global,
+    slots: &mut Vec<Slot>,
+    index: &mut Index,
+    vacant: &mut usize,
+    wanted: usize,
+) -> Result<(), AllocError>
+    requires { vacant.old ≡ vacant_in slots.old.items }
+    ensures added { HasMoreVacant slots.old.items slots.new.items vacant.old vacant.new }
+    ensures room { OnOk result (wanted ≤ vacant.new) }
+{
+    for added in 0..wanted {
+        add_vacant(alloc, slots, index, vacant)?;
+    }
+    if index.slots() < slots.len() {
+        reindex(slots, index)?;
+    }
+    Ok(())
+}
+
+// Adds a slot.
+fn add_vacant(
+    alloc: Global,
+    slots: &mut Vec<Slot>,
+    index: &mut Index,
+    vacant: &mut usize,
+) -> Result<(), AllocError>
+    requires { vacant.old ≡ vacant_in slots.old.items }
+    ensures added { HasMoreVacant slots.old.items slots.new.items vacant.old vacant.new }
+    ensures one { OnOk result (vacant.new ≡ vacant.old + 1) }
+{
+    slots.push(Slot::vacant(alloc))?;
+    *vacant += 1;
+    index.put_vacant(slots.len() - 1);
+    Ok(())
+}
+
+// Chains for twice as many slots as there are, with all that they keep.
+fn reindex(slots: &[Slot], index: &mut Index) -> Result<(), AllocError> {
+    let mut chains: usize = 64;
+    for _ in 0..40 {
+        if chains < slots.len() {
+            chains = chains.wrapping_mul(2);
+        }
+    }
+    index.grow(chains.wrapping_mul(2))?;
+    for key in 0..slots.len() {
+        if slots[key].is_vacant() {
+            index.put_vacant(key);
+        } else {
+            index.link(slots[key].place(), key);
+        }
+    }
+    Ok(())
+}

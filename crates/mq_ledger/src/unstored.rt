@@ -1,0 +1,279 @@
+//! A journal that keeps only what can still be asked for. Its records are a history variable.
+ghost use Rattle.std.specs.Prelude.{◌≡◌, ◌≢◌, ◌+◌, ◌<◌, ◌≤◌, ◌^◌, ℕ, [], ◌∷◌, true, false, length, IsOk, OnOk, min, Some};
+ghost use Rattle.std.specs.Option.{option_map};
+ghost use Rattle.mq_model.specs.Descriptors.{is_place};
+ghost use Rattle.mq_model.specs.Messages.{priority};
+ghost use Rattle.mq_model.specs.Record.{Record, Past, record_at};
+ghost use Rattle.mq_ledger.specs.Seen.{HasPlace};
+ghost use Rattle.mq_laws.specs.Needed.{is_kept, ended_by, ended_last, home, home_of, GoesTo};
+
+use crate::history::History;
+use crate::index::Index;
+use crate::slots::{self, Slot};
+use mq_model::entries::{Call, Entry, Reply};
+use std::alloc::{AllocError, Global};
+use std::marker::Model;
+
+/// The most entries that there can be.
+const LIMIT: u64 = 4_611_686_018_427_387_904;
+
+/// A journal whose records are a history variable. What is kept of its entries, in slots, is what a later reply may need.
+#[derive(Drop)]
+pub struct Unstored {
+    alloc: Global,
+    past: History,
+    len: u64,
+    slots: Vec<Slot>,
+    // how many slots are vacant
+    vacant: usize,
+    index: Index,
+    // the place that the latest entry ended, and perhaps its slot
+    ended: Option<u64>,
+    last: usize,
+    // the buffer for the next payload
+    next: Vec<u8>,
+}
+
+impl Model for Unstored {
+    ghost use Rattle.mq_ledger.specs.Seen.{Seen};
+
+    ghost Value = { Seen };
+
+    ghost use Rattle.mq_ledger.specs.Keeping.{shown, IsSound};
+
+    ghost view = { shown };
+
+    ghost invariant = { IsSound };
+}
+
+#[inline(always)]
+fn is_kept(call: Call, reply: Reply) -> bool
+    ensures { result ≡ is_kept call reply }
+{
+    match reply {
+        Reply::Opened { d: _, created } => created,
+        Reply::Queued { .. } | Reply::Handed { .. } => true,
+        Reply::Waits => call.is_send(),
+        _ => false,
+    }
+}
+
+#[inline(always)]
+fn ended_by(reply: Reply) -> Option<u64>
+    ensures { result ≡ ended_by reply }
+{
+    match reply {
+        Reply::Got { place, .. } => Some(place),
+        Reply::Collected { by } => Some(by),
+        Reply::Withdrawn { wait } => Some(wait),
+        _ => None,
+    }
+}
+
+// The queue with which an entry is lost that is made at place `here` on queue q.
+#[inline(always)]
+fn home_of(reply: Reply, here: u64, q: u64) -> Option<u64>
+    ensures { (past : Past) (r : Record) → here ≡ length past → reply ≡ r.entry.reply →
+        GoesTo past r q → result ≡ home_of past r r.entry.reply }
+{
+    match reply {
+        Reply::Opened { .. } => Some(here),
+        Reply::Queued { .. } | Reply::Waits => Some(q),
+        _ => None,
+    }
+}
+
+impl Unstored {
+    /// The empty journal, which takes no memory.
+    pub fn new(alloc: Global) -> Unstored
+        ensures { result.records ≡ [] }
+    {
+        Unstored {
+            alloc,
+            past: History::new(),
+            len: 0,
+            slots: Vec::new(alloc),
+            vacant: 0,
+            index: Index::new(alloc),
+            ended: None,
+            last: 0,
+            next: Vec::new(alloc),
+        }
+    }
+
+    /// How many entries there are.
+    pub fn len(&self) -> u64
+        ensures count { result ≡ length self.now.records }
+        ensures bound { result < 2 ^ 63 }
+    {
+        self.len
+    }
+
+    // The entry that the latest one ended leaves its slot, if the index leads to it.
+    #[inline(always)]
+    fn drop_ended(&mut self)
+        ensures records { self.new.records ≡ self.old.records }
+        ensures entry_room { self.old.entry_room ≤ self.new.entry_room }
+        ensures byte_room { self.new.byte_room ≡ self.old.byte_room }
+        ensures keeps { (k : ℕ) → is_place k (ended_last self.old.records) ≡ false →
+            HasPlace self.old.places k → HasPlace self.new.places k }
+    {
+        if let Some(place) = self.ended {
+            if let Some(key) = slots::guess(&self.slots, &self.index, self.last, place) {
+                slots::vacate(&mut self.slots, &mut self.index, key);
+                self.vacant += 1;
+            }
+        }
+    }
+
+    // Notes the slot of the entry that the latest one ended, where it is looked for next.
+    #[inline(always)]
+    fn note_last(&mut self, ended: Option<u64>)
+        ensures { self.new ≡ self.old }
+    {
+        if let Some(place) = ended {
+            if let Some(key) = slots::guess(&self.slots, &self.index, self.last, place) {
+                self.last = key;
+            }
+        }
+    }
+
+    // Adds an entry that is not kept.
+    #[inline(always)]
+    fn pass(&mut self, entry: Entry, payload: &[u8])
+        requires room { 0 < self.old.entry_room }
+        ensures records { self.new.records ≡ record { entry = entry; payload = payload.now } ∷
+            self.old.records }
+        ensures entry_room { self.old.entry_room ≤ self.new.entry_room + 1 }
+        ensures byte_room { self.new.byte_room ≡ self.old.byte_room }
+        ensures places { self.new.places ≡ self.old.places }
+    {
+        self.past.note(&entry, payload);
+        self.ended = ended_by(entry.reply);
+        self.len += 1;
+    }
+
+    // Adds an entry that is kept, made on queue q.
+    #[inline(always)]
+    fn put(&mut self, entry: Entry, payload: &[u8], q: u64)
+        requires room { 0 < self.old.entry_room }
+        requires bytes { length payload.now ≤ self.old.byte_room }
+        requires queue { GoesTo self.old.records
+            (record { entry = entry; payload = payload.now }) q }
+        ensures records { self.new.records ≡ record { entry = entry; payload = payload.now } ∷
+            self.old.records }
+        ensures entry_room { self.old.entry_room ≤ self.new.entry_room + 1 }
+        ensures no_bytes { payload.now ≡ [] → self.new.byte_room ≡ self.old.byte_room }
+        ensures kept { HasPlace self.new.places (length self.old.records) }
+        ensures keeps { (k : ℕ) → HasPlace self.old.places k → HasPlace self.new.places k }
+    {
+        self.past.note(&entry, payload);
+        let home = home_of(entry.reply, self.len, q);
+        slots::put(
+            &mut self.slots,
+            &mut self.index,
+            self.len,
+            entry.call.priority(),
+            home,
+            &mut self.next,
+            payload,
+        );
+        self.vacant -= 1;
+        self.ended = ended_by(entry.reply);
+        self.len += 1;
+    }
+
+    /// Makes room for that many more entries and payload bytes.
+    #[inline(always)]
+    pub fn reserve(&mut self, entries: usize, bytes: usize) -> Result<(), AllocError>
+        ensures records { self.new.records ≡ self.old.records }
+        ensures entry_room { self.old.entry_room ≤ self.new.entry_room }
+        ensures byte_room { self.old.byte_room ≤ self.new.byte_room }
+        ensures ok { OnOk result ((entries ≤ self.new.entry_room) × (bytes ≤ self.new.byte_room)) }
+        ensures succeeds { entries ≤ self.old.entry_room → bytes ≤ self.old.byte_room →
+            IsOk result }
+        ensures enough { bytes ≤ self.old.byte_room → self.new.byte_room ≡ self.old.byte_room }
+        ensures keeps { (k : ℕ) → HasPlace self.old.places k → HasPlace self.new.places k }
+    {
+        if entries as u64 > LIMIT - self.len {
+            return Err(AllocError);
+        }
+        slots::make_room(
+            self.alloc,
+            &mut self.slots,
+            &mut self.index,
+            &mut self.vacant,
+            entries,
+        )?;
+        if bytes > self.next.capacity() {
+            self.next.reserve(bytes)?;
+        }
+        Ok(())
+    }
+
+    /// Adds an entry with its payload, made on queue q, after all others, in room that was reserved. Takes no memory.
+    #[inline(always)]
+    pub fn push(&mut self, entry: Entry, payload: &[u8], q: u64)
+        requires entry_room { 0 < self.old.entry_room }
+        requires byte_room { length payload.now ≤ self.old.byte_room }
+        requires queue { GoesTo self.old.records
+            (record { entry = entry; payload = payload.now }) q }
+        ensures records { self.new.records ≡ record { entry = entry; payload = payload.now } ∷
+            self.old.records }
+        ensures entry_room { self.old.entry_room ≤ self.new.entry_room + 1 }
+        ensures no_bytes { payload.now ≡ [] → self.new.byte_room ≡ self.old.byte_room }
+        ensures kept { is_kept entry.call entry.reply ≡ true →
+            HasPlace self.new.places (length self.old.records) }
+        ensures keeps { (k : ℕ) → is_place k (ended_last self.old.records) ≡ false →
+            HasPlace self.old.places k → HasPlace self.new.places k }
+    {
+        self.drop_ended();
+        if is_kept(entry.call, entry.reply) {
+            self.put(entry, payload, q);
+        } else {
+            self.note_last(ended_by(entry.reply));
+            self.pass(entry, payload);
+        }
+    }
+
+    /// The priority of the message that was sent at a place, if that entry is kept.
+    pub fn priority(&self, place: u64) -> u32
+        ensures { HasPlace self.now.places place → result ≡ priority self.now.records place }
+    {
+        match slots::find(&self.slots, &self.index, self.last, place) {
+            None => 0,
+            Some(key) => self.slots[key].prio(),
+        }
+    }
+
+    /// The payload of the entry at a place, if it is kept.
+    #[inline(always)]
+    pub fn payload(&self, place: u64) -> Option<&[u8]>
+        ensures { HasPlace self.now.places place →
+            option_map (λ p. p.now) result ≡ option_map (λ r. r.payload)
+            (record_at self.now.records place) }
+    {
+        match slots::find(&self.slots, &self.index, self.last, place) {
+            None => None,
+            Some(key) => Some(self.slots[key].bytes()),
+        }
+    }
+
+    /// The history, which is all that is left.
+    pub fn into_history(self) -> History
+        ensures { result.past ≡ self.records }
+    {
+        self.past
+    }
+
+    /// A queue exists no longer: nobody will ask for what is lost with it.
+    pub fn forget(&mut self, queue: u64)
+        ensures records { self.new.records ≡ self.old.records }
+        ensures entry_room { self.old.entry_room ≤ self.new.entry_room }
+        ensures byte_room { self.new.byte_room ≡ self.old.byte_room }
+        ensures keeps { (k : ℕ) → home self.old.records k ≢ Some queue →
+            HasPlace self.old.places k → HasPlace self.new.places k }
+    {
+        slots::forget(&mut self.slots, &mut self.index, queue, &mut self.vacant);
+    }
+}
