@@ -30,7 +30,8 @@ int mq_timedsend(mqd_t mqdes, const char *bytes, size_t len, unsigned prio, cons
 ssize_t mq_receive(mqd_t mqdes, char *buf, size_t len, unsigned *prio);
 ssize_t mq_timedreceive(mqd_t mqdes, char *buf, size_t len, unsigned *prio, const struct timespec *until);
 
-static const yak_moment NEVER = {INT64_MAX, 0};
+/* The last moment of all, which stands for the deadline of a call without one. */
+static const yak_moment NEVER = {INT64_MAX, 999999999};
 
 static int fails(int error)
 {
@@ -76,9 +77,9 @@ static mqd_t open_queue(const char *name, int oflag, const struct mq_attr *attr)
         opening.msgsize = attr->mq_msgsize;
         opening.limited = true;
     }
+    len = strlen(name);
     if ((error = program_enter()) != 0)
         return fails(error);
-    len = strlen(name);
     MADE(answer, yak_open(&the_program.processes[HOME], (const uint8_t *)name, len, &opening, &d));
     if (answer == YAK_DONE)
         keep(d, name, len, &opening, (oflag & O_NONBLOCK) != 0);
@@ -132,9 +133,9 @@ int mq_unlink(const char *name)
     int error;
     if (name == 0)
         return fails(EFAULT);
+    len = strlen(name);
     if ((error = program_enter()) != 0)
         return fails(error);
-    len = strlen(name);
     program_mirror_all((const uint8_t *)name, len);
     MADE(answer, yak_unlink(&the_program.processes[HOME], (const uint8_t *)name, len));
     for (uint32_t d = 0; answer == YAK_DONE && d < DESCRIPTORS; ++d) {
@@ -228,20 +229,22 @@ static __attribute__((noinline)) uint32_t go_on(uint32_t d, const request *asked
 static inline __attribute__((always_inline)) uint32_t make(const char *call, bool is_send, mqd_t mqdes, uint8_t *bytes, size_t len, uint32_t prio,
                                                            yak_message *message, const struct timespec *until)
 {
+    yak_moment moment = {0, 0};
     uint32_t answer, d;
-    int error = program_enter();
-    if (error != 0) {
+    int error;
+    /* A pointer that is no good is met outside the lock. */
+    if (until != 0) {
+        moment.sec = (int64_t)until->tv_sec;
+        moment.nsec = (int64_t)until->tv_nsec;
+    }
+    if ((error = program_enter()) != 0) {
         errno = error;
         return YAK_REFUSED;
     }
     d = program_number(mqdes);
     answer = program_try(is_send, d, bytes, len, prio, message);
     if (answer != YAK_DONE || (the_program.registered | the_program.stranded | the_program.processes[HOME].answered) != 0) {
-        request asked = {call, is_send, until != 0, NEVER, bytes, len, prio};
-        if (until != 0) {
-            asked.until.sec = (int64_t)until->tv_sec;
-            asked.until.nsec = (int64_t)until->tv_nsec;
-        }
+        request asked = {call, is_send, until != 0, until != 0 ? moment : NEVER, bytes, len, prio};
         return go_on(d, &asked, message, answer);
     }
     program_leave();

@@ -214,6 +214,8 @@ static void handles(yak_process *two)
     IS(YAK_WAITING, yak_getattr(one, 0, &attr));
     IS(YAK_WAITING, yak_setattr(one, 0, true, &attr));
     IS(YAK_WAITING, yak_exit(one));
+    IS(YAK_WAITING, yak_free(one));
+    expect(one->full, "a handle with an open wait that is kept");
     IS(YAK_WAITING, yak_start_send(one, 0, name, 1, 0));
     IS(YAK_WAITING, yak_start_receive(one, 0, buf, 4, &message));
     IS(YAK_WAITS, yak_answered(one));
@@ -224,6 +226,7 @@ static void handles(yak_process *two)
     IS(YAK_DONE, yak_check(one));
     IS(YAK_DONE, yak_start_send(other, 0, name, 2, 3));
     IS(YAK_DONE, yak_answered(one));
+    IS(YAK_WAITING, yak_free(one));
     IS(YAK_DONE, yak_collect(one, buf, 4, &message));
     expect(message.len == 2 && message.prio == 3 && buf[0] == '/' && buf[1] == 'h', "the message that was collected");
     IS(YAK_WAITS, yak_start_timed_receive(one, 0, buf, 4, &message, &now, &past));
@@ -278,6 +281,25 @@ static void bounds(void)
     FAILS(EPERM, mq_close(0));
 }
 
+/* Numbers of handles that no system has, whatever the handles are; and handles of two systems, which are not ended as one. */
+static void systems(void)
+{
+    yak_process three[3] = {YAK_PROCESS_EMPTY, YAK_PROCESS_EMPTY, YAK_PROCESS_EMPTY};
+    IS(YAK_INVAL, yak_new(three, 0));
+    IS(YAK_INVAL, yak_new(three, 33));
+    IS(YAK_INVAL, yak_new(three, SIZE_MAX));
+    IS(YAK_INVAL, yak_bounded(three, SIZE_MAX, 1, 1));
+    IS(YAK_DONE, yak_new(three, 2));
+    IS(YAK_FULL, yak_new(three, 3));
+    IS(YAK_INVAL, yak_new(three, SIZE_MAX));
+    IS(YAK_DONE, yak_new(&three[2], 1));
+    IS(YAK_INVAL, yak_finish(three, 3, 0, 0));
+    IS(YAK_INVAL, yak_finish(&three[1], 2, 0, 0));
+    expect(three[0].full && three[1].full && three[2].full, "handles of two systems that are kept");
+    IS(YAK_DONE, yak_finish(three, 2, 0, 0));
+    IS(YAK_DONE, yak_finish(&three[2], 1, 0, 0));
+}
+
 int main(void)
 {
     yak_process two[2] = {YAK_PROCESS_EMPTY, YAK_PROCESS_EMPTY};
@@ -292,6 +314,7 @@ int main(void)
     IS(YAK_DONE, yak_finish(two, 2, 0, 0));
     IS(YAK_EMPTY, yak_finish(two, 2, 0, 0));
     bounds();
+    systems();
     printf("%u passed, %u failed\n", passed, failed);
     return failed == 0 ? 0 : 1;
 }

@@ -1,28 +1,63 @@
-/* seed_machine.h: the choices of seed.h. yakyrombe.h includes it in the C file that defines YAKYROMBE_IMPLEMENTATION. */
+/* seed_machine.h: the choices of seed.h. yakyrombe.h includes it in the C file that defines
+ * YAKYROMBE_IMPLEMENTATION. */
 #ifndef YAKYROMBE_SEED_MACHINE_H
 #define YAKYROMBE_SEED_MACHINE_H
 
+#include <dirent.h>
 #include <errno.h>
+#include <limits.h>
+#include <signal.h>
 #include <stdlib.h>
 #include <string.h>
+#ifdef __linux__
+#include <sys/syscall.h>
+#ifndef __cplusplus
+/* Under a strict -std <unistd.h> leaves it out. */
+long syscall(long number, ...);
+#endif
+#endif
+#if defined __GLIBC__ && !defined __USE_GNU
+int pthread_cond_clockwait(pthread_cond_t *cond, pthread_mutex_t *mutex, clockid_t clock,
+                           const struct timespec *until);
+int pthread_mutex_clocklock(pthread_mutex_t *mutex, clockid_t clock, const struct timespec *until);
+int pthread_rwlock_clockrdlock(pthread_rwlock_t *lock, clockid_t clock,
+                               const struct timespec *until);
+int pthread_rwlock_clockwrlock(pthread_rwlock_t *lock, clockid_t clock,
+                               const struct timespec *until);
+int sem_clockwait(sem_t *sem, clockid_t clock, const struct timespec *until);
+#endif
 
 /* How a function of the system is called, whatever its name stands for in the program. */
 #ifndef YAK_REAL
 #define YAK_REAL(name) (name)
 #endif
 
-enum { YAK_SEATS = 1024 };
+enum { YAK_SEATS = 1024, YAK_NO_SEAT = 0 };
 
-typedef enum yak_seat_state { YAK_SEAT_OUT, YAK_SEAT_READY, YAK_SEAT_RUNS, YAK_SEAT_WAITS } yak_seat_state;
+/* The most threads beside those of the program: ThreadSanitizer has one. */
+#ifdef YAK_TELLS_ORDER_
+enum { YAK_SEED_OTHERS = 1 };
+#else
+enum { YAK_SEED_OTHERS = 0 };
+#endif
 
-/* A thread. */
+typedef enum yak_seat_state {
+    YAK_SEAT_OUT,
+    YAK_SEAT_READY,
+    YAK_SEAT_RUNS,
+    YAK_SEAT_WAITS
+} yak_seat_state;
+
+/* A thread. The seat of one that has ended is given to another. */
 typedef struct yak_seat {
     yak_seat_state state;
     pthread_t thread;
+    long tid; /* as the kernel counts threads */
     bool is_joined;
+    bool is_cancelled;
     pthread_cond_t turn;
-    const void *object;            /* what it waits for: by an object that others tell of, */
-    bool (*goes_on)(void *with);   /* or by a question */
+    const void *object;          /* what it waits for: by an object that others tell of, */
+    bool (*goes_on)(void *with); /* or by a question */
     void *with;
     bool is_timed;
     bool is_late;
@@ -39,12 +74,16 @@ static struct yak_seeds {
     uint64_t x;
     struct timespec now;
     unsigned long choices;
+    bool signals; /* the program has sent itself a signal */
     void (*write)(void *with, FILE *to);
     void *with;
     yak_seat seats[YAK_SEATS];
 } yak_seeds;
 
+/* The seat of this thread, counted from 1; and whether the thread is inside the machine, where a
+ * handler may interrupt it. */
 static __thread unsigned yak_seat_number;
+static __thread volatile bool yak_seed_is_inside;
 
 bool yak_seed_decides(void)
 {
@@ -61,14 +100,186 @@ static uint64_t yak_seed_number(void)
 
 static bool yak_seed_is_before(const struct timespec *one, const struct timespec *other)
 {
-    return one->tv_sec != other->tv_sec ? one->tv_sec < other->tv_sec : one->tv_nsec < other->tv_nsec;
+    return one->tv_sec != other->tv_sec ? one->tv_sec < other->tv_sec
+                                        : one->tv_nsec < other->tv_nsec;
+}
+
+/* Ends a run in which the seed can't decide. */
+static void yak_seed_stop(const char *what, const char *why)
+{
+    const char *seed = getenv("YAK_SEED");
+    fprintf(stderr, "yakyrombe: the run with seed %s ends: %s %s\n", seed != 0 ? seed : "", what,
+            why);
+    _Exit(2);
+}
+
+/* Whether this thread is one whose calls the machine decides. A call by another ends the run, since
+ * the machine can't tell whom it lets go on. */
+static bool yak_seed_is_known(const char *call)
+{
+    if (!yak_seeds.decides)
+        return false;
+    if (yak_seed_is_inside)
+        yak_seed_stop(call, "was made by a signal handler, which interrupted its thread while that "
+                            "waited for its turn");
+    if (yak_seat_number == YAK_NO_SEAT)
+        yak_seed_stop(call, "was made by a thread that the machine does not know: it was not "
+                            "started by pthread_create");
+    return true;
+}
+
+/* A call by which a thread would wait, that the machine does not know. */
+static inline void yak_seed_refuse(const char *call)
+{
+    if (yak_seeds.decides)
+        yak_seed_stop(call, "is not known to the machine");
+}
+
+static yak_seat *yak_seed_seat(void)
+{
+    return &yak_seeds.seats[yak_seat_number - 1];
+}
+
+static void yak_seed_go_in(void)
+{
+    yak_seed_is_inside = true;
+    YAK_REAL(pthread_mutex_lock)(&yak_seeds.lock);
+}
+
+static void yak_seed_go_out(void)
+{
+    YAK_REAL(pthread_mutex_unlock)(&yak_seeds.lock);
+    yak_seed_is_inside = false;
+}
+
+/* ---- whether nobody can go on ---- */
+
+/* Reads a file of /proc about a thread, or about the program: false if it can't be read. */
+static bool yak_seed_read(const char *format, long tid, char *text, size_t size)
+{
+    char path[64];
+    size_t len;
+    FILE *from;
+    snprintf(path, sizeof path, format, tid);
+    if ((from = fopen(path, "r")) == 0)
+        return false;
+    len = fread(text, 1, size - 1, from);
+    text[len] = 0;
+    fclose(from);
+    return len != 0;
+}
+
+/* Whether a thread sleeps until its turn comes: it is in a system call whose first argument lies in
+ * the condition of its seat. */
+static bool yak_seed_sleeps(const yak_seat *it)
+{
+    char text[256];
+    unsigned long number, word;
+    if (!yak_seed_read("/proc/self/task/%ld/syscall", it->tid, text, sizeof text) ||
+        sscanf(text, "%lu %lx", &number, &word) != 2)
+        return false;
+    return word >= (unsigned long)(uintptr_t)&it->turn &&
+           word < (unsigned long)(uintptr_t)(&it->turn + 1);
+}
+
+/* How many threads the program has that have no seat; -1 if /proc does not tell. */
+static int yak_seed_strangers(void)
+{
+    int count = 0;
+    DIR *tasks = opendir("/proc/self/task");
+    if (tasks == 0)
+        return -1;
+    for (struct dirent *it; (it = readdir(tasks)) != 0;) {
+        unsigned at = 0;
+        while (at < yak_seeds.used && yak_seeds.seats[at].tid != atol(it->d_name))
+            ++at;
+        count += it->d_name[0] != '.' && at == yak_seeds.used;
+    }
+    closedir(tasks);
+    return count;
+}
+
+/* Whether an object lies in memory that other programs may share. */
+static bool yak_seed_is_shared(const void *object)
+{
+    unsigned long at = (unsigned long)(uintptr_t)object, from, end;
+    char line[512], rights[8];
+    bool is_shared = false;
+    FILE *maps = object != 0 ? fopen("/proc/self/maps", "r") : 0;
+    if (maps == 0)
+        return false;
+    while (fgets(line, sizeof line, maps) != 0)
+        if (sscanf(line, "%lx-%lx %7s", &from, &end, rights) == 3 && from <= at && at < end)
+            is_shared = rights[3] == 's';
+    fclose(maps);
+    return is_shared;
+}
+
+/* Why it is not certain that the threads that wait can't go on, as things stand. */
+static const char *yak_seed_doubt_of_threads(void)
+{
+    int strangers = yak_seed_strangers();
+    if (strangers == -1)
+        return "but /proc does not tell whether other threads do";
+    if (strangers > YAK_SEED_OTHERS)
+        return "but there is a thread that the machine does not know, which was not started by "
+               "pthread_create";
+    for (unsigned at = 0; at < yak_seeds.used; ++at)
+        if (yak_seeds.seats[at].state == YAK_SEAT_WAITS && at + 1 != yak_seat_number &&
+            !yak_seed_sleeps(&yak_seeds.seats[at]))
+            return "but a thread is in a signal handler";
+    return 0;
+}
+
+/* Whether the program handles what a timer sends, or has a timer of another kind. */
+static bool yak_seed_has_timers(void)
+{
+    static const int sent[] = {SIGALRM, SIGVTALRM, SIGPROF};
+    char text[64];
+    for (unsigned i = 0; i < sizeof sent / sizeof sent[0]; ++i) {
+        struct sigaction action;
+        if (sigaction(sent[i], 0, &action) == 0 && action.sa_handler != SIG_DFL &&
+            action.sa_handler != SIG_IGN)
+            return true;
+    }
+    return yak_seed_read("/proc/self/timers", 0, text, sizeof text);
+}
+
+/* Why it is not certain at all: null if it is. Signal handlers end no wait here, and cancellations
+ * end none but those for queues. */
+static const char *yak_seed_doubt(void)
+{
+    const char *doubt = 0;
+    if (yak_seeds.signals)
+        return "but the program has sent a signal, by which a wait may be meant to end";
+    if (yak_seed_has_timers())
+        return "but the program handles the signals of timers, by which a wait may be meant to end";
+    for (unsigned i = 0; i < yak_seeds.used; ++i) {
+        const yak_seat *it = &yak_seeds.seats[i];
+        if (it->state == YAK_SEAT_WAITS && it->is_cancelled)
+            return "but a thread that waits was cancelled";
+        if (it->state == YAK_SEAT_WAITS && yak_seed_is_shared(it->object))
+            return "but a thread waits for what lies in shared memory, which another program may "
+                   "change";
+    }
+    /* What has just begun to wait, or has just ended, is given a second. */
+    for (int i = 0; i < 1000 && (doubt = yak_seed_doubt_of_threads()) != 0; ++i) {
+        struct timespec pause = {0, 1000000};
+        YAK_REAL(nanosleep)(&pause, 0);
+    }
+    return doubt;
 }
 
 static void yak_seed_end(unsigned waits)
 {
-    const char *seed = getenv("YAK_SEED"), *path = getenv("YAK_JOURNAL");
-    fprintf(stderr, "yakyrombe: deadlock with seed %s: of %u threads nobody can go on, after %lu choices\n", seed != 0 ? seed : "", waits,
-            yak_seeds.choices);
+    const char *seed = getenv("YAK_SEED"), *path = getenv("YAK_JOURNAL"), *doubt;
+    pthread_setcancelstate(PTHREAD_CANCEL_DISABLE, 0);
+    doubt = yak_seed_doubt();
+    if (doubt != 0)
+        yak_seed_stop("no thread that the machine knows can go on,", doubt);
+    fprintf(stderr,
+            "yakyrombe: deadlock with seed %s: of %u threads nobody can go on, after %lu choices\n",
+            seed != 0 ? seed : "", waits, yak_seeds.choices);
     for (unsigned i = 0; i < yak_seeds.used; ++i)
         if (yak_seeds.seats[i].state == YAK_SEAT_WAITS)
             fprintf(stderr, "yakyrombe: thread %u waits %s\n", i + 1, yak_seeds.seats[i].what);
@@ -98,7 +309,9 @@ static void yak_seed_choose(void)
     for (unsigned i = 0; i < yak_seeds.used; ++i) {
         yak_seat *it = &yak_seeds.seats[i];
         bool is_over = it->is_timed && !yak_seed_is_before(&yak_seeds.now, &it->until);
-        if (it->state == YAK_SEAT_READY || (it->state == YAK_SEAT_WAITS && (is_over || (it->goes_on != 0 && it->goes_on(it->with)))))
+        if (it->state == YAK_SEAT_READY ||
+            (it->state == YAK_SEAT_WAITS &&
+             (is_over || (it->goes_on != 0 && it->goes_on(it->with)))))
             able[count++] = i;
         if (it->state != YAK_SEAT_WAITS)
             continue;
@@ -121,22 +334,23 @@ static void yak_seed_choose(void)
 /* Waits for the turn; the lock is held. */
 static void yak_seed_await_turn(void)
 {
-    yak_seat *it = &yak_seeds.seats[yak_seat_number];
+    yak_seat *it = yak_seed_seat();
     int cancelling;
     pthread_setcancelstate(PTHREAD_CANCEL_DISABLE, &cancelling);
-    while (yak_seeds.runs != yak_seat_number)
+    while (yak_seeds.runs + 1 != yak_seat_number)
         YAK_REAL(pthread_cond_wait)(&it->turn, &yak_seeds.lock);
     pthread_setcancelstate(cancelling, 0);
     it->is_late = it->state == YAK_SEAT_WAITS;
     it->state = YAK_SEAT_RUNS;
 }
 
-static bool yak_seed_pass(yak_seat_state state, const void *object, bool (*goes_on)(void *), void *with, const struct timespec *until,
-                          const char *what)
+/* Gives the turn away. The thread is one that is known. */
+static bool yak_seed_pass(yak_seat_state state, const void *object, bool (*goes_on)(void *),
+                          void *with, const struct timespec *until, const char *what)
 {
-    yak_seat *it = &yak_seeds.seats[yak_seat_number];
+    yak_seat *it = yak_seed_seat();
     bool is_well;
-    YAK_REAL(pthread_mutex_lock)(&yak_seeds.lock);
+    yak_seed_go_in();
     it->object = object;
     it->goes_on = goes_on;
     it->with = with;
@@ -148,19 +362,33 @@ static bool yak_seed_pass(yak_seat_state state, const void *object, bool (*goes_
     yak_seed_choose();
     yak_seed_await_turn();
     is_well = !it->is_late || (goes_on != 0 && goes_on(with));
-    YAK_REAL(pthread_mutex_unlock)(&yak_seeds.lock);
+    yak_seed_go_out();
     return is_well;
+}
+
+/* The turn of a call that is named. */
+static void yak_seed_turn_of(const char *call)
+{
+    if (yak_seed_is_known(call))
+        yak_seed_pass(YAK_SEAT_READY, 0, 0, 0, 0, "");
 }
 
 void yak_seed_turn(void)
 {
-    if (yak_seeds.decides)
-        yak_seed_pass(YAK_SEAT_READY, 0, 0, 0, 0, "");
+    yak_seed_turn_of("a call on queues");
 }
 
-bool yak_seed_wait(bool (*goes_on)(void *), void *with, const struct timespec *until, const char *what)
+int yak_seed_yield(void)
 {
-    return yak_seed_pass(YAK_SEAT_WAITS, 0, goes_on, with, until, what);
+    yak_seed_turn_of("sched_yield");
+    return 0;
+}
+
+bool yak_seed_wait(bool (*goes_on)(void *), void *with, const struct timespec *until,
+                   const char *what)
+{
+    return yak_seed_is_known("a call that waits") &&
+           yak_seed_pass(YAK_SEAT_WAITS, 0, goes_on, with, until, what);
 }
 
 struct timespec yak_seed_now(void)
@@ -178,10 +406,13 @@ void yak_seed_writes_journal(void (*write)(void *with, FILE *to), void *with)
     yak_seeds.with = with;
 }
 
-/* Tells all who wait for an object, or one of them by the seed. */
-static void yak_seed_tell(const void *object, bool is_one)
+/* Tells all who wait for an object, or one of them by the seed. The call is one of this thread,
+ * which has the turn. */
+static void yak_seed_tell(const char *call, const void *object, bool is_one)
 {
     unsigned waits[YAK_SEATS], count = 0;
+    if (!yak_seed_is_known(call))
+        return;
     for (unsigned i = 0; i < yak_seeds.used; ++i)
         if (yak_seeds.seats[i].state == YAK_SEAT_WAITS && yak_seeds.seats[i].object == object)
             waits[count++] = i;
@@ -203,25 +434,49 @@ typedef struct yak_seed_start {
     unsigned number;
 } yak_seed_start;
 
-static void yak_seed_leave(void *of)
+/* At the end of a thread, behind what else the program does there: destructors of thread-specific
+ * data run a few times, of which ThreadSanitizer has the last. */
+static void yak_seed_end_thread(void *of)
 {
-    (void)of;
-    YAK_REAL(pthread_mutex_lock)(&yak_seeds.lock);
-    yak_seeds.seats[yak_seat_number].state = YAK_SEAT_OUT;
+    static __thread unsigned times;
+    if (++times + 1 < PTHREAD_DESTRUCTOR_ITERATIONS && pthread_setspecific(yak_seeds.key, of) == 0)
+        return;
+    yak_seed_go_in();
+    yak_seed_seat()->state = YAK_SEAT_OUT;
     yak_seed_choose();
-    YAK_REAL(pthread_mutex_unlock)(&yak_seeds.lock);
+    yak_seat_number = YAK_NO_SEAT;
+    yak_seed_go_out();
+}
+
+static void yak_seed_sit_down(unsigned number)
+{
+    yak_seat_number = number;
+#ifdef __linux__
+    yak_seed_seat()->tid = (long)syscall(SYS_gettid);
+#endif
+    pthread_setspecific(yak_seeds.key, &yak_seeds);
 }
 
 static void *yak_seed_run(void *of)
 {
     yak_seed_start it = *(yak_seed_start *)of;
     free(of);
-    yak_seat_number = it.number;
-    pthread_setspecific(yak_seeds.key, &yak_seeds);
+    yak_seed_is_inside = true;
     YAK_REAL(pthread_mutex_lock)(&yak_seeds.lock);
+    yak_seed_sit_down(it.number);
     yak_seed_await_turn();
-    YAK_REAL(pthread_mutex_unlock)(&yak_seeds.lock);
+    yak_seed_go_out();
     return it.run(it.with);
+}
+
+/* A seat for a new thread, by its number from 1; that of the first thread is its own for good.
+ * YAK_NO_SEAT if all are taken. */
+static unsigned yak_seed_free_seat(void)
+{
+    unsigned at = 1;
+    while (at < yak_seeds.used && yak_seeds.seats[at].state != YAK_SEAT_OUT)
+        ++at;
+    return at < YAK_SEATS ? at + 1 : (unsigned)YAK_NO_SEAT;
 }
 
 int yak_seed_create(pthread_t *thread, const pthread_attr_t *attr, void *(*run)(void *), void *with)
@@ -229,26 +484,39 @@ int yak_seed_create(pthread_t *thread, const pthread_attr_t *attr, void *(*run)(
     yak_seed_start *it;
     yak_seat *seat;
     int error;
-    if (!yak_seeds.decides)
+    if (!yak_seed_is_known("pthread_create"))
         return YAK_REAL(pthread_create)(thread, attr, run, with);
-    if (yak_seeds.used == YAK_SEATS || (it = (yak_seed_start *)malloc(sizeof *it)) == 0)
+    if ((it = (yak_seed_start *)malloc(sizeof *it)) == 0)
         return EAGAIN;
     it->run = run;
     it->with = with;
-    it->number = yak_seeds.used;
-    seat = &yak_seeds.seats[it->number];
-    YAK_REAL(pthread_mutex_lock)(&yak_seeds.lock);
+    yak_seed_go_in();
+    it->number = yak_seed_free_seat();
+    if (it->number == YAK_NO_SEAT) {
+        yak_seed_go_out();
+        free(it);
+        return EAGAIN;
+    }
+    seat = &yak_seeds.seats[it->number - 1];
     seat->state = YAK_SEAT_READY;
+    seat->tid = 0;
+    seat->is_joined = seat->is_cancelled = false;
+    if (it->number > yak_seeds.used)
+        yak_seeds.used = it->number;
     /* The thread frees what it was started with. */
     error = YAK_REAL(pthread_create)(&seat->thread, attr, yak_seed_run, it);
     if (error == 0) {
         *thread = seat->thread;
-        ++yak_seeds.used;
+        /* Another of that name has ended. */
+        for (unsigned i = 0; i < yak_seeds.used; ++i)
+            if (&yak_seeds.seats[i] != seat && pthread_equal(yak_seeds.seats[i].thread, *thread))
+                yak_seeds.seats[i].is_joined = true;
     } else {
+        seat->state = YAK_SEAT_OUT;
         free(it);
     }
-    YAK_REAL(pthread_mutex_unlock)(&yak_seeds.lock);
-    yak_seed_turn();
+    yak_seed_go_out();
+    yak_seed_turn_of("pthread_create");
     return error;
 }
 
@@ -257,65 +525,114 @@ static bool yak_seed_is_out(void *of)
     return ((yak_seat *)of)->state == YAK_SEAT_OUT;
 }
 
+/* The seat of a thread, or null. */
+static yak_seat *yak_seed_seat_of(pthread_t thread)
+{
+    for (unsigned i = 0; i < yak_seeds.used; ++i)
+        if (!yak_seeds.seats[i].is_joined && pthread_equal(yak_seeds.seats[i].thread, thread))
+            return &yak_seeds.seats[i];
+    return 0;
+}
+
 int yak_seed_join(pthread_t thread, void **result)
 {
-    for (unsigned i = 0; yak_seeds.decides && i < yak_seeds.used; ++i) {
-        yak_seat *it = &yak_seeds.seats[i];
+    yak_seat *it = yak_seed_is_known("pthread_join") ? yak_seed_seat_of(thread) : 0;
+    if (it != 0 && it != yak_seed_seat()) {
         char what[64];
-        if (it->is_joined || i == yak_seat_number || !pthread_equal(it->thread, thread))
-            continue;
-        snprintf(what, sizeof what, "for the end of thread %u", i + 1);
-        yak_seed_wait(yak_seed_is_out, it, 0, what);
+        snprintf(what, sizeof what, "for the end of thread %u",
+                 (unsigned)(it - yak_seeds.seats) + 1);
+        yak_seed_pass(YAK_SEAT_WAITS, 0, yak_seed_is_out, it, 0, what);
         it->is_joined = true;
-        break;
     }
     return YAK_REAL(pthread_join)(thread, result);
 }
 
-/* ---- mutexes, condition variables, semaphores ---- */
+void yak_seed_cancels(pthread_t thread)
+{
+    yak_seat *it = yak_seed_is_known("pthread_cancel") ? yak_seed_seat_of(thread) : 0;
+    if (it != 0)
+        it->is_cancelled = true;
+}
+
+int yak_seed_cancel(pthread_t thread)
+{
+    yak_seed_cancels(thread);
+    return YAK_REAL(pthread_cancel)(thread);
+}
+
+/* ---- mutexes ---- */
+
+/* A moment that has passed by every clock: a lock that is waited for until then is tried, and one
+ * that checks errors says so. */
+static const struct timespec yak_seed_past = {0, 0};
+
+static int yak_seed_lock_until(const char *call, pthread_mutex_t *mutex,
+                               const struct timespec *until)
+{
+    int error;
+    yak_seed_turn_of(call);
+    while ((error = YAK_REAL(pthread_mutex_timedlock)(mutex, &yak_seed_past)) == ETIMEDOUT)
+        if (!yak_seed_pass(YAK_SEAT_WAITS, mutex, 0, 0, until, "for a mutex"))
+            return ETIMEDOUT;
+    return error;
+}
 
 int yak_seed_lock(pthread_mutex_t *mutex)
 {
-    int error;
-    if (!yak_seeds.decides)
-        return YAK_REAL(pthread_mutex_lock)(mutex);
-    yak_seed_turn();
-    while ((error = YAK_REAL(pthread_mutex_trylock)(mutex)) == EBUSY)
-        yak_seed_pass(YAK_SEAT_WAITS, mutex, 0, 0, 0, "for a mutex");
-    return error;
+    return yak_seed_is_known("pthread_mutex_lock")
+               ? yak_seed_lock_until("pthread_mutex_lock", mutex, 0)
+               : YAK_REAL(pthread_mutex_lock)(mutex);
+}
+
+int yak_seed_timedlock(pthread_mutex_t *mutex, const struct timespec *until)
+{
+    return yak_seed_is_known("pthread_mutex_timedlock")
+               ? yak_seed_lock_until("pthread_mutex_timedlock", mutex, until)
+               : YAK_REAL(pthread_mutex_timedlock)(mutex, until);
 }
 
 int yak_seed_unlock(pthread_mutex_t *mutex)
 {
     int error = YAK_REAL(pthread_mutex_unlock)(mutex);
-    if (yak_seeds.decides)
-        yak_seed_tell(mutex, false);
+    yak_seed_tell("pthread_mutex_unlock", mutex, false);
     return error;
 }
 
-int yak_seed_cond_timedwait(pthread_cond_t *cond, pthread_mutex_t *mutex, const struct timespec *until)
+/* ---- condition variables ---- */
+
+static int yak_seed_cond_wait_until(pthread_cond_t *cond, pthread_mutex_t *mutex,
+                                    const struct timespec *until)
 {
     bool is_well;
-    if (!yak_seeds.decides)
-        return until != 0 ? YAK_REAL(pthread_cond_timedwait)(cond, mutex, until) : YAK_REAL(pthread_cond_wait)(cond, mutex);
-    YAK_REAL(pthread_mutex_unlock)(mutex);
-    yak_seed_tell(mutex, false);
+    int error = YAK_REAL(pthread_mutex_unlock)(mutex);
+    if (error != 0)
+        return error;
+    yak_seed_tell("a wait for a condition", mutex, false);
     is_well = yak_seed_pass(YAK_SEAT_WAITS, cond, 0, 0, until, "for a condition");
-    while (YAK_REAL(pthread_mutex_trylock)(mutex) == EBUSY)
+    while ((error = YAK_REAL(pthread_mutex_timedlock)(mutex, &yak_seed_past)) == ETIMEDOUT)
         yak_seed_pass(YAK_SEAT_WAITS, mutex, 0, 0, 0, "for the mutex of a condition");
-    return is_well ? 0 : ETIMEDOUT;
+    return error != 0 ? error : is_well ? 0 : ETIMEDOUT;
 }
 
 int yak_seed_cond_wait(pthread_cond_t *cond, pthread_mutex_t *mutex)
 {
-    return yak_seed_cond_timedwait(cond, mutex, 0);
+    return yak_seed_is_known("pthread_cond_wait") ? yak_seed_cond_wait_until(cond, mutex, 0)
+                                                  : YAK_REAL(pthread_cond_wait)(cond, mutex);
+}
+
+int yak_seed_cond_timedwait(pthread_cond_t *cond, pthread_mutex_t *mutex,
+                            const struct timespec *until)
+{
+    return yak_seed_is_known("pthread_cond_timedwait")
+               ? yak_seed_cond_wait_until(cond, mutex, until)
+               : YAK_REAL(pthread_cond_timedwait)(cond, mutex, until);
 }
 
 int yak_seed_cond_signal(pthread_cond_t *cond)
 {
     if (!yak_seeds.decides)
         return YAK_REAL(pthread_cond_signal)(cond);
-    yak_seed_tell(cond, true);
+    yak_seed_tell("pthread_cond_signal", cond, true);
     return 0;
 }
 
@@ -323,15 +640,71 @@ int yak_seed_cond_broadcast(pthread_cond_t *cond)
 {
     if (!yak_seeds.decides)
         return YAK_REAL(pthread_cond_broadcast)(cond);
-    yak_seed_tell(cond, false);
+    yak_seed_tell("pthread_cond_broadcast", cond, false);
     return 0;
 }
 
-int yak_seed_sem_timedwait(sem_t *sem, const struct timespec *until)
+/* ---- locks of readers and writers, and others ---- */
+
+static int yak_seed_rwlock_until(const char *call, pthread_rwlock_t *lock, bool is_writer,
+                                 const struct timespec *until)
 {
-    if (!yak_seeds.decides)
-        return until != 0 ? YAK_REAL(sem_timedwait)(sem, until) : YAK_REAL(sem_wait)(sem);
-    yak_seed_turn();
+    yak_seed_turn_of(call);
+    for (;;) {
+        int error = is_writer ? YAK_REAL(pthread_rwlock_timedwrlock)(lock, &yak_seed_past)
+                              : YAK_REAL(pthread_rwlock_timedrdlock)(lock, &yak_seed_past);
+        if (error != ETIMEDOUT ||
+            !yak_seed_pass(YAK_SEAT_WAITS, lock, 0, 0, until, "for a lock of readers and writers"))
+            return error;
+    }
+}
+
+int yak_seed_rdlock(pthread_rwlock_t *lock)
+{
+    return yak_seed_is_known("pthread_rwlock_rdlock")
+               ? yak_seed_rwlock_until("pthread_rwlock_rdlock", lock, false, 0)
+               : YAK_REAL(pthread_rwlock_rdlock)(lock);
+}
+
+int yak_seed_wrlock(pthread_rwlock_t *lock)
+{
+    return yak_seed_is_known("pthread_rwlock_wrlock")
+               ? yak_seed_rwlock_until("pthread_rwlock_wrlock", lock, true, 0)
+               : YAK_REAL(pthread_rwlock_wrlock)(lock);
+}
+
+int yak_seed_timedrdlock(pthread_rwlock_t *lock, const struct timespec *until)
+{
+    return yak_seed_is_known("pthread_rwlock_timedrdlock")
+               ? yak_seed_rwlock_until("pthread_rwlock_timedrdlock", lock, false, until)
+               : YAK_REAL(pthread_rwlock_timedrdlock)(lock, until);
+}
+
+int yak_seed_timedwrlock(pthread_rwlock_t *lock, const struct timespec *until)
+{
+    return yak_seed_is_known("pthread_rwlock_timedwrlock")
+               ? yak_seed_rwlock_until("pthread_rwlock_timedwrlock", lock, true, until)
+               : YAK_REAL(pthread_rwlock_timedwrlock)(lock, until);
+}
+
+int yak_seed_rwunlock(pthread_rwlock_t *lock)
+{
+    int error = YAK_REAL(pthread_rwlock_unlock)(lock);
+    yak_seed_tell("pthread_rwlock_unlock", lock, false);
+    return error;
+}
+
+int yak_seed_barrier_wait(pthread_barrier_t *barrier)
+{
+    yak_seed_refuse("pthread_barrier_wait");
+    return YAK_REAL(pthread_barrier_wait)(barrier);
+}
+
+/* ---- semaphores ---- */
+
+static int yak_seed_sem_until(const char *call, sem_t *sem, const struct timespec *until)
+{
+    yak_seed_turn_of(call);
     while (YAK_REAL(sem_trywait)(sem) != 0) {
         if (errno != EAGAIN)
             return -1;
@@ -345,15 +718,81 @@ int yak_seed_sem_timedwait(sem_t *sem, const struct timespec *until)
 
 int yak_seed_sem_wait(sem_t *sem)
 {
-    return yak_seed_sem_timedwait(sem, 0);
+    return yak_seed_is_known("sem_wait") ? yak_seed_sem_until("sem_wait", sem, 0)
+                                         : YAK_REAL(sem_wait)(sem);
+}
+
+int yak_seed_sem_timedwait(sem_t *sem, const struct timespec *until)
+{
+    return yak_seed_is_known("sem_timedwait") ? yak_seed_sem_until("sem_timedwait", sem, until)
+                                              : YAK_REAL(sem_timedwait)(sem, until);
 }
 
 int yak_seed_sem_post(sem_t *sem)
 {
     int failed = YAK_REAL(sem_post)(sem);
-    if (yak_seeds.decides)
-        yak_seed_tell(sem, false);
+    yak_seed_tell("sem_post", sem, false);
     return failed;
+}
+
+/* ---- by a clock that the caller names: there is one time ---- */
+
+#ifdef __GLIBC__
+int yak_seed_clocklock(pthread_mutex_t *mutex, clockid_t clock, const struct timespec *until)
+{
+    return yak_seed_is_known("pthread_mutex_clocklock")
+               ? yak_seed_lock_until("pthread_mutex_clocklock", mutex, until)
+               : YAK_REAL(pthread_mutex_clocklock)(mutex, clock, until);
+}
+
+int yak_seed_cond_clockwait(pthread_cond_t *cond, pthread_mutex_t *mutex, clockid_t clock,
+                            const struct timespec *until)
+{
+    return yak_seed_is_known("pthread_cond_clockwait")
+               ? yak_seed_cond_wait_until(cond, mutex, until)
+               : YAK_REAL(pthread_cond_clockwait)(cond, mutex, clock, until);
+}
+
+int yak_seed_clockrdlock(pthread_rwlock_t *lock, clockid_t clock, const struct timespec *until)
+{
+    return yak_seed_is_known("pthread_rwlock_clockrdlock")
+               ? yak_seed_rwlock_until("pthread_rwlock_clockrdlock", lock, false, until)
+               : YAK_REAL(pthread_rwlock_clockrdlock)(lock, clock, until);
+}
+
+int yak_seed_clockwrlock(pthread_rwlock_t *lock, clockid_t clock, const struct timespec *until)
+{
+    return yak_seed_is_known("pthread_rwlock_clockwrlock")
+               ? yak_seed_rwlock_until("pthread_rwlock_clockwrlock", lock, true, until)
+               : YAK_REAL(pthread_rwlock_clockwrlock)(lock, clock, until);
+}
+
+int yak_seed_sem_clockwait(sem_t *sem, clockid_t clock, const struct timespec *until)
+{
+    return yak_seed_is_known("sem_clockwait") ? yak_seed_sem_until("sem_clockwait", sem, until)
+                                              : YAK_REAL(sem_clockwait)(sem, clock, until);
+}
+#endif
+
+/* ---- signals, whose handlers end no wait here ---- */
+
+void yak_seed_signals(void)
+{
+    yak_seeds.signals = true;
+}
+
+int yak_seed_pthread_kill(pthread_t thread, int number)
+{
+    if (number != 0)
+        yak_seed_signals();
+    return YAK_REAL(pthread_kill)(thread, number);
+}
+
+int yak_seed_kill(pid_t process, int number)
+{
+    if (number != 0)
+        yak_seed_signals();
+    return YAK_REAL(kill)(process, number);
 }
 
 /* ---- time ---- */
@@ -379,12 +818,12 @@ static void yak_seed_pause(time_t seconds, long nanos)
     struct timespec until = yak_seeds.now;
     until.tv_sec += seconds + (until.tv_nsec + nanos) / 1000000000;
     until.tv_nsec = (until.tv_nsec + nanos) % 1000000000;
-    yak_seed_wait(0, 0, &until, "asleep");
+    yak_seed_pass(YAK_SEAT_WAITS, 0, 0, 0, &until, "asleep");
 }
 
 int yak_seed_nanosleep(const struct timespec *time, struct timespec *left)
 {
-    if (!yak_seeds.decides)
+    if (!yak_seed_is_known("nanosleep"))
         return YAK_REAL(nanosleep)(time, left);
     yak_seed_pause(time->tv_sec, time->tv_nsec);
     return 0;
@@ -392,7 +831,7 @@ int yak_seed_nanosleep(const struct timespec *time, struct timespec *left)
 
 unsigned yak_seed_sleep(unsigned seconds)
 {
-    if (!yak_seeds.decides)
+    if (!yak_seed_is_known("sleep"))
         return YAK_REAL(sleep)(seconds);
     yak_seed_pause((time_t)seconds, 0);
     return 0;
@@ -404,26 +843,53 @@ int yak_seed_usleep(unsigned micros)
     return yak_seed_nanosleep(&time, 0);
 }
 
+/* ---- the begin ---- */
+
+/* In a forked child there is one thread. */
+static void yak_seed_in_child(void)
+{
+    pthread_mutex_init(&yak_seeds.lock, 0);
+    for (unsigned i = 0; i < yak_seeds.used; ++i) {
+        pthread_cond_init(&yak_seeds.seats[i].turn, 0);
+        if (i + 1 != yak_seat_number)
+            yak_seeds.seats[i].state = YAK_SEAT_OUT;
+    }
+#ifdef __linux__
+    if (yak_seat_number != YAK_NO_SEAT)
+        yak_seed_seat()->tid = (long)syscall(SYS_gettid);
+#endif
+}
+
 static __attribute__((constructor)) void yak_seed_begin(void)
 {
     const char *seed = getenv("YAK_SEED");
+    char *end;
     if (seed == 0 || *seed == 0)
         return;
 #ifdef YAK_REAL_NAMES
     YAK_REAL_NAMES
 #endif
-    yak_seeds.x = (strtoull(seed, 0, 10) + 1) * 0x9E3779B97F4A7C15u;
+    errno = 0;
+    yak_seeds.x = (strtoull(seed, &end, 10) + 1) * 0x9E3779B97F4A7C15u;
+    if (*seed < '0' || *seed > '9' || *end != 0 || errno != 0) {
+        fprintf(stderr, "yakyrombe: YAK_SEED=%s is not a whole number below 2^64\n", seed);
+        _Exit(2);
+    }
+    /* From 0 the generator gives 0 for ever. */
+    if (yak_seeds.x == 0)
+        yak_seeds.x = 1;
     for (int i = 0; i < 20; ++i)
         yak_seed_number();
     yak_seeds.now.tv_sec = 1000000000;
     pthread_mutex_init(&yak_seeds.lock, 0);
-    pthread_key_create(&yak_seeds.key, yak_seed_leave);
+    pthread_key_create(&yak_seeds.key, yak_seed_end_thread);
+    pthread_atfork(0, 0, yak_seed_in_child);
     for (unsigned i = 0; i < YAK_SEATS; ++i)
         pthread_cond_init(&yak_seeds.seats[i].turn, 0);
     yak_seeds.seats[0].state = YAK_SEAT_RUNS;
     yak_seeds.seats[0].thread = pthread_self();
     yak_seeds.used = 1;
-    pthread_setspecific(yak_seeds.key, &yak_seeds);
+    yak_seed_sit_down(1);
     yak_seeds.decides = true;
 }
 

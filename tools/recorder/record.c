@@ -1,19 +1,25 @@
 /* Writes the calls of a program to the system's message queues, each with the moments at which it began and ended, as a concurrent
    history (docs/HISTORY.md). It is preloaded: LD_PRELOAD. Each thread that calls, of each process that the program forks, is a process
    of the history, numbered in the order of their first calls. The lines of a process go to a file of its own in RECORD_ROOM, of which
-   tools/record makes one history: a line with a dash for its end is written when the call begins, and the whole line when it returns. */
+   tools/record makes one history: a line with a dash for its end is written when the call begins, and the whole line when it returns.
+
+   The program may pass pointers and lengths that the system refuses. So the recorder passes them on as they are. It reads what they point to through
+   the kernel before the call, and directly only what a call that succeeded has used. A send that was refused has no message in its line. */
 #define _GNU_SOURCE
 #include <dlfcn.h>
 #include <errno.h>
 #include <fcntl.h>
 #include <mqueue.h>
+#include <limits.h>
 #include <stdarg.h>
+#include <stdbool.h>
 #include <stdint.h>
 #include <stdio.h>
 #include <stdlib.h>
 #include <string.h>
 #include <sys/mman.h>
 #include <sys/syscall.h>
+#include <sys/uio.h>
 #include <time.h>
 #include <unistd.h>
 
@@ -75,6 +81,38 @@ static void quote(struct line *line, const char *bytes, size_t len) {
     add(line, "\"", 1);
 }
 
+/* A pointer of the program. The system's header says that some are not null, which the compiler would believe. */
+static inline const void *given(const void *pointer) {
+    __asm__("" : "+r"(pointer));
+    return pointer;
+}
+
+/* Copies what the program points to; false if it can't be read. */
+static bool peek(void *to, const void *from, size_t len) {
+    struct iovec here = {to, len}, there = {(void *)(uintptr_t)from, len};
+    return given(from) && process_vm_readv(getpid(), &here, 1, &there, 1, 0) == (ssize_t)len;
+}
+
+/* Adds the name of a queue, if it can be read to its end. */
+static void quote_name(struct line *line, const char *name) {
+    char copy[PATH_MAX];
+    for (size_t len = 0; len < sizeof copy; len++) {
+        if (!peek(&copy[len], name + len, 1)) return;
+        if (!copy[len]) {
+            quote(line, copy, len);
+            return;
+        }
+    }
+}
+
+/* Adds the message of a send that is under way. Longer ones are refused before they are read. */
+static void quote_message(struct line *line, const char *message, size_t len) {
+    enum { LONGEST = 16 << 20 };
+    char *copy = len && len <= LONGEST ? malloc(len) : NULL;
+    if (copy && peek(copy, message, len)) quote(line, copy, len);
+    free(copy);
+}
+
 /* The name of an error of the profile, or one that no history has. */
 static const char *name_of(int error) {
     switch (error) {
@@ -132,20 +170,20 @@ static void refused(struct line *result) {
 
 mqd_t mq_open(const char *name, int flags, ...) {
     mode_t mode = 0;
-    struct mq_attr *attr = NULL;
+    struct mq_attr *attr = NULL, limits;
     if (flags & O_CREAT) {
-        va_list given;
-        va_start(given, flags);
-        mode = va_arg(given, mode_t);
-        attr = va_arg(given, struct mq_attr *);
-        va_end(given);
+        va_list rest;
+        va_start(rest, flags);
+        mode = va_arg(rest, mode_t);
+        attr = va_arg(rest, struct mq_attr *);
+        va_end(rest);
     }
     struct line call = {0}, result = {0};
     int access = flags & O_ACCMODE;
     say(&call, "open %s%s%s%s", access == O_RDONLY ? "r" : access == O_WRONLY ? "w" : "b", flags & O_CREAT ? "c" : "", flags & O_EXCL ? "x" : "",
         flags & O_NONBLOCK ? "n" : "");
-    if (attr) say(&call, " limits %ld %ld", attr->mq_maxmsg, attr->mq_msgsize);
-    quote(&call, name, strlen(name));
+    if (peek(&limits, attr, sizeof limits)) say(&call, " limits %ld %ld", limits.mq_maxmsg, limits.mq_msgsize);
+    quote_name(&call, name);
     uint64_t began = begin(&call);
     mqd_t d = REAL(mq_open)(name, flags, mode, attr);
     if (d == (mqd_t)-1) refused(&result);
@@ -172,63 +210,84 @@ int mq_close(mqd_t d) {
 int mq_unlink(const char *name) {
     struct line call = {0};
     say(&call, "unlink");
-    quote(&call, name, strlen(name));
+    quote_name(&call, name);
     uint64_t began = begin(&call);
     return done(began, &call, REAL(mq_unlink)(name));
 }
 
-static void until(struct line *call, const struct timespec *t) {
-    struct timespec now;
+/* Adds the deadline of a timed call; without one, which Linux takes, the call is one that is not timed. */
+static void until(struct line *call, const struct timespec *end) {
+    struct timespec now, t = {0, 0};
+    if (!end) return;
+    peek(&t, end, sizeof t);
     clock_gettime(CLOCK_REALTIME, &now);
-    say(call, " until %lld %ld at %lld %ld", (long long)t->tv_sec, t->tv_nsec, (long long)now.tv_sec, now.tv_nsec);
+    say(call, " until %lld %ld at %lld %ld", (long long)t.tv_sec, t.tv_nsec, (long long)now.tv_sec, now.tv_nsec);
+}
+
+/* The words of a send, to which its message comes. */
+static struct line send_of(mqd_t d, size_t len, unsigned prio, const struct timespec *t) {
+    struct line call = {0};
+    say(&call, "%s %u %u %zu", t ? "tsend" : "send", (unsigned)d, prio, len);
+    until(&call, t);
+    return call;
+}
+
+static uint64_t begin_send(const struct line *words, const char *message, size_t len) {
+    struct line call = {0};
+    add(&call, words->text, words->len);
+    quote_message(&call, message, len);
+    uint64_t began = begin(&call);
+    free(call.text);
+    return began;
+}
+
+static int sent(uint64_t began, struct line *call, int status, const char *message, size_t len) {
+    int error = errno;
+    if (!status) quote(call, message, len);
+    errno = error;
+    return done(began, call, status);
 }
 
 int mq_send(mqd_t d, const char *message, size_t len, unsigned prio) {
-    struct line call = {0};
-    say(&call, "send %u %u %zu", (unsigned)d, prio, len);
-    quote(&call, message, len);
-    uint64_t began = begin(&call);
-    return done(began, &call, REAL(mq_send)(d, message, len, prio));
+    struct line call = send_of(d, len, prio, NULL);
+    uint64_t began = begin_send(&call, message, len);
+    return sent(began, &call, REAL(mq_send)(d, message, len, prio), message, len);
 }
 
 int mq_timedsend(mqd_t d, const char *message, size_t len, unsigned prio, const struct timespec *t) {
-    struct line call = {0};
-    say(&call, "tsend %u %u %zu", (unsigned)d, prio, len);
-    until(&call, t);
-    quote(&call, message, len);
-    uint64_t began = begin(&call);
-    return done(began, &call, REAL(mq_timedsend)(d, message, len, prio, t));
+    struct line call = send_of(d, len, prio, given(t));
+    uint64_t began = begin_send(&call, message, len);
+    return sent(began, &call, REAL(mq_timedsend)(d, message, len, prio, t), message, len);
 }
 
-static ssize_t got(uint64_t began, struct line *call, ssize_t len, const char *buffer, unsigned prio, unsigned *given) {
+static ssize_t got(uint64_t began, struct line *call, ssize_t len, const char *buffer, unsigned prio) {
     struct line result = {0};
     if (len < 0) refused(&result);
     else {
         say(&result, " got %u", prio);
         quote(&result, buffer, (size_t)len);
-        if (given) *given = prio;
     }
     end(began, call, &result);
     return len;
 }
 
-ssize_t mq_receive(mqd_t d, char *buffer, size_t len, unsigned *given) {
+ssize_t mq_receive(mqd_t d, char *buffer, size_t len, unsigned *wanted) {
     struct line call = {0};
-    unsigned prio = 0;
+    unsigned prio = 0, *to = wanted ? wanted : &prio;
     say(&call, "recv %u %zu", (unsigned)d, len);
     uint64_t began = begin(&call);
-    ssize_t size = REAL(mq_receive)(d, buffer, len, &prio);
-    return got(began, &call, size, buffer, prio, given);
+    ssize_t size = REAL(mq_receive)(d, buffer, len, to);
+    return got(began, &call, size, buffer, size < 0 ? 0 : *to);
 }
 
-ssize_t mq_timedreceive(mqd_t d, char *buffer, size_t len, unsigned *given, const struct timespec *t) {
+ssize_t mq_timedreceive(mqd_t d, char *buffer, size_t len, unsigned *wanted, const struct timespec *t) {
     struct line call = {0};
-    unsigned prio = 0;
-    say(&call, "trecv %u %zu", (unsigned)d, len);
-    until(&call, t);
+    unsigned prio = 0, *to = wanted ? wanted : &prio;
+    say(&call, "%s %u %zu", given(t) ? "trecv" : "recv", (unsigned)d, len);
+    until(&call, given(t));
     uint64_t began = begin(&call);
-    ssize_t size = REAL(mq_timedreceive)(d, buffer, len, &prio, t);
-    return got(began, &call, size, buffer, prio, given);
+    ssize_t size = REAL(mq_timedreceive)(d, buffer, len, to, t);
+    return got(began, &call, size, buffer, size < 0 ? 0 : *to);
 }
 
 static int shown(uint64_t began, struct line *call, int status, const struct mq_attr *attr) {
@@ -241,24 +300,29 @@ static int shown(uint64_t began, struct line *call, int status, const struct mq_
 
 int mq_getattr(mqd_t d, struct mq_attr *attr) {
     struct line call = {0};
+    struct mq_attr got, *to = given(attr) ? attr : &got;
     say(&call, "getattr %u", (unsigned)d);
     uint64_t began = begin(&call);
-    return shown(began, &call, REAL(mq_getattr)(d, attr), attr);
+    return shown(began, &call, REAL(mq_getattr)(d, to), to);
 }
 
+/* Without attributes to set, which Linux takes, it is a getattr. */
 int mq_setattr(mqd_t d, const struct mq_attr *attr, struct mq_attr *old) {
     struct line call = {0};
-    struct mq_attr before;
-    say(&call, "setattr %u %d", (unsigned)d, attr->mq_flags & O_NONBLOCK ? 1 : 0);
+    struct mq_attr before, set = {0}, *to = old ? old : &before;
+    peek(&set, attr, sizeof set);
+    if (given(attr)) say(&call, "setattr %u %d", (unsigned)d, set.mq_flags & O_NONBLOCK ? 1 : 0);
+    else say(&call, "getattr %u", (unsigned)d);
     uint64_t began = begin(&call);
-    int status = shown(began, &call, REAL(mq_setattr)(d, attr, &before), &before);
-    if (!status && old) *old = before;
-    return status;
+    return shown(began, &call, REAL(mq_setattr)(d, attr, to), to);
 }
 
 int mq_notify(mqd_t d, const struct sigevent *event) {
     struct line call = {0};
-    if (event) say(&call, "notify %u %llu", (unsigned)d, (unsigned long long)(uintptr_t)event->sigev_value.sival_ptr);
+    struct sigevent asked;
+    memset(&asked, 0, sizeof asked);
+    peek(&asked, event, sizeof asked);
+    if (event) say(&call, "notify %u %llu", (unsigned)d, (unsigned long long)(uintptr_t)asked.sigev_value.sival_ptr);
     else say(&call, "notify %u -", (unsigned)d);
     uint64_t began = begin(&call);
     return done(began, &call, REAL(mq_notify)(d, event));

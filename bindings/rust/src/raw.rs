@@ -286,51 +286,135 @@ impl Drop for Handle {
     }
 }
 
-/// Sleeps while the bell is 1, until it rings and for so long at the most. It may also return for no reason.
-#[cfg(all(target_os = "linux", target_endian = "little", target_pointer_width = "64"))]
+/// Sleeps while the bell is 1, until it rings and for a given time at the most. It may also return for no reason.
 pub fn sleep(bell: &AtomicU64, at_most: Duration) {
-    let nap = futex::Timespec { sec: at_most.as_secs().min(1_000) as i64, nsec: i64::from(at_most.subsec_nanos()) };
-    // SAFETY: the low half of the bell stands first, and lives through the call, as does `nap`; the kernel reads both and writes neither.
-    unsafe { futex::syscall(futex::NUMBER, bell.as_ptr().cast::<u32>(), futex::WAIT_PRIVATE, 1u32, &nap, 0usize, 0u32) };
+    if !futex::sleep(bell, at_most) {
+        std::thread::sleep(at_most.min(Duration::from_millis(1)));
+    }
 }
 
 /// Wakes one that sleeps on the bell.
-#[cfg(all(target_os = "linux", target_endian = "little", target_pointer_width = "64"))]
 pub fn rouse(bell: &AtomicU64) {
-    // SAFETY: as of `sleep`; the kernel takes the address for a name alone.
-    unsafe { futex::syscall(futex::NUMBER, bell.as_ptr().cast::<u32>(), futex::WAKE_PRIVATE, 1u32, 0usize, 0usize, 0u32) };
+    futex::rouse(bell);
 }
 
-#[cfg(all(target_os = "linux", target_endian = "little", target_pointer_width = "64"))]
+#[cfg(all(target_os = "linux", target_pointer_width = "64"))]
 mod futex {
+    use std::env::consts::ARCH;
     use std::ffi::c_long;
+    use std::sync::atomic::AtomicU64;
+    use std::time::Duration;
 
-    #[cfg(target_arch = "x86_64")]
-    pub const NUMBER: c_long = 202;
-    #[cfg(not(target_arch = "x86_64"))]
-    pub const NUMBER: c_long = 98;
-    pub const WAIT_PRIVATE: i32 = 128;
-    pub const WAKE_PRIVATE: i32 = 129;
+    const NUMBER: Option<c_long> = number_on(ARCH);
+    const WAIT_PRIVATE: i32 = 128;
+    const WAKE_PRIVATE: i32 = 129;
 
     #[repr(C)]
-    pub struct Timespec {
-        pub sec: i64,
-        pub nsec: i64,
+    struct Timespec {
+        sec: i64,
+        nsec: i64,
     }
 
     extern "C" {
-        pub fn syscall(number: c_long, ...) -> c_long;
+        fn syscall(number: c_long, ...) -> c_long;
+    }
+
+    /// The number of the system call on a processor of 64 bits.
+    const fn number_on(processor: &str) -> Option<c_long> {
+        match processor.as_bytes() {
+            b"x86_64" => Some(202),
+            b"aarch64" | b"riscv64" | b"loongarch64" => Some(98),
+            b"powerpc64" => Some(221),
+            b"s390x" => Some(238),
+            _ => None,
+        }
+    }
+
+    /// The half of a bell that is 0 or 1, on which the kernel lets a thread sleep.
+    fn low_half(bell: &AtomicU64) -> *mut u32 {
+        let halves = bell.as_ptr().cast::<u32>();
+        if cfg!(target_endian = "big") {
+            halves.wrapping_add(1)
+        } else {
+            halves
+        }
+    }
+
+    /// False where the number of the system call is not known.
+    pub fn sleep(bell: &AtomicU64, at_most: Duration) -> bool {
+        let Some(number) = NUMBER else {
+            return false;
+        };
+        let nap = Timespec { sec: at_most.as_secs().min(1_000) as i64, nsec: i64::from(at_most.subsec_nanos()) };
+        // SAFETY: the half lives through the call, as does `nap`; the kernel reads both and writes neither.
+        unsafe { syscall(number, low_half(bell), WAIT_PRIVATE, 1u32, &nap, 0usize, 0u32) };
+        true
+    }
+
+    pub fn rouse(bell: &AtomicU64) {
+        if let Some(number) = NUMBER {
+            // SAFETY: as of `sleep`; the kernel takes the address for a name alone.
+            unsafe { syscall(number, low_half(bell), WAKE_PRIVATE, 1u32, 0usize, 0usize, 0u32) };
+        }
+    }
+
+    #[cfg(test)]
+    mod tests {
+        use super::{low_half, number_on, rouse, sleep, syscall, NUMBER, WAIT_PRIVATE};
+        use std::sync::atomic::AtomicU64;
+        use std::sync::atomic::Ordering::SeqCst;
+        use std::thread::spawn;
+        use std::time::{Duration, Instant};
+
+        #[test]
+        fn processors_have_numbers_of_their_own() {
+            assert_eq!([number_on("x86_64"), number_on("aarch64"), number_on("powerpc64")], [Some(202), Some(98), Some(221)]);
+            assert_eq!([number_on("s390x"), number_on("riscv64")], [Some(238), Some(98)]);
+            assert_eq!([number_on("mips64"), number_on("sparc64")], [None, None]);
+        }
+
+        /// The kernel takes the number for that of a futex: it refuses to sleep on a word that has another value.
+        #[test]
+        fn the_number_is_that_of_a_futex() {
+            let bell = AtomicU64::new(1);
+            if let Some(number) = NUMBER {
+                // SAFETY: as of `sleep`, without an end.
+                let slept = unsafe { syscall(number, low_half(&bell), WAIT_PRIVATE, 2u32, 0usize, 0usize, 0u32) };
+                assert_eq!(slept, -1);
+                assert_eq!(std::io::Error::last_os_error().kind(), std::io::ErrorKind::WouldBlock);
+            }
+        }
+
+        #[test]
+        fn a_sleep_ends_when_the_bell_rings_or_in_time() {
+            static BELL: AtomicU64 = AtomicU64::new(1);
+            let sleeper = spawn(|| {
+                while BELL.load(SeqCst) == 1 {
+                    sleep(&BELL, Duration::from_secs(1_000));
+                }
+            });
+            std::thread::sleep(Duration::from_millis(20));
+            BELL.store(0, SeqCst);
+            rouse(&BELL);
+            sleeper.join().unwrap();
+            let start = Instant::now();
+            sleep(&AtomicU64::new(1), Duration::from_millis(5));
+            assert!(start.elapsed() < Duration::from_secs(5));
+        }
     }
 }
 
-/// Where there is no futex a sleep is one of a millisecond, and nobody is woken.
-#[cfg(not(all(target_os = "linux", target_endian = "little", target_pointer_width = "64")))]
-pub fn sleep(_bell: &AtomicU64, _at_most: Duration) {
-    std::thread::sleep(Duration::from_millis(1));
-}
+#[cfg(not(all(target_os = "linux", target_pointer_width = "64")))]
+mod futex {
+    use std::sync::atomic::AtomicU64;
+    use std::time::Duration;
 
-#[cfg(not(all(target_os = "linux", target_endian = "little", target_pointer_width = "64")))]
-pub fn rouse(_bell: &AtomicU64) {}
+    pub fn sleep(_bell: &AtomicU64, _at_most: Duration) -> bool {
+        false
+    }
+
+    pub fn rouse(_bell: &AtomicU64) {}
+}
 
 /// The functions by which the library takes and frees its memory, over those of C.
 mod memory {

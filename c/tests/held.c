@@ -1,0 +1,117 @@
+/* What a process of the library holds for a descriptor is kept in mind if memory for its close was
+ * refused, and closed later. Linked with
+ * --wrap=malloc and --wrap=realloc, by which memory is refused. In one child after the other the
+ * close falls on another place of the journal, whose growth is refused in some. */
+#define _GNU_SOURCE
+#include <errno.h>
+#include <fcntl.h>
+#include <mqueue.h>
+#include <stdbool.h>
+#include <stdio.h>
+#include <stdlib.h>
+#include <string.h>
+#include <sys/wait.h>
+#include <time.h>
+#include <unistd.h>
+#include <yakyrombe/program.h>
+
+#include "want.h"
+
+enum { CHILDREN = 70, ROUNDS = 3, HIT = 7 };
+
+/* Volatile, since the system says of its calls that they come back into no function of this file.
+ */
+static volatile bool refuses;
+static volatile int refused;
+
+void *__real_malloc(size_t size);
+void *__real_realloc(void *at, size_t size);
+void *__wrap_malloc(size_t size);
+void *__wrap_realloc(void *at, size_t size);
+
+void *__wrap_malloc(size_t size)
+{
+    refused += refuses;
+    return refuses ? 0 : __real_malloc(size);
+}
+
+void *__wrap_realloc(void *at, size_t size)
+{
+    refused += refuses;
+    return refuses ? 0 : __real_realloc(at, size);
+}
+
+/* Opens the queue, and waits in it for a moment: for that process 2 opens it too. */
+static mqd_t open_and_wait(void)
+{
+    struct mq_attr attr = room_for(1);
+    struct timespec soon;
+    char buf[8];
+    mqd_t queue;
+    WANT((queue = mq_open("/yak-held", O_RDWR | O_CREAT, 0600, &attr)) != -1);
+    clock_gettime(CLOCK_REALTIME, &soon);
+    soon.tv_nsec += 1000000;
+    soon.tv_sec += soon.tv_nsec / 1000000000;
+    soon.tv_nsec %= 1000000000;
+    WANT(mq_timedreceive(queue, buf, sizeof buf, 0, &soon) == -1 && errno == ETIMEDOUT);
+    return queue;
+}
+
+/* How many descriptors process 2 holds, by the journal. */
+static int held_by_second(void)
+{
+    char line[512], reply[16];
+    int held = 0;
+    FILE *journal = tmpfile();
+    WANT(journal != 0 && yak_program_journal(journal) == 0);
+    rewind(journal);
+    while (fgets(line, sizeof line, journal) != 0) {
+        held += sscanf(line, "%*u 2 open %*s \"%*[^\"]\" -> %15s", reply) == 1 &&
+                strcmp(reply, "fd") == 0;
+        held -= sscanf(line, "%*u 2 close %*u -> %15s", reply) == 1 && strcmp(reply, "ok") == 0;
+    }
+    fclose(journal);
+    return held;
+}
+
+static void child(int padding)
+{
+    struct mq_attr attr;
+    mqd_t queue = open_and_wait();
+    int status;
+    WANT(held_by_second() == 1);
+    for (int i = 0; i < padding; ++i)
+        WANT(mq_getattr(queue, &attr) == 0);
+    refuses = true;
+    status = mq_close(queue);
+    refuses = false;
+    if (status != 0 || refused == 0)
+        _exit(0);
+    WANT(held_by_second() == 1);
+    for (int i = 0; i < ROUNDS; ++i) {
+        queue = open_and_wait();
+        WANT(held_by_second() == 1);
+        WANT(mq_close(queue) == 0);
+        WANT(held_by_second() == 0);
+    }
+    WANT(yak_program_check() == 0);
+    _exit(HIT);
+}
+
+int main(void)
+{
+    int hits = 0;
+    WANT(setenv("YAK_FORK", "new", 1) == 0);
+    for (int i = 0; i < CHILDREN; ++i) {
+        int status = 0;
+        pid_t it = fork();
+        if (it == 0)
+            child(i);
+        WANT(it != -1 && waitpid(it, &status, 0) == it && WIFEXITED(status) &&
+             (WEXITSTATUS(status) == 0 || WEXITSTATUS(status) == HIT));
+        hits += WEXITSTATUS(status) == HIT;
+    }
+    WANT(hits != 0);
+    puts("well");
+    return 0;
+}
