@@ -1,5 +1,6 @@
 -- Why a run ended without a result: what is printed, and the exit status.
-use Rattle.std.specs.Prelude.{◌≡◌, ℕ, List, ◌++◌, codes, Option, Some, None, Result, Ok, Err}
+use Rattle.std.specs.Prelude.{◌≡◌, ℕ, List, ◌++◌, codes, Result, Ok, Err}
+use Rattle.std.specs.Fmt.{decimal}
 use Rattle.mq_model.specs.Fault.{text_of}
 use Rattle.mq_model.specs.declared.faults.Fault.{Fault}
 use Rattle.mq_model.specs.declared.faults.Fault.TheVariants as fault
@@ -7,9 +8,12 @@ use Rattle.text_io.specs.declared.input.ReadFault.{ReadFault}
 use Rattle.text_io.specs.declared.input.ReadFault.TheVariants as read
 use Rattle.bench_line.specs.declared.fault.BenchFault.{BenchFault}
 use Rattle.bench_line.specs.declared.fault.BenchFault.TheVariants.{BadLine, Input, Output, Failed}
+use Rattle.bench_line.specs.declared.fault.LineFault.{LineFault}
+use Rattle.bench_line.specs.declared.fault.LineFault.TheVariants.{NoWorkload, OutOfRange, DeepMessages, CrowdMessages, OddCrowd}
 use Rattle.bench_line.specs.declared.fault.WorkFault.{WorkFault}
 use Rattle.bench_line.specs.declared.fault.WorkFault.TheVariants.{NoMemory, NoThread, NoClock, Refused}
 use Rattle.bench_line.specs.declared.workload.Request.{Request}
+use Rattle.bench_line.specs.Sizes.{letter_of, least_of, most_of}
 
 abbrev pub work_fault_text : WorkFault → List ℕ
 work_fault_text NoMemory = codes "no memory"
@@ -17,16 +21,26 @@ work_fault_text NoThread = codes "no thread"
 work_fault_text NoClock = codes "no clock"
 work_fault_text (Refused fault) = codes "a call was refused: " ++ text_of fault
 
+-- what is wrong with a line
+abbrev pub line_fault_text : LineFault → List ℕ
+line_fault_text NoWorkload = codes "the line names no workload (an empty input prints the usage)"
+line_fault_text (OutOfRange size) =
+    codes "line 1: " ++ (letter_of size ++ (codes " must be a number from "
+    ++ (decimal (least_of size) ++ (codes " to " ++ decimal (most_of size)))))
+line_fault_text DeepMessages = codes "line 1: D times N must be at most 10000000"
+line_fault_text CrowdMessages = codes "line 1: P times N must be at most 10000000"
+line_fault_text OddCrowd = codes "line 1: P must be even"
+
 -- the line on the error stream
 abbrev pub fault_text : BenchFault → List ℕ
-fault_text BadLine = codes "the line names no workload (an empty input prints the usage)"
+fault_text (BadLine fault) = line_fault_text fault
 fault_text Input = codes "input fault"
 fault_text Output = codes "output fault"
 fault_text (Failed fault) = work_fault_text fault
 
 -- the exit status of the program
 abbrev pub exit_status : BenchFault → ℕ
-exit_status BadLine = 2
+exit_status (BadLine fault) = 2
 exit_status Input = 3
 exit_status Output = 3
 exit_status (Failed fault) = 4
@@ -41,17 +55,22 @@ abbrev pub of_read_fault : ReadFault → BenchFault
 of_read_fault read.Failed = Input
 of_read_fault read.NoMemory = Failed NoMemory
 
--- a run that was refused its line, or that could not read it
-abbrev pub IsRefusal : Result (Unit {0}) BenchFault → Type 0
-IsRefusal (Err BadLine) = Unit {0}
-IsRefusal (Err Input) = Unit {0}
-IsRefusal (Err (Failed NoMemory)) = Unit {0}
-IsRefusal result = ⊥
+-- a run of a line that is at fault so: it says so, unless it could not read the line
+abbrev pub IsRefusal : LineFault → Result (Unit {0}) BenchFault → Type 0
+IsRefusal fault (Err (BadLine why)) = why ≡ fault
+IsRefusal fault (Err Input) = Unit {0}
+IsRefusal fault (Err (Failed NoMemory)) = Unit {0}
+IsRefusal fault result = ⊥
+
+-- the run does not call its line at fault
+abbrev pub IsOfGoodLine : Result (Unit {0}) BenchFault → Type 0
+IsOfGoodLine (Err (BadLine fault)) = ⊥
+IsOfGoodLine result = Unit {0}
 
 -- what reading came to is what the line asks for, unless a read failed or memory ran out
-abbrev pub Reads : Option Request → Result Request BenchFault → Type 0
-Reads asked (Ok request) = asked ≡ Some request
-Reads asked (Err BadLine) = asked ≡ None
+abbrev pub Reads : Result Request LineFault → Result Request BenchFault → Type 0
+Reads asked (Ok request) = asked ≡ Ok request
+Reads asked (Err (BadLine fault)) = asked ≡ Err fault
 Reads asked (Err Input) = Unit {0}
 Reads asked (Err (Failed NoMemory)) = Unit {0}
 Reads asked (Err other) = ⊥
@@ -59,6 +78,6 @@ Reads asked (Err other) = ⊥
 -- what a text that was read came to: no read can fail any more
 abbrev pub IsOfText : Result Request BenchFault → Type 0
 IsOfText (Ok request) = Unit {0}
-IsOfText (Err BadLine) = Unit {0}
+IsOfText (Err (BadLine fault)) = Unit {0}
 IsOfText (Err (Failed NoMemory)) = Unit {0}
 IsOfText (Err other) = ⊥

@@ -1,3 +1,4 @@
 pub mod Faults
 pub mod Grammar
+pub mod Sizes
 pub mod Usage

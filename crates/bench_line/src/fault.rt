@@ -1,9 +1,10 @@
 //! Why a run ended without a result.
 ghost use Rattle.std.specs.Prelude.{◌≡◌, Some};
-ghost use Rattle.bench_line.specs.declared.fault.BenchFault.TheVariants.{Failed, Output};
+ghost use Rattle.bench_line.specs.declared.fault.BenchFault.TheVariants.{BadLine, Failed, Output};
 ghost use Rattle.bench_line.specs.declared.fault.WorkFault.TheVariants.{NoClock, NoMemory};
-ghost use Rattle.bench_line.specs.Faults.{exit_status, fault_text, of_fault, of_read_fault, work_fault_text};
+ghost use Rattle.bench_line.specs.Faults.{exit_status, fault_text, line_fault_text, of_fault, of_read_fault, work_fault_text};
 
+use crate::size::Size;
 use mq_model::faults::Fault;
 use std::alloc::{AllocError, AllocFailed};
 use std::error::Error;
@@ -24,11 +25,26 @@ pub enum WorkFault {
     Refused(Fault),
 }
 
+/// What is wrong with a line.
+#[derive(Clone, Copy, Debug, PartialEq, Eq)]
+pub enum LineFault {
+    /// It names no workload, or has a word too many or too few.
+    NoWorkload,
+    /// This size is no number, or out of its range.
+    OutOfRange(Size),
+    /// The rounds of this depth have too many messages.
+    DeepMessages,
+    /// The rounds of so many processes have too many messages.
+    CrowdMessages,
+    /// The number of a crowd's processes is odd.
+    OddCrowd,
+}
+
 /// Why a run ended without a result. Its text is the line that the program writes to the error stream.
 #[derive(Clone, Copy, Debug, PartialEq, Eq)]
 pub enum BenchFault {
-    /// The line names no workload.
-    BadLine,
+    /// The line asks for nothing that can be measured.
+    BadLine(LineFault),
     /// The line could not be read.
     Input,
     /// The result could not be written.
@@ -43,7 +59,7 @@ impl BenchFault {
         ensures { result ≡ exit_status self }
     {
         match self {
-            BenchFault::BadLine => 2,
+            BenchFault::BadLine(_) => 2,
             BenchFault::Input | BenchFault::Output => 3,
             BenchFault::Failed(_) => 4,
         }
@@ -66,14 +82,35 @@ impl fmt::Display for WorkFault {
     }
 }
 
+impl fmt::Display for LineFault {
+    ghost output = { λ fault. Some (line_fault_text fault) };
+
+    fn fmt<W: fmt::Write>(&self, f: &mut fmt::Formatter<W>) -> fmt::Result {
+        match self {
+            LineFault::NoWorkload => {
+                f.write_str("the line names no workload (an empty input prints the usage)")
+            }
+            LineFault::OutOfRange(size) => {
+                let (letter, least, most) = (size.letter(), size.least(), size.most());
+                write!(f, "line 1: {letter} must be a number from {least} to {most}")
+            }
+            LineFault::DeepMessages => {
+                f.write_str("line 1: D times N must be at most 10000000")
+            }
+            LineFault::CrowdMessages => {
+                f.write_str("line 1: P times N must be at most 10000000")
+            }
+            LineFault::OddCrowd => f.write_str("line 1: P must be even"),
+        }
+    }
+}
+
 impl fmt::Display for BenchFault {
     ghost output = { λ fault. Some (fault_text fault) };
 
     fn fmt<W: fmt::Write>(&self, f: &mut fmt::Formatter<W>) -> fmt::Result {
         match self {
-            BenchFault::BadLine => {
-                f.write_str("the line names no workload (an empty input prints the usage)")
-            }
+            BenchFault::BadLine(fault) => write!(f, "{fault}"),
             BenchFault::Input => f.write_str("input fault"),
             BenchFault::Output => f.write_str("output fault"),
             BenchFault::Failed(fault) => write!(f, "{fault}"),
@@ -83,7 +120,17 @@ impl fmt::Display for BenchFault {
 
 impl Error for WorkFault {}
 
+impl Error for LineFault {}
+
 impl Error for BenchFault {}
+
+impl From<LineFault> for BenchFault {
+    ghost from_gives = { λ line fault. fault ≡ BadLine line };
+
+    fn from(fault: LineFault) -> BenchFault {
+        BenchFault::BadLine(fault)
+    }
+}
 
 impl From<AllocError> for WorkFault {
     ghost from_gives = { λ _ fault. fault ≡ NoMemory };

@@ -6,7 +6,7 @@ ghost use Rattle.bench_line.specs.Faults.{IsOfText, Reads};
 ghost use Rattle.bench_line.specs.Grammar.{is_one_line, request_read, without_feed};
 ghost use Rattle.bench_line.specs.Usage.{usage_text};
 
-use crate::fault::BenchFault;
+use crate::fault::{BenchFault, LineFault};
 use crate::workload::{Request, request_of};
 use std::alloc::Global;
 use std::io::{Read, Write};
@@ -36,7 +36,7 @@ N, K and S from 1 to 10000000, D from 1 to 4096, D times N at most 10000000
 P from 2 to 32, from 1 for a replay, even for a crowd, P times N at most 10000000 there, T from 1 to 60000
 ";
 
-/// Reads what the line of an input asks for. `BenchFault::BadLine`: the line names no workload. `BenchFault::Input`: a read failed.
+/// Reads what the line of an input asks for. `BenchFault::BadLine`: the line is at fault. `BenchFault::Input`: a read failed.
 /// `BenchFault::Failed`: memory was refused.
 pub fn read_request<R: Read>(alloc: Global, input: &mut R) -> Result<Request, BenchFault>
     ensures { (all : List ℕ) → R.remaining input.old ≡ Some all →
@@ -69,10 +69,10 @@ fn request_in(alloc: Global, text: &[u8]) -> Result<Request, BenchFault>
     ensures read { IsOfText result }
 {
     if text.len() > MOST_BYTES || !is_one_line(text) {
-        return Err(BenchFault::BadLine);
+        return Err(BenchFault::BadLine(LineFault::NoWorkload));
     }
     let words = words(alloc, text)?;
-    request_of(words.as_slice()).ok_or(BenchFault::BadLine)
+    Ok(request_of(words.as_slice())?)
 }
 
 // No feed stands before the last byte.

@@ -1,11 +1,10 @@
 //! What a run is asked for, and the words that write it.
-ghost use Rattle.std.specs.Prelude.{◌≡◌, ◌≤◌, ◌*◌, map, IfSome};
-ghost use Rattle.text_io.specs.Words.{count_written};
-ghost use Rattle.bench_line.specs.Grammar.{request_written, busy_written, measured_written, bounded_written, workload_written, rounds_alone, deep_written, replay_written, crowd_written, idle_written, storm_written, name_written};
+ghost use Rattle.std.specs.Prelude.{◌≡◌, ◌≤◌, ◌*◌, map};
+ghost use Rattle.bench_line.specs.Grammar.{request_written, busy_written, measured_written, bounded_written, workload_written, size_alone, deep_written, replay_written, crowd_written, idle_written, storm_written, name_written};
 
+use crate::fault::LineFault;
+use crate::size::Size;
 use mq_model::bounds::Bounds;
-use mq_model::limits;
-use text_io::words::count_of;
 
 /// What is measured, with its sizes.
 #[derive(Clone, Copy)]
@@ -63,19 +62,8 @@ pub enum Name {
     Storm,
 }
 
-/// The most rounds of a workload, and the most messages of all rounds.
-const MOST_ROUNDS: u32 = 10_000_000;
-/// The most messages in a queue.
-const MOST_DEPTH: u32 = limits::MESSAGES as u32;
-
-/// The most processes, the most that a system has.
-const MOST_PROCESSES: u32 = limits::PROCESSES;
-/// The most entries of a bounded journal, and the most payload bytes.
-const MOST_BOUND: u32 = 1_000_000_000;
-/// The most threads that count beside a workload.
-const MOST_BUSY: u32 = 32;
-/// The longest time of a workload, in milliseconds.
-const MOST_MILLISECONDS: u32 = 60_000;
+/// The most messages of all rounds.
+const MOST_MESSAGES: u64 = 10_000_000;
 
 const NAMES: [Name; 10] = [
     Name::Pair,
@@ -113,11 +101,11 @@ impl Name {
 }
 
 /// What the words of a line ask for. No word asks for the usage.
-pub fn request_of(words: &[&[u8]]) -> Option<Request>
+pub fn request_of(words: &[&[u8]]) -> Result<Request, LineFault>
     ensures { result ≡ request_written (map (λ word. word.now) words.now) }
 {
     match words {
-        [] => Some(Request::Usage),
+        [] => Ok(Request::Usage),
         [word, arguments @ ..] => {
             if *word == b"busy".as_slice() {
                 return busy_of(arguments);
@@ -127,71 +115,75 @@ pub fn request_of(words: &[&[u8]]) -> Option<Request>
     }
 }
 
-fn busy_of(arguments: &[&[u8]]) -> Option<Request>
+fn busy_of(arguments: &[&[u8]]) -> Result<Request, LineFault>
     ensures { result ≡ busy_written (map (λ word. word.now) arguments.now) }
 {
     match arguments {
-        [] => None,
-        [busy, words @ ..] => measured_of(count_of(MOST_BUSY, busy)?, words),
+        [] => Err(LineFault::NoWorkload),
+        [busy, words @ ..] => measured_of(Size::Busy.read(busy)?, words),
     }
 }
 
 // A workload beside so many threads that count.
-fn measured_of(busy: u32, words: &[&[u8]]) -> Option<Request>
+fn measured_of(busy: u32, words: &[&[u8]]) -> Result<Request, LineFault>
     ensures { result ≡ measured_written busy (map (λ word. word.now) words.now) }
 {
     match words {
-        [] => None,
+        [] => Err(LineFault::NoWorkload),
         [word, arguments @ ..] => {
             if *word == b"bounded".as_slice() {
                 return bounded_of(busy, arguments);
             }
             let workload = workload_of(name_of(word)?, arguments)?;
-            Some(Request::Measure(workload, Conditions { bounds: None, busy }))
+            Ok(Request::Measure(workload, Conditions { bounds: None, busy }))
         }
     }
 }
 
-fn bounded_of(busy: u32, arguments: &[&[u8]]) -> Option<Request>
+fn bounded_of(busy: u32, arguments: &[&[u8]]) -> Result<Request, LineFault>
     ensures { result ≡ bounded_written busy (map (λ word. word.now) arguments.now) }
 {
     match arguments {
         [entries, bytes, word, arguments @ ..] => {
-            let entries = u64::from(count_of(MOST_BOUND, entries)?);
-            let bytes = u64::from(count_of(MOST_BOUND, bytes)?);
+            let entries = u64::from(Size::MostEntries.read(entries)?);
+            let bytes = u64::from(Size::MostBytes.read(bytes)?);
             let workload = workload_of(name_of(word)?, arguments)?;
             let bounds = Some(Bounds { entries, bytes });
-            Some(Request::Measure(workload, Conditions { bounds, busy }))
+            Ok(Request::Measure(workload, Conditions { bounds, busy }))
         }
-        _ => None,
+        _ => Err(LineFault::NoWorkload),
     }
 }
 
-fn name_of(word: &[u8]) -> Option<Name>
+fn name_of(word: &[u8]) -> Result<Name, LineFault>
     ensures { result ≡ name_written word.now }
 {
-    NAMES.iter().copied().find(|name| word == name.text())
+    NAMES
+        .iter()
+        .copied()
+        .find(|name| word == name.text())
+        .ok_or(LineFault::NoWorkload)
 }
 
-fn workload_of(name: Name, arguments: &[&[u8]]) -> Option<Workload>
+fn workload_of(name: Name, arguments: &[&[u8]]) -> Result<Workload, LineFault>
     ensures { result ≡ workload_written name (map (λ word. word.now) arguments.now) }
 {
     match name {
-        Name::Pair => Some(Workload::Pair {
-            rounds: rounds_alone(arguments)?,
+        Name::Pair => Ok(Workload::Pair {
+            rounds: size_alone(Size::Rounds, arguments)?,
         }),
         Name::Deep => deep_of(arguments),
-        Name::Wide => Some(Workload::Wide {
-            rounds: rounds_alone(arguments)?,
+        Name::Wide => Ok(Workload::Wide {
+            rounds: size_alone(Size::Rounds, arguments)?,
         }),
-        Name::PingPong => Some(Workload::PingPong {
-            rounds: rounds_alone(arguments)?,
+        Name::PingPong => Ok(Workload::PingPong {
+            rounds: size_alone(Size::Rounds, arguments)?,
         }),
-        Name::Stream => Some(Workload::Stream {
-            rounds: rounds_alone(arguments)?,
+        Name::Stream => Ok(Workload::Stream {
+            rounds: size_alone(Size::Rounds, arguments)?,
         }),
-        Name::Check => Some(Workload::Check {
-            entries: rounds_alone(arguments)?,
+        Name::Check => Ok(Workload::Check {
+            entries: size_alone(Size::Entries, arguments)?,
         }),
         Name::Replay => replay_of(arguments),
         Name::Crowd => crowd_of(arguments),
@@ -200,95 +192,92 @@ fn workload_of(name: Name, arguments: &[&[u8]]) -> Option<Workload>
     }
 }
 
-// The one word after the names that take rounds or entries alone.
-fn rounds_alone(arguments: &[&[u8]]) -> Option<u32>
-    ensures { result ≡ rounds_alone (map (λ word. word.now) arguments.now) }
+// The one word after the names that take one size.
+fn size_alone(size: Size, arguments: &[&[u8]]) -> Result<u32, LineFault>
+    ensures { result ≡ size_alone size (map (λ word. word.now) arguments.now) }
 {
     match arguments {
-        [rounds] => count_of(MOST_ROUNDS, rounds),
-        _ => None,
+        [word] => size.read(word),
+        _ => Err(LineFault::NoWorkload),
     }
 }
 
-fn deep_of(arguments: &[&[u8]]) -> Option<Workload>
+fn deep_of(arguments: &[&[u8]]) -> Result<Workload, LineFault>
     ensures { result ≡ deep_written (map (λ word. word.now) arguments.now) }
 {
     match arguments {
         [depth, rounds] => {
-            let depth = count_of(MOST_DEPTH, depth)?;
-            let rounds = count_of(MOST_ROUNDS, rounds)?;
-            if u64::from(depth) * u64::from(rounds) > u64::from(MOST_ROUNDS) {
-                return None;
+            let depth = Size::Depth.read(depth)?;
+            let rounds = Size::Rounds.read(rounds)?;
+            if u64::from(depth) * u64::from(rounds) > MOST_MESSAGES {
+                return Err(LineFault::DeepMessages);
             }
-            Some(Workload::Deep { depth, rounds })
+            Ok(Workload::Deep { depth, rounds })
         }
-        _ => None,
+        _ => Err(LineFault::NoWorkload),
     }
 }
 
-fn replay_of(arguments: &[&[u8]]) -> Option<Workload>
+fn replay_of(arguments: &[&[u8]]) -> Result<Workload, LineFault>
     ensures { result ≡ replay_written (map (λ word. word.now) arguments.now) }
 {
     match arguments {
-        [entries] => Some(Workload::Replay {
-            entries: count_of(MOST_ROUNDS, entries)?,
+        [entries] => Ok(Workload::Replay {
+            entries: Size::Entries.read(entries)?,
             processes: 1,
         }),
         [entries, processes] => {
-            let entries = count_of(MOST_ROUNDS, entries)?;
-            let processes = count_of(MOST_PROCESSES, processes)?;
-            Some(Workload::Replay { entries, processes })
+            let entries = Size::Entries.read(entries)?;
+            let processes = Size::Processes.read(processes)?;
+            Ok(Workload::Replay { entries, processes })
         }
-        _ => None,
+        _ => Err(LineFault::NoWorkload),
     }
 }
 
-fn crowd_of(arguments: &[&[u8]]) -> Option<Workload>
+fn crowd_of(arguments: &[&[u8]]) -> Result<Workload, LineFault>
     ensures { result ≡ crowd_written (map (λ word. word.now) arguments.now) }
 {
     match arguments {
         [processes, rounds] => {
-            let processes = count_of(MOST_PROCESSES, processes)?;
-            let rounds = count_of(MOST_ROUNDS, rounds)?;
+            let processes = Size::Sharers.read(processes)?;
+            let rounds = Size::Rounds.read(rounds)?;
             if processes % 2 != 0 {
-                return None;
+                return Err(LineFault::OddCrowd);
             }
-            if u64::from(processes) * u64::from(rounds) > u64::from(MOST_ROUNDS) {
-                return None;
+            if u64::from(processes) * u64::from(rounds) > MOST_MESSAGES {
+                return Err(LineFault::CrowdMessages);
             }
-            Some(Workload::Crowd { processes, rounds })
+            Ok(Workload::Crowd { processes, rounds })
         }
-        _ => None,
+        _ => Err(LineFault::NoWorkload),
     }
 }
 
-fn idle_of(arguments: &[&[u8]]) -> Option<Workload>
+fn idle_of(arguments: &[&[u8]]) -> Result<Workload, LineFault>
     ensures { result ≡ idle_written (map (λ word. word.now) arguments.now) }
 {
     match arguments {
         [processes, milliseconds] => {
-            let processes = count_of(MOST_PROCESSES, processes)?;
-            let milliseconds = count_of(MOST_MILLISECONDS, milliseconds)?;
-            if processes < 2 {
-                return None;
-            }
-            Some(Workload::Idle {
+            let processes = Size::Sharers.read(processes)?;
+            let milliseconds = Size::Milliseconds.read(milliseconds)?;
+            Ok(Workload::Idle {
                 processes,
                 milliseconds,
             })
         }
-        _ => None,
+        _ => Err(LineFault::NoWorkload),
     }
 }
 
-fn storm_of(arguments: &[&[u8]]) -> Option<Workload>
+fn storm_of(arguments: &[&[u8]]) -> Result<Workload, LineFault>
     ensures { result ≡ storm_written (map (λ word. word.now) arguments.now) }
 {
     match arguments {
-        [seed, calls] => Some(Workload::Storm {
-            seed: count_of(MOST_ROUNDS, seed)?,
-            calls: count_of(MOST_ROUNDS, calls)?,
+        [seed, calls] => Ok(Workload::Storm {
+            seed: Size::Seed.read(seed)?,
+            calls: Size::Rounds.read(calls)?,
         }),
-        _ => None,
+        _ => Err(LineFault::NoWorkload),
     }
 }

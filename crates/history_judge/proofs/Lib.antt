@@ -7,3 +7,4 @@ pub mod Transport
 pub mod Narrowing
 pub mod Written
 pub mod Lines
+pub mod Strangers

@@ -187,6 +187,39 @@ built_seen c line words p s given end fits cut is read came given_is end_is =
     } in
     ap (λ g. f g end) given_is ∙ ap (λ e. f (percent_decode p.quoted) e) end_is ∙ read_seen c line words p s fits cut is read came
 
+none-pending : (o : Outcome) → written_reply o ≡ None → is_pending o ≡ true
+none-pending Pending e = refl
+none-pending Done e = absurd (cc)
+none-pending (Opened d) e = absurd (cc)
+none-pending (Got prio message) e = absurd (cc)
+none-pending (Attributes status) e = absurd (cc)
+none-pending (Notice value) e = absurd (cc)
+none-pending (Refused fault) e = absurd (cc)
+
+end-is : (o d : Outcome) (ended written end : ℕ) → (is_pending d ≡ true → ended ≡ 2 ^ 64 - 1) → written_reply o ≡ written_reply d → written ≡ ended →
+    (is_pending o ≡ true → end ≡ 2 ^ 64 - 1) → (is_pending o ≡ false → end ≡ written) → end ≡ written
+end-is Pending d ended written end last same is pending returned = pending refl ∙ sym (is ∙ last (none-pending d (sym same)))
+end-is Done d ended written end last same is pending returned = returned refl
+end-is (Opened n) d ended written end last same is pending returned = returned refl
+end-is (Got prio message) d ended written end last same is pending returned = returned refl
+end-is (Attributes status) d ended written end last same is pending returned = returned refl
+end-is (Notice value) d ended written end last same is pending returned = returned refl
+end-is (Refused fault) d ended written end last same is pending returned = returned refl
+
+-- the same, where what had not returned is said to end at the greatest moment
+pub ended_seen : (c : Called) (line : List ℕ) (words : List Word) (p : PartsSeen) (o : Outcome) (given : List ℕ) (end : ℕ) → Fits c →
+    words ≡ words_of line → line ≡ line_text c → parts_at words ≡ Some p → outcome_at p.result ≡ Some (shown o) →
+    given ≡ percent_decode p.quoted → (is_pending o ≡ true → end ≡ 2 ^ 64 - 1) → (is_pending o ≡ false → end ≡ unwrap_or p.end (2 ^ 64 - 1)) →
+    ◌≡◌ {A = SeenCall} (record {
+      process = p.process;
+      operation = record { call = p.call; given = given; begin = p.begin; end = end; reply = (shown o).0; message = (shown o).1 };
+    }) (seen_call c)
+ended_seen c line words p o given end fits cut is read came given_is pending returned =
+    let written : ℕ = unwrap_or p.end (2 ^ 64 - 1) in
+    let seen = built_seen c line words p (shown o) given written fits cut is read came given_is refl in
+    built_seen c line words p (shown o) given end fits cut is read came given_is
+    (end-is o c.operation.outcome c.operation.end written end fits.pending (ap (λ (s : SeenCall). s.operation.reply) seen) (ap (λ (s : SeenCall). s.operation.end) seen) pending returned)
+
 -- ---- calls that are seen alike have one line
 
 abbrev end_by : Option Reply → ℕ → Option ℕ

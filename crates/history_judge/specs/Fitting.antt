@@ -17,6 +17,10 @@ OutcomeFits (Attributes status) = StatusFits status
 OutcomeFits (Notice value) = IfSome value (λ n. n < 2 ^ 64)
 OutcomeFits (Refused fault) = Unit {0}
 
+-- a call that had not returned ended at the greatest moment
+abbrev pub EndsLast : Called → Type 0
+EndsLast c = is_pending c.operation.outcome ≡ true → c.operation.end ≡ 2 ^ 64 - 1
+
 -- the numbers of a call fit their types, and one that had not returned ended at the greatest moment
 pub record Fits (c : Called) : Type 0 where
   pub process : c.process < 2 ^ 32
@@ -25,8 +29,12 @@ pub record Fits (c : Called) : Type 0 where
   pub call : CallFits c.operation.call
   pub given : All (λ b. b < 256) c.operation.given.items
   pub outcome : OutcomeFits c.operation.outcome
-  pub pending : is_pending c.operation.outcome ≡ true → c.operation.end ≡ 2 ^ 64 - 1
+  pub pending : EndsLast c
 
 -- those of each call do
 abbrev pub AllFit : List Called → Type 0
 AllFit calls = AllByRecursion Fits calls
+
+-- each that had not returned ended at the greatest moment
+abbrev pub AllEndLast : List Called → Type 0
+AllEndLast calls = AllByRecursion EndsLast calls

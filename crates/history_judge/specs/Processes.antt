@@ -1,5 +1,6 @@
 -- The calls of a history by the processes that made them.
-use Rattle.std.specs.Prelude.{◌≡◌, ℕ, ◌+◌, Bool, nat_le, ◌==◌, ◌&&◌, max, List, [], ◌∷◌, Some, Vec, slice_get, if◌then◌else◌}
+use Rattle.std.specs.Prelude.{◌≡◌, ℕ, ◌+◌, Bool, true, nat_le, ◌==◌, ◌&&◌, max, List, [], ◌∷◌, Some, Vec, slice_get, if◌then◌else◌}
+use Rattle.std.specs.List.{list_all}
 use Rattle.std.specs.declared.alloc.Global.{Global}
 use Rattle.mq_model.specs.Limits.{most_processes}
 use Rattle.histories.specs.declared.operation.Operation.{Operation}
@@ -8,6 +9,10 @@ use Rattle.history_judge.specs.declared.line.Called.{Called}
 
 abbrev pub is_process : ℕ → Bool
 is_process p = nat_le 1 p && nat_le p most_processes
+
+-- each call is of a process from 1 to 32
+abbrev pub AreOfProcesses : List Called → Type 0
+AreOfProcesses calls = list_all (λ c. is_process c.process) calls ≡ true
 
 -- the greatest number of a process
 abbrev pub process_count : List Called → ℕ

@@ -2,6 +2,7 @@
 ghost use Rattle.std.specs.Prelude.{◌≡◌, ◌≤◌, ◌<◌, IfOk, length, vec_len};
 ghost use Rattle.history_judge.specs.Seen.{AreSameCalls};
 ghost use Rattle.history_judge.specs.Fronts.{front_part};
+ghost use Rattle.history_judge.specs.Processes.{AreOfProcesses};
 ghost use Rattle.history_judge.specs.Verdicts.{AreHistoriesOf, IsAnswer, IsImpossible, IsJudgement};
 
 use crate::descriptors::rename;
@@ -27,8 +28,9 @@ pub enum Answer {
     OutOfBudget,
 }
 
-/// Whether these calls have a legal order, within so many steps.
+/// Whether these calls of processes from 1 to 32 have a legal order, within so many steps.
 pub fn find_order(alloc: Global, calls: Vec<Called>, budget: u64) -> Result<Answer, AllocError>
+    requires { AreOfProcesses calls.items }
     ensures { IfOk result (IsAnswer calls.items) }
 {
     let histories = histories_of(alloc, calls)?;
@@ -79,8 +81,9 @@ pub enum Judgement {
     OutOfBudget,
 }
 
-/// Judges a history, each of its front parts within so many steps.
+/// Judges a history of processes from 1 to 32, each of its front parts within so many steps.
 pub fn judge_calls(alloc: Global, calls: &[Called], budget: u64) -> Result<Judgement, AllocError>
+    requires { AreOfProcesses calls.now }
     ensures { IfOk result (IsJudgement calls.now) }
 {
     let whole = whole_of(alloc, calls)?;
@@ -94,7 +97,8 @@ pub fn judge_calls(alloc: Global, calls: &[Called], budget: u64) -> Result<Judge
 
 // The shortest front part that is impossible, of a history that is.
 fn shortest(alloc: Global, calls: &[Called], budget: u64) -> Result<Judgement, AllocError>
-    requires { IsImpossible calls.now }
+    requires processes { AreOfProcesses calls.now }
+    requires impossible { IsImpossible calls.now }
     ensures { IfOk result (IsJudgement calls.now) }
 {
     let returns = returns_of(alloc, calls)?;
@@ -151,6 +155,7 @@ fn judge_front(
     number: usize,
     budget: u64,
 ) -> Result<Answer, AllocError>
+    requires { AreOfProcesses calls.now }
     ensures { IfOk result (IsAnswer (front_part calls.now returns.now.items number)) }
 {
     let front = front_part(alloc, calls, returns, number)?;

@@ -1,8 +1,10 @@
 //! The line of a call.
-ghost use Rattle.std.specs.Prelude.{◌≡◌, IfOk, IfSome, MatchOption, codes, string_bytes};
+ghost use Rattle.std.specs.Prelude.{◌≡◌, ◌-◌, ◌^◌, true, false, IfOk, IfSome, MatchOption, codes, string_bytes, unwrap_or};
 ghost use Rattle.std.specs.Option.{option_map};
 ghost use Rattle.journal_format.specs.Reading.{words_at};
 ghost use Rattle.journal_format.specs.Text.{number_or};
+ghost use Rattle.histories.specs.Histories.{is_pending};
+ghost use Rattle.history_judge.specs.Fitting.{EndsLast};
 ghost use Rattle.history_judge.specs.Reading.{IsNoLine, IsOneOf, parts_at, parts_seen};
 ghost use Rattle.history_judge.specs.Text.{end_of, line_text};
 
@@ -80,12 +82,24 @@ fn parts_of<'w, 's>(words: &'w [&'s [u8]]) -> Option<Parts<'w, 's>>
     })
 }
 
+// The moment at which a call ended that came to this: the one that its line has, or the greatest where it had not returned.
+fn end_read(outcome: &Outcome, written: Option<u64>) -> u64
+    ensures pending { is_pending outcome.now ≡ true → result ≡ 2 ^ 64 - 1 }
+    ensures returned { is_pending outcome.now ≡ false → result ≡ unwrap_or written (2 ^ 64 - 1) }
+{
+    match outcome {
+        Outcome::Pending => u64::MAX,
+        _ => written.unwrap_or(u64::MAX),
+    }
+}
+
 /// The call whose line this is, if it is one. The line ends with its feed.
 pub fn read_line(alloc: Global, line: &[u8]) -> Result<Option<Called>, AllocError>
     // What is read is written as it was.
     ensures found { IfOk result (λ read. IfSome read (λ called. line.now ≡ line_text called)) }
     // What was written is read as it was.
     ensures only { IfOk result (λ read. MatchOption read (IsNoLine line.now) (IsOneOf line.now)) }
+    ensures pending { IfOk result (λ read. IfSome read EndsLast) }
 {
     let words = words(alloc, line)?;
     let Some(parts) = parts_of(words.as_slice()) else {
@@ -102,7 +116,7 @@ pub fn read_line(alloc: Global, line: &[u8]) -> Result<Option<Called>, AllocErro
             call: parts.call,
             given,
             begin: parts.begin,
-            end: parts.end.unwrap_or(u64::MAX),
+            end: end_read(&outcome, parts.end),
             outcome,
         },
     };

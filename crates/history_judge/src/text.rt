@@ -1,7 +1,7 @@
 //! The text of a history.
 ghost use Rattle.std.specs.Prelude.{◌≡◌, ◌++◌, ◌∷◌, [], ℕ, List, IfOk, IsErrOf, MatchResult, OnOk};
 ghost use Rattle.journal_format.specs.declared.fault.JournalFault.TheVariants.{BadLine, Input, NoMemory};
-ghost use Rattle.history_judge.specs.Fitting.{AllFit};
+ghost use Rattle.history_judge.specs.Fitting.{AllEndLast, AllFit};
 ghost use Rattle.history_judge.specs.HistoryFault.{StopsAt};
 ghost use Rattle.history_judge.specs.Seen.{AreSameCalls};
 ghost use Rattle.history_judge.specs.Text.{history_text};
@@ -28,6 +28,7 @@ pub fn write_history(alloc: Global, calls: &[Called]) -> Result<Vec<u8>, AllocEr
 pub fn read_history(alloc: Global, text: &[u8]) -> Result<Vec<Called>, JournalFault>
     // What is read is written as it was.
     ensures found { IfOk result (λ calls. text.now ≡ history_text calls.items) }
+    ensures pending { IfOk result (λ calls. AllEndLast calls.items) }
     // What was written is read as it was, unless memory runs out.
     ensures only { (history : List Called) → AllFit history → text.now ≡ history_text history →
         MatchResult result (λ calls. AreSameCalls calls.items history) (λ fault. fault ≡ NoMemory) }

@@ -1,4 +1,5 @@
 pub mod Label
 pub mod Found
 pub mod Shapes
+pub mod Style
 pub mod Picture

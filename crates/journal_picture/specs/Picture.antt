@@ -9,7 +9,7 @@ use Rattle.journal_format.specs.Text.{line_text, payload_text, reply_words}
 use Rattle.journal_picture.specs.Found.{count_below, name_by, processes}
 use Rattle.journal_picture.specs.Label.{label, named}
 use Rattle.journal_picture.specs.Shapes.{arrow, bar_before, bar_of, height, hue, lane, row}
-use Rattle.journal_picture.specs.declared.picture.TheConstants.{STYLE}
+use Rattle.journal_picture.specs.Style.{style_text}
 use Rattle.journal_picture.specs.declared.shapes.Stroke.{Stroke}
 use Rattle.journal_picture.specs.declared.shapes.Flight.{Flight}
 
@@ -112,18 +112,25 @@ lane_text past ps from count p =
 unfoldable pub left_out_text : ℕ → ℕ → List ℕ
 left_out_text before behind =
     if before + behind == 0 then []
-    else codes "<text class=\"queue\" x=\"60\" y=\"20\">" ++ (decimal before ++ (codes " entries before these are left out, and " ++ (decimal behind ++ codes " behind them</text>\n")))
+    else codes "<text class=\"queue\" x=\"60\" y=\"12\">" ++ (decimal before ++ (codes " entries before these are left out, and " ++ (decimal behind ++ codes " behind them</text>\n")))
+
+-- what stands above the lanes: that the journal is empty, or how many entries are left out
+unfoldable pub note_text : Past → Place → ℕ → List ℕ
+note_text past from count =
+    if length past == 0 then
+      codes "<text class=\"queue\" x=\"60\" y=\"12\">the journal is empty</text>\n"
+    else left_out_text from (length past - (from + count))
 
 -- the front of a picture: its size, its colours, and the tips of arrows
 unfoldable pub front_text : ℕ → ℕ → List ℕ
 front_text width down =
-    codes "<svg xmlns=\"http://www.w3.org/2000/svg\" width=\"" ++ (decimal width ++ (codes "\" height=\"" ++ (decimal down ++ (codes "\">\n" ++ STYLE.now))))
+    codes "<svg xmlns=\"http://www.w3.org/2000/svg\" width=\"" ++ (decimal width ++ (codes "\" height=\"" ++ (decimal down ++ (codes "\">\n" ++ style_text))))
 
--- a picture of so many records from the place `from` on: how many are left out, a lane for each process that occurs, what is shown of each
--- record, and to the right of the lanes their lines
+-- a picture of so many records from the place `from` on: the note above the lanes, a lane for each
+-- process that occurs, what is shown of each record, and to the right of the lanes their lines
 abbrev pub picture_text : Past → Place → ℕ → List ℕ
 picture_text past from count =
     let ps = processes past in
     front_text (column ps + 740) (height count) ++
-    (left_out_text from (length past - (from + count)) ++
+    (note_text past from count ++
     (flat_map (lane_text past ps from count) ps ++ (entries_text past ps from count count ++ codes "</svg>\n")))

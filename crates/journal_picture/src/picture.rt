@@ -1,7 +1,7 @@
 //! The text of a picture.
 ghost use Rattle.std.specs.Prelude.{◌≡◌, ◌≤◌, ◌<◌, ◌+◌, ◌-◌, ◌*◌, ◌++◌, ◌^◌, IfOk, IfSome, OnOk, length, string_bytes, take};
 ghost use Rattle.mq_model.specs.Record.{first};
-ghost use Rattle.journal_picture.specs.Picture.{arrow_text, bar_text, column, ends_text, entries_text, flight_text, front_text, head_text, heads, heads_text, kind, lane_text, last_text, left_out_text, line_down, mark_front, mark_text, name_front, name_text, number_text, picture_text, record_text};
+ghost use Rattle.journal_picture.specs.Picture.{arrow_text, bar_text, column, ends_text, entries_text, flight_text, front_text, head_text, heads, heads_text, kind, lane_text, last_text, left_out_text, line_down, mark_front, mark_text, name_front, name_text, note_text, number_text, picture_text, record_text};
 ghost use Rattle.std.specs.List.{flat_map};
 
 use crate::found::{count_below, name_by, processes};
@@ -16,6 +16,9 @@ use std::alloc::{AllocError, Global};
 
 /// The most entries of a picture.
 pub const MOST_ENTRIES: u64 = 2000;
+
+/// What a picture of an empty journal says.
+const EMPTY: &[u8] = b"<text class=\"queue\" x=\"60\" y=\"12\">the journal is empty</text>\n";
 
 /// Colours, and the tips of arrows: one for each hue.
 const STYLE: &str = "<style>\
@@ -65,7 +68,7 @@ pub fn picture_of(
     let front = front_text(alloc, column(&frame.processes) + 740, height(count))?;
     let mut text = Vec::new(alloc);
     text.extend_from_slice(front.as_bytes())?;
-    push_left_out(alloc, &mut text, from, journal.len() - (from + count))?;
+    push_note(alloc, &mut text, journal, from, count)?;
     push_lanes(alloc, &mut text, journal, &frame)?;
     push_entries(alloc, &mut text, journal, &frame)?;
     text.extend_from_slice(b"</svg>\n")?;
@@ -73,13 +76,32 @@ pub fn picture_of(
 }
 
 // The front of a picture: its size, its colours, and the tips of arrows.
-#[tactic(auto, unfolding(crate::specs::Picture::front_text))]
+#[tactic(auto, unfolding(crate::specs::Picture::front_text), using(crate::proofs::Styled::style_is))]
 fn front_text(alloc: Global, width: u64, height: u64) -> Result<String, AllocError>
     ensures { IfOk result (λ text. string_bytes text ≡ front_text width height) }
 {
     format!(in alloc;
         "<svg xmlns=\"http://www.w3.org/2000/svg\" width=\"{width}\" height=\"{height}\">\n{STYLE}"
     )
+}
+
+// Adds what stands above the lanes: that the journal is empty, or how many entries are left out.
+#[tactic(auto, unfolding(crate::specs::Picture::note_text))]
+fn push_note(
+    alloc: Global,
+    text: &mut Vec<u8>,
+    journal: &Journal,
+    from: u64,
+    count: u64,
+) -> Result<(), AllocError>
+    requires shown { from + count ≤ length journal.now.records }
+    ensures { OnOk result (text.new.items ≡ text.old.items ++
+        note_text journal.now.records from count) }
+{
+    if journal.len() == 0 {
+        return text.extend_from_slice(EMPTY);
+    }
+    push_left_out(alloc, text, from, journal.len() - (from + count))
 }
 
 // Adds how many entries are left out, before those that are shown and behind them.
@@ -97,7 +119,7 @@ fn push_left_out(
         return Ok(());
     }
     let line = format!(in alloc;
-        "<text class=\"queue\" x=\"60\" y=\"20\">{before} entries before these are left out, and {behind} behind them</text>\n"
+        "<text class=\"queue\" x=\"60\" y=\"12\">{before} entries before these are left out, and {behind} behind them</text>\n"
     )?;
     text.extend_from_slice(line.as_bytes())
 }

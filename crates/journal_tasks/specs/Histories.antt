@@ -13,7 +13,8 @@ use Rattle.script_text.specs.declared.reply.Outcome.TheVariants.{Opened, Done, G
 use Rattle.script_orders.specs.Plans.{Plan, program_of}
 use Rattle.script_orders.specs.declared.plan.Step.{Step}
 use Rattle.script_orders.specs.declared.plan.Step.TheVariants.{Call as ACall, Refusal, Exit}
-use Rattle.script_runner.specs.Runs.{RunsWhole}
+use Rattle.script_runner.specs.Notes.{RunsServed}
+use Rattle.script_runner.specs.declared.noted.Noted.{Noted}
 use Rattle.history_judge.specs.Text.{history_text}
 use Rattle.history_judge.specs.declared.line.Called.{Called}
 
@@ -82,9 +83,10 @@ pub record IsHistoryInPart (old new : Option (List ℕ)) : Type 0 where
   pub calls : List Called
   pub written : AppendsTooLittle old new (history_text calls)
 
--- the script was run whole, and known bytes have grown by the text of a history of its calls
+-- the script was run whole, no call was refused memory, and known bytes have grown by the text of a
+-- history of its calls
 pub record RecordsHistory (script : Whole) (old new : Option (List ℕ)) : Type 0 where
   pub journal : Past
-  pub replies : List ℕ
-  pub ran : RunsWhole script replies journal
+  pub noted : List Noted
+  pub ran : RunsServed script noted journal
   pub written : WritesHistory script old new

@@ -1,24 +1,33 @@
 -- The task that the words of the command line ask for.
-use Rattle.std.specs.Prelude.{◌&&◌, Bool, true, List, [], ◌∷◌, Option, Some, None, if◌then◌else◌, codes}
+use Rattle.std.specs.Prelude.{◌-◌, ◌^◌, ◌&&◌, Bool, true, false, List, [], ◌∷◌, Option, Some, None, if◌then◌else◌, codes}
 use Rattle.std.specs.Str.{bytes_eq}
 use Rattle.text_io.specs.Words.{◌>>=◌, Word, number_written}
 use Rattle.journal_tasks.specs.declared.task.Task.{Task}
 use Rattle.journal_tasks.specs.declared.task.Task.TheVariants.{Run, History, Check, Draw, Judge, Orders, Help}
 use Rattle.journal_tasks.specs.declared.every_order.Trial.{Trial}
-use Rattle.journal_tasks.specs.declared.every_order.TheConstants.{REPORT}
 use Rattle.journal_tasks.specs.declared.judge.Question.{Question}
-use Rattle.journal_tasks.specs.declared.judge.TheConstants.{PLAIN}
 use Rattle.journal_tasks.specs.declared.window.Window.{Window}
-use Rattle.journal_tasks.specs.declared.window.TheConstants.{WHOLE}
+
+-- without an option: all places of a journal are shown
+abbrev pub all_places : Window
+all_places = record { from = 0; to = 2 ^ 64 - 1 }
+
+-- a history is judged within a million steps, and no journal is written
+abbrev pub plain_question : Question
+plain_question = record { journal = false; budget = 1000000 }
+
+-- the orders are tried within five million steps, and the report is written
+abbrev pub plain_trial : Trial
+plain_trial = record { journal = None; budget = 5000000 }
 
 -- one option: the first place, or the last
 abbrev pub window_from_or_to : Word → Word → Option Window
 window_from_or_to name place = if bytes_eq name (codes "--from") then (do
   from ← number_written 64 place
-  Some (record { from = from; to = WHOLE.to }))
+  Some (record { from = from; to = all_places.to }))
     else (if bytes_eq name (codes "--to") then (do
       to ← number_written 64 place
-      Some (record { from = WHOLE.from; to = to }))
+      Some (record { from = all_places.from; to = to }))
     else None)
 
 -- the first place and the last
@@ -49,9 +58,9 @@ question_with journal word = do
 -- how the options of judge ask for a judgement
 abbrev pub question_written : List Word → Option Question
 question_written (name ∷ []) =
-    if bytes_eq name (codes "--journal") then Some (record { journal = true; budget = PLAIN.budget }) else None
+    if bytes_eq name (codes "--journal") then Some (record { journal = true; budget = plain_question.budget }) else None
 question_written (name ∷ word ∷ []) =
-    if bytes_eq name (codes "--budget") then question_with PLAIN.journal word else None
+    if bytes_eq name (codes "--budget") then question_with plain_question.journal word else None
 question_written (name ∷ second ∷ third ∷ []) =
     if bytes_eq name (codes "--budget") && bytes_eq third (codes "--journal") then question_with true second
     else (if bytes_eq name (codes "--journal") && bytes_eq second (codes "--budget") then question_with true third
@@ -62,10 +71,10 @@ question_written words = None
 abbrev pub trial_with_one : Word → Word → Option Trial
 trial_with_one name value = if bytes_eq name (codes "--journal") then (do
   number ← number_written 64 value
-  Some (record { journal = Some number; budget = REPORT.budget }))
+  Some (record { journal = Some number; budget = plain_trial.budget }))
     else (if bytes_eq name (codes "--budget") then (do
       budget ← number_written 64 value
-      Some (record { journal = REPORT.journal; budget = budget }))
+      Some (record { journal = plain_trial.journal; budget = budget }))
     else None)
 
 -- the journal of an outcome within so many steps
@@ -90,7 +99,7 @@ trial_written words = None
 -- the task of a name alone
 abbrev pub task_named : Word → Option Task
 task_named word =
-    if bytes_eq word (codes "run") then Some Run else (if bytes_eq word (codes "history") then Some History else (if bytes_eq word (codes "check") then Some Check else (if bytes_eq word (codes "draw") then Some (Draw WHOLE) else (if bytes_eq word (codes "judge") then Some (Judge PLAIN) else (if bytes_eq word (codes "orders") then Some (Orders REPORT) else (if bytes_eq word (codes "--help") then Some Help else None))))))
+    if bytes_eq word (codes "run") then Some Run else (if bytes_eq word (codes "history") then Some History else (if bytes_eq word (codes "check") then Some Check else (if bytes_eq word (codes "draw") then Some (Draw all_places) else (if bytes_eq word (codes "judge") then Some (Judge plain_question) else (if bytes_eq word (codes "orders") then Some (Orders plain_trial) else (if bytes_eq word (codes "--help") then Some Help else None))))))
 
 -- the task of a name with these options
 abbrev pub task_after : Word → List Word → Option Task

@@ -21,9 +21,11 @@ use std::time::Clock;
 use text_io::input::read_all;
 use text_io::output::write_all;
 
-/// Runs a script over the lock `L` as `run_script` does, and writes the history of its calls. The faults are those of `run_script`; at
-/// `RunFault::Output` a front part of the text is written, which lacks a byte or more, at `RunFault::Deadlock` the history of the calls
-/// that began, and at the others nothing.
+/// Runs a script over the lock `L` as `run_script` does, and writes the history of its calls. The
+/// faults are those of `run_script`, but a run in which a call was refused memory ends with
+/// `RunFault::NoMemory`, also one that can't go on. At `RunFault::Output` a front part of the text is
+/// written, which lacks a byte or more, at `RunFault::Deadlock` the history of the calls that began,
+/// and at the others nothing.
 pub fn record_history<L, S, R, W>(
     rt: &S,
     alloc: Global,

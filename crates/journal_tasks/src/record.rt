@@ -18,8 +18,10 @@ use std::thread::Threads;
 use std::time::Clock;
 use text_io::output::write_all;
 
-/// Runs a script over the lock `L` as `run_script` does, and writes the text of its journal. The faults are those of `run_script`;
-/// at `RunFault::Output` a front part of the text is written, which lacks a byte or more, and at the others nothing.
+/// Runs a script over the lock `L` as `run_script` does, and writes the text of its journal. The
+/// faults are those of `run_script`, but a run in which a call was refused memory ends with
+/// `RunFault::NoMemory`. At `RunFault::Output` a front part of the text is written, which lacks a byte
+/// or more, and at the others nothing.
 pub fn record_script<L, S, R, W, G>(
     rt: &S,
     alloc: Global,

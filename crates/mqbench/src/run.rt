@@ -1,10 +1,10 @@
 //! A run, from the bytes of its input to its output.
-ghost use Rattle.std.specs.Prelude.{◌≡◌, ◌+◌, ℕ, List, IsErrOf, OnOk, Some, None, take};
+ghost use Rattle.std.specs.Prelude.{◌≡◌, ◌+◌, ℕ, List, OnOk, Some, Ok, Err, take};
 ghost use Rattle.std.specs.Io.KnownBytes.{Appends};
-ghost use Rattle.bench_line.specs.Faults.{IsRefusal};
+ghost use Rattle.bench_line.specs.Faults.{IsOfGoodLine, IsRefusal};
 ghost use Rattle.bench_line.specs.Grammar.{request_read};
 ghost use Rattle.bench_line.specs.Usage.{usage_text};
-ghost use Rattle.bench_line.specs.declared.fault.BenchFault.TheVariants.{BadLine};
+ghost use Rattle.bench_line.specs.declared.fault.LineFault.{LineFault};
 ghost use Rattle.bench_line.specs.declared.workload.Request.TheVariants.{Usage, Measure};
 ghost use Rattle.bench_line.specs.declared.workload.Workload.{Workload};
 ghost use Rattle.bench_line.specs.declared.workload.Conditions.{Conditions};
@@ -21,7 +21,7 @@ use std::time::{Clock, CpuClock};
 use text_io::output::write_all;
 
 /// Reads the line of an input, measures the workload that it names, and writes a line with the result, or the usage where the
-/// input is empty. `BenchFault::BadLine`: the line names no workload. `BenchFault::Input`, `BenchFault::Output`: a read or a
+/// input is empty. `BenchFault::BadLine`: the line is at fault. `BenchFault::Input`, `BenchFault::Output`: a read or a
 /// write failed. Any other fault: the workload could not be carried out.
 pub fn run_line<S: Wait + Threads + Clock + CpuClock + Sync, R: Read, W: Write>(
     rt: &S,
@@ -29,16 +29,16 @@ pub fn run_line<S: Wait + Threads + Clock + CpuClock + Sync, R: Read, W: Write>(
     input: &mut R,
     output: &mut W,
 ) -> Result<(), BenchFault>
-    ensures bad_line { (all : List ℕ) → R.remaining input.old ≡ Some all →
-        request_read (take (MOST_BYTES + 1) all) ≡ None →
-        IsRefusal result × (W.contents output.new ≡ W.contents output.old) }
+    ensures bad_line { (all : List ℕ) (fault : LineFault) → R.remaining input.old ≡ Some all →
+        request_read (take (MOST_BYTES + 1) all) ≡ Err fault →
+        IsRefusal fault result × (W.contents output.new ≡ W.contents output.old) }
     ensures usage { (all : List ℕ) → R.remaining input.old ≡ Some all →
-        request_read (take (MOST_BYTES + 1) all) ≡ Some Usage →
+        request_read (take (MOST_BYTES + 1) all) ≡ Ok Usage →
         OnOk result (Appends (W.contents output.old) (W.contents output.new) usage_text) }
     ensures workload { (all : List ℕ) (workload : Workload) (conditions : Conditions) →
         R.remaining input.old ≡ Some all →
-        request_read (take (MOST_BYTES + 1) all) ≡ Some (Measure workload conditions) →
-        IsErrOf result BadLine → ⊥ }
+        request_read (take (MOST_BYTES + 1) all) ≡ Ok (Measure workload conditions) →
+        IsOfGoodLine result }
 {
     match read_request(alloc, input)? {
         Request::Usage => write_usage(output)?,

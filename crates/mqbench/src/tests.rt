@@ -1,6 +1,7 @@
 //! Each workload with small sizes, and lines that are refused.
 use crate::run::run_line;
-use bench_line::fault::{BenchFault, WorkFault};
+use bench_line::fault::{BenchFault, LineFault, WorkFault};
+use bench_line::size::Size;
 use mq_model::faults::Fault;
 use std::alloc::Global;
 use std::sync::Wait;
@@ -91,54 +92,69 @@ fn a_replay_prints_its_history(rt: HostRuntime) {
     }
 }
 
-static REFUSED: [&str; 47] = [
+// Lines that name no workload, or have a word too many or too few.
+static UNNAMED: [&str; 23] = [
     "word\n",
     "Pair 1\n",
     "pair\n",
     "pair fast 1\n",
-    "pair 0\n",
-    "pair 10000001\n",
-    "pair 1x\n",
     "pair 1 1\n",
-    "deep 4097 1\n",
-    "deep 4096 2442\n",
     "wide 1 1\n",
     "pingpong 1 1\n",
-    "stream -1\n",
-    "check 18446744073709551617\n",
     "replay\n",
-    "replay 1 33\n",
-    "replay 1 0\n",
     "crowd 4\n",
-    "crowd 1 1\n",
-    "crowd 3 1\n",
-    "crowd 34 1\n",
-    "crowd 4 0\n",
-    "crowd 32 312501\n",
     "idle 4\n",
-    "idle 1 1\n",
-    "idle 33 1\n",
-    "idle 2 0\n",
-    "idle 2 60001\n",
     "idle 2 1 1\n",
     "storm 1\n",
-    "storm 0 1\n",
-    "storm 1 10000001\n",
     "storm 1 1 1\n",
     "bounded\n",
     "bounded 1 1\n",
-    "bounded 0 1 pair 1\n",
-    "bounded 1 1000000001 pair 1\n",
     "busy\n",
     "busy 2\n",
-    "busy 0 pair 1\n",
-    "busy 33 pair 1\n",
     "busy 1 busy 1 pair 1\n",
     "bounded 1 1 busy 1 pair 1\n",
     "pair 1\npair 1\n",
     "pair 1\n\n",
     "pair\n1\n",
     "\n\n",
+];
+
+// Lines with a size that is no number or out of its range.
+static OUT_OF_RANGE: [(&str, Size); 21] = [
+    ("pair 0\n", Size::Rounds),
+    ("pair 10000001\n", Size::Rounds),
+    ("pair 1x\n", Size::Rounds),
+    ("deep 4097 1\n", Size::Depth),
+    ("stream -1\n", Size::Rounds),
+    ("check 18446744073709551617\n", Size::Entries),
+    ("replay 1 33\n", Size::Processes),
+    ("replay 1 0\n", Size::Processes),
+    ("crowd 1 1\n", Size::Sharers),
+    ("crowd 34 1\n", Size::Sharers),
+    ("crowd 4 0\n", Size::Rounds),
+    ("idle 1 1\n", Size::Sharers),
+    ("idle 33 1\n", Size::Sharers),
+    ("idle 2 0\n", Size::Milliseconds),
+    ("idle 2 60001\n", Size::Milliseconds),
+    ("storm 0 1\n", Size::Seed),
+    ("storm 1 10000001\n", Size::Rounds),
+    ("bounded 0 1 pair 1\n", Size::MostEntries),
+    ("bounded 1 1000000001 pair 1\n", Size::MostBytes),
+    ("busy 0 pair 1\n", Size::Busy),
+    ("busy 33 pair 1\n", Size::Busy),
+];
+
+// What each of these lines is refused with.
+static MESSAGES: [(&str, &str); 9] = [
+    ("word\n", "the line names no workload (an empty input prints the usage)"),
+    ("pair 10000001\n", "line 1: N must be a number from 1 to 10000000"),
+    ("replay 1 33\n", "line 1: P must be a number from 1 to 32"),
+    ("idle 1 1\n", "line 1: P must be a number from 2 to 32"),
+    ("idle 2 60001\n", "line 1: T must be a number from 1 to 60000"),
+    ("bounded 1 1000000001 pair 1\n", "line 1: B must be a number from 1 to 1000000000"),
+    ("deep 4096 2442\n", "line 1: D times N must be at most 10000000"),
+    ("crowd 32 312501\n", "line 1: P times N must be at most 10000000"),
+    ("crowd 3 1\n", "line 1: P must be even"),
 ];
 
 // Workloads that the journal has no room for.
@@ -166,9 +182,34 @@ fn a_journal_that_is_full_ends_a_workload(rt: HostRuntime) {
 
 #[test]
 fn other_lines_are_refused(rt: HostRuntime) {
-    for line in REFUSED {
+    for line in UNNAMED {
         let refused = output_of(&rt, rt.alloc(), line);
-        assert!(rt; refused.err() == Some(BenchFault::BadLine), "{line}");
+        assert!(rt;
+            refused.err() == Some(BenchFault::BadLine(LineFault::NoWorkload)),
+            "{line}"
+        );
+    }
+}
+
+#[test]
+fn a_size_that_is_out_of_its_range_is_named(rt: HostRuntime) {
+    for (line, size) in OUT_OF_RANGE {
+        let refused = output_of(&rt, rt.alloc(), line);
+        assert!(rt;
+            refused.err() == Some(BenchFault::BadLine(LineFault::OutOfRange(size))),
+            "{line}"
+        );
+    }
+}
+
+#[test]
+fn a_refusal_names_what_is_wrong_and_its_limit(rt: HostRuntime) {
+    for (line, message) in MESSAGES {
+        let refused = output_of(&rt, rt.alloc(), line).err();
+        let fault = refused.expect(&rt, "a refusal");
+        let text = format!(in rt.alloc(); "{fault}").expect(&rt, "memory");
+        assert_eq!(rt; text.as_str(), message);
+        assert_eq!(rt; fault.status(), 2);
     }
 }
 

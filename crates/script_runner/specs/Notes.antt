@@ -1,6 +1,12 @@
 -- What is noted of the calls of a script, in the words of the replies.
-use Rattle.std.specs.Prelude.{ℕ, List}
-use Rattle.std.specs.List.{flat_map}
+use Rattle.std.specs.Prelude.{◌≡◌, ℕ, Bool, true, false, List}
+use Rattle.std.specs.List.{flat_map, list_any}
+use Rattle.mq_model.specs.Record.{Past}
+use Rattle.mq_model.specs.declared.faults.Fault.TheVariants as fault
+use Rattle.script_text.specs.Script.{Whole}
+use Rattle.script_text.specs.declared.reply.Outcome.{Outcome}
+use Rattle.script_text.specs.declared.reply.Outcome.TheVariants.{Refused}
+use Rattle.script_runner.specs.Runs.{RunsWhole}
 use Rattle.script_text.specs.Replies.{reply_line}
 use Rattle.script_runner.specs.declared.noted.Noted.{Noted}
 
@@ -11,3 +17,17 @@ line_of noted = reply_line noted.process noted.completion.outcome noted.completi
 -- the lines of all that was noted
 abbrev pub lines_of : List Noted → List ℕ
 lines_of all = flat_map line_of all
+
+-- the call was refused memory
+abbrev pub is_refused : Outcome → Bool
+is_refused (Refused fault.NoMemory) = true
+is_refused other = false
+
+-- one of the calls that were noted was refused memory
+abbrev pub some_refused : List Noted → Bool
+some_refused all = list_any (λ noted. is_refused noted.completion.outcome) all
+
+-- a script was run whole, with what was noted as its replies, and no call was refused memory
+pub record RunsServed (script : Whole) (all : List Noted) (journal : Past) : Type 0 where
+  pub ran : RunsWhole script (lines_of all) journal
+  pub served : some_refused all ≡ false

@@ -21,7 +21,7 @@ pub enum RunFault {
     Input,
     /// The replies could not be written.
     Output,
-    /// Memory, or a thread, was refused outside a call.
+    /// Memory, or a thread, was refused outside a call; in a run that is noted, also for a call.
     NoMemory,
     /// The calls in these lines wait for ever, one of each process that waits, in the order of the processes.
     Deadlock(Vec<u64>),

@@ -2,9 +2,10 @@
 ghost use Rattle.std.specs.Prelude.{◌≡◌, ◌+◌, ℕ, List, IfOk, IsErrOf, Some, Ok, Err, take};
 ghost use Rattle.mq_model.specs.Legality.{Legal};
 ghost use Rattle.script_runner.specs.RunFault.{StopsAt};
-ghost use Rattle.script_runner.specs.Runs.{RunsWhole};
+ghost use Rattle.script_runner.specs.Notes.{RunsServed};
 ghost use Rattle.script_text.specs.Script.{Whole, script_written};
 ghost use Rattle.script_runner.specs.declared.fault.RunFault.TheVariants.{BadCall, Output};
+ghost use Rattle.script_runner.specs.declared.noted.Noted.{Noted};
 
 use crate::fault::RunFault;
 use crate::gate::Gate;
@@ -21,7 +22,8 @@ use std::time::Clock;
 use text_io::input::read_all;
 
 /// Runs a script as `run_script` does, and gives the journal of its calls in place of the replies. The faults are those of `run_script`
-/// but for `RunFault::Output`, since nothing is written.
+/// but for `RunFault::Output`, since nothing is written; `RunFault::NoMemory` also of a run in which a
+/// call was refused memory.
 pub fn script_journal<L, S, R, G>(
     rt: &S,
     alloc: Global,
@@ -43,7 +45,7 @@ where
     ensures unwritten { IsErrOf result Output → ⊥ }
     ensures done { (all : List ℕ) (script : Whole) → R.remaining input.old ≡ Some all →
         script_written (take (MOST_BYTES + 1) all) ≡ Ok script →
-        IfOk result (λ journal. (replies : List ℕ) × RunsWhole script replies journal.records) }
+        IfOk result (λ journal. (noted : List Noted) × RunsServed script noted journal.records) }
 {
     let text = read_all(alloc, input, MOST_BYTES)?;
     let script = read_script(alloc, text.as_slice())?;

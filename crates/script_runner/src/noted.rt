@@ -1,6 +1,7 @@
 //! What the calls of a phase came to, noted by process.
 ghost use Rattle.std.specs.Prelude.{◌≡◌, ◌++◌, IfOk, OnOk};
-ghost use Rattle.script_runner.specs.Notes.{line_of, lines_of};
+ghost use Rattle.std.specs.List.{list_any};
+ghost use Rattle.script_runner.specs.Notes.{is_refused, line_of, lines_of, some_refused};
 ghost use Rattle.script_runner.specs.Phase.{text_in};
 ghost use Rattle.script_text.specs.Replies.{reply_line};
 ghost use Rattle.script_text.specs.ReplyLines.{reply_lines};
@@ -8,7 +9,8 @@ ghost use Rattle.script_text.specs.ReplyLines.{reply_lines};
 use crate::turns::Worked;
 use fast_mutex::Look;
 use mq::{Guarded, Process};
-use script_text::reply::Completion;
+use mq_model::faults::Fault;
+use script_text::reply::{Completion, Outcome};
 use std::alloc::{AllocError, Global};
 
 /// A process, and what a call of it came to.
@@ -66,4 +68,20 @@ fn noted_of(alloc: Global, process: u32, completion: &Completion) -> Result<Note
             buffer,
         },
     })
+}
+
+/// Whether one of these calls was refused memory.
+pub fn some_refused(noted: &[Noted]) -> bool
+    ensures { result ≡ some_refused noted.now }
+{
+    noted.iter().any(|one| is_refused(one.completion.outcome))
+}
+
+fn is_refused(outcome: Outcome) -> bool
+    ensures { result ≡ is_refused outcome }
+{
+    match outcome {
+        Outcome::Refused(Fault::NoMemory) => true,
+        _ => false,
+    }
 }

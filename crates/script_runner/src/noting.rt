@@ -1,18 +1,19 @@
 //! A script with what its calls came to.
-ghost use Rattle.std.specs.Prelude.{◌≡◌, ◌≤◌, ◌++◌, [], ℕ, List, IfErr, IfOk, vec_len};
+ghost use Rattle.std.specs.Prelude.{◌≡◌, ◌≤◌, ◌++◌, [], ℕ, List, true, IfErr, IfOk, IsErrOf, vec_len};
 ghost use Rattle.std.specs.List.{All};
 ghost use Rattle.mq_model.specs.Legality.{Legal};
 ghost use Rattle.script_runner.specs.Meeting.{RunsAndMeets};
-ghost use Rattle.script_runner.specs.Notes.{lines_of};
+ghost use Rattle.script_runner.specs.Notes.{RunsServed, lines_of, some_refused};
 ghost use Rattle.script_runner.specs.RunFault.{IsUnwritten};
 ghost use Rattle.script_runner.specs.Runs.{IsReady, RunsPhases, RunsWhole};
+ghost use Rattle.script_runner.specs.declared.fault.RunFault.TheVariants.{NoMemory};
 ghost use Rattle.script_text.specs.Script.{said_calls, said_phases, said_script};
 
 use crate::deal::shares_of;
 use crate::fault::RunFault;
 use crate::gate::Gate;
 use crate::meeting::meet;
-use crate::noted::{Noted, note_all};
+use crate::noted::{Noted, note_all, some_refused};
 use crate::phase::make_calls;
 use crate::settling::settled;
 use fast_mutex::Look;
@@ -25,10 +26,43 @@ use std::sync::Wait;
 use std::thread::Threads;
 use std::time::Clock;
 
-/// Makes the calls of a script as `run_script` does, notes what they come to in place of writing their replies, and gives their journal.
-/// At `RunFault::Deadlock` the calls that returned are noted too, also those of the phase that can't go on, and at
-/// `RunFault::NoMemory` some.
+/// Makes the calls of a script as `run_script` does, notes what they come to in place of writing
+/// their replies, and gives their journal. At `RunFault::Deadlock` the calls that returned are noted
+/// too, also those of the phase that can't go on, and at `RunFault::NoMemory` some. A run in which a
+/// call was refused memory ends with `RunFault::NoMemory`, also one that can't go on: what it comes to
+/// is not what the script asks for.
 pub fn run_noted<L, S, G>(
+    rt: &S,
+    alloc: Global,
+    script: &Script<'_>,
+    gate: &G,
+    noted: &mut Vec<Noted>,
+) -> Result<Journal, RunFault>
+where
+    L: Look<Guarded> + Sync,
+    L::Seat: Send,
+    L::Walk: Send,
+    S: Threads + Wait + Clock + Sync,
+    G: Gate + Sync,
+    requires processes { (1 ≤ script.now.processes) × (script.now.processes ≤ 32) }
+    requires nothing { noted.old.items ≡ [] }
+    ensures fault { IfErr result IsUnwritten }
+    ensures legal { IfOk result (λ journal. Legal journal.records) }
+    // What is noted are the replies, and no call was refused memory.
+    ensures done { IfOk result (λ journal.
+        RunsServed (said_script script.now) noted.new.items journal.records) }
+    ensures refused { some_refused noted.new.items ≡ true → IsErrOf result NoMemory }
+{
+    let ran = make_all::<L, S, G>(rt, alloc, script, gate, noted);
+    if some_refused(noted.as_slice()) {
+        return Err(RunFault::NoMemory);
+    }
+    let journal = ran?;
+    Ok(journal)
+}
+
+// Makes the calls of a script, whether or not one of them is refused memory.
+fn make_all<L, S, G>(
     rt: &S,
     alloc: Global,
     script: &Script<'_>,

@@ -1,9 +1,9 @@
 //! A script, from its bytes to the bytes of its replies.
-ghost use Rattle.std.specs.Prelude.{◌≡◌, ◌≤◌, ◌+◌, ◌↔◌, [], ℕ, List, IfErr, IfOk, IsErr, IsErrOf, IsOk, OnErr, OnOk, Some, Ok, Err, Vec, length, take, vec_len};
+ghost use Rattle.std.specs.Prelude.{◌≡◌, ◌≤◌, ◌+◌, ◌↔◌, [], ℕ, List, true, IfErr, IfOk, IsErr, IsErrOf, IsOk, OnErr, OnOk, Some, Ok, Err, Vec, length, take, vec_len};
 ghost use Rattle.std.specs.Io.KnownBytes.{Appends, Consumes};
 ghost use Rattle.std.specs.List.{All};
 ghost use Rattle.mq_model.specs.Legality.{Legal};
-ghost use Rattle.mq.specs.Calls.{author};
+ghost use Rattle.mq.specs.Calls.{author, stored_in};
 ghost use Rattle.script_runner.specs.RunFault.{IsLate, IsUnwritten, StopsAt, fault_of};
 ghost use Rattle.fast_mutex.specs.Items.{Grows, Ticket};
 ghost use Rattle.text_io.specs.Output.{AppendsTooLittle};
@@ -168,6 +168,7 @@ where
 // The journal of the system of which these are all processes.
 fn journal_of<L: Look<Guarded>>(mq: Mq<L>, processes: Vec<Process<L>>) -> Journal
     requires made { All (λ process. process.lock ≡ mq) processes.items }
+    requires stored { stored_in mq.fixed ≡ true }
     requires all { vec_len processes ≡ mq.count }
     ensures legal { Legal result.records }
     ensures authors { All (λ r. (1 ≤ author r) × (author r ≤ mq.count)) result.records }

@@ -61,9 +61,18 @@ fn an_arrow_begins_at_the_edge_with_the_name_of_its_queue(rt: HostRuntime) {
 
 #[test]
 fn what_is_left_out_is_counted(rt: HostRuntime) {
-    let line = "<text class=\"queue\" x=\"60\" y=\"20\">\
+    let line = "<text class=\"queue\" x=\"60\" y=\"12\">\
                 2 entries before these are left out, and 1 behind them</text>";
     shows(&rt, rt.alloc(), HANDED.as_bytes(), window(2, 3), line);
+}
+
+#[test]
+fn a_picture_of_an_empty_journal_says_so(rt: HostRuntime) {
+    let line = "<text class=\"queue\" x=\"60\" y=\"12\">the journal is empty</text>";
+    shows(&rt, rt.alloc(), b"", WHOLE, line);
+    shows(&rt, rt.alloc(), b"", window(2, 3), line);
+    let taken = count_of(rt.alloc(), TAKEN.as_bytes(), window(2, 2), line);
+    assert_eq!(rt; taken, Ok(0));
 }
 
 #[test]

@@ -13,7 +13,7 @@ loop-good-init c =
     record {
       order = omega arith;
       within = search rules;
-      impossible = impossible-whole c.args.calls.now c.in_ok-returns.returns.items c.len-bad.result all c.requires;
+      impossible = impossible-whole c.args.calls.now c.in_ok-returns.returns.items c.len-bad.result all c.requires.impossible;
       shortest = λ t before next. absurd (omega (arith, next));
     }
 

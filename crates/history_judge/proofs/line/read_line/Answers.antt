@@ -8,7 +8,7 @@ use Rattle.journal_format.specs.Reading.{words_at}
 use Rattle.history_judge.specs.Reading.{outcome_at, parts_at, parts_seen, shown}
 use Rattle.history_judge.specs.Seen.{seen_call}
 use Rattle.history_judge.specs.declared.line.Called.{Called}
-use Rattle.history_judge.proofs.Written.{built_seen, no_outcome, no_parts, one_line}
+use Rattle.history_judge.proofs.Written.{ended_seen, no_outcome, no_parts, one_line}
 use Rattle.history_judge.proofs.line.read_line.Goals as goal
 
 differs : (r b : Bool) → r ≡ true → r ≡ not b → b ≡ true → ⊥
@@ -43,10 +43,10 @@ returns-then-ne-clause-only c = λ d fits is.
     c.in_ok-append_to.ensures.ok ∙ ap (λ t. t ++ decoded_bytes c.percent_decode.result) c.new-given.ensures.items ∙ c.percent_decode.ensures.bytes in
     let called : Called = record {
       process = c.in-Some.parts.process;
-      operation = record { call = c.in-Some.parts.call; given = c.append_to.new.out; begin = c.in-Some.parts.begin; end = c.unwrap_or.result; outcome = outcome };
+      operation = record { call = c.in-Some.parts.call; given = c.append_to.new.out; begin = c.in-Some.parts.begin; end = c.end_read.result; outcome = outcome };
     } in
     let seen : seen_call called ≡ seen_call d =
-    built_seen d c.args.line.now words parts (shown outcome) c.append_to.new.out.items c.unwrap_or.result fits cut is read came given c.unwrap_or.ensures in
+    ended_seen d c.args.line.now words parts outcome c.append_to.new.out.items c.end_read.result fits cut is read came given c.end_read.ensures.pending c.end_read.ensures.returned in
     let written : c.as_bytes.result.now ≡ c.args.line.now = c.as_bytes.ensures.value ∙ c.in_ok-written.ensures ∙ one_line called d seen ∙ sym is in
     let yes : bytes_eq c.as_bytes.result.now c.args.line.now ≡ true = (bytes_eq-Decides c.as_bytes.result.now c.args.line.now).1 written in
     differs c.ne.result (bytes_eq c.as_bytes.result.now c.args.line.now) c.if-ne.true c.ne.ensures yes
@@ -61,4 +61,4 @@ returns-clause-only c = λ d fits is.
     let came : outcome_at parts.result ≡ Some (shown outcome) = sym (rw c.in-Some-2.is at c.in_ok-outcome.ensures) in
     let given : c.append_to.new.out.items ≡ percent_decode parts.quoted =
     c.in_ok-append_to.ensures.ok ∙ ap (λ t. t ++ decoded_bytes c.percent_decode.result) c.new-given.ensures.items ∙ c.percent_decode.ensures.bytes in
-    built_seen d c.args.line.now words parts (shown outcome) c.append_to.new.out.items c.unwrap_or.result fits cut is read came given c.unwrap_or.ensures
+    ended_seen d c.args.line.now words parts outcome c.append_to.new.out.items c.end_read.result fits cut is read came given c.end_read.ensures.pending c.end_read.ensures.returned

@@ -1,10 +1,11 @@
-use Rattle.std.proofs.Common.{◌≡◌, ◌<◌, ◌+◌, ◌++◌, ◌∷◌, [], List, length, ap, arith, rules, sym, ◌∙◌}
+use Rattle.std.proofs.Common.{◌≡◌, ◌<◌, ◌+◌, ◌++◌, ◌∷◌, [], List, length, ap, arith, rules, subst, sym, ◌∙◌}
 use Rattle.std.proofs.lemmas.Bool.Decides.{nat_tests}
+use Rattle.history_judge.specs.Fitting.{AllEndLast}
 use Rattle.history_judge.specs.Reading.{IsNoLine, IsOneOf}
 use Rattle.history_judge.specs.Text.{history_text, line_text}
 use Rattle.history_judge.specs.declared.line.Called.{Called}
 use Rattle.history_judge.proofs.Lines.{from_start, goes_on, no_history, stops_here, whole_read}
-use Rattle.history_judge.proofs.Whole.{next_line}
+use Rattle.history_judge.proofs.Whole.{last-more, next_line}
 use Rattle.journal_format.proofs.Splitting.{first-whole}
 use Rattle.history_judge.proofs.text.read_history.Goals as goal
 
@@ -12,6 +13,7 @@ pub loop-rest-init : goal.loop-rest-init
 loop-rest-init c = record {
   text = ap (λ (calls : List Called). history_text calls ++ c.args.text.now) (sym c.new-calls.ensures.items);
   each = from_start c.args.text.now c.new-calls.result.items c.new-calls.ensures.items;
+  pending = subst (λ (calls : List Called). AllEndLast calls) (sym c.new-calls.ensures.items) tt;
 }
 
 pub loop-rest-preserved : goal.loop-rest-preserved
@@ -29,6 +31,7 @@ loop-rest-preserved c =
     record {
       text = next ∙ ap (λ (cs : List Called). history_text cs ++ others) (sym pushed);
       each = goes_on c.args.text.now rest first others calls c.add.new.calls.items c.in-Some.called c.loop-rest.invariant.each some c.first_line.ensures.lines one pushed;
+      pending = subst (λ (cs : List Called). AllEndLast cs) (sym pushed) (last-more calls c.in-Some.called c.loop-rest.invariant.pending (rw c.in-Some.is at c.in_ok-called.ensures.pending));
     }
 
 pub returns-in_default-clause-only : goal.returns-in_default-clause-only

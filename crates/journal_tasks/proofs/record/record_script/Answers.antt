@@ -14,7 +14,7 @@ returns-clause-done g c = λ all script known written.
     let text : c.as_slice.result.now ≡ journal_text c.in_ok-journal.journal.records = c.as_slice.ensures.value ∙ c.in_ok-text.ensures.text in
     record {
       journal = c.in_ok-journal.journal.records;
-      replies = ran.0;
+      noted = ran.0;
       ran = ran.1;
       written = rw text at c.in_ok-write_all.ensures.whole;
     }
@@ -35,7 +35,7 @@ returns-in_err-write_all-clause-output_of g c = λ all script known written fail
     let text : c.as_slice.result.now ≡ journal_text c.in_ok-journal.journal.records = c.as_slice.ensures.value ∙ c.in_ok-text.ensures.text in
     record {
       journal = c.in_ok-journal.journal.records;
-      replies = ran.0;
+      noted = ran.0;
       ran = ran.1;
       written = rw text at c.in_err-write_all.ensures.failed;
     }

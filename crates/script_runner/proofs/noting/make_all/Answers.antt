@@ -8,7 +8,7 @@ use Rattle.mq.specs.Calls.{author}
 use Rattle.mq_model.specs.Record.{Record}
 use Rattle.script_runner.proofs.Authors.{authors-within}
 use Rattle.script_runner.proofs.Working.{new-count, new-ready}
-use Rattle.script_runner.proofs.noting.run_noted.Goals as goal
+use Rattle.script_runner.proofs.noting.make_all.Goals as goal
 
 pub run_noted_phases-requires-after_bounds : goal.run_noted_phases-requires-after_bounds
 run_noted_phases-requires-after_bounds g c h2 within = grind (arith, new-ready)

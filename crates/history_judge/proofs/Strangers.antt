@@ -1,0 +1,60 @@
+-- Calls of processes from 1 to 32 alone.
+use Rattle.std.proofs.Common.{◌≡◌, ℕ, ◌+◌, Bool, true, false, not, ◌&&◌, cond, List, [], ◌∷◌, length, Option, Some, None, map, refl, ap, sym, ◌∙◌, slice_get, if◌then◌else◌, nat_le}
+use Rattle.std.specs.List.{list_all, position, position_from}
+use Rattle.std.proofs.lemmas.Iterator.Adapters.{position_from-zero}
+use Rattle.std.proofs.lemmas.List.Folds.{list_all-map}
+use Rattle.history_judge.specs.Fronts.{Return, front_from, front_or, front_part, had_returned, under_way}
+use Rattle.history_judge.specs.Processes.{AreOfProcesses, is_process}
+use Rattle.history_judge.specs.Seen.{AreSameCalls, SeenCall, seen_call}
+use Rattle.history_judge.specs.declared.line.Called.{Called}
+
+abbrev own : Called → Bool
+own c = is_process c.process
+
+one-more : (is : Bool) (i : ℕ) (rest : Option ℕ) (all : Bool) → cond (not is) (Some i) rest ≡ None → (rest ≡ None → all ≡ true) → (is && all) ≡ true
+one-more true i rest all none more = more none
+one-more false i rest all none more = absurd (cc)
+
+no-stranger-from : (i : ℕ) (calls : List Called) → position_from (λ c. not (own c)) i calls ≡ None → AreOfProcesses calls
+no-stranger-from i [] none = refl
+no-stranger-from i (c ∷ calls) none =
+    one-more (own c) i (position_from (λ d. not (own d)) (i + 1) calls) (list_all own calls) none (no-stranger-from (i + 1) calls)
+
+-- where there is no first call of another process
+pub no-stranger : (calls : List Called) → position (λ c. not (is_process c.process)) calls ≡ None → AreOfProcesses calls
+no-stranger calls none = no-stranger-from 0 calls (sym (position_from-zero (λ c. not (own c)) calls) ∙ none)
+
+-- of calls that are seen alike
+pub of-processes-alike : (xs ys : List Called) → AreSameCalls xs ys → AreOfProcesses ys → AreOfProcesses xs
+of-processes-alike xs ys same all =
+    let seen : SeenCall → Bool = λ s. is_process s.process in
+    sym (list_all-map seen seen_call xs) ∙ ap (list_all seen) same ∙ list_all-map seen seen_call ys ∙ all
+
+split : (a b : Bool) → (a && b) ≡ true → (a ≡ true) × (b ≡ true)
+split true b e = (refl, e)
+split false b e = absurd (cc)
+
+both : (a b : Bool) → a ≡ true → b ≡ true → (a && b) ≡ true
+both true b p q = q
+both false b p q = absurd (cc)
+
+one-of : (returned began : Bool) (c : Called) (calls : List Called) → own c ≡ true → AreOfProcesses calls →
+    AreOfProcesses (if returned then c ∷ calls else if began then under_way c ∷ calls else calls)
+one-of true began c calls is all = both (own c) (list_all own calls) is all
+one-of false true c calls is all = both (own c) (list_all own calls) is all
+one-of false false c calls is all = all
+
+front-of-processes : (last : Return) (index : ℕ) (calls : List Called) → AreOfProcesses calls → AreOfProcesses (front_from last index calls)
+front-of-processes last index [] all = refl
+front-of-processes last index (c ∷ calls) all =
+    let parts = split (own c) (list_all own calls) all in
+    one-of (had_returned last index c.operation) (nat_le c.operation.begin last.0) c (front_from last (index + 1) calls) parts.0
+    (front-of-processes last (index + 1) calls parts.1)
+
+front-or-of-processes : (calls : List Called) (last : Option Return) → AreOfProcesses calls → AreOfProcesses (front_or calls last)
+front-or-of-processes calls None all = all
+front-or-of-processes calls (Some last) all = front-of-processes last 0 calls all
+
+-- of a front part
+pub part-of-processes : (calls : List Called) (returns : List Return) (number : ℕ) → AreOfProcesses calls → AreOfProcesses (front_part calls returns number)
+part-of-processes calls returns number all = front-or-of-processes calls (slice_get returns number) all
