@@ -5,131 +5,95 @@ use std::alloc::{AllocError, Global};
 /// No slot.
 pub const NOBODY: usize = 18_446_744_073_709_551_615;
 
-/// Chains of slots, by what their places hash to, and the chain of those that are vacant.
+/// How many notes of a place are looked at.
+pub const PROBES: u64 = 16;
+
+/// A place, and the slot that kept its entry when it was noted. A note is not taken out: it says nothing once the slot keeps
+/// another entry.
+#[derive(Clone, Copy, Debug)]
+pub struct Note {
+    pub place: u64,
+    pub key: usize,
+}
+
+/// The note of no entry.
+const NOTHING: Note = Note {
+    place: 0,
+    key: NOBODY,
+};
+
+/// Notes, each near to where its place hashes to, and the vacant slots.
 #[derive(Debug, Drop)]
 pub struct Index {
-    // the first slot of each chain, as many as a power of two
-    heads: Vec<usize>,
-    // the slot after each slot in its chain
-    next: Vec<usize>,
-    // the first vacant slot
-    vacant: usize,
+    // as many as a power of two
+    notes: Vec<Note>,
+    // the next to be used last
+    vacant: Vec<usize>,
 }
 
 impl Index {
-    /// No chains.
+    /// No notes.
     pub fn new(alloc: Global) -> Index {
         Index {
-            heads: Vec::new(alloc),
-            next: Vec::new(alloc),
-            vacant: NOBODY,
+            notes: Vec::new(alloc),
+            vacant: Vec::new(alloc),
         }
     }
 
-    // The chain of a place.
+    // Where the notes of a place begin, and go on.
     #[inline(always)]
-    fn chain(&self, place: u64) -> usize {
+    fn spot(&self, place: u64, probe: u64) -> usize {
         let mixed = place.wrapping_mul(11_400_714_819_323_198_485) / 4_294_967_296;
-        (mixed as usize) & self.heads.len().wrapping_sub(1)
+        (mixed.wrapping_add(probe) as usize) & self.notes.len().wrapping_sub(1)
     }
 
-    /// The first slot to look at for a place.
+    /// A note to look at for a place, of [`PROBES`].
     #[inline(always)]
-    pub fn first(&self, place: u64) -> usize {
-        let chain = self.chain(place);
-        if chain < self.heads.len() {
-            self.heads[chain]
+    pub fn note(&self, place: u64, probe: u64) -> Note {
+        let spot = self.spot(place, probe);
+        if spot < self.notes.len() {
+            self.notes[spot]
         } else {
-            NOBODY
+            NOTHING
         }
     }
 
-    /// The slot to look at after this one.
+    /// Notes that the entry at a place is in this slot, in the place of another note.
     #[inline(always)]
-    pub fn after(&self, key: usize) -> usize {
-        if key < self.next.len() {
-            self.next[key]
-        } else {
-            NOBODY
+    pub fn set(&mut self, place: u64, probe: u64, key: usize) {
+        let spot = self.spot(place, probe);
+        if spot < self.notes.len() {
+            self.notes[spot] = Note { place, key };
         }
     }
 
-    /// For how many slots there are chains.
+    /// For how many slots there is room.
     pub fn slots(&self) -> usize {
-        self.next.len()
+        self.vacant.capacity()
     }
 
-    /// The vacant slot to look at first.
+    /// The vacant slot to look at first, which is looked at no more.
     #[inline(always)]
-    pub fn vacant(&self) -> usize {
-        self.vacant
-    }
-
-    /// A place is in this slot, which was vacant.
-    #[inline(always)]
-    pub fn occupy(&mut self, place: u64, key: usize) {
-        if self.vacant == key {
-            self.vacant = self.after(key);
+    pub fn take_vacant(&mut self) -> usize {
+        match self.vacant.pop() {
+            Some(key) => key,
+            None => NOBODY,
         }
-        self.link(place, key);
-    }
-
-    /// A place is in this slot.
-    #[inline(always)]
-    pub fn link(&mut self, place: u64, key: usize) {
-        let chain = self.chain(place);
-        if chain < self.heads.len() && key < self.next.len() {
-            self.next[key] = self.heads[chain];
-            self.heads[chain] = key;
-        }
-    }
-
-    /// A place is no longer in this slot, which is vacant.
-    #[inline(always)]
-    pub fn vacate(&mut self, place: u64, key: usize) {
-        self.unlink(place, key);
-        self.put_vacant(key);
     }
 
     /// This slot is vacant.
     #[inline(always)]
     pub fn put_vacant(&mut self, key: usize) {
-        if key < self.next.len() {
-            self.next[key] = self.vacant;
-            self.vacant = key;
+        if self.vacant.len() < self.vacant.capacity() {
+            self.vacant.push_reserved(key);
         }
     }
 
-    // A place is no longer in this slot.
-    #[inline(always)]
-    fn unlink(&mut self, place: u64, key: usize) {
-        let chain = self.chain(place);
-        if chain >= self.heads.len() {
-            return;
-        }
-        let after = self.after(key);
-        let mut at = self.heads[chain];
-        if at == key {
-            self.heads[chain] = after;
-            return;
-        }
-        for _ in 0..64 {
-            let next = self.after(at);
-            if next == key && at < self.next.len() {
-                self.next[at] = after;
-                return;
-            }
-            at = next;
-        }
-    }
-
-    /// Empty chains for that many slots, a power of two.
-    pub fn grow(&mut self, slots: usize) -> Result<(), AllocError> {
-        self.vacant = NOBODY;
-        self.heads.clear();
-        self.next.clear();
-        self.heads.resize(slots, NOBODY)?;
-        self.next.resize(slots, NOBODY)?;
+    /// No notes, with room for those of that many slots, a power of two. If it is refused, the notes stay.
+    pub fn grow(&mut self, alloc: Global, slots: usize) -> Result<(), AllocError> {
+        let vacant = Vec::with_capacity(alloc, slots)?;
+        self.notes = vec![in alloc; NOTHING; slots.wrapping_mul(4)]?;
+        self.vacant = vacant;
         Ok(())
     }
 }

@@ -7,7 +7,7 @@ ghost use Rattle.mq_laws.specs.Needed.{home_of};
 ghost use Rattle.mq_model.specs.Messages.{priority_given};
 ghost use Rattle.mq_model.specs.Record.{Record, Past};
 
-use crate::index::{Index, NOBODY};
+use crate::index::{Index, Note, PROBES};
 use std::alloc::{AllocError, Global};
 use std::marker::Model;
 use std::mem;
@@ -103,7 +103,8 @@ impl Slot {
         self.place = NOWHERE;
     }
 
-    // Keeps this of an entry. The payload goes into the next buffer, which becomes the slot's; the slot's own is the next one then.
+    // Keeps this of an entry. The payload goes into the slot's buffer, or if that is too small into the next one, and then the
+    // two are exchanged.
     #[inline(always)]
     fn occupy(
         &mut self,
@@ -132,7 +133,7 @@ impl Slot {
     }
 }
 
-// Puts a payload into the next buffer, and exchanges the two. Of no bytes the next buffer stays.
+// Puts a payload into the slot's buffer, if that has the room, and else into the next one.
 #[inline(always)]
 fn fill(bytes: &mut Vec<u8>, next: &mut Vec<u8>, payload: &[u8])
     requires empty { vec_len next.old ≡ 0 }
@@ -141,13 +142,25 @@ fn fill(bytes: &mut Vec<u8>, next: &mut Vec<u8>, payload: &[u8])
     ensures empty { vec_len next.new ≡ 0 }
     ensures none { payload.now ≡ [] → next.new ≡ next.old }
 {
-    if payload.is_empty() {
-        bytes.clear();
-        return;
+    bytes.clear();
+    if payload.len() <= bytes.capacity() {
+        let _ = bytes.extend_from_slice(payload);
+    } else {
+        exchange(bytes, next, payload);
     }
+}
+
+// Puts a payload into the next buffer, and exchanges the two.
+#[inline(never)]
+fn exchange(bytes: &mut Vec<u8>, next: &mut Vec<u8>, payload: &[u8])
+    requires cleared { vec_len bytes.old ≡ 0 }
+    requires empty { vec_len next.old ≡ 0 }
+    requires room { length payload.now ≤ vec_capacity next.old }
+    ensures bytes { bytes.new.items ≡ payload.now }
+    ensures empty { vec_len next.new ≡ 0 }
+{
     let _ = next.extend_from_slice(payload);
     mem::swap(bytes, next);
-    next.clear();
 }
 
 /// The slot of the entry at a place, if it is this one or the index leads to it.
@@ -159,21 +172,55 @@ pub fn guess(slots: &[Slot], index: &Index, last: usize, place: u64) -> Option<u
     if is_there(slots, last, place) {
         return Some(last);
     }
-    let mut key = index.first(place);
-    for _ in 0..STEPS {
+    let key = index.note(place, 0).key;
+    if is_there(slots, key, place) {
+        return Some(key);
+    }
+    guess_on(slots, index, place)
+}
+
+// The same, by the notes after the first.
+#[inline(never)]
+fn guess_on(slots: &[Slot], index: &Index, place: u64) -> Option<usize>
+    ensures { IfSome result (λ key. (x : Kept) ×
+        (slice_index_or slots.now key None ≡ Some x) × (x.place ≡ place)) }
+{
+    for probe in 1..PROBES {
+        let key = index.note(place, probe).key;
         if is_there(slots, key, place) {
             return Some(key);
         }
-        if key == NOBODY {
-            return None;
-        }
-        key = index.after(key);
     }
     None
 }
 
-// How many slots of a chain are looked at.
-const STEPS: usize = 64;
+// Notes in which slot the entry at a place is: where no note says anything, or in the place of the last.
+#[inline(always)]
+fn note(slots: &[Slot], index: &mut Index, place: u64, key: usize) {
+    if says_nothing(slots, index.note(place, 0)) {
+        index.set(place, 0, key);
+    } else {
+        note_on(slots, index, place, key);
+    }
+}
+
+// The same, after the first.
+#[inline(never)]
+fn note_on(slots: &[Slot], index: &mut Index, place: u64, key: usize) {
+    for probe in 1..PROBES {
+        if says_nothing(slots, index.note(place, probe)) {
+            index.set(place, probe, key);
+            return;
+        }
+    }
+    index.set(place, PROBES - 1, key);
+}
+
+// Whether the slot of a note keeps another entry.
+#[inline(always)]
+fn says_nothing(slots: &[Slot], note: Note) -> bool {
+    !is_there(slots, note.key, note.place)
+}
 
 // Whether a slot keeps the entry at a place.
 #[inline(always)]
@@ -270,9 +317,9 @@ pub fn put(
     ensures empty { vec_len next.new ≡ 0 }
     ensures none { payload.now ≡ [] → next.new ≡ next.old }
 {
-    let key = vacant_slot(slots, index.vacant());
+    let key = vacant_slot(slots, index.take_vacant());
+    note(slots, index, place, key);
     slots[key].occupy(place, prio, home, next, payload);
-    index.occupy(place, key);
 }
 
 /// Vacates a slot.
@@ -281,9 +328,8 @@ pub fn vacate(slots: &mut Vec<Slot>, index: &mut Index, key: usize)
     requires { key < length slots.old.items }
     ensures { slots.new.items ≡ slice_set slots.old.items key None }
 {
-    let slot = &mut slots[key];
-    index.vacate(slot.place(), key);
-    slot.vacate();
+    slots[key].vacate();
+    index.put_vacant(key);
 }
 
 /// Vacates the slots of the entries that are lost with a queue.
@@ -347,7 +393,7 @@ fn grow(
         add_vacant(alloc, slots, index, vacant)?;
     }
     if index.slots() < slots.len() {
-        reindex(slots, index)?;
+        reindex(alloc, slots, index)?;
     }
     Ok(())
 }
@@ -369,20 +415,20 @@ fn add_vacant(
     Ok(())
 }
 
-// Chains for twice as many slots as there are, with all that they keep.
-fn reindex(slots: &[Slot], index: &mut Index) -> Result<(), AllocError> {
-    let mut chains: usize = 64;
+// Notes all that the slots keep anew, with room for twice as many slots.
+fn reindex(alloc: Global, slots: &[Slot], index: &mut Index) -> Result<(), AllocError> {
+    let mut room: usize = 64;
     for _ in 0..40 {
-        if chains < slots.len() {
-            chains = chains.wrapping_mul(2);
+        if room < slots.len() {
+            room = room.wrapping_mul(2);
         }
     }
-    index.grow(chains.wrapping_mul(2))?;
+    index.grow(alloc, room.wrapping_mul(2))?;
     for key in 0..slots.len() {
         if slots[key].is_vacant() {
             index.put_vacant(key);
         } else {
-            index.link(slots[key].place(), key);
+            note(slots, index, slots[key].place(), key);
         }
     }
     Ok(())

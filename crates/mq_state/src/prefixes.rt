@@ -36,6 +36,7 @@ impl<'a> Model for Prefix<'a> {
 
 impl<'a> Prefix<'a> {
     /// The whole of the journal that the tables stand beside.
+    #[inline(always)]
     pub fn whole(ledger: &'a Ledger) -> Prefix<'a>
         ensures { result ≡ ledger.now }
     {
@@ -69,6 +70,7 @@ impl<'a> Prefix<'a> {
     }
 
     /// How many entries there are.
+    #[inline(always)]
     pub fn len(&self) -> u64
         ensures { result ≡ length self.now.records }
     {
@@ -76,6 +78,7 @@ impl<'a> Prefix<'a> {
     }
 
     /// The priority of the message that was sent at a place that can be read.
+    #[inline(always)]
     pub fn priority(&self, place: u64) -> u32
         ensures { CanRead self.now place → result ≡ priority self.now.records place }
     {
@@ -89,6 +92,7 @@ impl<'a> Prefix<'a> {
     }
 
     /// The payload of the entry at a place that can be read.
+    #[inline(always)]
     pub fn payload(&self, place: u64) -> Option<&[u8]>
         ensures { CanRead self.now place →
             option_map (λ p. p.now) result ≡ option_map (λ r. r.payload)
