@@ -1,0 +1,401 @@
+-- Names, descriptors and the queues that exist stay the same up to their numbers, under each call whose replies differ in places alone.
+use Rattle.std.proofs.Common.{◌≡◌, ℕ, suc, ◌<◌, ◌==◌, Bool, true, false, ◌&&◌, ◌||◌, not, List, [], ◌∷◌, length, map, Option, Some, None, is_some, if◌then◌else◌, refl, sym, ◌∙◌, ap, subst, arith, eqb-true, eq-eqb, ne_eqb}
+use Rattle.std.specs.List.{filter}
+use Rattle.std.specs.Str.{bytes_eq}
+use Rattle.std.specs.Option.{option_map, unwrap_or}
+use Rattle.std.proofs.lemmas.Bool.{eqb-false}
+use Rattle.mq_model.specs.Record.{Record, Past}
+use Rattle.mq_model.specs.Names.{attributes, bound_queue, creates, name_of, unlinks}
+use Rattle.mq_model.specs.Descriptors.{after_close, after_open, after_setattr, alive, created, description, held, held_after, is_held, is_named, opened_queue, with_nonblock}
+use Rattle.mq_model.specs.Messages.{is_in}
+use Rattle.mq_model.specs.Legality.{Legal, reply_to}
+use Rattle.mq_model.specs.declared.entries.Attr.{Attr}
+use Rattle.mq_model.specs.declared.entries.OpenFlags.{OpenFlags}
+use Rattle.mq_model.specs.declared.entries.Description.{Description}
+use Rattle.mq_model.specs.declared.entries.Call.{Call}
+use Rattle.mq_model.specs.declared.entries.Call.TheVariants.{MqOpen, MqClose, MqSetattr}
+use Rattle.mq_model.specs.declared.entries.Reply.{Reply}
+use Rattle.mq_model.specs.declared.entries.Reply.TheVariants.{Opened, Queued, Handed, Waits, Got, Collected, Attrs, Notice, Done, Refused, Withdrawn}
+use Rattle.mq_model.proofs.Places.{split, is_in-filter}
+use Rattle.mq_model.proofs.Frames.{attributes-older, created-below, filter-same}
+use Rattle.mq_model.proofs.HeldQueues.{after-cases, bound-created, created-held}
+use Rattle.mq_model.proofs.Alive.{bound-named, held-is_held, is_held-holder, is_needed, named-bound, named-newest, needed-alive, rec, same-tests}
+use Rattle.mq_model.proofs.OpenReplies.{opened-says}
+use Rattle.placeless.specs.Steps.{shape}
+use Rattle.placeless.proofs.Falling.{Falls, falls-filter}
+use Rattle.mq_equivalence.specs.Structure.{SameStructure, extended, renumbered}
+
+-- options and lists ------------------------------------------------------------------------------------------------------
+
+pub option-same : {X Y : Type 0} (f g : X → Y) (o : Option X) → ((v : X) → o ≡ Some v → f v ≡ g v) → option_map f o ≡ option_map g o
+option-same f g None same = refl
+option-same f g (Some v) same = ap Some (same v refl)
+
+in-filter : (t : ℕ → Bool) (xs : List ℕ) (m : ℕ) → is_in xs m ≡ true → t m ≡ true → is_in (filter t xs) m ≡ true
+in-filter t [] m h passes = absurd (cc)
+in-filter t (x ∷ xs) m h passes = split (x == m)
+    (λ e. let same : x ≡ m = eqb-true _ _ e in let pass : t x ≡ true = rw same passes in rw (pass, e) refl)
+    (λ n. let rest : is_in xs m ≡ true = rw n at h in split (t x) (λ y. rw (y, n) (in-filter t xs m rest passes)) (λ z. rw z (in-filter t xs m rest passes)))
+
+pub in-map : (f : ℕ → ℕ) (ks : List ℕ) (j : ℕ) → is_in ks j ≡ true → is_in (map f ks) (f j) ≡ true
+in-map f [] j h = absurd (cc)
+in-map f (k ∷ ks) j h = split (k == j)
+    (λ e. let same : k ≡ j = eqb-true _ _ e in rw (eq-eqb (f k) (f j) (ap f same)) refl)
+    (λ n. let rest : is_in ks j ≡ true = rw n at h in split (f k == f j) (λ y. rw y refl) (λ z. rw (z, in-map f ks j rest) refl))
+
+map-same : (f g : ℕ → ℕ) (ks : List ℕ) → ((k : ℕ) → is_in ks k ≡ true → f k ≡ g k) → map f ks ≡ map g ks
+map-same f g [] same = refl
+map-same f g (k ∷ ks) same = (λ i. same k (rw (eq-eqb k k refl) refl) i ∷ map-same f g ks (λ j h. same j (split (k == j) (λ y. rw y refl) (λ z. rw (z, h) refl))) i)
+
+filter-map : (f : ℕ → ℕ) (t : ℕ → Bool) (ks : List ℕ) → filter t (map f ks) ≡ map f (filter (λ k. t (f k)) ks)
+filter-map f t [] = refl
+filter-map f t (k ∷ ks) = split (t (f k)) (λ y. rw (y, filter-map f t ks) refl) (λ n. rw (n, filter-map f t ks) refl)
+
+-- what passes the second test passes the first
+filter-twice : (s t : ℕ → Bool) (xs : List ℕ) → ((k : ℕ) → is_in xs k ≡ true → t k ≡ true → s k ≡ true) → filter t xs ≡ filter t (filter s xs)
+filter-twice s t [] both = refl
+filter-twice s t (x ∷ xs) both =
+    let rest : filter t xs ≡ filter t (filter s xs) = filter-twice s t xs (λ k h. both k (split (x == k) (λ y. rw y refl) (λ z. rw (z, h) refl))) in
+    split (t x)
+    (λ y. let pass : s x ≡ true = both x (rw (eq-eqb x x refl) refl) y in rw (y, pass, y, rest) refl)
+    (λ n. split (s x) (λ y. rw (n, y, n, rest) refl) (λ z. rw (n, z, rest) refl))
+
+falls-created : (past : Past) → Falls (created past)
+falls-created [] = tt
+falls-created (r ∷ past) = split (creates r.entry.call r.entry.reply)
+    (λ t. rw t ((λ j h. created-below past j h), falls-created past))
+    (λ f. rw f (falls-created past))
+
+pub falls-alive : (past : Past) → Falls (alive past)
+falls-alive past = falls-filter _ (created past) (falls-created past)
+
+-- numbers that fall are given once
+pub one-number : (f : ℕ → ℕ) (ks : List ℕ) → Falls (map f ks) → (i j : ℕ) → is_in ks i ≡ true → is_in ks j ≡ true → f i ≡ f j → i ≡ j
+one-number f [] falls i j hi hj e = absurd (cc)
+one-number f (k ∷ ks) falls i j hi hj e = split (k == i)
+    (λ a. let ki : k ≡ i = eqb-true _ _ a in split (k == j)
+    (λ b. sym ki ∙ eqb-true _ _ b)
+    (λ b. let rest : is_in ks j ≡ true = rw b at hj in let less : f j < f k = falls.0 (f j) (in-map f ks j rest) in let same : f k ≡ f i = ap f ki in absurd (omega arith)))
+    (λ a. let resti : is_in ks i ≡ true = rw a at hi in split (k == j)
+    (λ b. let kj : k ≡ j = eqb-true _ _ b in let less : f i < f k = falls.0 (f i) (in-map f ks i resti) in let same : f k ≡ f j = ap f kj in absurd (omega arith))
+    (λ b. let restj : is_in ks j ≡ true = rw b at hj in one-number f ks falls.1 i j resti restj e))
+
+-- numbers of queues ------------------------------------------------------------------------------------------------------
+
+pub old-number : (to : ℕ → ℕ) (here there q : ℕ) → q < here → extended to here there q ≡ to q
+old-number to here there q lt = rw (ne_eqb q here (λ e. omega arith)) refl
+
+pub new-number : (to : ℕ → ℕ) (here there : ℕ) → extended to here there here ≡ there
+new-number to here there = rw (eq-eqb here here refl) refl
+
+pub bound-below : (past : Past) (name : List ℕ) (q : ℕ) → bound_queue past name ≡ Some q → q < length past
+bound-below past name q e = created-below past q (bound-created past name q e)
+
+held-below : (past : Past) → Legal past → (p d : ℕ) (h : Description) → held past p d ≡ Some h → h.queue < length past
+held-below past legal p d h e = created-below past h.queue (created-held past legal p d h e)
+
+-- what is needed was created
+needed-created : (past : Past) → Legal past → (q : ℕ) → is_needed past q ≡ true → is_in (created past) q ≡ true
+needed-created past legal q e = split (is_named past q)
+    (λ t. bound-created past (name_of past q) q (named-bound past q t))
+    (λ f. let holds : is_held past q ≡ true = rw f at e in
+    let x = is_held-holder past q holds in
+    subst (λ (k : ℕ). is_in (created past) k ≡ true) x.on (created-held past legal x.process x.d x.description x.held))
+
+pub needed-in : (past : Past) → Legal past → (q : ℕ) → is_needed past q ≡ true → is_in (alive past) q ≡ true
+needed-in past legal q e = in-filter (is_needed past) (created past) q (needed-created past legal q e) e
+
+pub alive-below : (past : Past) (q : ℕ) → is_in (alive past) q ≡ true → q < length past
+alive-below past q h = created-below past q (is_in-filter (is_needed past) (created past) q h).0
+
+-- needed queues ----------------------------------------------------------------------------------------------------------
+
+named-by : (past : Past) (name : List ℕ) (k : ℕ) → bound_queue past name ≡ Some k → is_needed past k ≡ true
+named-by past name k e = rw (bound-named past name k e) refl
+
+held-by : (past : Past) (p d q : ℕ) (h : Description) → held past p d ≡ Some h → h.queue ≡ q → is_needed past q ≡ true
+held-by past p d q h e on = split (is_named past q) (λ t. rw t refl) (λ f. rw (f, held-is_held past p d q h e on) refl)
+
+opened-old : (past : Past) (r : Record) → Legal (r ∷ past) → (flags : OpenFlags) (attr : Option Attr) (e : ℕ) → r.entry.call ≡ MqOpen flags attr → r.entry.reply ≡ Opened e false → (k : ℕ) × (bound_queue past r.payload ≡ Some k)
+opened-old past r legal flags attr e call reply =
+    let says : Opened e false ≡ reply_to past r.entry.process (MqOpen flags attr) r.payload = sym reply ∙ legal.1.reply ∙ ap (λ (c : Call). reply_to past r.entry.process c r.payload) call in
+    by (bound_queue past r.payload) refl (opened-says past r.entry.process flags attr r.payload e false says).new
+  where
+    by : (o : Option ℕ) → bound_queue past r.payload ≡ o → not (is_some (bound_queue past r.payload)) ≡ false → (k : ℕ) × (bound_queue past r.payload ≡ Some k)
+    by None is f = absurd (let bad : true ≡ false = rw is at f in cc)
+    by (Some k) is f = (k, is)
+
+-- what is needed after a record, and is not the queue that it creates, was needed before it
+pub fewer-needed : (past : Past) (r : Record) → Legal (r ∷ past) → (k : ℕ) → k < length past → is_needed (r ∷ past) k ≡ true → is_needed past k ≡ true
+fewer-needed past r legal k lt e = split (is_named (r ∷ past) k)
+    (λ t. was-named (name_of (r ∷ past) k) (named-bound (r ∷ past) k t))
+    (λ f. let holds : is_held (r ∷ past) k ≡ true = rw f at e in
+    let x = is_held-holder (r ∷ past) k holds in
+    was-held x.process x.d x.description x.held x.on)
+  where
+    was-named : (name : List ℕ) → bound_queue (r ∷ past) name ≡ Some k → is_needed past k ≡ true
+    was-named name b = split (creates r.entry.call r.entry.reply && bytes_eq r.payload name)
+        (λ t. let here : Some (length past) ≡ Some k = rw t at b in let same : length past ≡ k = cc in absurd (omega arith))
+        (λ f. split (unlinks r.entry.call r.entry.reply && bytes_eq r.payload name)
+        (λ t. let none : None ≡ Some k = rw (f, t) at b in absurd (cc))
+        (λ g. let old : bound_queue past name ≡ Some k = rw (f, g) at b in named-by past name k old))
+
+    opened : (new : Bool) (flags : OpenFlags) (attr : Option Attr) (d : ℕ) → r.entry.call ≡ MqOpen flags attr → r.entry.reply ≡ Opened d new → opened_queue past r.payload new ≡ k → is_needed past k ≡ true
+    opened true flags attr d call reply q = let same : length past ≡ k = q in absurd (omega arith)
+    opened false flags attr d call reply q =
+        let old = opened-old past r legal flags attr d call reply in
+        let same : old.0 ≡ k = ap (λ (o : Option ℕ). unwrap_or o 0) (sym old.1) ∙ q in
+        named-by past r.payload k (old.1 ∙ ap Some same)
+
+    was-held : (p d : ℕ) (h : Description) → held (r ∷ past) p d ≡ Some h → h.queue ≡ k → is_needed past k ≡ true
+    was-held p d h is on = split (r.entry.process == p)
+        (λ own. let after : held_after past r.entry.call r.payload r.entry.reply d (held past p d) ≡ Some h = rw own at is in
+        after-cases _ past r.entry.call r.payload r.entry.reply d (held past p d) h after
+        (λ j was same. held-by past p d k j was (same ∙ on))
+        (λ flags attr new call reply q. opened new flags attr d call reply (q ∙ on)))
+        (λ other. let was : held past p d ≡ Some h = rw other at is in held-by past p d k h was on)
+
+-- the queues that exist after a record: of those before it the ones that are still needed, and the one that it creates
+pub alive-after : (past : Past) (r : Record) → Legal (r ∷ past) → alive (r ∷ past) ≡ (if creates r.entry.call r.entry.reply then length past ∷ filter (is_needed (r ∷ past)) (alive past) else filter (is_needed (r ∷ past)) (alive past))
+alive-after past r legal =
+    let rest : filter (is_needed (r ∷ past)) (created past) ≡ filter (is_needed (r ∷ past)) (alive past) = filter-twice (is_needed past) (is_needed (r ∷ past)) (created past) (λ k h t. fewer-needed past r legal k (created-below past k h) t) in
+    split (creates r.entry.call r.entry.reply)
+    (λ t. let newest : created (r ∷ past) ≡ length past ∷ created past = rw t refl in
+    let needed : is_needed (r ∷ past) (length past) ≡ true = rw (named-newest past r t) refl in
+    ap (filter (is_needed (r ∷ past))) newest
+    ∙ ap (λ b. if b then length past ∷ filter (is_needed (r ∷ past)) (created past) else filter (is_needed (r ∷ past)) (created past)) needed
+    ∙ ap (λ xs. length past ∷ xs) rest
+    ∙ rw t refl)
+    (λ f. let newest : created (r ∷ past) ≡ created past = rw f refl in ap (filter (is_needed (r ∷ past))) newest ∙ rest ∙ rw f refl)
+
+-- a queue is needed in one journal if it is in the other, provided that no two needed ones have one number there
+named-both : (x y : Past) (to : ℕ → ℕ) → ((name : List ℕ) → bound_queue y name ≡ option_map to (bound_queue x name)) → (q : ℕ) → ((k : ℕ) → is_needed x k ≡ true → to k ≡ to q → k ≡ q) → is_named y (to q) ≡ is_named x q
+named-both x y to names q one = same-tests _ _
+    (λ t. let n = name_of y (to q) in by n (bound_queue x n) refl (sym (names n) ∙ named-bound y (to q) t))
+    (λ t. bound-named y (name_of x q) (to q) (names (name_of x q) ∙ ap (option_map to) (named-bound x q t)))
+  where
+    by : (n : List ℕ) (o : Option ℕ) → bound_queue x n ≡ o → option_map to (bound_queue x n) ≡ Some (to q) → is_named x q ≡ true
+    by n None is e = absurd (let bad : None ≡ Some (to q) = rw is at e in cc)
+    by n (Some k) is e = let some : Some (to k) ≡ Some (to q) = rw is at e in
+        let same : to k ≡ to q = cc in
+        bound-named x n q (is ∙ ap Some (one k (named-by x n k is) same))
+
+held-both : (x y : Past) (to : ℕ → ℕ) → ((p d : ℕ) → held y p d ≡ option_map (renumbered to) (held x p d)) → (q : ℕ) → ((k : ℕ) → is_needed x k ≡ true → to k ≡ to q → k ≡ q) → is_held y (to q) ≡ is_held x q
+held-both x y to descriptors q one = same-tests _ _
+    (λ t. let o = is_held-holder y (to q) t in back o.process o.d o.description o.on (held x o.process o.d) refl (sym (descriptors o.process o.d) ∙ o.held))
+    (λ t. let o = is_held-holder x q t in held-is_held y o.process o.d (to q) (renumbered to o.description) (descriptors o.process o.d ∙ ap (option_map (renumbered to)) o.held) (ap to o.on))
+  where
+    back : (p d : ℕ) (h : Description) → h.queue ≡ to q → (o : Option Description) → held x p d ≡ o → option_map (renumbered to) (held x p d) ≡ Some h → is_held x q ≡ true
+    back p d h on None is e = absurd (let bad : None ≡ Some h = rw is at e in cc)
+    back p d h on (Some k) is e = let some : Some (renumbered to k) ≡ Some h = rw is at e in
+        let same : renumbered to k ≡ h = cc in
+        let at : to k.queue ≡ to q = ap (λ (v : Description). v.queue) same ∙ on in
+        held-is_held x p d q k is (one k.queue (held-by x p d k.queue k is refl) at)
+
+needed-both : (x y : Past) (to : ℕ → ℕ) → ((name : List ℕ) → bound_queue y name ≡ option_map to (bound_queue x name)) → ((p d : ℕ) → held y p d ≡ option_map (renumbered to) (held x p d)) → (q : ℕ) → ((k : ℕ) → is_needed x k ≡ true → to k ≡ to q → k ≡ q) → is_needed y (to q) ≡ is_needed x q
+needed-both x y to names descriptors q one = λ i. named-both x y to names q one i || held-both x y to descriptors q one i
+
+-- replies of one shape ---------------------------------------------------------------------------------------------------
+
+creates-shape : (call : Call) (reply : Reply) → creates call (shape reply) ≡ creates call reply
+creates-shape call (Opened d created) = refl
+creates-shape call (Queued n) = refl
+creates-shape call (Handed w) = refl
+creates-shape call (Got m a n) = refl
+creates-shape call Waits = refl
+creates-shape call (Collected b) = refl
+creates-shape call (Withdrawn w) = refl
+creates-shape call (Attrs s) = refl
+creates-shape call (Notice v) = refl
+creates-shape call Done = refl
+creates-shape call (Refused f) = refl
+
+unlinks-shape : (call : Call) (reply : Reply) → unlinks call (shape reply) ≡ unlinks call reply
+unlinks-shape call (Opened d created) = refl
+unlinks-shape call (Queued n) = refl
+unlinks-shape call (Handed w) = refl
+unlinks-shape call (Got m a n) = refl
+unlinks-shape call Waits = refl
+unlinks-shape call (Collected b) = refl
+unlinks-shape call (Withdrawn w) = refl
+unlinks-shape call (Attrs s) = refl
+unlinks-shape call (Notice v) = refl
+unlinks-shape call Done = refl
+unlinks-shape call (Refused f) = refl
+
+held-shape : (past : Past) (call : Call) (name : List ℕ) (reply : Reply) (d : ℕ) (before : Option Description) → held_after past call name (shape reply) d before ≡ held_after past call name reply d before
+held-shape past call name (Opened e created) d before = refl
+held-shape past call name (Queued n) d before = refl
+held-shape past call name (Handed w) d before = refl
+held-shape past call name (Got m a n) d before = refl
+held-shape past call name Waits d before = refl
+held-shape past call name (Collected b) d before = refl
+held-shape past call name (Withdrawn w) d before = refl
+held-shape past call name (Attrs s) d before = refl
+held-shape past call name (Notice v) d before = refl
+held-shape past call name Done d before = refl
+held-shape past call name (Refused f) d before = refl
+
+opened-only : (reply : Reply) (e : ℕ) (new : Bool) → shape reply ≡ Opened e new → reply ≡ Opened e new
+opened-only (Opened d created) e new same = same
+opened-only (Queued n) e new same = absurd (cc)
+opened-only (Handed w) e new same = absurd (cc)
+opened-only (Got m a n) e new same = absurd (cc)
+opened-only Waits e new same = absurd (cc)
+opened-only (Collected b) e new same = absurd (cc)
+opened-only (Withdrawn w) e new same = absurd (cc)
+opened-only (Attrs s) e new same = absurd (cc)
+opened-only (Notice v) e new same = absurd (cc)
+opened-only Done e new same = absurd (cc)
+opened-only (Refused f) e new same = absurd (cc)
+
+-- the step ----------------------------------------------------------------------------------------------------------------
+
+-- two records after journals with the same structure: of one call, with replies of one shape
+pub record Step (to : ℕ → ℕ) (x y : Past) (p : ℕ) (call : Call) (payload : List ℕ) (a b : Reply) : Type 0 where
+  pub equivalent : SameStructure to x y
+  pub same : shape b ≡ shape a
+  pub legal_x : Legal (rec p call a payload ∷ x)
+  pub legal_y : Legal (rec p call b payload ∷ y)
+
+module _ (to : ℕ → ℕ) (x y : Past) (p : ℕ) (call : Call) (payload : List ℕ) (a b : Reply) (s : Step to x y p call payload a b) where
+  abbrev onto : ℕ → ℕ
+  onto = extended to (length x) (length y)
+
+  abbrev rx : Record
+  rx = rec p call a payload
+
+  abbrev ry : Record
+  ry = rec p call b payload
+
+  both-create : creates call b ≡ creates call a
+  both-create = sym (creates-shape call b) ∙ ap (creates call) s.same ∙ creates-shape call a
+
+  both-unlink : unlinks call b ≡ unlinks call a
+  both-unlink = sym (unlinks-shape call b) ∙ ap (unlinks call) s.same ∙ unlinks-shape call a
+
+  names-stay : (name : List ℕ) → bound_queue (ry ∷ y) name ≡ option_map onto (bound_queue (rx ∷ x) name)
+  names-stay name = split (creates call a && bytes_eq payload name)
+      (λ t. let t' : (creates call b && bytes_eq payload name) ≡ true = ap (λ c. c && bytes_eq payload name) both-create ∙ t in
+      rw (t, t') (ap Some (sym (new-number to (length x) (length y)))))
+      (λ f. let f' : (creates call b && bytes_eq payload name) ≡ false = ap (λ c. c && bytes_eq payload name) both-create ∙ f in
+      split (unlinks call a && bytes_eq payload name)
+      (λ u. let u' : (unlinks call b && bytes_eq payload name) ≡ true = ap (λ c. c && bytes_eq payload name) both-unlink ∙ u in rw (f, f', u, u') refl)
+      (λ v. let v' : (unlinks call b && bytes_eq payload name) ≡ false = ap (λ c. c && bytes_eq payload name) both-unlink ∙ v in
+      rw (f, f', v, v') (s.equivalent.names name ∙ option-same to onto (bound_queue x name) (λ q e. sym (old-number to (length x) (length y) q (bound-below x name q e))))))
+
+  held-before : (k d : ℕ) → held y k d ≡ option_map (renumbered onto) (held x k d)
+  held-before k d = s.equivalent.descriptors k d ∙ option-same (renumbered to) (renumbered onto) (held x k d)
+      (λ h e. ap (λ (q : ℕ). renumbered (λ _. q) h) (sym (old-number to (length x) (length y) h.queue (held-below x s.legal_x.0 k d h e))))
+
+  open-queue : (flags : OpenFlags) (attr : Option Attr) (e : ℕ) (new : Bool) → call ≡ MqOpen flags attr → a ≡ Opened e new → opened_queue y payload new ≡ onto (opened_queue x payload new)
+  open-queue flags attr e true c is = sym (new-number to (length x) (length y))
+  open-queue flags attr e false c is =
+      let old = opened-old x rx s.legal_x flags attr e c is in
+      ap (λ (o : Option ℕ). unwrap_or o 0) (s.equivalent.names payload ∙ ap (option_map to) old.1)
+      ∙ sym (old-number to (length x) (length y) old.0 (bound-below x payload old.0 old.1))
+      ∙ ap (λ (o : Option ℕ). onto (unwrap_or o 0)) (sym old.1)
+
+  open-step : (c : Call) → call ≡ c → (e : ℕ) (new : Bool) → a ≡ Opened e new → (d : ℕ) → after_open y c payload e new d (held y p d) ≡ option_map (renumbered onto) (after_open x c payload e new d (held x p d))
+  open-step (MqOpen flags attr) c e new is d = split (e == d)
+      (λ t. rw t (ap (λ (q : ℕ). Some (description q flags)) (open-queue flags attr e new c is)))
+      (λ f. rw f (held-before p d))
+  open-step c' c e new is d = held-before p d
+
+  close-step : (c : Call) (d : ℕ) → after_close c d (held y p d) ≡ option_map (renumbered onto) (after_close c d (held x p d))
+  close-step (MqClose e) d = split (e == d) (λ t. rw t refl) (λ f. rw f (held-before p d))
+  close-step c d = held-before p d
+
+  flag-moved : (nonblock : Bool) (o : Option Description) → option_map (with_nonblock nonblock) (option_map (renumbered onto) o) ≡ option_map (renumbered onto) (option_map (with_nonblock nonblock) o)
+  flag-moved nonblock None = refl
+  flag-moved nonblock (Some h) = refl
+
+  flag-step : (c : Call) (d : ℕ) → after_setattr c d (held y p d) ≡ option_map (renumbered onto) (after_setattr c d (held x p d))
+  flag-step (MqSetattr e nonblock) d = split (e == d)
+      (λ t. rw t (ap (option_map (with_nonblock nonblock)) (held-before p d) ∙ flag-moved nonblock (held x p d)))
+      (λ f. rw f (held-before p d))
+  flag-step c d = held-before p d
+
+  own-step : (reply : Reply) → shape a ≡ reply → (d : ℕ) → held_after y call payload reply d (held y p d) ≡ option_map (renumbered onto) (held_after x call payload reply d (held x p d))
+  own-step (Opened e new) is d = open-step call refl e new (opened-only a e new is) d
+  own-step Done is d = close-step call d
+  own-step (Attrs status) is d = flag-step call d
+  own-step reply is d = held-before p d
+
+  own-held : (d : ℕ) → held_after y call payload b d (held y p d) ≡ option_map (renumbered onto) (held_after x call payload a d (held x p d))
+  own-held d = sym (held-shape y call payload b d (held y p d))
+      ∙ ap (λ (z : Reply). held_after y call payload z d (held y p d)) s.same
+      ∙ own-step (shape a) refl d
+      ∙ ap (option_map (renumbered onto)) (held-shape x call payload a d (held x p d))
+
+  descriptors-stay : (k d : ℕ) → held (ry ∷ y) k d ≡ option_map (renumbered onto) (held (rx ∷ x) k d)
+  descriptors-stay k d = split (p == k)
+      (λ t. rw t (subst (λ (j : ℕ). held_after y call payload b d (held y j d) ≡ option_map (renumbered onto) (held_after x call payload a d (held x j d))) (eqb-true _ _ t) (own-held d)))
+      (λ f. rw f (held-before k d))
+
+  -- numbers of needed queues
+  number-below : (q : ℕ) → is_in (alive x) q ≡ true → to q < length y
+  number-below q h = alive-below y (to q) (subst (λ (qs : List ℕ). is_in qs (to q) ≡ true) (sym s.equivalent.queues) (in-map to (alive x) q h))
+
+  once : (k q : ℕ) → is_needed (rx ∷ x) k ≡ true → is_in (alive x) q ≡ true → onto k ≡ onto q → k ≡ q
+  once k q needs h e =
+      let q_low : q < length x = alive-below x q h in
+      let q_is : onto q ≡ to q = old-number to (length x) (length y) q q_low in
+      let q_less : to q < length y = number-below q h in
+      split (k == length x)
+      (λ t. let here : k ≡ length x = eqb-true _ _ t in
+      let k_is : onto k ≡ length y = ap onto here ∙ new-number to (length x) (length y) in
+      absurd (omega arith))
+      (λ f. let apart : k ≡ length x → ⊥ = eqb-false _ _ f in
+      let in_more : k < length (rx ∷ x) = created-below (rx ∷ x) k (needed-created (rx ∷ x) s.legal_x k needs) in
+      let k_low : k < length x = below-more (length x) k in_more apart in
+      let k_is : onto k ≡ to k = old-number to (length x) (length y) k k_low in
+      let inside : is_in (alive x) k ≡ true = needed-in x s.legal_x.0 k (fewer-needed x rx s.legal_x k k_low needs) in
+      one-number to (alive x) (subst Falls s.equivalent.queues (falls-alive y)) k q inside h (sym k_is ∙ e ∙ q_is))
+    where
+      below-more : (n k : ℕ) → k < suc n → (k ≡ n → ⊥) → k < n
+      below-more n k lt ne = omega (arith, ne)
+
+  queues-stay : alive (ry ∷ y) ≡ map onto (alive (rx ∷ x))
+  queues-stay =
+      let numbers : map to (alive x) ≡ map onto (alive x) = map-same to onto (alive x) (λ k h. sym (old-number to (length x) (length y) k (alive-below x k h))) in
+      let rest : filter (is_needed (ry ∷ y)) (alive y) ≡ map onto (filter (is_needed (rx ∷ x)) (alive x)) =
+      ap (filter (is_needed (ry ∷ y))) (s.equivalent.queues ∙ numbers)
+      ∙ filter-map onto (is_needed (ry ∷ y)) (alive x)
+      ∙ ap (map onto) (filter-same _ _ (alive x) (λ q h. needed-both (rx ∷ x) (ry ∷ y) onto names-stay descriptors-stay q (λ k needs e. once k q needs h e)))
+      in
+      split (creates call a)
+      (λ t. let t' : creates call b ≡ true = both-create ∙ t in
+      let in_y : alive (ry ∷ y) ≡ length y ∷ filter (is_needed (ry ∷ y)) (alive y) = alive-after y ry s.legal_y ∙ rw t' refl in
+      let in_x : alive (rx ∷ x) ≡ length x ∷ filter (is_needed (rx ∷ x)) (alive x) = alive-after x rx s.legal_x ∙ rw t refl in
+      in_y
+      ∙ ap (λ l. length y ∷ l) rest
+      ∙ ap (λ (n : ℕ). n ∷ map onto (filter (is_needed (rx ∷ x)) (alive x))) (sym (new-number to (length x) (length y)))
+      ∙ ap (map onto) (sym in_x))
+      (λ f. let f' : creates call b ≡ false = both-create ∙ f in
+      let in_y : alive (ry ∷ y) ≡ filter (is_needed (ry ∷ y)) (alive y) = alive-after y ry s.legal_y ∙ rw f' refl in
+      let in_x : alive (rx ∷ x) ≡ filter (is_needed (rx ∷ x)) (alive x) = alive-after x rx s.legal_x ∙ rw f refl in
+      in_y ∙ rest ∙ ap (map onto) (sym in_x))
+
+  limits-stay : (q : ℕ) → is_in (alive (rx ∷ x)) q ≡ true → attributes (ry ∷ y) (onto q) ≡ attributes (rx ∷ x) q
+  limits-stay q h = split (q == length x)
+      (λ t. let here : q ≡ length x = eqb-true _ _ t in
+      ap (attributes (ry ∷ y)) (ap onto here ∙ new-number to (length x) (length y)) ∙ newest y ry ∙ sym (newest x rx) ∙ ap (attributes (rx ∷ x)) (sym here))
+      (λ f. let inside : is_in (alive x) q ≡ true = was-alive q f h in
+      let low : q < length x = alive-below x q inside in
+      ap (attributes (ry ∷ y)) (old-number to (length x) (length y) q low)
+      ∙ attributes-older y ry (to q) (number-below q inside)
+      ∙ s.equivalent.limits q inside
+      ∙ sym (attributes-older x rx q low))
+    where
+      newest : (past : Past) (r : Record) → attributes (r ∷ past) (length past) ≡ Rattle.mq_model.specs.Names.attributes_given r.entry.call
+      newest past r = rw (eq-eqb (length past) (length past) refl) refl
+
+      below : (q : ℕ) → (q == length x) ≡ false → is_in (alive (rx ∷ x)) q ≡ true → q < length x
+      below q f h = let more : q < length (rx ∷ x) = alive-below (rx ∷ x) q h in let ne : q ≡ length x → ⊥ = eqb-false _ _ f in omega (arith, ne)
+
+      was-alive : (q : ℕ) → (q == length x) ≡ false → is_in (alive (rx ∷ x)) q ≡ true → is_in (alive x) q ≡ true
+      was-alive q f h = needed-in x s.legal_x.0 q (fewer-needed x rx s.legal_x q (below q f h) (needed-alive (rx ∷ x) q h))
+
+  pub structure-stays : SameStructure onto (rx ∷ x) (ry ∷ y)
+  structure-stays = record { names = names-stay; descriptors = descriptors-stay; queues = queues-stay; limits = limits-stay }

@@ -1,0 +1,303 @@
+-- The processes that wait, what their waits are answered with, and the message that a call gives: equivalent journals stay so.
+use Rattle.std.proofs.Common.{◌≡◌, ℕ, ◌==◌, Bool, true, false, List, [], ◌∷◌, length, Option, Some, None, is_none, if◌then◌else◌, refl, sym, ◌∙◌, ap, subst}
+use Rattle.std.specs.Option.{option_and_then, option_map, unwrap_or}
+use Rattle.mq_model.specs.Record.{Past}
+use Rattle.mq_model.specs.Descriptors.{alive, called_queue, descriptor_of, held, is_place}
+use Rattle.mq_model.specs.Messages.{is_in}
+use Rattle.mq_model.specs.Waits.{open_wait}
+use Rattle.mq_model.specs.Legality.{IsLegalNext, Legal, may_call, payload_of, reply_to}
+use Rattle.mq_model.specs.declared.entries.Description.{Description}
+use Rattle.mq_model.specs.declared.entries.Call.{Call}
+use Rattle.mq_model.specs.declared.entries.Call.TheVariants.{MqOpen, MqClose, MqUnlink, MqSend, MqReceive, MqTimedSend, MqTimedReceive, MqGetattr, MqSetattr, MqNotify, NextNotice, Collect, Withdraw}
+use Rattle.mq_model.specs.declared.entries.Reply.{Reply}
+use Rattle.mq_model.specs.declared.entries.Reply.TheVariants.{Opened, Queued, Handed, Waits, Got, Collected, Attrs, Notice, Done, Refused, Withdrawn}
+use Rattle.mq_model.proofs.Places.{split}
+use Rattle.mq_model.proofs.Cases.{Says}
+use Rattle.mq_model.proofs.HeldQueues.{called-alive}
+use Rattle.mq_model.proofs.OpenWaits.{withdrawn-open}
+use Rattle.mq_model.proofs.Alive.{rec}
+use Rattle.placeless.specs.Views.{Message, Sender, answer, contents, receivers, senders}
+use Rattle.placeless.specs.Steps.{message_given, record_of, shape}
+use Rattle.placeless.proofs.Falling.{pick, top}
+use Rattle.placeless.proofs.Changes.{got-all, handed-all}
+use Rattle.placeless.proofs.Effects.{after_answer, after_receivers, after_senders, answer-step, called, is_collected, is_withdrawn, receivers-step, senders-step}
+use Rattle.placeless.proofs.Alike.{answer-shape, receivers-shape, senders-shape}
+use Rattle.placeless.proofs.Stays.{got-message}
+use Rattle.mq_equivalence.specs.Structure.{extended, renumbered}
+use Rattle.mq_equivalence.specs.Equivalence.{EquivalentUnder}
+use Rattle.mq_equivalence.proofs.Withdrawals.{answer-withdrawn, receivers-withdrawn, receivers_but, senders-withdrawn, senders_but}
+use Rattle.mq_equivalence.proofs.Going.{called-both, contents-go, deadlines-go, notices-go, payloads, registrations-go, rooms-go, same-at, same-old, says_x, says_y, shapes, structure-goes, waits-go}
+
+-- a call on no queue answers nobody
+idle-answer : (past : Past) (p : ℕ) (call : Call) (reply : Reply) (payload : List ℕ) (ss : List (Option Sender)) (rs : List (Option ℕ)) (k : ℕ) (before : Option (Option (Option Message))) → Says past p call reply → called_queue past p call ≡ None →
+    after_answer p call payload reply ss rs k before ≡ after_answer p call payload reply [] [] k before
+idle-answer past p call (Handed w) payload ss rs k before says none = let hands = handed-all past p call w says in let bad : None ≡ Some hands.queue = sym none ∙ hands.on in absurd (cc)
+idle-answer past p call (Got m a n) payload ss rs k before says none = let got = got-all past p call m a n says in let bad : None ≡ Some got.queue = sym none ∙ got.on in absurd (cc)
+idle-answer past p call (Queued n) payload ss rs k before says none = refl
+idle-answer past p call (Opened d created) payload ss rs k before says none = refl
+idle-answer past p call Waits payload ss rs k before says none = refl
+idle-answer past p call (Collected b) payload ss rs k before says none = refl
+idle-answer past p call (Withdrawn w) payload ss rs k before says none = refl
+idle-answer past p call (Attrs s) payload ss rs k before says none = refl
+idle-answer past p call (Notice v) payload ss rs k before says none = refl
+idle-answer past p call Done payload ss rs k before says none = refl
+idle-answer past p call (Refused f) payload ss rs k before says none = refl
+
+-- a reply that gives a message
+abbrev pub is_got : Reply → Bool
+is_got (Got m a n) = true
+is_got _ = false
+
+got-shape : (reply : Reply) → is_got (shape reply) ≡ is_got reply
+got-shape (Got m a n) = refl
+got-shape (Queued n) = refl
+got-shape (Handed w) = refl
+got-shape (Opened d created) = refl
+got-shape Waits = refl
+got-shape (Collected b) = refl
+got-shape (Withdrawn w) = refl
+got-shape (Attrs s) = refl
+got-shape (Notice v) = refl
+got-shape Done = refl
+got-shape (Refused f) = refl
+
+pub none-given : (past : Past) (reply : Reply) → is_got reply ≡ false → message_given past reply ≡ None
+none-given past (Got m a n) e = cc
+none-given past (Queued n) e = refl
+none-given past (Handed w) e = refl
+none-given past (Opened d created) e = refl
+none-given past Waits e = refl
+none-given past (Collected b) e = refl
+none-given past (Withdrawn w) e = refl
+none-given past (Attrs s) e = refl
+none-given past (Notice v) e = refl
+none-given past Done e = refl
+none-given past (Refused f) e = refl
+
+given-is : (past : Past) → Legal past → (p : ℕ) (call : Call) (reply : Reply) (payload : List ℕ) → is_got reply ≡ true → Says past p call reply →
+    message_given (rec p call reply payload ∷ past) reply ≡ pick (top (contents past (called past p call))) (contents past (called past p call))
+given-is past legal p call (Got m a n) payload e says = got-message past legal p call m a n payload says
+given-is past legal p call (Queued n) payload e says = absurd (cc)
+given-is past legal p call (Handed w) payload e says = absurd (cc)
+given-is past legal p call (Opened d created) payload e says = absurd (cc)
+given-is past legal p call Waits payload e says = absurd (cc)
+given-is past legal p call (Collected b) payload e says = absurd (cc)
+given-is past legal p call (Withdrawn w) payload e says = absurd (cc)
+given-is past legal p call (Attrs s) payload e says = absurd (cc)
+given-is past legal p call (Notice v) payload e says = absurd (cc)
+given-is past legal p call Done payload e says = absurd (cc)
+given-is past legal p call (Refused f) payload e says = absurd (cc)
+
+withdrawn-shape : (r : Reply) → is_withdrawn (shape r) ≡ is_withdrawn r
+withdrawn-shape (Withdrawn w) = refl
+withdrawn-shape (Got m a n) = refl
+withdrawn-shape (Queued n) = refl
+withdrawn-shape (Handed w) = refl
+withdrawn-shape (Opened d created) = refl
+withdrawn-shape Waits = refl
+withdrawn-shape (Collected b) = refl
+withdrawn-shape (Attrs s) = refl
+withdrawn-shape (Notice v) = refl
+withdrawn-shape Done = refl
+withdrawn-shape (Refused f) = refl
+
+the-wait : (r : Reply) → is_withdrawn r ≡ true → (w : ℕ) × (r ≡ Withdrawn w)
+the-wait (Withdrawn w) e = (w, refl)
+the-wait (Got m a n) e = absurd (cc)
+the-wait (Queued n) e = absurd (cc)
+the-wait (Handed w) e = absurd (cc)
+the-wait (Opened d created) e = absurd (cc)
+the-wait Waits e = absurd (cc)
+the-wait (Collected b) e = absurd (cc)
+the-wait (Attrs s) e = absurd (cc)
+the-wait (Notice v) e = absurd (cc)
+the-wait Done e = absurd (cc)
+the-wait (Refused f) e = absurd (cc)
+
+is-free : (o : Option ℕ) → is_none o ≡ true → o ≡ None
+is-free None e = refl
+is-free (Some w) e = absurd (cc)
+
+free-of : (past : Past) (p : ℕ) (call : Call) (reply : Reply) → is_withdrawn reply ≡ false → Says past p call reply → may_call past p call ≡ true → is_collected reply ≡ false → open_wait past p ≡ None
+free-of past p Collect reply kept says turn not = let is : is_collected reply ≡ true = ap is_collected says in let bad : true ≡ false = sym is ∙ not in absurd (cc)
+free-of past p (Withdraw now) reply kept says turn not = let is : is_withdrawn reply ≡ true = ap is_withdrawn says in let bad : true ≡ false = sym is ∙ kept in absurd (cc)
+free-of past p (MqClose d) reply kept says turn not = is-free (open_wait past p) turn
+free-of past p (MqSend d prio len) reply kept says turn not = is-free (open_wait past p) turn
+free-of past p (MqReceive d room) reply kept says turn not = is-free (open_wait past p) turn
+free-of past p (MqTimedSend d prio len until now) reply kept says turn not = is-free (open_wait past p) turn
+free-of past p (MqTimedReceive d room until now) reply kept says turn not = is-free (open_wait past p) turn
+free-of past p (MqGetattr d) reply kept says turn not = is-free (open_wait past p) turn
+free-of past p (MqSetattr d nonblock) reply kept says turn not = is-free (open_wait past p) turn
+free-of past p (MqOpen flags attr) reply kept says turn not = is-free (open_wait past p) turn
+free-of past p MqUnlink reply kept says turn not = is-free (open_wait past p) turn
+free-of past p (MqNotify d value) reply kept says turn not = is-free (open_wait past p) turn
+free-of past p NextNotice reply kept says turn not = is-free (open_wait past p) turn
+
+-- those who wait and the answers, after a withdrawal
+senders-of : (past : Past) → Legal past → (p : ℕ) (call : Call) (reply : Reply) (payload : List ℕ) → is_withdrawn reply ≡ true → Says past p call reply → may_call past p call ≡ true → (q : ℕ) → senders (rec p call reply payload ∷ past) q ≡ senders_but p (senders past q)
+senders-of past legal p call reply payload is says turn q =
+    let w = the-wait reply is in
+    let mine = (withdrawn-open past p call w.0 (subst (Says past p call) w.1 says) turn).0 in
+    subst (λ (z : Reply). senders (rec p call z payload ∷ past) q ≡ senders_but p (senders past q)) (sym w.1) (senders-withdrawn past legal p call w.0 payload mine q)
+
+receivers-of : (past : Past) → Legal past → (p : ℕ) (call : Call) (reply : Reply) (payload : List ℕ) → is_withdrawn reply ≡ true → Says past p call reply → may_call past p call ≡ true → (q : ℕ) → receivers (rec p call reply payload ∷ past) q ≡ receivers_but p (receivers past q)
+receivers-of past legal p call reply payload is says turn q =
+    let w = the-wait reply is in
+    let mine = (withdrawn-open past p call w.0 (subst (Says past p call) w.1 says) turn).0 in
+    subst (λ (z : Reply). receivers (rec p call z payload ∷ past) q ≡ receivers_but p (receivers past q)) (sym w.1) (receivers-withdrawn past legal p call w.0 payload mine q)
+
+answer-of : (past : Past) (p : ℕ) (call : Call) (reply : Reply) (payload : List ℕ) → is_withdrawn reply ≡ true → (k : ℕ) → answer (rec p call reply payload ∷ past) k ≡ (if p == k then None else answer past k)
+answer-of past p call reply payload is k =
+    let w = the-wait reply is in
+    subst (λ (z : Reply). answer (rec p call z payload ∷ past) k ≡ (if p == k then None else answer past k)) (sym w.1) (answer-withdrawn past p call w.0 payload k)
+
+module _ (to : ℕ → ℕ) (x y : Past) (equivalent : EquivalentUnder to x y) (p : ℕ) (call : Call) (given : List ℕ) (next_x : IsLegalNext x (record_of x p call given)) (next_y : IsLegalNext y (record_of y p call given)) where
+  abbrev a : Reply
+  a = reply_to x p call given
+
+  abbrev b : Reply
+  b = reply_to y p call given
+
+  abbrev px : List ℕ
+  px = payload_of call a given
+
+  abbrev py : List ℕ
+  py = payload_of call b given
+
+  abbrev onto : ℕ → ℕ
+  onto = extended to (length x) (length y)
+
+  abbrev inside_after : ℕ → Type 0
+  inside_after q = is_in (alive (rec p call a px ∷ x)) q ≡ true
+
+  says_a : Says x p call a
+  says_a = says_x to x y equivalent p call given next_x next_y
+
+  says_b : Says y p call b
+  says_b = says_y to x y equivalent p call given next_x next_y
+
+  shaped : shape b ≡ shape a
+  shaped = shapes to x y equivalent p call given next_x next_y
+
+  paid : py ≡ px
+  paid = payloads to x y equivalent p call given next_x next_y
+
+  both-withdrawn : is_withdrawn b ≡ is_withdrawn a
+  both-withdrawn = sym (withdrawn-shape b) ∙ ap is_withdrawn shaped ∙ withdrawn-shape a
+
+  senders-go : (q : ℕ) → inside_after q → senders (rec p call b py ∷ y) (onto q) ≡ senders (rec p call a px ∷ x) q
+  senders-go q h =
+      let s = same-at to x y equivalent p call given next_x next_y q h in
+      split (is_withdrawn a)
+      (λ t. senders-of y equivalent.legal.1 p call b py (both-withdrawn ∙ t) says_b next_y.turn (onto q)
+      ∙ ap (senders_but p) s.sending
+      ∙ sym (senders-of x equivalent.legal.0 p call a px t says_a next_x.turn q))
+      (λ f. senders-step y p call b py (onto q) (equivalent.legal.1, next_y) says_b (both-withdrawn ∙ f)
+      ∙ sym (senders-shape p call py (is_place (onto q) (called_queue y p call)) b (senders y (onto q)))
+      ∙ (λ i. after_senders p call (paid i) (s.on i) (shaped i) (s.sending i))
+      ∙ senders-shape p call px (is_place q (called_queue x p call)) a (senders x q)
+      ∙ sym (senders-step x p call a px q (equivalent.legal.0, next_x) says_a f))
+
+  receivers-go : (q : ℕ) → inside_after q → receivers (rec p call b py ∷ y) (onto q) ≡ receivers (rec p call a px ∷ x) q
+  receivers-go q h =
+      let s = same-at to x y equivalent p call given next_x next_y q h in
+      split (is_withdrawn a)
+      (λ t. receivers-of y equivalent.legal.1 p call b py (both-withdrawn ∙ t) says_b next_y.turn (onto q)
+      ∙ ap (receivers_but p) s.receiving
+      ∙ sym (receivers-of x equivalent.legal.0 p call a px t says_a next_x.turn q))
+      (λ f. receivers-step y p call b py (onto q) (equivalent.legal.1, next_y) says_b (both-withdrawn ∙ f)
+      ∙ sym (receivers-shape p call (is_place (onto q) (called_queue y p call)) b (receivers y (onto q)))
+      ∙ (λ i. after_receivers p call (s.on i) (shaped i) (s.receiving i))
+      ∙ receivers-shape p call (is_place q (called_queue x p call)) a (receivers x q)
+      ∙ sym (receivers-step x p call a px q (equivalent.legal.0, next_x) says_a f))
+
+  -- what the answers and messages come from, at the queue of the call
+  answers-both : (o : Option ℕ) → called_queue x p call ≡ o → (k : ℕ) → after_answer p call py b (senders y (called y p call)) (receivers y (called y p call)) k (answer y k) ≡ after_answer p call px a (senders x (called x p call)) (receivers x (called x p call)) k (answer x k)
+  answers-both None e k =
+      let on : called_queue y p call ≡ None = called-both to x y equivalent p call given next_x next_y ∙ ap (option_map to) e in
+      idle-answer y p call b py (senders y (called y p call)) (receivers y (called y p call)) k (answer y k) says_b on
+      ∙ sym (answer-shape p call py b [] [] k (answer y k))
+      ∙ (λ i. after_answer p call (paid i) (shaped i) [] [] k (equivalent.answered k i))
+      ∙ answer-shape p call px a [] [] k (answer x k)
+      ∙ sym (idle-answer x p call a px (senders x (called x p call)) (receivers x (called x p call)) k (answer x k) says_a e)
+  answers-both (Some q) e k =
+      let on : called_queue y p call ≡ Some (to q) = called-both to x y equivalent p call given next_x next_y ∙ ap (option_map to) e in
+      let at_x : called x p call ≡ q = ap (λ (o : Option ℕ). unwrap_or o 0) e in
+      let at_y : called y p call ≡ to q = ap (λ (o : Option ℕ). unwrap_or o 0) on in
+      let s = same-old to x y equivalent p call given next_x next_y q (called-alive x equivalent.legal.0 p call q e) in
+      let ss : senders y (called y p call) ≡ senders x (called x p call) = ap (senders y) at_y ∙ s.sending ∙ ap (senders x) (sym at_x) in
+      let rs : receivers y (called y p call) ≡ receivers x (called x p call) = ap (receivers y) at_y ∙ s.receiving ∙ ap (receivers x) (sym at_x) in
+      sym (answer-shape p call py b (senders y (called y p call)) (receivers y (called y p call)) k (answer y k))
+      ∙ (λ i. after_answer p call (paid i) (shaped i) (ss i) (rs i) k (equivalent.answered k i))
+      ∙ answer-shape p call px a (senders x (called x p call)) (receivers x (called x p call)) k (answer x k)
+
+  answers-go : (k : ℕ) → answer (rec p call b py ∷ y) k ≡ answer (rec p call a px ∷ x) k
+  answers-go k = split (is_withdrawn a)
+      (λ t. answer-of y p call b py (both-withdrawn ∙ t) k ∙ (λ i. if p == k then None else equivalent.answered k i) ∙ sym (answer-of x p call a px t k))
+      (λ f. answer-step y equivalent.legal.1 p call b py k says_b (free-of y p call b (both-withdrawn ∙ f) says_b next_y.turn)
+      ∙ answers-both (called_queue x p call) refl k
+      ∙ sym (answer-step x equivalent.legal.0 p call a px k says_a (free-of x p call a f says_a next_x.turn)))
+
+  pub goes-equivalent : EquivalentUnder onto (rec p call a px ∷ x) (rec p call b py ∷ y)
+  goes-equivalent = record {
+    legal = ((equivalent.legal.0, next_x), (equivalent.legal.1, next_y));
+    structure = structure-goes to x y equivalent p call given next_x next_y;
+    messages = contents-go to x y equivalent p call given next_x next_y;
+    sending = senders-go;
+    receiving = receivers-go;
+    registrations = registrations-go to x y equivalent p call given next_x next_y;
+    values = notices-go to x y equivalent p call given next_x next_y;
+    waits = waits-go to x y equivalent p call given next_x next_y;
+    rooms = rooms-go to x y equivalent p call given next_x next_y;
+    deadlines = deadlines-go to x y equivalent p call given next_x next_y;
+    answered = answers-go;
+  }
+
+-- the message that a call gives ----------------------------------------------------------------------------------------------
+
+pub record IsGot (r : Reply) : Type 0 where
+  pub place : ℕ
+  pub admitted : Option ℕ
+  pub notified : Option ℕ
+  pub is : r ≡ Got place admitted notified
+
+pub the-got : (r : Reply) → is_got r ≡ true → IsGot r
+the-got (Got m a n) e = record { place = m; admitted = a; notified = n; is = refl }
+the-got (Withdrawn w) e = absurd (cc)
+the-got (Queued n) e = absurd (cc)
+the-got (Handed w) e = absurd (cc)
+the-got (Opened d created) e = absurd (cc)
+the-got Waits e = absurd (cc)
+the-got (Collected b) e = absurd (cc)
+the-got (Attrs s) e = absurd (cc)
+the-got (Notice v) e = absurd (cc)
+the-got Done e = absurd (cc)
+the-got (Refused f) e = absurd (cc)
+
+module _ (to : ℕ → ℕ) (x y : Past) (equivalent : EquivalentUnder to x y) (p : ℕ) (call : Call) where
+  queue-both : called_queue y p call ≡ option_map to (called_queue x p call)
+  queue-both = by (descriptor_of call)
+    where
+      queue-of : (o : Option Description) → option_map (λ (h : Description). h.queue) (option_map (renumbered to) o) ≡ option_map to (option_map (λ (h : Description). h.queue) o)
+      queue-of None = refl
+      queue-of (Some h) = refl
+
+      by : (o : Option ℕ) → option_map (λ (h : Description). h.queue) (option_and_then (held y p) o) ≡ option_map to (option_map (λ (h : Description). h.queue) (option_and_then (held x p) o))
+      by None = refl
+      by (Some d) = ap (option_map (λ (h : Description). h.queue)) (equivalent.structure.descriptors p d) ∙ queue-of (held x p d)
+
+  found-both : (a : Reply) → is_got a ≡ true → Says x p call a → contents y (called y p call) ≡ contents x (called x p call)
+  found-both a e says =
+      let g = the-got a e in
+      let got = got-all x p call g.place g.admitted g.notified (subst (Says x p call) g.is says) in
+      let inside : is_in (alive x) got.queue ≡ true = called-alive x equivalent.legal.0 p call got.queue got.on in
+      let at_x : called x p call ≡ got.queue = ap (λ (o : Option ℕ). unwrap_or o 0) got.on in
+      let at_y : called y p call ≡ to got.queue = ap (λ (o : Option ℕ). unwrap_or o 0) (queue-both ∙ ap (option_map to) got.on) in
+      ap (contents y) at_y ∙ equivalent.messages got.queue inside ∙ ap (contents x) (sym at_x)
+
+  pub message-equivalent : (a b : Reply) (px py : List ℕ) → shape b ≡ shape a → Says x p call a → Says y p call b → message_given (rec p call b py ∷ y) b ≡ message_given (rec p call a px ∷ x) a
+  message-equivalent a b px py e says_x says_y =
+      let both : is_got b ≡ is_got a = sym (got-shape b) ∙ ap is_got e ∙ got-shape a in
+      split (is_got a)
+      (λ t. given-is y equivalent.legal.1 p call b py (both ∙ t) says_y ∙ ap (λ (cs : List (Option Message)). pick (top cs) cs) (found-both a t says_x) ∙ sym (given-is x equivalent.legal.0 p call a px t says_x))
+      (λ f. none-given (rec p call b py ∷ y) b (both ∙ f) ∙ sym (none-given (rec p call a px ∷ x) a f))

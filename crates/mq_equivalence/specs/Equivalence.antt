@@ -1,0 +1,67 @@
+-- Equivalent journals: all that replies depend on is the same, up to the numbers of queues and the
+-- places of entries.
+use Rattle.std.specs.Prelude.{ℕ, ◌≡◌, true, Option, is_some, List, ◌∷◌, length}
+use Rattle.std.specs.Option.{option_map}
+use Rattle.mq_model.specs.Record.{Past, Process, Queue}
+use Rattle.mq_model.specs.Descriptors.{alive}
+use Rattle.mq_model.specs.Messages.{is_in}
+use Rattle.mq_model.specs.Notices.{notices, registered}
+use Rattle.mq_model.specs.Waits.{open_wait, wait_deadline}
+use Rattle.mq_model.specs.Legality.{IsLegalNext, Legal, may_call, reply_to}
+use Rattle.mq_model.specs.declared.entries.Call.{Call}
+use Rattle.mq_model.specs.declared.entries.Registration.{Registration}
+use Rattle.mq_state.specs.Buffers.{waiting_room}
+use Rattle.placeless.specs.Steps.{message_given, record_of}
+use Rattle.placeless.specs.Views.{answer, contents, receivers, senders}
+use Rattle.mq_equivalence.specs.Structure.{SameStructure, extended}
+use Rattle.mq_equivalence.specs.Outline.{outline}
+
+-- a registration without its place: who made it, by which descriptor, with which value
+pub record Registered : Type 0 where
+  pub process : Process
+  pub d : ℕ
+  pub value : ℕ
+
+abbrev pub registered_as : Past → Queue → Option Registered
+registered_as past q =
+    option_map (λ (n : Registration). record { process = n.process; d = n.d; value = n.value })
+    (registered past q)
+
+-- two legal journals in which all that replies depend on is the same, except that queue q of x is
+-- queue `to q` of y: the names, the descriptors, and the queues; the messages of each queue, who
+-- waits on it, and the registration on it; the notices of each process, whether it waits, with a
+-- buffer of which length (0 for a send), until when, and what its wait was answered with
+pub record EquivalentUnder (to : Queue → Queue) (x y : Past) : Type 0 where
+  pub legal : Legal x × Legal y
+  pub structure : SameStructure to x y
+  pub messages : (q : ℕ) → is_in (alive x) q ≡ true → contents y (to q) ≡ contents x q
+  pub sending : (q : ℕ) → is_in (alive x) q ≡ true → senders y (to q) ≡ senders x q
+  pub receiving : (q : ℕ) → is_in (alive x) q ≡ true → receivers y (to q) ≡ receivers x q
+  pub registrations :
+      (q : ℕ) → is_in (alive x) q ≡ true → registered_as y (to q) ≡ registered_as x q
+  pub values : (p : ℕ) → notices y p ≡ notices x p
+  pub waits : (p : ℕ) → is_some (open_wait y p) ≡ is_some (open_wait x p)
+  pub rooms : (p : ℕ) → waiting_room y p ≡ waiting_room x p
+  pub deadlines : (p : ℕ) → wait_deadline y p ≡ wait_deadline x p
+  pub answered : (p : ℕ) → answer y p ≡ answer x p
+
+-- equivalent journals, under some renumbering of the queues
+pub record Equivalent (x y : Past) : Type 0 where
+  pub to : Queue → Queue
+  pub equivalent : EquivalentUnder to x y
+
+-- one call after each of two journals: it may be made after both or after neither, its replies
+-- differ in places alone, and it gives its caller the same message. If its entry may follow the
+-- first journal, it may follow the second, and leaves equivalent journals
+pub record StepsEquivalent (to : Queue → Queue) (x y : Past) (p : Process) (call : Call)
+    (given : List ℕ) : Type 0 where
+  pub turn : may_call y p call ≡ may_call x p call
+  pub reply : outline (reply_to y p call given) ≡ outline (reply_to x p call given)
+  pub message :
+      message_given (record_of y p call given ∷ y) (reply_to y p call given)
+      ≡ message_given (record_of x p call given ∷ x) (reply_to x p call given)
+  pub legal : IsLegalNext x (record_of x p call given) → IsLegalNext y (record_of y p call given)
+  pub next :
+      IsLegalNext x (record_of x p call given) →
+      EquivalentUnder (extended to (length x) (length y))
+      (record_of x p call given ∷ x) (record_of y p call given ∷ y)

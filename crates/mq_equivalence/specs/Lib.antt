@@ -1,0 +1,4 @@
+pub mod Structure
+pub mod Outline
+pub mod Equivalence
+pub mod Runs
