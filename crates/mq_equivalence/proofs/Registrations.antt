@@ -73,10 +73,6 @@ and-none : (b : Bool) → false ≡ (b && false)
 and-none true = refl
 and-none false = refl
 
-and-all : (b : Bool) → b ≡ (b && true)
-and-all true = refl
-and-all false = refl
-
 place-told : (past : Past) (p : ℕ) (call : Call) (reply : Reply) (payload : List ℕ) → IsLegalNext past (rec p call reply payload) → (q : ℕ) (n : Registration) → registered past q ≡ Some n →
     is_place n.place (notified reply) ≡ (is_place q (called_queue past p call) && is_some (notified reply))
 place-told past p call reply payload next q n stands = by (notified reply) refl

@@ -1,0 +1,107 @@
+-- Independent calls commute.
+use Rattle.std.proofs.Common.{◌≡◌, ◌⊎◌, inl, inr, ℕ, ◌==◌, Bool, true, false, ◌&&◌, ◌||◌, not, Option, Some, None, refl, sym, ◌∙◌, ap, eqb-true}
+use Rattle.std.specs.Prelude.{nat_le}
+use Rattle.std.proofs.lemmas.Bool.{and_parts, not-true, eqb-false}
+use Rattle.mq_model.specs.Record.{Past}
+use Rattle.mq_model.specs.Messages.{is_send, priority, priority_given}
+use Rattle.mq_model.specs.Legality.{IsLegalNext, Legal}
+use Rattle.mq_model.specs.declared.entries.Reply.{Reply}
+use Rattle.mq_model.specs.declared.entries.Reply.TheVariants.{Opened, Queued, Handed, Waits, Got, Collected, Attrs, Notice, Done, Refused, Withdrawn}
+use Rattle.mq_model.proofs.Places.{split}
+use Rattle.mq_equivalence.specs.Runs.{Request}
+use Rattle.mq_commutation.specs.Independence.{differ, are_independent, changes_queues, only_reads, changes_names, whose_notices, passes, passes_by, reply_of, stays_filled, queue_touched}
+use Rattle.mq_commutation.specs.Commuting.{Commute, is_covered, record_for}
+use Rattle.mq_commutation.proofs.Orders.{on_of, touched-is}
+use Rattle.mq_commutation.proofs.Apart.{apart-commute}
+use Rattle.mq_commutation.proofs.Pass.{pass-commute, pass-commute-back}
+
+record PassesBy (past : Past) (prio : ℕ) (a b : Reply) : Type 0 where
+  message : ℕ
+  queued : a ≡ Queued None
+  gets : b ≡ Got message None None
+  low : nat_le prio (priority past message) ≡ true
+
+passes-got : (past : Past) (prio : ℕ) (b : Reply) → passes_by past prio (Queued None) b ≡ true → PassesBy past prio (Queued None) b
+passes-got past prio (Opened o new) e = absurd (let bad : false ≡ true = e in cc)
+passes-got past prio (Queued None) e = absurd (let bad : false ≡ true = e in cc)
+passes-got past prio (Queued (Some x)) e = absurd (let bad : false ≡ true = e in cc)
+passes-got past prio (Handed w) e = absurd (let bad : false ≡ true = e in cc)
+passes-got past prio Waits e = absurd (let bad : false ≡ true = e in cc)
+passes-got past prio (Got m None None) e = record { message = m; queued = refl; gets = refl; low = e }
+passes-got past prio (Got m (Some x) n) e = absurd (let bad : false ≡ true = e in cc)
+passes-got past prio (Got m None (Some x)) e = absurd (let bad : false ≡ true = e in cc)
+passes-got past prio (Collected c) e = absurd (let bad : false ≡ true = e in cc)
+passes-got past prio (Withdrawn w) e = absurd (let bad : false ≡ true = e in cc)
+passes-got past prio (Attrs s) e = absurd (let bad : false ≡ true = e in cc)
+passes-got past prio (Notice v) e = absurd (let bad : false ≡ true = e in cc)
+passes-got past prio Done e = absurd (let bad : false ≡ true = e in cc)
+passes-got past prio (Refused f) e = absurd (let bad : false ≡ true = e in cc)
+
+passes-by : (past : Past) (prio : ℕ) (a b : Reply) → passes_by past prio a b ≡ true → PassesBy past prio a b
+passes-by past prio (Opened o new) b e = absurd (let bad : false ≡ true = e in cc)
+passes-by past prio (Queued None) b e = passes-got past prio b e
+passes-by past prio (Queued (Some x)) b e = absurd (let bad : false ≡ true = e in cc)
+passes-by past prio (Handed w) b e = absurd (let bad : false ≡ true = e in cc)
+passes-by past prio Waits b e = absurd (let bad : false ≡ true = e in cc)
+passes-by past prio (Got m None None) b e = absurd (let bad : false ≡ true = e in cc)
+passes-by past prio (Got m (Some x) n) b e = absurd (let bad : false ≡ true = e in cc)
+passes-by past prio (Got m None (Some x)) b e = absurd (let bad : false ≡ true = e in cc)
+passes-by past prio (Collected c) b e = absurd (let bad : false ≡ true = e in cc)
+passes-by past prio (Withdrawn w) b e = absurd (let bad : false ≡ true = e in cc)
+passes-by past prio (Attrs s) b e = absurd (let bad : false ≡ true = e in cc)
+passes-by past prio (Notice v) b e = absurd (let bad : false ≡ true = e in cc)
+passes-by past prio Done b e = absurd (let bad : false ≡ true = e in cc)
+passes-by past prio (Refused f) b e = absurd (let bad : false ≡ true = e in cc)
+
+record OneQueue (o u : Option ℕ) : Type 0 where
+  queue : ℕ
+  first : o ≡ Some queue
+  second : u ≡ Some queue
+
+one-queue : (o u : Option ℕ) → differ o u ≡ false → OneQueue o u
+one-queue None u e = absurd (let bad : true ≡ false = e in cc)
+one-queue (Some i) None e = absurd (let bad : true ≡ false = e in cc)
+one-queue (Some i) (Some j) e = split (i == j)
+    (λ t. record { queue = i; first = refl; second = ap Some (sym (eqb-true i j t)) })
+    (λ f. let bad : true ≡ false = rw f at e in absurd (cc))
+
+four-cases : (u v w z : Bool) → (u || v || w || z) ≡ true → u ≡ false → v ≡ false → (w ≡ true) ⊎ (z ≡ true)
+four-cases false false true z e f g = inl refl
+four-cases false false false z e f g = inr e
+four-cases true v w z e f g = absurd (let bad : true ≡ false = f in cc)
+four-cases false true w z e f g = absurd (let bad : true ≡ false = g in cc)
+
+pub independent-commute : (past : Past) (a b : Request) → Legal past → IsLegalNext past (record_for past a) → IsLegalNext past (record_for past b) → is_covered a.call ≡ true → is_covered b.call ≡ true → are_independent past a b ≡ true → Commute past a b
+independent-commute past a b legal first second covered_a covered_b e =
+    let queues : Bool = differ (queue_touched past a) (queue_touched past b) || only_reads a.call && only_reads b.call || passes past a b || passes past b a in
+    let names : Bool = not (changes_names a.call && changes_queues b.call || changes_names b.call && changes_queues a.call) in
+    let one = and_parts (not (a.process == b.process) && names && differ (whose_notices past a) (whose_notices past b)) queues e in
+    let two = and_parts (not (a.process == b.process) && names) (differ (whose_notices past a) (whose_notices past b)) one.0 in
+    let three = and_parts (not (a.process == b.process)) names two.0 in
+    let ne : a.process ≡ b.process → ⊥ = eqb-false a.process b.process (not-true _ three.0) in
+    let same : (w : Bool) → differ (queue_touched past a) (queue_touched past b) ≡ w → Commute past a b = λ w. by ne two.1 one.1 w in
+    same (differ (queue_touched past a) (queue_touched past b)) refl
+  where
+    there : (c : Request) → is_covered c.call ≡ true → (k : ℕ) → queue_touched past c ≡ Some k → on_of past c ≡ Some k
+    there c covered k is = sym (touched-is past c.process c.call covered) ∙ is
+
+    meets : (ne : a.process ≡ b.process → ⊥) → OneQueue (queue_touched past a) (queue_touched past b) → (passes past a b ≡ true) ⊎ (passes past b a ≡ true) → Commute past a b
+    meets ne q (inl p) =
+        let x = and_parts (is_send a.call && passes_by past (priority_given a.call) (reply_of past a) (reply_of past b)) (stays_filled past (queue_touched past a)) p in
+        let y = and_parts (is_send a.call) (passes_by past (priority_given a.call) (reply_of past a) (reply_of past b)) x.0 in
+        let z = passes-by past (priority_given a.call) (reply_of past a) (reply_of past b) y.1 in
+        pass-commute past a b (record { legal = legal; first = first; second = second; processes = ne; calls = (covered_a, covered_b); sends = y.0; queued = z.queued; message = z.message; gets = z.gets; queue = q.queue; on_a = there a covered_a q.queue q.first; on_b = there b covered_b q.queue q.second; low = z.low; filled = ap (stays_filled past) (sym q.first) ∙ x.1 })
+    meets ne q (inr p) =
+        let x = and_parts (is_send b.call && passes_by past (priority_given b.call) (reply_of past b) (reply_of past a)) (stays_filled past (queue_touched past b)) p in
+        let y = and_parts (is_send b.call) (passes_by past (priority_given b.call) (reply_of past b) (reply_of past a)) x.0 in
+        let z = passes-by past (priority_given b.call) (reply_of past b) (reply_of past a) y.1 in
+        pass-commute-back past b a (record { legal = legal; first = second; second = first; processes = λ e. ne (sym e); calls = (covered_b, covered_a); sends = y.0; queued = z.queued; message = z.message; gets = z.gets; queue = q.queue; on_a = there b covered_b q.queue q.second; on_b = there a covered_a q.queue q.first; low = z.low; filled = ap (stays_filled past) (sym q.second) ∙ x.1 })
+
+    far : (ne : a.process ≡ b.process → ⊥) → differ (whose_notices past a) (whose_notices past b) ≡ true → (differ (queue_touched past a) (queue_touched past b) || only_reads a.call && only_reads b.call) ≡ true → Commute past a b
+    far ne notices queues = apart-commute past a b (record { legal = legal; first = first; second = second; apart = record { processes = ne; calls = (covered_a, covered_b); queues = queues; notices = notices } })
+
+    by : (ne : a.process ≡ b.process → ⊥) → differ (whose_notices past a) (whose_notices past b) ≡ true → (differ (queue_touched past a) (queue_touched past b) || only_reads a.call && only_reads b.call || passes past a b || passes past b a) ≡ true → (w : Bool) → differ (queue_touched past a) (queue_touched past b) ≡ w → Commute past a b
+    by ne notices all true is = far ne notices (rw is refl)
+    by ne notices all false is = split (only_reads a.call && only_reads b.call)
+        (λ look. far ne notices (rw (is, look) refl))
+        (λ not_look. meets ne (one-queue (queue_touched past a) (queue_touched past b) is) (four-cases (differ (queue_touched past a) (queue_touched past b)) (only_reads a.call && only_reads b.call) (passes past a b) (passes past b a) all is not_look))

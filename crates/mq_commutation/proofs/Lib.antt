@@ -1,0 +1,9 @@
+pub mod Replies
+pub mod Registered
+pub mod Structure
+pub mod Frames
+pub mod Steps
+pub mod Orders
+pub mod Apart
+pub mod Pass
+pub mod Independent

@@ -1,0 +1,37 @@
+-- Two calls that may be made in either order, to the same end.
+use Rattle.std.specs.Prelude.{◌≡◌, Bool, true, false, [], ◌∷◌}
+use Rattle.mq_model.specs.Record.{Record, Past}
+use Rattle.mq_model.specs.Legality.{IsLegalNext}
+use Rattle.mq_model.specs.declared.entries.Call.{Call}
+use Rattle.mq_model.specs.declared.entries.Call.TheVariants.{MqOpen, MqUnlink, Withdraw}
+use Rattle.placeless.specs.Steps.{message_given, record_of}
+use Rattle.mq_equivalence.specs.Outline.{outline}
+use Rattle.mq_equivalence.specs.Equivalence.{Equivalent}
+use Rattle.mq_equivalence.specs.Runs.{Request, after_calls}
+use Rattle.mq_commutation.specs.Independence.{reply_of}
+
+-- the record of a call after a journal
+abbrev pub record_for : Past → Request → Record
+record_for past a = record_of past a.process a.call a.given
+
+-- after a the call b may still be made, has the reply that it has without a but for places, and
+-- gives its caller the same message
+pub record Unaffected (past : Past) (a b : Request) : Type 0 where
+  pub next : IsLegalNext (after_calls past (a ∷ [])) (record_for (after_calls past (a ∷ [])) b)
+  pub reply : outline (reply_of (after_calls past (a ∷ [])) b) ≡ outline (reply_of past b)
+  pub message :
+      message_given (after_calls past (b ∷ (a ∷ []))) (reply_of (after_calls past (a ∷ [])) b)
+      ≡ message_given (after_calls past (b ∷ [])) (reply_of past b)
+
+-- neither call affects the other, and both orders leave equivalent journals
+pub record Commute (past : Past) (a b : Request) : Type 0 where
+  pub second : Unaffected past a b
+  pub first : Unaffected past b a
+  pub journals : Equivalent (after_calls past (b ∷ (a ∷ []))) (after_calls past (a ∷ (b ∷ [])))
+
+-- the calls that the theorems cover: all but mq_open, mq_unlink and the withdrawal of a wait
+abbrev pub is_covered : Call → Bool
+is_covered (MqOpen flags attr) = false
+is_covered MqUnlink = false
+is_covered (Withdraw now) = false
+is_covered _ = true

@@ -1,0 +1,36 @@
+//! Independent calls: two processes may make them in either order, to the same end. A search over
+//! the orders of calls may try one of the two orders and leave out the other. The laws are
+//! functions that do nothing and take no time: the contract of each is the law. They cover all
+//! calls but `mq_open`, `mq_unlink` and the withdrawal of a wait.
+#![tactic(auto)]
+
+ghost use Rattle.std.specs.Prelude.{◌≡◌, ◌∷◌, List, [], true};
+ghost use Rattle.mq_model.specs.Record.{Past};
+ghost use Rattle.mq_model.specs.Legality.{IsLegalNext, Legal};
+ghost use Rattle.mq_equivalence.specs.Equivalence.{Equivalent};
+ghost use Rattle.mq_equivalence.specs.Runs.{Request, after_calls};
+ghost use Rattle.mq_commutation.specs.Independence.{are_independent};
+ghost use Rattle.mq_commutation.specs.Commuting.{Commute, is_covered, record_for};
+
+/// Independent calls commute: if each may be made after a legal journal, then each may be made
+/// after the other, has the reply that it has without the other but for places, and gives its
+/// caller the same message; and both orders leave equivalent journals.
+pub fn independent_calls_commute()
+    ensures { (past : Past) (a b : Request) → Legal past →
+        IsLegalNext past (record_for past a) → IsLegalNext past (record_for past b) →
+        is_covered a.call ≡ true → is_covered b.call ≡ true →
+        are_independent past a b ≡ true → Commute past a b }
+{}
+
+/// So two independent calls that stand next to each other in a run may be exchanged, whatever calls
+/// follow them: what is legal after one order is legal after the other, and leaves equivalent
+/// journals.
+pub fn exchanged_runs_stay_equivalent()
+    ensures { (past : Past) (a b : Request) → Legal past →
+        IsLegalNext past (record_for past a) → IsLegalNext past (record_for past b) →
+        is_covered a.call ≡ true → is_covered b.call ≡ true →
+        are_independent past a b ≡ true → (calls : List Request) →
+        Legal (after_calls (after_calls past (b ∷ (a ∷ []))) calls) →
+        Equivalent (after_calls (after_calls past (b ∷ (a ∷ []))) calls)
+        (after_calls (after_calls past (a ∷ (b ∷ []))) calls) }
+{}
