@@ -19,10 +19,11 @@ use Rattle.mq_equivalence.specs.Outline.{outline}
 use Rattle.mq_equivalence.specs.Runs.{Request}
 use Rattle.mq_equivalence.proofs.Structure.{alive-below}
 use Rattle.mq_commutation.specs.Independence.{differ, only_reads, whose_notices, whose_notices_by, reply_of, notified_registration, queue_touched}
+use Rattle.mq_equivalence.proofs.Notified.{after_notices, notices-step}
 use Rattle.mq_commutation.specs.Commuting.{Commute, is_covered, record_for}
 use Rattle.mq_commutation.proofs.Replies.{SameAt, called-same, reply-same, same-back, same-on}
 use Rattle.mq_commutation.proofs.Structure.{held-other}
-use Rattle.mq_commutation.proofs.Frames.{AnswersOn, acts-cases, acts_on, after_notices, answered-same, answered_at, looks, notices-off, notices-step, stays-at, stays-look, told-same}
+use Rattle.mq_commutation.proofs.Frames.{AnswersOn, acts-cases, acts_on, answered-same, answered_at, looks, notices-off, stays-at, stays-look, told-same}
 use Rattle.mq_commutation.proofs.Orders.{Order, apart-back, apart-clash, apart-off, both, commute-by, next-b, on_of, paid, paid-b, queue-back, queue-cases, the-place, touched-is}
 use Rattle.mq_commutation.proofs.Steps.{both-told, message-same, shapes, steps-at}
 
@@ -102,7 +103,7 @@ module _ (past : Past) (a b : Request) (t : Two past a b) where
   notices-b : b.call ≡ NextNotice → notices between b.process ≡ notices past b.process
   notices-b is =
       let own : whose_notices past b ≡ Some b.process = ap (λ (c : Call). whose_notices_by past b.process c (reply_to past b.process c b.given)) is in
-      notices-step past t.legal a.process a.call (reply_of past a) (paid past a) t.first t.apart.calls.0 b.process
+      notices-step past t.legal a.process a.call (reply_of past a) (paid past a) says-a b.process
       ∙ notices-off past a.process a.call (reply_of past a) b.process (notices past b.process) t.apart.calls.0 says-a (apart-off (whose_notices past a) (whose_notices past b) b.process t.apart.notices own)
 
   same-b : outline (reply_of between b) ≡ outline (reply_of past b)

@@ -1,14 +1,13 @@
 -- What a call on one queue leaves of another, and what it adds to notices and answers.
-use Rattle.std.proofs.Common.{◌≡◌, ◌⊎◌, inl, inr, ℕ, ◌<◌, ◌==◌, Bool, true, false, ◌&&◌, not, List, [], ◌∷◌, ◌++◌, drop, length, Option, Some, None, is_some, is_none, if◌then◌else◌, refl, sym, ◌∙◌, ap, subst, eqb-true}
+use Rattle.std.proofs.Common.{◌≡◌, ◌⊎◌, inl, inr, ℕ, ◌<◌, ◌==◌, Bool, true, false, ◌&&◌, not, List, ◌∷◌, drop, length, Option, Some, None, is_some, is_none, if◌then◌else◌, refl, sym, ◌∙◌, ap, subst, eqb-true}
 use Rattle.std.specs.Prelude.{slice_get}
 use Rattle.std.specs.Option.{option_map, option_and_then, unwrap_or}
 use Rattle.mq_model.specs.Record.{Record, Past, record_at}
 use Rattle.mq_model.specs.Descriptors.{called_queue, is_place}
 use Rattle.mq_model.specs.Messages.{is_in, is_receive, is_send, least, waiting_receives, waiting_sends}
-use Rattle.mq_model.specs.Notices.{gives_notice, notices, notified, registered}
+use Rattle.mq_model.specs.Notices.{gives_notice, notices, notified}
 use Rattle.mq_model.specs.Waits.{answered_by, open_wait}
 use Rattle.mq_model.specs.Legality.{IsLegalNext, Legal, may_call}
-use Rattle.mq_model.specs.declared.entries.Registration.{Registration}
 use Rattle.mq_model.specs.declared.entries.Status.{Status}
 use Rattle.mq_model.specs.declared.faults.Fault.{Fault}
 use Rattle.mq_model.specs.declared.entries.Call.{Call}
@@ -18,7 +17,7 @@ use Rattle.mq_model.specs.declared.entries.Reply.TheVariants.{Opened, Queued, Ha
 use Rattle.mq_model.specs.declared.owners.WaitKind.{WaitKind}
 use Rattle.mq_model.specs.declared.owners.WaitKind.TheVariants.{Send, Receive}
 use Rattle.mq_model.specs.Owners.{blocked}
-use Rattle.mq_model.proofs.Places.{split, is_in-filter}
+use Rattle.mq_model.proofs.Places.{is_in-filter}
 use Rattle.mq_model.proofs.Frames.{attributes-older}
 use Rattle.mq_model.proofs.Cases.{AttrsReply, Says}
 use Rattle.mq_model.proofs.LegalReplies.{legal_says}
@@ -26,16 +25,14 @@ use Rattle.mq_model.proofs.Alive.{rec}
 use Rattle.mq_model.proofs.NamedWaits.{least-in}
 use Rattle.mq_model.proofs.OpenWaits.{open_wait-process}
 use Rattle.mq_model.proofs.Waiters.{waiter}
-use Rattle.mq_state.specs.Tables.{entry_queue, notified_values}
-use Rattle.mq_state.proofs.Moving.{entry-on}
-use Rattle.mq_state.proofs.TablesKeep.{notices-keep}
 use Rattle.placeless.specs.Views.{Message, Sender, answer, at, author, contents, receivers, sender, senders}
 use Rattle.placeless.specs.Steps.{shape}
 use Rattle.placeless.proofs.Falling.{least-oldest, oldest}
 use Rattle.placeless.proofs.Changes.{falls-receivers, falls-senders, got-all, handed-all}
 use Rattle.placeless.proofs.Effects.{after_answer, after_contents, after_receivers, after_senders, answer-step, answers, called, contents-step, is_collected, is_withdrawn, receivers-step, senders-step, told_of}
 use Rattle.mq_equivalence.specs.Equivalence.{Registered, registered_as}
-use Rattle.mq_equivalence.proofs.Registrations.{after_registered, notified-called, registered-step, viewed}
+use Rattle.mq_equivalence.proofs.Notified.{after_notices, gain}
+use Rattle.mq_equivalence.proofs.Registrations.{after_registered, registered-step}
 use Rattle.mq_commutation.specs.Independence.{only_reads, whose_notices_by, notified_registration}
 use Rattle.mq_commutation.specs.Commuting.{is_covered}
 use Rattle.mq_commutation.proofs.Replies.{SameAt}
@@ -237,18 +234,6 @@ registered-off p call (Refused f) None on safe = refl
 registered-off p call (Refused f) (Some x) on safe = refl
 
 -- notices and answers ---------------------------------------------------------------------------------------------------------
-
-abbrev pub gain : Option Registered → ℕ → List ℕ → List ℕ
-gain None k values = values
-gain (Some n) k values = if n.process == k then values ++ n.value ∷ [] else values
-
-gain-true : (o : Option Registration) (k : ℕ) (values : List ℕ) → notified_values o true k values ≡ gain (option_map viewed o) k values
-gain-true None k values = refl
-gain-true (Some n) k values = refl
-
-gain-false : (o : Option Registration) (k : ℕ) (values : List ℕ) → notified_values o false k values ≡ values
-gain-false None k values = refl
-gain-false (Some n) k values = refl
 
 -- the process whose wait a call answers
 abbrev pub answered_at : Past → ℕ → Call → Reply → Option ℕ
@@ -471,10 +456,6 @@ looks past p (MqGetattr d) reply look says = looks-attrs reply says
 looks past p (MqSetattr d nonblock) reply look says = looks-attrs reply says
 looks past p call reply look says = absurd (let bad : false ≡ true = look in cc)
 
--- what a call makes of the notices of process k
-abbrev pub after_notices : ℕ → Bool → Option Registered → ℕ → List ℕ → List ℕ
-after_notices p gives o k values = if gives && p == k then drop 1 (gain o k values) else gain o k values
-
 gain-off : (o : Option Registered) (k : ℕ) (values : List ℕ) → is_place k (option_map (λ (n : Registered). n.process) o) ≡ false → gain o k values ≡ values
 gain-off None k values off = refl
 gain-off (Some n) k values off = rw off refl
@@ -548,25 +529,6 @@ module _ (past : Past) (legal : Legal past) (p : ℕ) (call : Call) (reply : Rep
         receiving = receivers-step past p call reply payload k (legal, next) says kept ∙ l.receivers p call (is_place k (called_queue past p call)) (receivers past k);
         registration = registered-step past p call reply payload next k ∙ l.registered p call (is_place k (called_queue past p call)) (registered_as past k);
       }
-
-  pub notices-step : (k : ℕ) → notices (r ∷ past) k ≡ after_notices p (gives_notice reply) (notified_registration past p call reply) k (notices past k)
-  notices-step k =
-      let q = entry_queue past p call payload in
-      let entry = entry-on past p call reply payload next in
-      let values : notified_values (registered past q) (is_some (notified reply)) k (notices past k) ≡ gain (notified_registration past p call reply) k (notices past k) =
-      split (is_some (notified reply))
-      (λ t. let on : called_queue past p call ≡ Some q = notified-called past p call reply payload q entry t in
-      let here : notified_registration past p call reply ≡ registered_as past q = (λ i. if t i then option_and_then (registered_as past) (on i) else None) in
-      ap (λ (b : Bool). notified_values (registered past q) b k (notices past k)) t
-      ∙ gain-true (registered past q) k (notices past k)
-      ∙ ap (λ (o : Option Registered). gain o k (notices past k)) (sym here))
-      (λ f. let here : notified_registration past p call reply ≡ None = ap (λ (b : Bool). if b then option_and_then (registered_as past) (called_queue past p call) else None) f in
-      ap (λ (b : Bool). notified_values (registered past q) b k (notices past k)) f
-      ∙ gain-false (registered past q) k (notices past k)
-      ∙ ap (λ (o : Option Registered). gain o k (notices past k)) (sym here))
-      in
-      sym (notices-keep past legal p call reply payload q entry (registered past q) (λ _. refl) k)
-      ∙ (λ i. if gives_notice reply && p == k then drop 1 (values i) else values i)
 
   pub answer-acted : (k : ℕ) → answer (r ∷ past) k ≡ (if acts_on p reply (answered_at past p call reply) k then acted call payload reply else answer past k)
   answer-acted k =

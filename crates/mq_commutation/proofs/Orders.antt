@@ -18,6 +18,7 @@ use Rattle.mq_model.specs.declared.entries.Call.TheVariants.{MqOpen, MqClose, Mq
 use Rattle.mq_model.specs.declared.entries.Reply.{Reply}
 use Rattle.mq_model.proofs.Places.{split, is_in-filter}
 use Rattle.mq_model.proofs.Frames.{created-below, filter-same}
+use Rattle.mq_model.proofs.LegalReplies.{legal_says}
 use Rattle.mq_model.proofs.Alive.{is_held-same, name_of-older, rec}
 use Rattle.mq_state.specs.Buffers.{room_of, waiting_room}
 use Rattle.placeless.specs.Views.{Message, answer}
@@ -29,10 +30,11 @@ use Rattle.mq_equivalence.specs.Runs.{Request, after_calls}
 use Rattle.mq_equivalence.proofs.Going.{room-step}
 use Rattle.mq_equivalence.proofs.Runs.{payload-by}
 use Rattle.mq_commutation.specs.Independence.{differ, reply_of, notified_registration, queue_touched_by}
+use Rattle.mq_equivalence.proofs.Notified.{after_notices, notices-step}
 use Rattle.mq_commutation.specs.Commuting.{Commute, Unaffected, is_covered, record_for}
 use Rattle.mq_commutation.proofs.Replies.{SameAt}
 use Rattle.mq_commutation.proofs.Structure.{created-stay, flagged, flagged-shape, held-by, names-stay}
-use Rattle.mq_commutation.proofs.Frames.{acted, acted-shape, acts-shape, acts_on, after_notices, answer-acted, answered_at, notices-step}
+use Rattle.mq_commutation.proofs.Frames.{acted, acted-shape, acts-shape, acts_on, answer-acted, answered_at}
 use Rattle.mq_commutation.proofs.Steps.{both-give, both-wait, shapes}
 
 -- facts of the calls on queues -------------------------------------------------------------------------------------------------
@@ -252,8 +254,8 @@ module _ (past : Past) (a b : Request) (t : Order past a b) where
 
   pub notices-two : (k : ℕ) → notices both k ≡ noting b k (noting a k (notices past k))
   notices-two k =
-      notices-step mid legal-mid b.process b.call (reply_of mid b) (paid mid b) next-b t.calls.1 k
-      ∙ (λ i. after_notices b.process (both-give (reply_of past b) (reply_of mid b) t.reply i) (t.notified_registration i) k (notices-step past t.legal a.process a.call (reply_of past a) (paid past a) t.first t.calls.0 k i))
+      notices-step mid legal-mid b.process b.call (reply_of mid b) (paid mid b) (legal_says mid (record_for mid b) next-b) k
+      ∙ (λ i. after_notices b.process (both-give (reply_of past b) (reply_of mid b) t.reply i) (t.notified_registration i) k (notices-step past t.legal a.process a.call (reply_of past a) (paid past a) (legal_says past (record_for past a) t.first) k i))
 
   abbrev pub acting : Request → ℕ → Bool
   acting c k = acts_on c.process (reply_of past c) (answered_at past c.process c.call (reply_of past c)) k

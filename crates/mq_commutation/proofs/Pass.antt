@@ -23,7 +23,7 @@ use Rattle.placeless.specs.Views.{Message, Sender, at, author, contents, receive
 use Rattle.placeless.proofs.Effects.{after_contents, after_receivers, after_senders, contents-step, is-best, message_of, receivers-step, senders-step}
 use Rattle.placeless.proofs.Falling.{any, any-least, has, pick, prio_of, top, top-best, unpicked}
 use Rattle.placeless.proofs.Changes.{got-all}
-use Rattle.mq_equivalence.proofs.Registrations.{after_registered, registered-step, viewed}
+use Rattle.mq_equivalence.proofs.Registrations.{after_registered, registered-step}
 use Rattle.mq_model.proofs.Frames.{attributes-older}
 use Rattle.mq_model.specs.Ladder.{is_full_with}
 use Rattle.std.proofs.lemmas.List.{length-map}
@@ -38,7 +38,8 @@ use Rattle.mq_commutation.specs.Independence.{stays_filled, reply_of, notified_r
 use Rattle.mq_commutation.specs.Commuting.{Commute, is_covered, record_for}
 use Rattle.mq_commutation.proofs.Replies.{SameAt, called-same, receive-any, send-any, same-back, same-on}
 use Rattle.mq_commutation.proofs.Structure.{held-other}
-use Rattle.mq_commutation.proofs.Frames.{not-withdrawn, acts_on, after_notices, answered_at, stays-at}
+use Rattle.mq_equivalence.proofs.Notified.{after_notices, viewed}
+use Rattle.mq_commutation.proofs.Frames.{not-withdrawn, acts_on, answered_at, stays-at}
 use Rattle.mq_commutation.proofs.Orders.{Order, both, commute-by, legal-mid, next-b, noting, on_of, paid, paid-b}
 use Rattle.mq_commutation.proofs.Steps.{no-message, message-same}
 

@@ -1,5 +1,5 @@
 -- Equivalent journals stay equivalent: contents, registrations, notices and waits.
-use Rattle.std.proofs.Common.{◌≡◌, ℕ, ◌<◌, ◌≤◌, ◌==◌, Bool, true, false, ◌&&◌, not, List, [], ◌∷◌, ◌++◌, drop, length, map, Option, Some, None, is_some, if◌then◌else◌, refl, sym, ◌∙◌, ap, subst, arith, eqb-true, eq-eqb, ne_eqb}
+use Rattle.std.proofs.Common.{◌≡◌, ℕ, ◌<◌, ◌≤◌, ◌==◌, Bool, true, false, ◌&&◌, not, List, [], ◌∷◌, length, map, Option, Some, None, is_some, if◌then◌else◌, refl, sym, ◌∙◌, ap, subst, arith, eqb-true, eq-eqb, ne_eqb}
 use Rattle.std.specs.List.{filter}
 use Rattle.std.specs.Option.{option_map, option_and_then, unwrap_or}
 use Rattle.std.proofs.lemmas.Bool.{eqb-false}
@@ -25,9 +25,6 @@ use Rattle.mq_model.proofs.Cases.{Says}
 use Rattle.mq_model.proofs.PresentFew.{present-new}
 use Rattle.mq_model.proofs.Alive.{needed-alive, rec}
 use Rattle.mq_state.specs.Buffers.{room_of, waiting_room}
-use Rattle.mq_state.specs.Tables.{entry_queue, notified_values}
-use Rattle.mq_state.proofs.Moving.{entry-on}
-use Rattle.mq_state.proofs.TablesKeep.{notices-keep}
 use Rattle.placeless.specs.Views.{at, author, contents, receivers, sender, senders, sent}
 use Rattle.placeless.specs.Steps.{record_of, shape}
 use Rattle.placeless.proofs.Falling.{Falls}
@@ -38,7 +35,8 @@ use Rattle.mq_equivalence.specs.Outline.{unnumbered, outline}
 use Rattle.mq_equivalence.specs.Equivalence.{EquivalentUnder, Registered, registered_as}
 use Rattle.mq_equivalence.proofs.Structure.{alive-below, falls-alive, fewer-needed, needed-in, new-number, old-number, one-number, structure-stays}
 use Rattle.mq_equivalence.proofs.Replies.{reply-equivalent}
-use Rattle.mq_equivalence.proofs.Registrations.{after_registered, notified-called, registered-step, viewed}
+use Rattle.mq_equivalence.proofs.Notified.{after_notices, notices-step, notified_as, viewed}
+use Rattle.mq_equivalence.proofs.Registrations.{after_registered, registered-step}
 
 -- a queue that is not yet created ------------------------------------------------------------------------------------------
 
@@ -145,19 +143,6 @@ registered-outline on p call (Refused f) before = refl
 some-if : (b : Bool) (k : ℕ) → is_some (if b then Some k else None) ≡ b
 some-if true k = refl
 some-if false k = refl
-
--- notices of a view
-abbrev brought : Option Registered → Bool → ℕ → List ℕ → List ℕ
-brought None told k values = values
-brought (Some n) told k values = if told && n.process == k then values ++ n.value ∷ [] else values
-
-brought-view : (o : Option Registration) (told : Bool) (k : ℕ) (values : List ℕ) → notified_values o told k values ≡ brought (option_map viewed o) told k values
-brought-view None told k values = refl
-brought-view (Some n) told k values = refl
-
-brought-untold : (o : Option Registered) (k : ℕ) (values : List ℕ) → brought o false k values ≡ values
-brought-untold None k values = refl
-brought-untold (Some n) k values = refl
 
 pub room-step : (past : Past) (p : ℕ) (call : Call) (reply : Reply) (payload : List ℕ) (k : ℕ) → waiting_room (rec p call reply payload ∷ past) k ≡ (if p == k then (if is_wait reply then Some (room_of call) else None) else waiting_room past k)
 room-step past p call reply payload k = split (p == k)
@@ -303,28 +288,22 @@ module _ (to : ℕ → ℕ) (x y : Past) (equivalent : EquivalentUnder to x y) (
       ∙ registered-outline (is_place q (called_queue x p call)) p call a (registered_as x q)
       ∙ sym (registered-step x p call a px next_x q)
 
-  -- the notices: those of the registration that the reply notifies come to them
-  brought-both : (k : ℕ) → brought (registered_as y (entry_queue y p call py)) (is_some (notified b)) k (notices y k) ≡ brought (registered_as x (entry_queue x p call px)) (is_some (notified a)) k (notices x k)
-  brought-both k = split (is_some (notified a))
-      (λ t. let t' : is_some (notified b) ≡ true = told ∙ t in
-      let qx : called_queue x p call ≡ Some (entry_queue x p call px) = notified-called x p call a px (entry_queue x p call px) (entry-on x p call a px next_x) t in
-      let qy : called_queue y p call ≡ Some (entry_queue y p call py) = notified-called y p call b py (entry_queue y p call py) (entry-on y p call b py next_y) t' in
-      let both : Some (entry_queue y p call py) ≡ Some (to (entry_queue x p call px)) = sym qy ∙ called-both ∙ ap (option_map to) qx in
-      let number : entry_queue y p call py ≡ to (entry_queue x p call px) = cc in
-      let one : registered_as y (entry_queue y p call py) ≡ registered_as x (entry_queue x p call px) = ap (registered_as y) number ∙ equivalent.registrations (entry_queue x p call px) (called-alive x equivalent.legal.0 p call (entry_queue x p call px) qx) in
-      λ i. brought (one i) (told i) k (equivalent.values k i))
-      (λ f. let f' : is_some (notified b) ≡ false = told ∙ f in
-      ap (λ (v : Bool). brought (registered_as y (entry_queue y p call py)) v k (notices y k)) f' ∙ brought-untold _ k (notices y k)
-      ∙ equivalent.values k
-      ∙ sym (brought-untold _ k (notices x k)) ∙ ap (λ (v : Bool). brought (registered_as x (entry_queue x p call px)) v k (notices x k)) (sym f))
+  -- the registration that the reply notifies
+  notified-both : notified_as y p call b ≡ notified_as x p call a
+  notified-both = λ i. if told i then on-queue i else None
+    where
+      by : (o : Option ℕ) → called_queue x p call ≡ o → option_and_then (registered_as y) (option_map to o) ≡ option_and_then (registered_as x) o
+      by None e = refl
+      by (Some q) e = equivalent.registrations q (called-alive x equivalent.legal.0 p call q e)
+
+      on-queue : option_and_then (registered_as y) (called_queue y p call) ≡ option_and_then (registered_as x) (called_queue x p call)
+      on-queue = ap (option_and_then (registered_as y)) called-both ∙ by (called_queue x p call) refl
 
   pub notices-go : (k : ℕ) → notices (ry ∷ y) k ≡ notices (rx ∷ x) k
   notices-go k =
-      let values : notified_values (registered y (entry_queue y p call py)) (is_some (notified b)) k (notices y k) ≡ notified_values (registered x (entry_queue x p call px)) (is_some (notified a)) k (notices x k) =
-      brought-view (registered y (entry_queue y p call py)) (is_some (notified b)) k (notices y k) ∙ brought-both k ∙ sym (brought-view (registered x (entry_queue x p call px)) (is_some (notified a)) k (notices x k)) in
-      sym (notices-keep y equivalent.legal.1 p call b py (entry_queue y p call py) (entry-on y p call b py next_y) (registered y (entry_queue y p call py)) (λ _. refl) k)
-      ∙ (λ i. if gives i && p == k then drop 1 (values i) else values i)
-      ∙ notices-keep x equivalent.legal.0 p call a px (entry_queue x p call px) (entry-on x p call a px next_x) (registered x (entry_queue x p call px)) (λ _. refl) k
+      notices-step y equivalent.legal.1 p call b py says_y k
+      ∙ (λ i. after_notices p (gives i) (notified-both i) k (equivalent.values k i))
+      ∙ sym (notices-step x equivalent.legal.0 p call a px says_x k)
 
   pub waits-go : (k : ℕ) → is_some (open_wait (ry ∷ y) k) ≡ is_some (open_wait (rx ∷ x) k)
   waits-go k = split (p == k)

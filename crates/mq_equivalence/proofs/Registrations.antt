@@ -15,13 +15,9 @@ use Rattle.mq_model.proofs.Places.{split}
 use Rattle.mq_model.proofs.Alive.{rec}
 use Rattle.mq_model.proofs.NoticeSteps.{made-of, only-some, registered-made}
 use Rattle.mq_model.proofs.Presence.{place-is, sent_to}
-use Rattle.mq_state.specs.Tables.{entry_queue}
-use Rattle.mq_state.proofs.Moving.{EntryOn, entry-on, notifies-registered}
-use Rattle.mq_state.proofs.QueueLines.{mapped}
 use Rattle.mq_equivalence.specs.Equivalence.{Registered, registered_as}
-
-abbrev pub viewed : Registration → Registered
-viewed n = record { process = n.process; d = n.d; value = n.value }
+use Rattle.mq_equivalence.proofs.Notified.{notifies, viewed}
+use Rattle.mq_model.proofs.LegalReplies.{legal_says}
 
 -- the registration's place is that of a call on its queue ------------------------------------------------------------------
 
@@ -56,19 +52,6 @@ one-place past q k n m eq ek same =
 
 -- which registration a reply notifies ----------------------------------------------------------------------------------------
 
-pub notified-called : (past : Past) (p : ℕ) (call : Call) (reply : Reply) (payload : List ℕ) (q : ℕ) → EntryOn past p call payload reply q → is_some (notified reply) ≡ true → called_queue past p call ≡ Some q
-notified-called past p call (Queued n) payload q on e = on.called
-notified-called past p call (Got m a n) payload q on e = on.called
-notified-called past p call (Opened d created) payload q on e = absurd (cc)
-notified-called past p call (Handed w) payload q on e = absurd (cc)
-notified-called past p call Waits payload q on e = absurd (cc)
-notified-called past p call (Collected b) payload q on e = absurd (cc)
-notified-called past p call (Withdrawn b) payload q on e = absurd (cc)
-notified-called past p call (Attrs s) payload q on e = absurd (cc)
-notified-called past p call (Notice v) payload q on e = absurd (cc)
-notified-called past p call Done payload q on e = absurd (cc)
-notified-called past p call (Refused f) payload q on e = absurd (cc)
-
 and-none : (b : Bool) → false ≡ (b && false)
 and-none true = refl
 and-none false = refl
@@ -77,25 +60,17 @@ place-told : (past : Past) (p : ℕ) (call : Call) (reply : Reply) (payload : Li
     is_place n.place (notified reply) ≡ (is_place q (called_queue past p call) && is_some (notified reply))
 place-told past p call reply payload next q n stands = by (notified reply) refl
   where
-    k : ℕ
-    k = entry_queue past p call payload
-
-    on : EntryOn past p call payload reply k
-    on = entry-on past p call reply payload next
-
     by : (o : Option ℕ) → notified reply ≡ o → is_place n.place (notified reply) ≡ (is_place q (called_queue past p call) && is_some (notified reply))
     by None is = rw is (and-none (is_place q (called_queue past p call)))
     by (Some j) is =
-        let told : is_some (notified reply) ≡ true = rw is refl in
-        let called : called_queue past p call ≡ Some k = notified-called past p call reply payload k on told in
-        let m = mapped (λ (m : Registration). m.place) (registered past k) j (notifies-registered past p call reply payload k on j is) in
-        rw (is, called) (split (k == q)
-        (λ t. let same : k ≡ q = eqb-true _ _ t in
-        let mine : registered past q ≡ Some m.0 = subst (λ (i : ℕ). registered past i ≡ Some m.0) same m.1 in
-        let one : Some n ≡ Some m.0 = sym stands ∙ mine in
-        let at : n.place ≡ j = ap (λ (o : Option Registration). registered-at o) one ∙ m.2 in
+        let m = notifies past p call reply j (legal_says past (rec p call reply payload) next) is in
+        rw (is, m.called) (split (m.queue == q)
+        (λ t. let same : m.queue ≡ q = eqb-true _ _ t in
+        let mine : registered past q ≡ Some m.registration = subst (λ (i : ℕ). registered past i ≡ Some m.registration) same m.stands in
+        let one : Some n ≡ Some m.registration = sym stands ∙ mine in
+        let at : n.place ≡ j = ap (λ (o : Option Registration). registered-at o) one ∙ m.place in
         rw t (eq-eqb j n.place (sym at)))
-        (λ f. rw f (ne_eqb j n.place (λ e. eqb-false _ _ f (one-place past k q m.0 n m.1 stands (m.2 ∙ e))))))
+        (λ f. rw f (ne_eqb j n.place (λ e. eqb-false _ _ f (one-place past m.queue q m.registration n m.stands stands (m.place ∙ e))))))
       where
         registered-at : Option Registration → ℕ
         registered-at None = 0
