@@ -23,6 +23,7 @@ use Rattle.mq_model.proofs.Alive.{is_held-same, name_of-older, rec}
 use Rattle.mq_state.specs.Buffers.{room_of, waiting_room}
 use Rattle.placeless.specs.Views.{Message, answer}
 use Rattle.placeless.specs.Steps.{message_given}
+use Rattle.placeless.proofs.Calls.{collected-alike}
 use Rattle.placeless.proofs.Alike.{payload-alike, refused-alike}
 use Rattle.mq_equivalence.specs.Structure.{renumbered}
 use Rattle.mq_equivalence.specs.Outline.{outline}
@@ -34,7 +35,7 @@ use Rattle.mq_equivalence.proofs.Notified.{after_notices, notices-step}
 use Rattle.mq_commutation.specs.Commuting.{Commute, Unaffected, is_covered, record_for}
 use Rattle.mq_commutation.proofs.Replies.{SameAt}
 use Rattle.mq_commutation.proofs.Structure.{created-stay, flagged, flagged-shape, held-by, names-stay}
-use Rattle.mq_commutation.proofs.Frames.{acted, acted-shape, acts-shape, acts_on, answer-acted, answered_at}
+use Rattle.mq_commutation.proofs.Frames.{AnswersOn, acted, acted-shape, acts-cases, acts-shape, acts_on, answer-acted, answered_at}
 use Rattle.mq_commutation.proofs.Steps.{both-give, both-wait, shapes}
 
 -- facts of the calls on queues -------------------------------------------------------------------------------------------------
@@ -203,12 +204,30 @@ module _ (past : Past) (a b : Request) (t : Order past a b) where
         reply = same-reply mid b.process b.call b.given t.calls.1;
       }
 
+  -- a wait that is answered has the same answer after the call of another process
+  answer-b : is_some (answered_by past b.process) ≡ true → answer mid b.process ≡ answer past b.process
+  answer-b some =
+      answer-acted past t.legal a.process a.call (reply_of past a) (paid past a) t.first t.calls.0 b.process
+      ∙ ap (λ (acts : Bool). if acts then acted a.call (paid past a) (reply_of past a) else answer past b.process) idle
+    where
+      clash : ((a.process ≡ b.process) × (is_some (answered_by past b.process) ≡ true)) ⊎ AnswersOn past a.process a.call b.process → ⊥
+      clash (inl own) = t.processes own.0
+      clash (inr other) = let bad : false ≡ true = sym (ap (λ (o : Option ℕ). is_some o) other.free) ∙ some in absurd (cc)
+
+      idle : acts_on a.process (reply_of past a) (answered_at past a.process a.call (reply_of past a)) b.process ≡ false
+      idle = split (acts_on a.process (reply_of past a) (answered_at past a.process a.call (reply_of past a)) b.process)
+          (λ y. absurd (clash (acts-cases past t.legal a.process a.call (reply_of past a) b.process t.calls.0 (legal_says past (record_for past a) t.first) t.first.turn y)))
+          (λ n. n)
+
   -- the first call does not affect the second
   pub unseen : Unaffected past a b
   unseen = record {
     next = next-b;
     reply = t.reply;
     message = t.message;
+    collected =
+        collected-alike past mid b.process b.call (reply_of past b) (reply_of mid b) (paid past b) (paid mid b) shaped-b answer-b (next-b.turn ∙ sym t.second.turn)
+        (legal_says past (record_for past b) t.second) (legal_says mid (record_for mid b) next-b) t.second.turn;
   }
 
   abbrev pub both : Past

@@ -4,7 +4,7 @@ use Rattle.mq_model.specs.Record.{Record, Past}
 use Rattle.mq_model.specs.Legality.{IsLegalNext}
 use Rattle.mq_model.specs.declared.entries.Call.{Call}
 use Rattle.mq_model.specs.declared.entries.Call.TheVariants.{MqOpen, MqUnlink, Withdraw}
-use Rattle.placeless.specs.Steps.{message_given, record_of}
+use Rattle.placeless.specs.Steps.{message_collected, message_given, record_of}
 use Rattle.mq_equivalence.specs.Outline.{outline}
 use Rattle.mq_equivalence.specs.Equivalence.{Equivalent}
 use Rattle.mq_equivalence.specs.Runs.{Request, after_calls}
@@ -15,13 +15,16 @@ abbrev pub record_for : Past → Request → Record
 record_for past a = record_of past a.process a.call a.given
 
 -- after a the call b may still be made, has the reply that it has without a but for places, and
--- gives its caller the same message
+-- gives its caller the same message, as a receive or as a collect
 pub record Unaffected (past : Past) (a b : Request) : Type 0 where
   pub next : IsLegalNext (after_calls past (a ∷ [])) (record_for (after_calls past (a ∷ [])) b)
   pub reply : outline (reply_of (after_calls past (a ∷ [])) b) ≡ outline (reply_of past b)
   pub message :
       message_given (after_calls past (b ∷ (a ∷ []))) (reply_of (after_calls past (a ∷ [])) b)
       ≡ message_given (after_calls past (b ∷ [])) (reply_of past b)
+  pub collected :
+      message_collected (after_calls past (b ∷ (a ∷ []))) (reply_of (after_calls past (a ∷ [])) b)
+      ≡ message_collected (after_calls past (b ∷ [])) (reply_of past b)
 
 -- neither call affects the other, and both orders leave equivalent journals
 pub record Commute (past : Past) (a b : Request) : Type 0 where

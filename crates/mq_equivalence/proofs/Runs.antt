@@ -8,6 +8,7 @@ use Rattle.mq_model.specs.declared.entries.Call.TheVariants.{MqOpen, MqClose, Mq
 use Rattle.mq_model.specs.declared.entries.Reply.{Reply}
 use Rattle.mq_model.proofs.Cases.{reply_says}
 use Rattle.placeless.specs.Steps.{record_of, shape}
+use Rattle.placeless.proofs.Calls.{collected-alike}
 use Rattle.placeless.proofs.Alike.{payload-alike, refused-alike}
 use Rattle.mq_equivalence.specs.Structure.{extended}
 use Rattle.mq_equivalence.specs.Outline.{outline}
@@ -73,6 +74,7 @@ steps-equivalent to x y equivalent p call given =
       turn = turn-equivalent to x y equivalent p call;
       reply = same;
       message = message-equivalent to x y equivalent p call a b _ _ shaped (reply_says x p call given) (reply_says y p call given);
+      collected = collected-alike x y p call a b _ _ shaped (λ _. equivalent.answered p) (turn-equivalent to x y equivalent p call) (reply_says x p call given) (reply_says y p call given);
       legal = next-equivalent to x y equivalent p call given;
       next = λ next_x. goes-equivalent to x y equivalent p call given next_x (next-equivalent to x y equivalent p call given next_x);
     }

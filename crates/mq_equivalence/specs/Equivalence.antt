@@ -11,7 +11,7 @@ use Rattle.mq_model.specs.Legality.{IsLegalNext, Legal, may_call, reply_to}
 use Rattle.mq_model.specs.declared.entries.Call.{Call}
 use Rattle.mq_model.specs.declared.entries.Registration.{Registration}
 use Rattle.mq_state.specs.Buffers.{waiting_room}
-use Rattle.placeless.specs.Steps.{message_given, record_of}
+use Rattle.placeless.specs.Steps.{message_collected, message_given, record_of}
 use Rattle.placeless.specs.Views.{answer, contents, receivers, senders}
 use Rattle.mq_equivalence.specs.Structure.{SameStructure, extended}
 use Rattle.mq_equivalence.specs.Outline.{outline}
@@ -51,8 +51,9 @@ pub record Equivalent (x y : Past) : Type 0 where
   pub equivalent : EquivalentUnder to x y
 
 -- one call after each of two journals: it may be made after both or after neither, its replies
--- differ in places alone, and it gives its caller the same message. If its entry may follow the
--- first journal, it may follow the second, and leaves equivalent journals
+-- differ in places alone, and it gives its caller the same message, as a receive or, if it may be
+-- made, as a collect. If its entry may follow the first journal, it may follow the second, and
+-- leaves equivalent journals
 pub record StepsEquivalent (to : Queue → Queue) (x y : Past) (p : Process) (call : Call)
     (given : List ℕ) : Type 0 where
   pub turn : may_call y p call ≡ may_call x p call
@@ -60,6 +61,10 @@ pub record StepsEquivalent (to : Queue → Queue) (x y : Past) (p : Process) (ca
   pub message :
       message_given (record_of y p call given ∷ y) (reply_to y p call given)
       ≡ message_given (record_of x p call given ∷ x) (reply_to x p call given)
+  pub collected :
+      may_call x p call ≡ true →
+      message_collected (record_of y p call given ∷ y) (reply_to y p call given)
+      ≡ message_collected (record_of x p call given ∷ x) (reply_to x p call given)
   pub legal : IsLegalNext x (record_of x p call given) → IsLegalNext y (record_of y p call given)
   pub next :
       IsLegalNext x (record_of x p call given) →

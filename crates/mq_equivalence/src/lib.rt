@@ -14,7 +14,8 @@ ghost use Rattle.mq_equivalence.specs.Equivalence.{Equivalent, EquivalentUnder, 
 ghost use Rattle.mq_equivalence.specs.Runs.{Request, after_calls};
 
 /// Equivalent journals stay equivalent under each of the 13 calls: a call may be made after both or
-/// after neither, it has the same reply but for places, and it gives its caller the same message.
+/// after neither, it has the same reply but for places, and it gives its caller the same message, as
+/// a receive or as a collect.
 pub fn stays_equivalent()
     ensures { (to : ℕ → ℕ) (x y : Past) (p : ℕ) (call : Call) (given : List ℕ) →
         EquivalentUnder to x y → StepsEquivalent to x y p call given }

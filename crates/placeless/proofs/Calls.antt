@@ -1,5 +1,5 @@
 -- Replies to plain calls, and which calls can be made.
-use Rattle.std.proofs.Common.{◌≡◌, ℕ, ◌==◌, Bool, true, false, ◌&&◌, List, ◌∷◌, length, Option, Some, None, is_some, nat_le, if◌then◌else◌, refl, ap, ◌∙◌, subst}
+use Rattle.std.proofs.Common.{◌≡◌, ℕ, ◌==◌, Bool, true, false, ◌&&◌, List, ◌∷◌, length, Option, Some, None, is_some, nat_le, if◌then◌else◌, refl, ap, sym, ◌∙◌, subst}
 use Rattle.std.specs.Option.{option_map, unwrap_or}
 use Rattle.mq_model.specs.Record.{Record, Past, Process}
 use Rattle.mq_model.specs.Limits.{most_processes}
@@ -9,14 +9,15 @@ use Rattle.mq_model.specs.declared.entries.Call.{Call}
 use Rattle.mq_model.specs.declared.entries.Call.TheVariants.{MqOpen, MqClose, MqUnlink, MqSend, MqReceive, MqTimedSend, MqTimedReceive, MqGetattr, MqSetattr, MqNotify, NextNotice, Collect, Withdraw}
 use Rattle.mq_model.specs.declared.entries.Reply.{Reply}
 use Rattle.mq_model.specs.declared.entries.Reply.TheVariants.{Opened, Queued, Handed, Waits, Got, Collected, Attrs, Notice, Done, Refused, Withdrawn}
+use Rattle.mq_model.proofs.Places.{split}
 use Rattle.mq_model.proofs.Cases.{Says, reply_says}
 use Rattle.mq_model.proofs.Presence.{present-below}
 use Rattle.mq_state.specs.Trails.{can_call}
 use Rattle.placeless.specs.Likeness.{is_plain}
-use Rattle.placeless.specs.Steps.{StepsAlike, message_given, shape}
-use Rattle.placeless.specs.Views.{answer, at, sent, told}
+use Rattle.placeless.specs.Steps.{StepsAlike, message_collected, message_given, shape}
+use Rattle.placeless.specs.Views.{Message, answer, at, sent, told}
 use Rattle.placeless.proofs.Alike.{payload-alike, refused-alike}
-use Rattle.placeless.proofs.Changes.{at-older, got-all}
+use Rattle.placeless.proofs.Changes.{at-older, got-all, rec}
 use Rattle.placeless.proofs.Effects.{answer-older, is-best, is_collected}
 
 -- whether a call can be made ----------------------------------------------------------------------------------------------
@@ -105,3 +106,78 @@ collected-at past r p some =
     λ (o : Option ℕ). elim o as (λ o. is_some o ≡ true → Some (at told (r ∷ past) (unwrap_or o 0)) ≡ option_map (at told (r ∷ past)) o) [ None ↦ (λ h. absurd (cc)) | Some b ↦ (λ h. refl) ]
     in
     goes (answered_by past p) some ∙ answer-older past r p
+
+shape-collected : (r : Reply) → is_collected (shape r) ≡ is_collected r
+shape-collected (Opened d created) = refl
+shape-collected (Queued n) = refl
+shape-collected (Handed w) = refl
+shape-collected Waits = refl
+shape-collected (Got m a n) = refl
+shape-collected (Collected b) = refl
+shape-collected (Withdrawn w) = refl
+shape-collected (Attrs s) = refl
+shape-collected (Notice v) = refl
+shape-collected Done = refl
+shape-collected (Refused f) = refl
+
+none-collected : (past : Past) (r : Reply) → is_collected r ≡ false → message_collected past r ≡ None
+none-collected past (Opened d created) e = refl
+none-collected past (Queued n) e = refl
+none-collected past (Handed w) e = refl
+none-collected past Waits e = refl
+none-collected past (Got m a n) e = refl
+none-collected past (Collected b) e = absurd (cc)
+none-collected past (Withdrawn w) e = refl
+none-collected past (Attrs s) e = refl
+none-collected past (Notice v) e = refl
+none-collected past Done e = refl
+none-collected past (Refused f) e = refl
+
+collected-by : (past : Past) (p : ℕ) (call : Call) (b : ℕ) (payload : List ℕ) → Says past p call (Collected b) → may_call past p call ≡ true →
+    Some (at told (rec p call (Collected b) payload ∷ past) b) ≡ answer past p
+collected-by past p (MqOpen flags attr) b payload says turn = absurd says
+collected-by past p (MqClose d) b payload says turn = absurd (says-collected past p (MqClose d) b refl says)
+collected-by past p MqUnlink b payload says turn = absurd says
+collected-by past p (MqSend d prio len) b payload says turn = absurd (says-collected past p (MqSend d prio len) b refl says)
+collected-by past p (MqReceive d room) b payload says turn = absurd (says-collected past p (MqReceive d room) b refl says)
+collected-by past p (MqTimedSend d prio len until now) b payload says turn = absurd (says-collected past p (MqTimedSend d prio len until now) b refl says)
+collected-by past p (MqTimedReceive d room until now) b payload says turn = absurd (says-collected past p (MqTimedReceive d room until now) b refl says)
+collected-by past p (MqGetattr d) b payload says turn = absurd (says-collected past p (MqGetattr d) b refl says)
+collected-by past p (MqSetattr d nonblock) b payload says turn = absurd (says-collected past p (MqSetattr d nonblock) b refl says)
+collected-by past p (MqNotify d value) b payload says turn = absurd says
+collected-by past p NextNotice b payload says turn = absurd (cc)
+collected-by past p Collect b payload says turn =
+    let e : b ≡ unwrap_or (answered_by past p) 0 = cc in
+    ap (λ (j : ℕ). Some (at told (rec p Collect (Collected b) payload ∷ past) j)) e ∙ collected-at past (rec p Collect (Collected b) payload) p turn
+collected-by past p (Withdraw now) b payload says turn = absurd (cc)
+
+collected-is : (past : Past) (p : ℕ) (call : Call) (reply : Reply) (payload : List ℕ) → is_collected reply ≡ true → Says past p call reply → may_call past p call ≡ true →
+    Some (message_collected (rec p call reply payload ∷ past) reply) ≡ answer past p
+collected-is past p call (Opened d created) payload e says turn = absurd (cc)
+collected-is past p call (Queued n) payload e says turn = absurd (cc)
+collected-is past p call (Handed w) payload e says turn = absurd (cc)
+collected-is past p call Waits payload e says turn = absurd (cc)
+collected-is past p call (Got m a n) payload e says turn = absurd (cc)
+collected-is past p call (Collected b) payload e says turn = collected-by past p call b payload says turn
+collected-is past p call (Withdrawn w) payload e says turn = absurd (cc)
+collected-is past p call (Attrs s) payload e says turn = absurd (cc)
+collected-is past p call (Notice v) payload e says turn = absurd (cc)
+collected-is past p call Done payload e says turn = absurd (cc)
+collected-is past p call (Refused f) payload e says turn = absurd (cc)
+
+answered-some : (past : Past) (p : ℕ) (m : Option (Option Message)) → Some m ≡ answer past p → is_some (answered_by past p) ≡ true
+answered-some past p m = by (answered_by past p)
+  where
+    by : (o : Option ℕ) → Some m ≡ option_map (at told past) o → is_some o ≡ true
+    by None e = absurd (cc)
+    by (Some k) e = refl
+
+-- a collect gives the same message if the waits were answered with the same
+pub collected-alike : (x y : Past) (p : ℕ) (call : Call) (a b : Reply) (px py : List ℕ) → shape b ≡ shape a → (is_some (answered_by x p) ≡ true → answer y p ≡ answer x p) → may_call y p call ≡ may_call x p call → Says x p call a → Says y p call b → may_call x p call ≡ true →
+    message_collected (rec p call b py ∷ y) b ≡ message_collected (rec p call a px ∷ x) a
+collected-alike x y p call a b px py e same turns says_x says_y turn =
+    let both : is_collected b ≡ is_collected a = sym (shape-collected b) ∙ ap is_collected e ∙ shape-collected a in
+    split (is_collected a)
+    (λ t. let own : Some (message_collected (rec p call a px ∷ x) a) ≡ answer x p = collected-is x p call a px t says_x turn in
+    let one : Some (message_collected (rec p call b py ∷ y) b) ≡ Some (message_collected (rec p call a px ∷ x) a) = collected-is y p call b py (both ∙ t) says_y (turns ∙ turn) ∙ same (answered-some x p _ own) ∙ sym own in cc)
+    (λ f. none-collected (rec p call b py ∷ y) b (both ∙ f) ∙ sym (none-collected (rec p call a px ∷ x) a f))

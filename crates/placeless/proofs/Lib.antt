@@ -3,9 +3,9 @@ pub mod Falling
 pub mod Changes
 pub mod Effects
 pub mod Alike
+pub mod Calls
 pub mod Stays
 pub mod Codes
 pub mod Keys
 pub mod KindSteps
 pub mod Appends
-pub mod Calls

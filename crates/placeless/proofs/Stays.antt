@@ -26,6 +26,7 @@ use Rattle.placeless.specs.Steps.{StepsAlike, message_given, record_of, shape}
 use Rattle.placeless.proofs.Falling.{pick, pick-best, top, top-best}
 use Rattle.placeless.proofs.Changes.{at-older, falls-present, got-all, handed-all, rec}
 use Rattle.placeless.proofs.Effects.{after_answer, after_contents, after_receivers, after_senders, answer-step, called, contents-step, is-best, is_collected, is_withdrawn, receivers-step, senders-step}
+use Rattle.placeless.proofs.Calls.{collected-alike}
 use Rattle.placeless.proofs.Alike.{answer-shape, contents-shape, held-shape, payload-alike, receivers-shape, reply-alike, senders-shape, turn-alike, wait-shape}
 
 -- plain calls -------------------------------------------------------------------------------------------------------------
@@ -433,5 +434,6 @@ steps-alike x y alike p call given plain = record {
   turn = turn-alike x y alike p call plain;
   reply = reply-alike x y alike p call given plain;
   message = message-alike x y alike p call (reply_to x p call given) (reply_to y p call given) _ _ (reply-alike x y alike p call given plain) (reply_says x p call given) (reply_says y p call given);
+  collected = collected-alike x y p call (reply_to x p call given) (reply_to y p call given) _ _ (reply-alike x y alike p call given plain) (λ _. alike.answered p) (turn-alike x y alike p call plain) (reply_says x p call given) (reply_says y p call given);
   next = stays-alike x y alike p call given plain;
 }

@@ -19,8 +19,8 @@ use mq_model::entries::Call;
 use mq_model::journals::Journal;
 use std::alloc::{AllocError, Global};
 
-/// After two journals that are alike a plain call may be made by the same processes, is replied to alike and gives the same message, and
-/// leaves journals that are alike. So, whatever plain calls follow in whatever order, they come to the same after both.
+/// After two journals that are alike a plain call may be made by the same processes, is replied to alike and gives the same message as a
+/// receive or as a collect, and leaves journals that are alike. So, whatever plain calls follow in whatever order, they come to the same after both.
 pub fn stays_alike()
     ensures { (x y : Past) (p : ℕ) (call : Call) (given : List ℕ) →
         AreAlike x y → is_plain call ≡ true → StepsAlike x y p call given }
