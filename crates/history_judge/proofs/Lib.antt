@@ -8,3 +8,4 @@ pub mod Narrowing
 pub mod Written
 pub mod Lines
 pub mod Strangers
+pub mod OwnNumbers

@@ -8,3 +8,4 @@ pub mod Descriptors
 pub mod Fronts
 pub mod Verdicts
 pub mod Said
+pub mod OwnNumbers

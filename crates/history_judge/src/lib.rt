@@ -11,6 +11,7 @@ pub mod line;
 pub mod outcome;
 pub mod places;
 pub mod processes;
+pub mod renaming;
 pub mod said;
 pub mod tasks;
 pub mod text;

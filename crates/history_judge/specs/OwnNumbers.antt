@@ -1,0 +1,36 @@
+-- Histories of a process whose descriptors have this project's own numbers already.
+use Rattle.std.specs.Prelude.{ℕ, ◌≡◌, ◌<◌, ◌⊎◌, ◌==◌, true, false, not, List, [], ◌∷◌, Some}
+use Rattle.std.specs.List.{filter}
+use Rattle.mq_model.specs.Descriptors.{descriptor_of}
+use Rattle.mq_model.specs.Messages.{is_in}
+use Rattle.mq_model.specs.declared.entries.Call.{Call}
+use Rattle.mq_model.specs.declared.entries.Call.TheVariants.{MqClose}
+use Rattle.histories.specs.declared.operation.Operation.{Operation}
+use Rattle.histories.specs.declared.operation.Outcome.{Outcome}
+use Rattle.histories.specs.declared.operation.Outcome.TheVariants.{Done, Opened}
+
+-- the descriptors that a process holds after a call: an open that returned adds one, and a close
+-- that was done takes one away
+abbrev pub held_then : List ℕ → Call → Outcome → List ℕ
+held_then held call (Opened d) = d ∷ held
+held_then held (MqClose d) Done = filter (λ k. not (k == d)) held
+held_then held call outcome = held
+
+-- d is the lowest of the numbers 0 to 15 that is not held
+pub record IsLowestFree (held : List ℕ) (d : ℕ) : Type 0 where
+  pub few : d < 16
+  pub free : is_in held d ≡ false
+  pub below : (k : ℕ) → k < d → is_in held k ≡ true
+
+-- a call names a descriptor that is held, or 16, which stands for each one that is not held
+abbrev pub NamesOwn : List ℕ → Call → Type 0
+NamesOwn held call = (d : ℕ) → descriptor_of call ≡ Some d → (is_in held d ≡ true) ⊎ (d ≡ 16)
+
+-- the operations have own numbers, from where the process holds these: each call names its
+-- descriptor so, and each open that returned gave the lowest free number
+abbrev pub HaveOwnNumbers : List ℕ → List Operation → Type 0
+HaveOwnNumbers held [] = Unit {0}
+HaveOwnNumbers held (o ∷ operations) =
+    NamesOwn held o.call
+    × ((d : ℕ) → o.outcome ≡ Opened d → IsLowestFree held d)
+    × HaveOwnNumbers (held_then held o.call o.outcome) operations
