@@ -7,3 +7,4 @@ pub mod Orders
 pub mod Apart
 pub mod Pass
 pub mod Independent
+pub mod Symmetry

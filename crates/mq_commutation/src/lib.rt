@@ -12,6 +12,12 @@ ghost use Rattle.mq_equivalence.specs.Runs.{Request, after_calls};
 ghost use Rattle.mq_commutation.specs.Independence.{are_independent};
 ghost use Rattle.mq_commutation.specs.Commuting.{Commute, is_covered, record_for};
 
+/// Of two calls each is independent of the other, or neither is.
+pub fn independence_is_symmetric()
+    ensures { (past : Past) (a b : Request) →
+        are_independent past b a ≡ are_independent past a b }
+{}
+
 /// Independent calls commute: if each may be made after a legal journal, then each may be made
 /// after the other, has the reply that it has without the other but for places, and gives its
 /// caller the same message; and both orders leave equivalent journals.
