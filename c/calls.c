@@ -81,6 +81,7 @@ static mqd_t open_queue(const char *name, int oflag, const struct mq_attr *attr)
     if ((error = program_enter()) != 0)
         return fails(error);
     MADE(answer, yak_open(&the_program.processes[HOME], (const uint8_t *)name, len, &opening, &d));
+    program_count(len + (opening.limited ? MORE_BYTES : 0));
     if (answer == YAK_DONE)
         keep(d, name, len, &opening, (oflag & O_NONBLOCK) != 0);
     program_leave();
@@ -138,6 +139,7 @@ int mq_unlink(const char *name)
         return fails(error);
     program_mirror_all((const uint8_t *)name, len);
     MADE(answer, yak_unlink(&the_program.processes[HOME], (const uint8_t *)name, len));
+    program_count(len);
     for (uint32_t d = 0; answer == YAK_DONE && d < DESCRIPTORS; ++d) {
         descriptor *it = &the_program.descriptors[d];
         if (it->len == len && memcmp(it->name, name, len) == 0)
@@ -198,12 +200,13 @@ int mq_notify(mqd_t mqdes, const struct sigevent *event)
     return error != 0 ? fails(error) : result(answer);
 }
 
-/* What is left of a send or a receive that the home has tried: a wait, and the wakes and notices for others. Leaves the lock. */
+/* What is left of a send or a receive that the home has tried: a wait, the wakes and notices for others, and a warning. Leaves the lock. */
 static __attribute__((noinline)) uint32_t go_on(uint32_t d, const request *asked, yak_message *message, uint32_t answer)
 {
     unsigned process = HOME;
     uint32_t answered = 0;
     int cancelling = -1;
+    bool warns = false;
     notices found;
     found.count = 0;
     if (answer == YAK_AGAIN && !the_program.descriptors[d].nonblock)
@@ -212,12 +215,15 @@ static __attribute__((noinline)) uint32_t go_on(uint32_t d, const request *asked
         answered = program_note_answers(process);
         if (answer == YAK_DONE && the_program.registered != 0)
             program_collect_notices(d, &found);
+        warns = program_is_to_warn();
         program_leave();
     }
     if (answered != 0)
         program_wake_them(answered);
     if (found.count != 0)
         program_deliver(&found);
+    if (warns)
+        program_warn();
     if (cancelling != -1)
         pthread_setcancelstate(cancelling, 0);
     if (answer == YAK_CANCELLED)
@@ -243,7 +249,8 @@ static inline __attribute__((always_inline)) uint32_t make(const char *call, boo
     }
     d = program_number(mqdes);
     answer = program_try(is_send, d, bytes, len, prio, message);
-    if (answer != YAK_DONE || (the_program.registered | the_program.stranded | the_program.processes[HOME].answered) != 0) {
+    if (answer != YAK_DONE || the_program.until_large < 0 ||
+        (the_program.registered | the_program.stranded | the_program.processes[HOME].answered) != 0) {
         request asked = {call, is_send, until != 0, until != 0 ? moment : NEVER, bytes, len, prio};
         return go_on(d, &asked, message, answer);
     }

@@ -25,6 +25,7 @@
 #include <pthread.h>
 #include <signal.h>
 #include <stdatomic.h>
+#include <stdint.h>
 #include <stdio.h>
 #include <sys/types.h>
 
@@ -35,7 +36,13 @@ enum {
     LONGEST_NAME = 256,
     /* The number of the first descriptor: far from those of files, so that a call on files refuses
        it. */
-    FIRST = 1000
+    FIRST = 1000,
+    /* What an entry takes of a stored journal, beside its name or message, and how much more one
+       does that has a deadline, limits or the value of a registration. */
+    ENTRY_BYTES = 64,
+    MORE_BYTES = 56,
+    /* The error stream says when a stored journal has taken this much: 1 GB. */
+    LARGE = 1000000000
 };
 
 /* What the program holds under a number. */
@@ -107,7 +114,10 @@ typedef struct waiting {
 typedef struct program {
     pthread_mutex_t lock;
     atomic_bool is_ready;
+    bool is_stored; /* the journal is */
     bool is_ending;
+    int64_t until_large; /* how many bytes the journal may still take; below 0 the error stream is
+                            to say that it is large. If it is not stored, it never is */
     unsigned opens;
     unsigned queues;
     unsigned waited;   /* how many waits were opened */
@@ -188,11 +198,27 @@ int program_enter_aside(int *place);
 /* How often this thread has come into a child by a fork. */
 unsigned program_forks(void);
 
-/* Makes a call of a process; inside the lock nothing keeps it out. */
-#define MADE(answer, call) \
+/* Writes a line to the error stream, outside the lock; the thread can't be cancelled there. */
+void program_say(const char *line);
+
+/* Makes a call of a process that leaves no entry; inside the lock nothing keeps it out. */
+#define READ(answer, call) \
     do                     \
         (answer) = (call); \
     while ((answer) == YAK_RETRY)
+
+/* Counts what a call leaves in the journal; inside the lock. */
+static inline void program_count(size_t bytes)
+{
+    the_program.until_large -= (int64_t)bytes;
+}
+
+/* Makes a call of a process, which leaves an entry. */
+#define MADE(answer, call)          \
+    do {                            \
+        READ(answer, call);         \
+        program_count(ENTRY_BYTES); \
+    } while (0)
 
 /* The number of a descriptor for the library, DESCRIPTORS where the program holds none by that
  * name. */
@@ -210,10 +236,12 @@ static inline __attribute__((always_inline)) uint32_t program_try(bool is_send, 
 {
     yak_process *home = &the_program.processes[HOME];
     uint32_t answer;
-    if (is_send)
+    if (is_send) {
         MADE(answer, yak_start_send(home, d, bytes, len, prio));
-    else
+        program_count(answer == YAK_DONE ? len : 0);
+    } else {
         MADE(answer, yak_start_receive(home, d, bytes, len, message));
+    }
     return answer;
 }
 
@@ -255,8 +283,14 @@ void program_deliver(notices *found);
 
 /* The child of a fork, and where YAK_FORK=new a program of its own. */
 void program_in_child(void);
+/* The file that the environment asks to write the journal to, or null. */
+const char *program_journal_path(void);
 /* The journal, to a file; inside the lock. */
 void program_write_journal(void *with, FILE *to);
+/* Inside the lock, whether the error stream is to say now that the journal is large, and outside
+ * it, says so. */
+bool program_is_to_warn(void);
+void program_warn(void);
 /* Begins what the environment asks for. */
 void program_begin_reports(void);
 

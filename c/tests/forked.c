@@ -15,19 +15,11 @@
 #include <time.h>
 #include <unistd.h>
 
+#include "sanitized.h"
 #include "want.h"
 
 /* ThreadSanitizer lets a handler run only when its thread wakes, and then inside another call. */
-#if defined __SANITIZE_THREAD__
-#define HAS_HANDLERS 0
-#elif defined __has_feature
-#if __has_feature(thread_sanitizer)
-#define HAS_HANDLERS 0
-#endif
-#endif
-#ifndef HAS_HANDLERS
-#define HAS_HANDLERS 1
-#endif
+enum { HAS_HANDLERS = !HAS_THREAD_SANITIZER };
 
 enum { FORKS = 20, WORKERS = 3 };
 

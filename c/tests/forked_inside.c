@@ -1,6 +1,7 @@
 /* A handler that interrupted its own thread inside a call forks. In the child that call is made to
  * its end, and does not wait, also where it would; and each later call fails with ENOSYS, also with
- * YAK_FORK=new. Linked with --wrap=realloc: the library takes memory inside a call. */
+ * YAK_FORK=new. Linked with --wrap=realloc, and run with YAK_JOURNAL: for a stored journal the
+ * library takes memory inside a call. */
 #define _GNU_SOURCE
 #include <errno.h>
 #include <fcntl.h>
@@ -16,6 +17,7 @@
 #include <unistd.h>
 #include <yakyrombe/program.h>
 
+#include "stored.h"
 #include "want.h"
 
 enum { FORKS = 5, PADDINGS = 20, HIT = 7 };
@@ -132,6 +134,7 @@ int main(void)
 {
     struct mq_attr attr = room_for(1);
     struct sigaction action;
+    WANT(is_stored());
     memset(&action, 0, sizeof action);
     action.sa_handler = fork_in_handler;
     WANT(sigaction(SIGUSR1, &action, 0) == 0);

@@ -1,7 +1,8 @@
 /* What a process of the library holds for a descriptor is kept in mind if memory for its close was
  * refused, and closed later. Linked with
- * --wrap=malloc and --wrap=realloc, by which memory is refused. In one child after the other the
- * close falls on another place of the journal, whose growth is refused in some. */
+ * --wrap=malloc and --wrap=realloc, by which memory is refused, and run with YAK_JOURNAL. In one
+ * child after the other the close falls on another place of the journal, whose growth is refused in
+ * some. */
 #define _GNU_SOURCE
 #include <errno.h>
 #include <fcntl.h>
@@ -15,6 +16,7 @@
 #include <unistd.h>
 #include <yakyrombe/program.h>
 
+#include "stored.h"
 #include "want.h"
 
 enum { CHILDREN = 70, ROUNDS = 3, HIT = 7 };
@@ -101,7 +103,7 @@ static void child(int padding)
 int main(void)
 {
     int hits = 0;
-    WANT(setenv("YAK_FORK", "new", 1) == 0);
+    WANT(is_stored() && setenv("YAK_FORK", "new", 1) == 0);
     for (int i = 0; i < CHILDREN; ++i) {
         int status = 0;
         pid_t it = fork();

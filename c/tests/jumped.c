@@ -19,6 +19,7 @@
 #include <unistd.h>
 #include <yakyrombe/program.h>
 
+#include "stored.h"
 #include "want.h"
 
 enum { IN_ORDER = 31 };
@@ -403,7 +404,7 @@ int main(void)
         comes_back(SA_RESTART, i == 1);
     }
     comes_back_answered();
-    WANT(yak_program_check() == 0);
+    WANT(is_checked());
     puts("well");
     return 0;
 }

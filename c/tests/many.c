@@ -14,6 +14,7 @@
 #include <time.h>
 #include <yakyrombe/program.h>
 
+#include "stored.h"
 #include "want.h"
 
 enum { IN_ORDER = 31, CROWD = 40, ROUNDS = 5 };
@@ -209,7 +210,7 @@ int main(void)
         sends();
     }
     beside();
-    WANT(yak_program_check() == 0);
+    WANT(is_checked());
     WANT(mq_close(queue) == 0 && mq_unlink("/yak-many") == 0);
     puts("well");
     return 0;

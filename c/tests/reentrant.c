@@ -1,6 +1,6 @@
 /* A call from a signal handler fails with EDEADLK if it interrupted its own thread inside another
- * call, and is made if it did not. A timer sends the signal at any moment. While the journal is
- * written to a file, no call is refused. */
+ * call, and is made if it did not. A timer sends the signal at any moment. While the journal, if it
+ * is stored, is written to a file, no call is refused. */
 #define _GNU_SOURCE
 #include <errno.h>
 #include <fcntl.h>
@@ -13,6 +13,7 @@
 #include <time.h>
 #include <yakyrombe/program.h>
 
+#include "stored.h"
 #include "want.h"
 
 static mqd_t queue;
@@ -121,10 +122,11 @@ int main(void)
     attr.mq_maxmsg = 4;
     attr.mq_msgsize = 8;
     WANT((queue = mq_open("/yak-reentrant", O_RDWR | O_CREAT, 0600, &attr)) != -1);
-    while_journal_is_written();
+    if (is_stored())
+        while_journal_is_written();
     at_any_moment();
     WANT(mq_getattr(queue, &attr) == 0 && attr.mq_curmsgs == 0);
-    WANT(yak_program_check() == 0);
+    WANT(is_checked());
     WANT(mq_close(queue) == 0 && mq_unlink("/yak-reentrant") == 0);
     puts("well");
     return 0;

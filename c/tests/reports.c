@@ -16,18 +16,11 @@
 #include <unistd.h>
 #include <yakyrombe/program.h>
 
+#include "sanitized.h"
+#include "stored.h"
 #include "want.h"
 
-#if defined __SANITIZE_THREAD__ || defined __SANITIZE_ADDRESS__
-#define HAS_MORE_THREADS 1
-#elif defined __has_feature
-#if __has_feature(thread_sanitizer) || __has_feature(address_sanitizer)
-#define HAS_MORE_THREADS 1
-#endif
-#endif
-#ifndef HAS_MORE_THREADS
-#define HAS_MORE_THREADS 0
-#endif
+enum { HAS_MORE_THREADS = HAS_THREAD_SANITIZER || HAS_ADDRESS_SANITIZER };
 
 static mqd_t empty, full, late;
 static atomic_long numbers[3];
@@ -208,7 +201,7 @@ int main(int count, char **words)
     WANT(yak_program_report(stderr) == 0);
     WANT(told(path, began, &wholes) == 3);
     unlink(path);
-    WANT(yak_program_check() == 0);
+    WANT(is_checked());
     puts("well");
     return 0;
 }

@@ -22,20 +22,13 @@
 #include <unistd.h>
 #include <yakyrombe/program.h>
 
+#include "sanitized.h"
+#include "stored.h"
 #include "want.h"
 
 /* ThreadSanitizer holds signals back from a thread that sleeps, and starts no thread beside a fork.
  */
-#if defined __SANITIZE_THREAD__
-#define HAS_HANDLERS 0
-#elif defined __has_feature
-#if __has_feature(thread_sanitizer)
-#define HAS_HANDLERS 0
-#endif
-#endif
-#ifndef HAS_HANDLERS
-#define HAS_HANDLERS 1
-#endif
+enum { HAS_HANDLERS = !HAS_THREAD_SANITIZER };
 
 enum { THREADS = 64, QUEUES = 5, STUCK = 60 };
 
@@ -447,7 +440,7 @@ static void conserved(void)
         printf("%llu messages were sent and %llu received\n", (unsigned long long)sent,
                (unsigned long long)received);
     WANT(sent == received && sent_sum == received_sum && sent != 0);
-    WANT(yak_program_check() == 0);
+    WANT(is_checked());
 }
 
 static void set_handlers(void)

@@ -1,12 +1,12 @@
-/* A system whose journal is not stored: messages pass between two threads in memory that does not grow, and its journal can't be read. */
+/* A system whose journal is not stored: messages pass between two threads, and what would read the
+ * journal is YAK_UNSTORED. */
 #define YAKYROMBE_IMPLEMENTATION
 #include <yakyrombe.h>
 
 #include <pthread.h>
 #include <string.h>
-#include <sys/resource.h>
 
-enum { MESSAGES = 20000, DEPTH = 10, MOST_FAULTS = 64 };
+enum { MESSAGES = 20000, DEPTH = 10 };
 
 static const yak_opening OPENING = {DEPTH, sizeof(uint32_t), 2, true, false, false, true};
 static const uint8_t NAME[] = {'/', 'q'};
@@ -47,25 +47,17 @@ static uint32_t receive_all(yak_process *process, uint32_t d)
     return YAK_DONE;
 }
 
-static long minor_faults(void)
+/* Passes all messages between the two processes. */
+static bool pass_all(uint32_t d)
 {
-    struct rusage usage;
-    return getrusage(RUSAGE_SELF, &usage) == 0 ? usage.ru_minflt : -1;
-}
-
-/* Passes all messages between the two processes, and gives the page faults of that, or -1. */
-static long pass_all(uint32_t d)
-{
-    const long before = minor_faults();
     pthread_t thread;
     void *fault = 0;
     uint32_t answer;
     if (pthread_create(&thread, 0, send_all, &processes[0]) != 0)
-        return -1;
+        return false;
     answer = receive_all(&processes[1], d);
-    if (pthread_join(thread, &fault) != 0 || *(uint32_t *)fault != YAK_DONE || answer != YAK_DONE)
-        return -1;
-    return minor_faults() - before;
+    return pthread_join(thread, &fault) == 0 && *(uint32_t *)fault == YAK_DONE &&
+           answer == YAK_DONE;
 }
 
 static void no_line(void *with, const uint8_t *text, size_t len)
@@ -75,25 +67,38 @@ static void no_line(void *with, const uint8_t *text, size_t len)
     (void)len;
 }
 
-int main(void)
+/* Each function that reads the journal says that it is not stored; room is without end. */
+static bool is_unstored(yak_process *process)
 {
     uint8_t line[64];
     size_t len = 0;
-    uint32_t d = 0, checked, read, many = 0;
-    long faults;
-    if (yak_unstored(processes, 2) != YAK_DONE || open_queue(&processes[1], &d) != YAK_DONE || pass_all(d) < 0)
+    yak_room_left room = {0, 0};
+    uint32_t checked, read, left, nobody;
+    FILE *to = tmpfile();
+    const bool is_written = to == 0 || yak_write_journal(process, to) != YAK_UNSTORED ||
+                            ftell(to) != 0;
+    if (to != 0)
+        fclose(to);
+    YAK_TRY(checked, process, yak_check(process));
+    YAK_TRY(read, process, yak_entry(process, 0, line, sizeof line, &len));
+    YAK_TRY(left, process, yak_room(process, &room));
+    YAK_TRY(nobody, process, yak_nobody_can_call(process));
+    return !is_written && checked == YAK_UNSTORED && read == YAK_UNSTORED &&
+           yak_errno(read) == ENOTSUP && left == YAK_DONE && room.entries == UINT64_MAX &&
+           room.bytes == UINT64_MAX && nobody == YAK_GOES_ON;
+}
+
+int main(void)
+{
+    uint32_t d = 0;
+    if (yak_unstored(processes, 2) != YAK_DONE || open_queue(&processes[1], &d) != YAK_DONE)
         return 1;
-    faults = pass_all(d);
-#if defined __SANITIZE_THREAD__ || defined __SANITIZE_ADDRESS__ || defined __clang__
-    many = faults < 0; /* a sanitizer takes pages of its own */
-#else
-    many = faults < 0 || faults > MOST_FAULTS;
-#endif
-    YAK_TRY(checked, &processes[1], yak_check(&processes[1]));
-    YAK_TRY(read, &processes[1], yak_entry(&processes[1], 0, line, sizeof line, &len));
-    if (many || checked != YAK_UNSTORED || read != YAK_UNSTORED || yak_errno(read) != ENOTSUP)
-        printf("faults %ld, check %u, entry %u\n", faults, (unsigned)checked, (unsigned)read);
-    else if (yak_finish(processes, 2, no_line, 0) != YAK_UNSTORED || yak_finish(processes, 2, 0, 0) != YAK_DONE)
+    if (!pass_all(d))
+        puts("messages were lost");
+    else if (!is_unstored(&processes[1]))
+        puts("the journal is read");
+    else if (yak_finish(processes, 2, no_line, 0) != YAK_UNSTORED ||
+             yak_finish(processes, 2, 0, 0) != YAK_DONE)
         puts("the end");
     else
         puts("well");
