@@ -7,7 +7,7 @@ const ORDERS: OpenOptions = OpenOptions::read_write().create().limits(16, 64);
 const WORKERS: usize = 3;
 
 fn main() -> Result<(), Error> {
-    let mut processes = System::new(1 + WORKERS)?;
+    let mut processes = System::with_journal(1 + WORKERS)?;
     let mut first = processes.remove(0);
     let orders = first.open("/orders", ORDERS)?;
     first.send(orders, b"sweep the floor", 1)?;

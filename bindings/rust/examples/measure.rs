@@ -1,4 +1,4 @@
-//! `pair N` and `crowd P N`, as `tools/peers/yak_queue.c` has them: what an operation costs from Rust.
+//! `pair N` and `crowd P N`, as `tools/peers/yak_queue.c` has them: what an operation costs from Rust. Behind `unstored` no journal is stored.
 
 use std::env;
 use std::process::exit;
@@ -10,25 +10,32 @@ use yakyrombe::{Descriptor, Error, OpenOptions, Process, System};
 const MESSAGE: &[u8; 16] = b"sixteen bytes ..";
 const QUEUE: OpenOptions = OpenOptions::read_write().create().limits(10, 16);
 
+/// How the processes are made.
+type Make = fn(usize) -> Result<Vec<Process>, Error>;
+
 fn main() -> Result<(), Error> {
     let words: Vec<String> = env::args().skip(1).collect();
     let words: Vec<&str> = words.iter().map(String::as_str).collect();
+    let (make, workload): (Make, _) = match words.split_first() {
+        Some((&"unstored", workload)) => (System::new, workload),
+        _ => (System::with_journal, &words[..]),
+    };
     let number = |word: &str| word.parse::<u32>().ok().filter(|&number| number > 0);
-    let nanoseconds = match words[..] {
-        ["pair", rounds] => number(rounds).map(pair),
-        ["crowd", members, rounds] => number(members).zip(number(rounds)).map(|(members, rounds)| crowd(members, rounds)),
+    let nanoseconds = match *workload {
+        ["pair", rounds] => number(rounds).map(|rounds| pair(make, rounds)),
+        ["crowd", members, rounds] => number(members).zip(number(rounds)).map(|(members, rounds)| crowd(make, members, rounds)),
         _ => None,
     };
     let Some(nanoseconds) = nanoseconds else {
-        eprintln!("pair N or crowd P N");
+        eprintln!("pair N or crowd P N, or unstored and either");
         exit(2);
     };
     println!("{:.1} ns each", nanoseconds?);
     Ok(())
 }
 
-fn pair(rounds: u32) -> Result<f64, Error> {
-    let (mut process, queue) = opened(System::new(1)?.remove(0))?;
+fn pair(make: Make, rounds: u32) -> Result<f64, Error> {
+    let (mut process, queue) = opened(make(1)?.remove(0))?;
     let start = Instant::now();
     for _ in 0..rounds {
         process.send(queue, MESSAGE, 0)?;
@@ -37,8 +44,8 @@ fn pair(rounds: u32) -> Result<f64, Error> {
     Ok(start.elapsed().as_nanos() as f64 / 2.0 / f64::from(rounds))
 }
 
-fn crowd(members: u32, rounds: u32) -> Result<f64, Error> {
-    let processes = System::new(members as usize)?;
+fn crowd(make: Make, members: u32, rounds: u32) -> Result<f64, Error> {
+    let processes = make(members as usize)?;
     let barrier = Barrier::new(members as usize + 1);
     let mut start = Instant::now();
     thread::scope(|scope| {

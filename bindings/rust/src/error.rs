@@ -1,9 +1,10 @@
 //! Why calls are refused.
 
+use crate::raw::answer;
 use std::fmt;
 use std::io;
 
-/// Why a call was refused. It prints as the name that POSIX gives the error; `NOMEMORY` and `JOURNALFULL` are the library's own.
+/// Why a call was refused. It prints as the name that POSIX gives the error; `NOMEMORY`, `JOURNALFULL` and `UNSTORED` are the library's own.
 #[derive(Clone, Copy, Debug, PartialEq, Eq, Hash)]
 pub enum Error {
     /// `EAGAIN`: the call would wait, and its descriptor is nonblocking, or it is a `try_` call.
@@ -32,6 +33,9 @@ pub enum Error {
     TimedOut,
     /// `JOURNALFULL`: the journal has bounds, and no room for what the call needs. Nothing has changed.
     JournalFull,
+    /// `UNSTORED`: the call reads the journal, and that of the system is not stored ([`System::with_journal`](crate::System::with_journal)
+    /// stores one).
+    Unstored,
 }
 
 impl Error {
@@ -51,10 +55,12 @@ impl Error {
             Error::NoMemory => "NOMEMORY",
             Error::TimedOut => "ETIMEDOUT",
             Error::JournalFull => "JOURNALFULL",
+            Error::Unstored => "UNSTORED",
         }
     }
 
-    /// The number of the error in `errno.h` of this system: of `NoMemory` that of `ENOMEM`, of `JournalFull` that of `ENOSPC`.
+    /// The number of the error in `errno.h` of this system: of `NoMemory` that of `ENOMEM`, of `JournalFull` that of `ENOSPC`, of `Unstored`
+    /// that of `ENOTSUP`.
     pub fn errno(self) -> i32 {
         let (linux, bsd) = match self {
             Error::Again => (11, 35),
@@ -69,6 +75,7 @@ impl Error {
             Error::NoSpace | Error::JournalFull => (28, 28),
             Error::NoMemory => (12, 12),
             Error::TimedOut => (110, 60),
+            Error::Unstored => (95, 45),
         };
         if cfg!(target_os = "linux") {
             linux
@@ -78,8 +85,8 @@ impl Error {
     }
 
     /// The error whose number the library returned.
-    pub(crate) fn of_fault(fault: u32) -> Option<Error> {
-        Some(match fault {
+    pub(crate) fn of_answer(number: u32) -> Option<Error> {
+        Some(match number {
             1 => Error::Again,
             2 => Error::BadDescriptor,
             3 => Error::Busy,
@@ -93,6 +100,7 @@ impl Error {
             11 => Error::NoMemory,
             12 => Error::TimedOut,
             13 => Error::JournalFull,
+            answer::UNSTORED => Error::Unstored,
             _ => return None,
         })
     }

@@ -43,7 +43,23 @@
 //!     here.receive(queue, &mut buf)
 //! })?;
 //! assert!(buf.starts_with(b"here I am"));
-//! assert!(here.check());
+//! # Ok(())
+//! # }
+//! ```
+//!
+//! The *journal* lists all calls with their replies. [`System::new`] does not store it, so a program may run for ever in the same memory.
+//! [`System::with_journal`] does, for a program that reads it, and [`System::bounded`] in memory that is all taken at once:
+//!
+//! ```
+//! use yakyrombe::{Error, OpenOptions, System};
+//!
+//! # fn main() -> Result<(), Error> {
+//! let mut process = System::with_journal(1)?.remove(0);
+//! process.open("/orders", OpenOptions::read().create())?;
+//! assert_eq!(process.journal()?.as_str(), "0 1 open rc \"/orders\" -> fd 0 created\n");
+//!
+//! let mut other = System::new(1)?.remove(0);
+//! assert_eq!(other.journal(), Err(Error::Unstored));
 //! # Ok(())
 //! # }
 //! ```

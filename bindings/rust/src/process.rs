@@ -2,7 +2,7 @@
 
 use crate::error::Error;
 use crate::options::{Attr, Descriptor, Journal, OpenOptions, Received, Room};
-use crate::raw::{answer, Attributes, Handle, Message, RoomLeft};
+use crate::raw::{answer, Attributes, Handle, Message, RoomLeft, Storage};
 use crate::wait::{after, now};
 use std::fmt;
 use std::time::Duration;
@@ -15,32 +15,42 @@ pub const MOST_PROCESSES: usize = 32;
 pub enum System {}
 
 impl System {
-    /// The processes of a new system, 1 to 32, which share queues. Its journal grows with each call.
+    /// The processes of a new system, 1 to 32, which share queues. Its journal is not stored: memory is taken only while more messages, or
+    /// longer ones, are present than before, when a queue is opened, and for notices that are due. So it may run for ever, and
+    /// [`check`](Process::check), [`entry`](Process::entry) and [`journal`](Process::journal) fail with [`Unstored`](Error::Unstored).
     ///
     /// # Errors
-    /// [`Invalid`](Error::Invalid) where there are not 1 to 32, [`NoMemory`](Error::NoMemory).
+    /// [`Invalid`](Error::Invalid) if there are not 1 to 32, [`NoMemory`](Error::NoMemory).
     #[allow(clippy::new_ret_no_self)]
     pub fn new(processes: usize) -> Result<Vec<Process>, Error> {
-        System::make(processes, None)
+        System::make(processes, Storage::Nothing)
     }
 
-    /// The same, with a journal of at most so many entries and bytes of names and messages. All memory that the calls of the system need
-    /// is taken here. A call that finds the journal full is refused with [`JournalFull`](Error::JournalFull), and a call that waits then
+    /// The same, with a journal that is stored and can be read. It grows with each call, by 64 to 120 bytes and the name or message.
+    ///
+    /// # Errors
+    /// As of [`new`](System::new).
+    pub fn with_journal(processes: usize) -> Result<Vec<Process>, Error> {
+        System::make(processes, Storage::All)
+    }
+
+    /// The same, with a stored journal of at most so many entries and bytes of names and messages. All memory that the calls of the system
+    /// need is taken here. A call that finds the journal full is refused with [`JournalFull`](Error::JournalFull), and a call that waits then
     /// waits for ever: wait with a timeout, or ask for the [`room`](Process::room) first.
     ///
     /// # Errors
     /// As of [`new`](System::new).
     pub fn bounded(processes: usize, entries: u64, bytes: u64) -> Result<Vec<Process>, Error> {
-        System::make(processes, Some((entries, bytes)))
+        System::make(processes, Storage::Bounded { entries, bytes })
     }
 
-    fn make(processes: usize, bounds: Option<(u64, u64)>) -> Result<Vec<Process>, Error> {
+    fn make(processes: usize, storage: Storage) -> Result<Vec<Process>, Error> {
         if processes > MOST_PROCESSES {
             return Err(Error::Invalid);
         }
-        match Handle::of_system(processes, bounds) {
+        match Handle::of_system(processes, storage) {
             Ok(handles) => Ok(handles.into_iter().map(|handle| Process { handle }).collect()),
-            Err(fault) => Err(refusal(fault)),
+            Err(answer) => Err(refusal(answer)),
         }
     }
 }
@@ -212,7 +222,7 @@ impl Process {
         done(self.handle.through(Handle::exit))
     }
 
-    /// For how much more the journal has room.
+    /// For how much more the journal has room: without end, if it has no bounds.
     pub fn room(&mut self) -> Room {
         let mut left = RoomLeft::default();
         self.handle.through(|handle| handle.room(&mut left));
@@ -224,15 +234,18 @@ impl Process {
         self.handle.through(Handle::nobody_can_call) == answer::DONE
     }
 
-    /// Checks the whole journal anew, which is proved to be legal at all times: so it is true.
-    pub fn check(&mut self) -> bool {
-        self.handle.through(Handle::check) == answer::DONE
-    }
-
-    /// The line of the entry of the journal at a place, from 0, or `None` where the journal has none there.
+    /// Checks the whole stored journal, which is proved to be legal at all times.
     ///
     /// # Errors
-    /// [`NoMemory`](Error::NoMemory), also of a system with bounds.
+    /// [`Unstored`](Error::Unstored).
+    pub fn check(&mut self) -> Result<(), Error> {
+        done(self.handle.through(Handle::check))
+    }
+
+    /// The line of the entry of the stored journal at a place, from 0, or `None` where the journal has none there.
+    ///
+    /// # Errors
+    /// [`Unstored`](Error::Unstored); [`NoMemory`](Error::NoMemory), also of a system with bounds.
     pub fn entry(&mut self, place: u64) -> Result<Option<String>, Error> {
         let mut line = Vec::new();
         match self.push_entry(place, &mut line)? {
@@ -241,7 +254,7 @@ impl Process {
         }
     }
 
-    /// The journal as text, up to the last entry that is there when it comes to it.
+    /// The stored journal as text, up to the last entry that is there when it comes to it.
     ///
     /// # Errors
     /// As of [`entry`](Process::entry).
@@ -316,5 +329,5 @@ fn done(answer: u32) -> Result<(), Error> {
 
 #[cold]
 fn refusal(answer: u32) -> Error {
-    Error::of_fault(answer).unwrap_or_else(|| unreachable!("the library returned {answer}"))
+    Error::of_answer(answer).unwrap_or_else(|| unreachable!("the library returned {answer}"))
 }

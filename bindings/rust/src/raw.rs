@@ -18,10 +18,22 @@ pub mod answer {
     pub const DONE: u32 = 0;
     pub const RETRY: u32 = 16;
     pub const WAITS: u32 = 17;
+    pub const EMPTY: u32 = 18;
+    pub const WAITING: u32 = 19;
+    pub const NOT_WAITING: u32 = 20;
     pub const SHORT: u32 = 21;
     pub const EARLY: u32 = 22;
     pub const NO_NOTICE: u32 = 23;
     pub const NO_ENTRY: u32 = 25;
+    pub const UNSTORED: u32 = 27;
+}
+
+/// What a system stores of its journal.
+#[derive(Clone, Copy, Debug)]
+pub enum Storage {
+    Nothing,
+    All,
+    Bounded { entries: u64, bytes: u64 },
 }
 
 /// `yak_opening`.
@@ -91,6 +103,7 @@ unsafe impl Send for Handle {}
 extern "C" {
     fn yak_new(processes: *mut Handle, count: usize) -> u32;
     fn yak_bounded(processes: *mut Handle, count: usize, entries: u64, bytes: u64) -> u32;
+    fn yak_unstored(processes: *mut Handle, count: usize) -> u32;
     fn yak_free(process: *mut Handle) -> u32;
     fn yak_open(process: *mut Handle, name: *const u8, len: usize, opening: *const Opening, d: *mut u32) -> u32;
     fn yak_close(process: *mut Handle, d: u32) -> u32;
@@ -133,17 +146,18 @@ extern "C" {
 impl Handle {
     const EMPTY: Handle = Handle { at: null_mut(), full: false, answered: 0, number: 0, bells: null_mut(), apart: [0; 12] };
 
-    /// Handles of the processes of a new system, process 1 first; with bounds its journal is of at most so many entries and bytes. Or the
-    /// number of the fault.
-    pub fn of_system(count: usize, bounds: Option<(u64, u64)>) -> Result<Vec<Handle>, u32> {
+    /// Handles of the processes of a new system, process 1 first, or the number of the error.
+    pub fn of_system(count: usize, storage: Storage) -> Result<Vec<Handle>, u32> {
         let mut handles = Vec::new();
         handles.resize_with(count, || Handle::EMPTY);
         let first = handles.as_mut_ptr();
-        let made = match bounds {
+        let made = match storage {
             // SAFETY: `first` points to `count` handles, each empty. For none it is dangling, aligned, and not used.
-            None => unsafe { yak_new(first, count) },
+            Storage::Nothing => unsafe { yak_unstored(first, count) },
             // SAFETY: the same.
-            Some((entries, bytes)) => unsafe { yak_bounded(first, count, entries, bytes) },
+            Storage::All => unsafe { yak_new(first, count) },
+            // SAFETY: the same.
+            Storage::Bounded { entries, bytes } => unsafe { yak_bounded(first, count, entries, bytes) },
         };
         if made == answer::DONE {
             Ok(handles)
@@ -277,12 +291,24 @@ impl Handle {
         // SAFETY: the handle was borrowed.
         unsafe { yak_nobody_can_call(self) }
     }
+
+    /// Empties the handle, unless its process has an open wait, which a message could be handed to and lost: then it is `WAITING`, as by the
+    /// header's `yak_free`, and nothing is done. The export itself does not look at that.
+    pub fn free(&mut self) -> u32 {
+        match self.answered() {
+            answer::NOT_WAITING | answer::EMPTY => {
+                // SAFETY: the handle was borrowed. An empty one stays as it is.
+                unsafe { yak_free(self) }
+            }
+            _ => answer::WAITING,
+        }
+    }
 }
 
 impl Drop for Handle {
     fn drop(&mut self) {
-        // SAFETY: the handle is not used again. An empty one stays as it is.
-        unsafe { yak_free(self) };
+        // Each call of `Process` ends its wait, so there is none here. A process with one would be kept, as its descriptors are.
+        self.free();
     }
 }
 
@@ -476,5 +502,35 @@ mod memory {
     unsafe extern "C" fn rattle_dealloc(at: *mut c_void) {
         // SAFETY: the same.
         unsafe { free(at) }
+    }
+}
+
+#[cfg(test)]
+mod tests {
+    use super::{answer, Handle, Message, Opening, Storage};
+
+    const QUEUE: Opening = Opening { maxmsg: 1, msgsize: 8, access: 2, create: true, exclusive: false, nonblock: false, limited: true };
+
+    fn opened(handle: &mut Handle) -> u32 {
+        let mut d = 0;
+        assert_eq!(handle.through(|handle| handle.open(b"/q", &QUEUE, &mut d)), answer::DONE);
+        d
+    }
+
+    /// The message that is handed to the wait is not lost.
+    #[test]
+    fn a_handle_with_an_open_wait_is_not_freed() {
+        let mut handles = Handle::of_system(2, Storage::Nothing).unwrap();
+        let [waits, sends] = &mut handles[..] else { unreachable!() };
+        let (receiver, sender) = (opened(waits), opened(sends));
+        let (mut buf, mut message) = ([0; 8], Message::default());
+        assert_eq!(waits.through(|handle| handle.start_receive(receiver, &mut buf, &mut message)), answer::WAITS);
+        assert_eq!(waits.free(), answer::WAITING);
+        assert_eq!(sends.through(|handle| handle.start_send(sender, b"kept", 3)), answer::DONE);
+        assert_eq!(waits.free(), answer::WAITING);
+        assert_eq!(waits.through(|handle| handle.collect(&mut buf, &mut message)), answer::DONE);
+        assert_eq!((&buf[..message.len], message.prio), (&b"kept"[..], 3));
+        assert_eq!(waits.free(), answer::DONE);
+        assert_eq!(waits.free(), answer::EMPTY);
     }
 }

@@ -27,6 +27,8 @@ fn with_queue(options: OpenOptions) -> (Process, Descriptor) {
 fn a_system_has_1_to_32_processes() {
     assert_eq!(System::new(0).err(), Some(Invalid));
     assert_eq!(System::new(33).err(), Some(Invalid));
+    assert_eq!(System::with_journal(0).err(), Some(Invalid));
+    assert_eq!(System::with_journal(33).err(), Some(Invalid));
     assert_eq!(System::bounded(0, 1, 1).err(), Some(Invalid));
     assert_eq!(System::new(usize::MAX).err(), Some(Invalid));
     assert_eq!(System::bounded(1, u64::MAX, 0).err(), Some(NoMemory));
@@ -121,7 +123,6 @@ fn send_and_receive_refuse() {
     assert_eq!(process.receive(reader, &mut buf), Ok(Received { len: 0, priority: 32767 }));
     assert_eq!(process.receive_timeout(reader, &mut buf, SOON), Ok(Received { len: 3, priority: 0 }));
     assert_eq!(&buf, b"low\xee\xee\xee");
-    assert!(process.check());
 }
 
 #[test]
@@ -200,17 +201,32 @@ fn a_full_journal_refuses_each_call_and_changes_nothing() {
     assert_eq!(process.room().entries, 0);
     assert!(process.nobody_can_call());
     assert_eq!(process.journal().unwrap().lines().count(), 3);
-    assert!(process.check());
+    assert_eq!(process.check(), Ok(()));
 }
 
 #[test]
 fn without_bounds_there_is_room_without_end() {
-    assert_eq!(alone().room(), Room { entries: u64::MAX, bytes: u64::MAX });
+    let endless = Room { entries: u64::MAX, bytes: u64::MAX };
+    assert_eq!(alone().room(), endless);
+    assert_eq!(System::with_journal(1).unwrap()[0].room(), endless);
+}
+
+#[test]
+fn what_reads_a_journal_that_is_not_stored_is_refused() {
+    let (mut process, queue) = with_queue(NEW);
+    process.send(queue, b"a", 0).unwrap();
+    assert_eq!(process.check(), Err(Unstored));
+    assert_eq!(process.entry(0), Err(Unstored));
+    assert_eq!(process.entry(u64::MAX), Err(Unstored));
+    assert_eq!(process.journal(), Err(Unstored));
+    assert!(!process.nobody_can_call());
+    assert_eq!(process.receive(queue, &mut [0; 4]), Ok(Received { len: 1, priority: 0 }));
 }
 
 #[test]
 fn a_dropped_process_closes_its_descriptors() {
-    let (mut first, mut second) = two();
+    let mut processes = System::with_journal(2).unwrap();
+    let (mut first, mut second) = (processes.remove(0), processes.remove(0));
     let queue = first.open("/q", NEW).unwrap();
     first.open("/r", NEW).unwrap();
     first.notify(queue, Some(1)).unwrap();
@@ -238,6 +254,7 @@ fn errors_have_the_names_and_numbers_of_posix() {
         (NoMemory, "NOMEMORY"),
         (TimedOut, "ETIMEDOUT"),
         (JournalFull, "JOURNALFULL"),
+        (Unstored, "UNSTORED"),
     ];
     for (error, name) in all {
         assert_eq!(error.to_string(), name);

@@ -11,7 +11,7 @@ const OPTIONS: OpenOptions = OpenOptions::read_write().create().limits(1, 300);
 
 #[test]
 fn each_call_has_its_line() {
-    let mut process = System::new(1).unwrap().remove(0);
+    let mut process = System::with_journal(1).unwrap().remove(0);
     let queue = process.open("/q", OPTIONS).unwrap();
     process.send(queue, b"a b", 7).unwrap();
     process.getattr(queue).unwrap();
@@ -42,7 +42,7 @@ fn each_call_has_its_line() {
 
 #[test]
 fn a_try_is_a_call_whose_deadline_has_passed() {
-    let mut process = System::new(1).unwrap().remove(0);
+    let mut process = System::with_journal(1).unwrap().remove(0);
     let queue = process.open("/q", OPTIONS).unwrap();
     process.try_receive(queue, &mut [0; 300]).unwrap_err();
     let line = process.entry(1).unwrap().unwrap();
@@ -54,7 +54,7 @@ fn a_try_is_a_call_whose_deadline_has_passed() {
 
 #[test]
 fn a_long_message_has_a_whole_line() {
-    let mut process = System::new(1).unwrap().remove(0);
+    let mut process = System::with_journal(1).unwrap().remove(0);
     let queue = process.open("/q", OPTIONS).unwrap();
     process.send(queue, &[0; 300], 0).unwrap();
     let line = process.entry(1).unwrap().unwrap();
@@ -75,14 +75,14 @@ fn hammer(mut process: Process) -> Process {
 
 #[test]
 fn the_journal_of_threads_is_legal() {
-    let processes = System::new(6).unwrap();
+    let processes = System::with_journal(6).unwrap();
     let members: Vec<_> = processes.into_iter().map(|process| thread::spawn(move || hammer(process))).collect();
     let mut ended: Vec<Process> = members.into_iter().map(|member| member.join().unwrap()).collect();
     let mut last = ended.remove(3);
     drop(ended);
     let journal = last.journal().unwrap();
     assert_eq!(journal.lines().filter(|line| line.contains(" close ")).count(), 5);
-    assert!(last.check());
+    assert_eq!(last.check(), Ok(()));
     let mqlog = Path::new(env!("CARGO_MANIFEST_DIR")).join("../../crates/mqlog/out/mqlog");
     if mqlog.is_file() {
         assert!(verdict(&mqlog, journal.as_str()).starts_with("legal: "));

@@ -38,8 +38,8 @@ fn receive_all(mut process: Process, rounds: u32) -> (Process, u64) {
 }
 
 // Half of the processes send and half receive; at the end each message was received once.
-fn pass_messages(count: usize, rounds: u32) {
-    let processes = System::new(count).unwrap();
+fn pass_messages(processes: Vec<Process>, rounds: u32) -> Process {
+    let count = processes.len();
     let members: Vec<_> = processes
         .into_iter()
         .map(|process| {
@@ -51,32 +51,45 @@ fn pass_messages(count: usize, rounds: u32) {
     let sum_of = |odd: u32| ended.iter().filter(|(process, _)| process.number() % 2 == odd).map(|(_, sum)| sum).sum::<u64>();
     assert_eq!(sum_of(1), sum_of(0));
     assert_eq!(sum_of(1), count as u64 / 2 * u64::from(rounds) * u64::from(rounds - 1) / 2);
-    assert!(ended[0].0.check());
+    ended.remove(0).0
+}
+
+fn pass_messages_with_and_without_a_journal(count: usize, rounds: u32) {
+    pass_messages(System::new(count).unwrap(), rounds);
+    let mut last = pass_messages(System::with_journal(count).unwrap(), rounds);
+    assert_eq!(last.check(), Ok(()));
 }
 
 #[test]
 fn two_threads_pass_messages() {
-    pass_messages(2, 2000);
+    pass_messages_with_and_without_a_journal(2, 2000);
 }
 
 #[test]
 fn eight_threads_pass_messages() {
-    pass_messages(8, 500);
+    pass_messages_with_and_without_a_journal(8, 500);
 }
 
 #[test]
 fn thirty_two_threads_pass_messages() {
-    pass_messages(32, 100);
+    pass_messages_with_and_without_a_journal(32, 100);
+}
+
+fn pair_of(mut processes: Vec<Process>) -> (Process, Process) {
+    (processes.remove(0), processes.remove(0))
 }
 
 fn two() -> (Process, Process) {
-    let mut processes = System::new(2).unwrap();
-    (processes.remove(0), processes.remove(0))
+    pair_of(System::new(2).unwrap())
+}
+
+fn two_with_journal() -> (Process, Process) {
+    pair_of(System::with_journal(2).unwrap())
 }
 
 #[test]
 fn a_receive_that_waits_is_answered_by_another_thread() {
-    let (mut here, mut there) = two();
+    let (mut here, mut there) = two_with_journal();
     let queue = here.open("/late", OPTIONS).unwrap();
     let waiter = thread::spawn(move || {
         let queue = there.open("/late", OPTIONS).unwrap();
@@ -93,7 +106,7 @@ fn a_receive_that_waits_is_answered_by_another_thread() {
 
 #[test]
 fn a_send_that_waits_is_admitted_by_another_thread() {
-    let (mut here, mut there) = two();
+    let (mut here, mut there) = two_with_journal();
     let options = OPTIONS.limits(1, 8);
     let queue = here.open("/full", options).unwrap();
     here.send(queue, b"first", 0).unwrap();
@@ -142,7 +155,7 @@ fn a_wait_with_a_timeout_is_answered_before_it_is_over() {
 
 #[test]
 fn a_panic_in_a_thread_closes_what_its_process_holds_and_the_others_go_on() {
-    let mut processes = System::new(3).unwrap();
+    let mut processes = System::with_journal(3).unwrap();
     let (mut here, mut there, unlucky) = (processes.remove(0), processes.remove(0), processes.remove(0));
     let queue = here.open("/q", OPTIONS).unwrap();
     let ended = thread::spawn(move || {
@@ -161,7 +174,7 @@ fn a_panic_in_a_thread_closes_what_its_process_holds_and_the_others_go_on() {
     assert_eq!(here.receive(queue, &mut [0; 8]), Ok(Received { len: 5, priority: 0 }));
     let journal = here.journal().unwrap();
     assert_eq!(journal.lines().filter(|line| line.contains(" 3 close ")).count(), 2);
-    assert!(here.check());
+    assert_eq!(here.check(), Ok(()));
 }
 
 #[test]

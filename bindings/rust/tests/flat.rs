@@ -1,0 +1,116 @@
+//! A program that runs for ever takes no more memory: 8 threads pass messages through one queue, and open, use and lose queues of their
+//! own. After the first 100,000 sends and receives the resident size is the same within 1 MB, and there are no page faults.
+#![cfg(target_os = "linux")]
+
+use std::fs::read_to_string;
+use std::sync::Barrier;
+use std::thread;
+use yakyrombe::{Descriptor, Error, OpenOptions, Process, System};
+
+const THREADS: usize = 8;
+const FIRST_CALLS: u64 = 100_000;
+const MOST_BYTES: u64 = 1_000_000;
+const CALLS_A_FAULT: u64 = 1_000;
+/// How many calls lie between two queues of a thread's own.
+const BETWEEN_OWN: u64 = 64;
+const MSGSIZE: usize = 32;
+const QUEUE: OpenOptions = OpenOptions::read_write().create().limits(10, MSGSIZE as i64);
+
+fn number_at(words: &str, place: usize) -> u64 {
+    words.split_whitespace().nth(place).unwrap().parse().unwrap()
+}
+
+/// What the program takes, in bytes, and how many minor page faults it had.
+#[derive(Debug)]
+struct Taken {
+    resident: u64,
+    faults: u64,
+}
+
+impl Taken {
+    fn now() -> Taken {
+        let status = read_to_string("/proc/self/status").unwrap();
+        let resident = status.lines().find_map(|line| line.strip_prefix("VmRSS:")).unwrap();
+        let stat = read_to_string("/proc/self/stat").unwrap();
+        // The name of the program, in brackets, may have spaces.
+        let behind_name = stat.rsplit(')').next().unwrap();
+        Taken { resident: number_at(resident, 0) * 1_024, faults: number_at(behind_name, 7) }
+    }
+
+    fn is_flat_until(&self, after: &Taken, calls: u64) -> bool {
+        self.resident.abs_diff(after.resident) <= MOST_BYTES && (after.faults - self.faults) * CALLS_A_FAULT < calls
+    }
+}
+
+/// Opens a queue, takes a notice of it, and loses a message with it.
+fn use_own_queue(process: &mut Process) -> Result<(), Error> {
+    let name = format!("/own-{}", process.number());
+    let own = process.open(&name, QUEUE.exclusive())?;
+    process.notify(own, Some(7))?;
+    process.send(own, b"first", 1)?;
+    process.send(own, b"second", 2)?;
+    assert_eq!(process.next_notice()?, Some(7));
+    assert_eq!(process.receive(own, &mut [0; MSGSIZE])?.len, 6);
+    process.unlink(&name)?;
+    process.close(own)
+}
+
+/// Half of the processes send, and half receive.
+fn pass(process: &mut Process, queue: Descriptor, calls: u64) -> Result<(), Error> {
+    for i in 0..calls {
+        if process.number() % 2 == 0 {
+            process.send(queue, &[0; MSGSIZE][..i as usize % (MSGSIZE + 1)], i as u32 % 3)?;
+        } else {
+            process.receive(queue, &mut [0; MSGSIZE])?;
+        }
+        if i % BETWEEN_OWN == 0 {
+            use_own_queue(process)?;
+        }
+    }
+    Ok(())
+}
+
+fn take_part(mut process: Process, barrier: &Barrier, later_calls: u64) {
+    let queue = process.open("/flat", QUEUE).unwrap();
+    pass(&mut process, queue, FIRST_CALLS / THREADS as u64).unwrap();
+    barrier.wait();
+    barrier.wait();
+    pass(&mut process, queue, later_calls / THREADS as u64).unwrap();
+    barrier.wait();
+}
+
+/// What the program takes after the first calls of the shared queue, and after as many more.
+fn taken(processes: Vec<Process>, later_calls: u64) -> (Taken, Taken) {
+    let barrier = Barrier::new(THREADS + 1);
+    thread::scope(|scope| {
+        for process in processes {
+            scope.spawn(|| take_part(process, &barrier, later_calls));
+        }
+        barrier.wait();
+        let before = Taken::now();
+        barrier.wait();
+        barrier.wait();
+        (before, Taken::now())
+    })
+}
+
+fn stays_flat(calls: u64) {
+    let later_calls = calls - FIRST_CALLS;
+    let (before, after) = taken(System::new(THREADS).unwrap(), later_calls);
+    println!("{later_calls} calls: from {before:?} to {after:?}");
+    assert!(before.is_flat_until(&after, later_calls), "{before:?}, {after:?}");
+}
+
+/// The two are one test, since the memory is that of the whole program.
+#[test]
+fn memory_is_flat_without_a_journal_and_grows_with_one() {
+    stays_flat(1_000_000);
+    let (before, after) = taken(System::with_journal(THREADS).unwrap(), 100_000);
+    assert!(!before.is_flat_until(&after, 100_000), "{before:?}, {after:?}");
+}
+
+#[test]
+#[ignore = "takes minutes: cargo test --release --test flat -- --ignored --nocapture"]
+fn memory_is_flat_over_a_hundred_million_calls() {
+    stays_flat(100_000_000);
+}
