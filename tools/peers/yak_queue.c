@@ -1,4 +1,4 @@
-/* `pair`, `crowd` and `pingpong` of mqbench over the queues for C, by handles. */
+/* `pair` and `crowd` of mqbench over the queues for C, by handles. Behind `unstored` no journal is stored. */
 #define YAKYROMBE_IMPLEMENTATION
 #include "yakyrombe.h"
 
@@ -68,14 +68,20 @@ static double nanoseconds(void)
 
 int main(int count, char **words)
 {
+    uint32_t (*make)(yak_process *, size_t) = yak_new;
+    if (count > 1 && !strcmp(words[1], "unstored")) {
+        make = yak_unstored;
+        --count;
+        ++words;
+    }
     long size = count == 4 ? atol(words[2]) : 1;
     rounds = count > 2 ? atol(words[count - 1]) : 0;
     int is_crowd = rounds && !strcmp(words[1], "crowd");
     if (!rounds || size < 1 || size > MOST_MEMBERS || (!is_crowd && strcmp(words[1], "pair"))) {
-        fputs("pair N or crowd P N\n", stderr);
+        fputs("pair N or crowd P N, or unstored and either\n", stderr);
         return 2;
     }
-    uint32_t made = yak_new(processes, (size_t)size);
+    uint32_t made = make(processes, (size_t)size);
     if (made != YAK_DONE)
         stop("yak_new", made);
     for (long i = 0; i < size; i++)
