@@ -141,15 +141,27 @@ static void *take_part(void *of)
     return 0;
 }
 
+/* The resident size in bytes. It is counted page by page; statm has a sum of what processors have
+ * counted, which may be late by megabytes. */
+static long resident(void)
+{
+    char line[256];
+    long kilobytes = -1;
+    FILE *from = fopen("/proc/self/smaps_rollup", "r");
+    WANT(from != 0);
+    while (kilobytes < 0 && fgets(line, sizeof line, from) != 0)
+        if (sscanf(line, "Rss: %ld kB", &kilobytes) != 1)
+            kilobytes = -1;
+    fclose(from);
+    WANT(kilobytes > 0);
+    return kilobytes * 1024;
+}
+
 static taken look(void)
 {
     struct rusage usage;
-    taken it = {0, 0};
-    FILE *from = fopen("/proc/self/statm", "r");
-    WANT(from != 0 && fscanf(from, "%*d %ld", &it.resident) == 1);
-    fclose(from);
+    taken it = {resident(), 0};
     WANT(getrusage(RUSAGE_SELF, &usage) == 0);
-    it.resident *= sysconf(_SC_PAGESIZE);
     it.faults = usage.ru_minflt;
     return it;
 }

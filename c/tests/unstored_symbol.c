@@ -68,5 +68,6 @@ int main(int count, char **words)
     if (count == 2)
         WANT(setenv("YAK_JOURNAL", words[1], 1) == 0);
     puts("well");
+    fflush(stdout);
     return 0;
 }

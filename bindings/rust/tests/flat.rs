@@ -29,8 +29,9 @@ struct Taken {
 
 impl Taken {
     fn now() -> Taken {
-        let status = read_to_string("/proc/self/status").unwrap();
-        let resident = status.lines().find_map(|line| line.strip_prefix("VmRSS:")).unwrap();
+        // It is counted page by page; `status` has a sum of what processors have counted, which may be late by megabytes.
+        let sizes = read_to_string("/proc/self/smaps_rollup").unwrap();
+        let resident = sizes.lines().find_map(|line| line.strip_prefix("Rss:")).unwrap();
         let stat = read_to_string("/proc/self/stat").unwrap();
         // The name of the program, in brackets, may have spaces.
         let behind_name = stat.rsplit(')').next().unwrap();
