@@ -200,7 +200,8 @@ int mq_notify(mqd_t mqdes, const struct sigevent *event)
     return error != 0 ? fails(error) : result(answer);
 }
 
-/* What is left of a send or a receive that the home has tried: a wait, the wakes and notices for others, and a warning. Leaves the lock. */
+/* What is left of a send or a receive that the home has tried: a wait, the wakes and notices for
+ * others, and a warning. Leaves the lock. */
 static __attribute__((noinline)) uint32_t go_on(uint32_t d, const request *asked, yak_message *message, uint32_t answer)
 {
     unsigned process = HOME;
@@ -250,7 +251,8 @@ static inline __attribute__((always_inline)) uint32_t make(const char *call, boo
     d = program_number(mqdes);
     answer = program_try(is_send, d, bytes, len, prio, message);
     if (answer != YAK_DONE || the_program.until_large < 0 ||
-        (the_program.registered | the_program.stranded | the_program.processes[HOME].answered) != 0) {
+        (the_program.registered | the_program.stranded |
+         the_program.processes[HOME].answered) != 0) {
         request asked = {call, is_send, until != 0, until != 0 ? moment : NEVER, bytes, len, prio};
         return go_on(d, &asked, message, answer);
     }

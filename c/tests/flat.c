@@ -1,7 +1,7 @@
 /* A program that runs for ever takes no more memory: 8 threads pass messages through one queue, and
  * open, use and lose queues of their own. After the first 100,000 sends and receives the resident
- * size is the same within 1 MB, and there are no page faults. Its system stores no journal: it is
- * built over the exported mq_*, or over handles, by yakyrombe/mqueue.h.
+ * size is the same within 1 MB, and there are fewer than 0.001 minor page faults a call. Its system
+ * stores no journal: it is built over the exported mq_*, or over handles, by yakyrombe/mqueue.h.
  *
  * usage: flat [CALLS]     CALLS is how many sends and receives the shared queue has, 1,000,000 if
  * left out */

@@ -1,4 +1,5 @@
-//! `pair N` and `crowd P N`, as `tools/peers/yak_queue.c` has them: what an operation costs from Rust. Behind `unstored` no journal is stored.
+//! `pair N` and `crowd P N`, as `tools/peers/yak_queue.c` has them: what an operation costs from
+//! Rust. Behind `unstored` no journal is stored.
 
 use std::env;
 use std::process::exit;

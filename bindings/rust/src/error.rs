@@ -4,7 +4,8 @@ use crate::raw::answer;
 use std::fmt;
 use std::io;
 
-/// Why a call was refused. It prints as the name that POSIX gives the error; `NOMEMORY`, `JOURNALFULL` and `UNSTORED` are the library's own.
+/// Why a call was refused. It prints as the name that POSIX gives the error; `NOMEMORY`,
+/// `JOURNALFULL` and `UNSTORED` are the library's own.
 #[derive(Clone, Copy, Debug, PartialEq, Eq, Hash)]
 pub enum Error {
     /// `EAGAIN`: the call would wait, and its descriptor is nonblocking, or it is a `try_` call.
@@ -33,8 +34,8 @@ pub enum Error {
     TimedOut,
     /// `JOURNALFULL`: the journal has bounds, and no room for what the call needs. Nothing has changed.
     JournalFull,
-    /// `UNSTORED`: the call reads the journal, and that of the system is not stored ([`System::with_journal`](crate::System::with_journal)
-    /// stores one).
+    /// `UNSTORED`: the call reads the journal, and that of the system is not stored
+    /// ([`System::with_journal`](crate::System::with_journal) stores one).
     Unstored,
 }
 
@@ -59,8 +60,8 @@ impl Error {
         }
     }
 
-    /// The number of the error in `errno.h` of this system: of `NoMemory` that of `ENOMEM`, of `JournalFull` that of `ENOSPC`, of `Unstored`
-    /// that of `ENOTSUP`.
+    /// The number of the error in `errno.h` of this system: of `NoMemory` that of `ENOMEM`, of
+    /// `JournalFull` that of `ENOSPC`, of `Unstored` that of `ENOTSUP`.
     pub fn errno(self) -> i32 {
         let (linux, bsd) = match self {
             Error::Again => (11, 35),

@@ -47,8 +47,9 @@
 //! # }
 //! ```
 //!
-//! The *journal* lists all calls with their replies. [`System::new`] does not store it, so a program may run for ever in the same memory.
-//! [`System::with_journal`] does, for a program that reads it, and [`System::bounded`] in memory that is all taken at once:
+//! The *journal* lists all calls with their replies. [`System::new`] does not store it, so a
+//! program may run for ever in the same memory. [`System::with_journal`] does, for a program that
+//! reads it, and [`System::bounded`] in memory that is all taken at once:
 //!
 //! ```
 //! use yakyrombe::{Error, OpenOptions, System};

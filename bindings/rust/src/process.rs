@@ -15,9 +15,11 @@ pub const MOST_PROCESSES: usize = 32;
 pub enum System {}
 
 impl System {
-    /// The processes of a new system, 1 to 32, which share queues. Its journal is not stored: memory is taken only while more messages, or
-    /// longer ones, are present than before, when a queue is opened, and for notices that are due. So it may run for ever, and
-    /// [`check`](Process::check), [`entry`](Process::entry) and [`journal`](Process::journal) fail with [`Unstored`](Error::Unstored).
+    /// The processes of a new system, 1 to 32, which share queues. Its journal is not stored:
+    /// memory is taken only while more messages, or longer ones, are present than before, when a
+    /// queue is opened, and for notices that are due. So it may run for ever, and
+    /// [`check`](Process::check), [`entry`](Process::entry) and [`journal`](Process::journal) fail
+    /// with [`Unstored`](Error::Unstored).
     ///
     /// # Errors
     /// [`Invalid`](Error::Invalid) if there are not 1 to 32, [`NoMemory`](Error::NoMemory).
@@ -26,7 +28,8 @@ impl System {
         System::make(processes, Storage::Nothing)
     }
 
-    /// The same, with a journal that is stored and can be read. It grows with each call, by 64 to 120 bytes and the name or message.
+    /// The same, with a journal that is stored and can be read. It grows with each call, by 64 to
+    /// 120 bytes and the name or message.
     ///
     /// # Errors
     /// As of [`new`](System::new).
@@ -34,9 +37,10 @@ impl System {
         System::make(processes, Storage::All)
     }
 
-    /// The same, with a stored journal of at most so many entries and bytes of names and messages. All memory that the calls of the system
-    /// need is taken here. A call that finds the journal full is refused with [`JournalFull`](Error::JournalFull), and a call that waits then
-    /// waits for ever: wait with a timeout, or ask for the [`room`](Process::room) first.
+    /// The same, with a stored journal of at most so many entries and bytes of names and messages.
+    /// All memory that the calls of the system need is taken here. A call that finds the journal
+    /// full is refused with [`JournalFull`](Error::JournalFull), and a call that waits then waits
+    /// for ever: wait with a timeout, or ask for the [`room`](Process::room) first.
     ///
     /// # Errors
     /// As of [`new`](System::new).
@@ -242,7 +246,8 @@ impl Process {
         done(self.handle.through(Handle::check))
     }
 
-    /// The line of the entry of the stored journal at a place, from 0, or `None` where the journal has none there.
+    /// The line of the entry of the stored journal at a place, from 0, or `None` where the journal
+    /// has none there.
     ///
     /// # Errors
     /// [`Unstored`](Error::Unstored); [`NoMemory`](Error::NoMemory), also of a system with bounds.

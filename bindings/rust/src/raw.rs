@@ -292,8 +292,9 @@ impl Handle {
         unsafe { yak_nobody_can_call(self) }
     }
 
-    /// Empties the handle, unless its process has an open wait, which a message could be handed to and lost: then it is `WAITING`, as by the
-    /// header's `yak_free`, and nothing is done. The export itself does not look at that.
+    /// Empties the handle, unless its process has an open wait, which a message could be handed to
+    /// and lost: then it is `WAITING`, as by the header's `yak_free`, and nothing is done. The
+    /// export itself does not look at that.
     pub fn free(&mut self) -> u32 {
         match self.answered() {
             answer::NOT_WAITING | answer::EMPTY => {
@@ -307,7 +308,8 @@ impl Handle {
 
 impl Drop for Handle {
     fn drop(&mut self) {
-        // Each call of `Process` ends its wait, so there is none here. A process with one would be kept, as its descriptors are.
+        // Each call of `Process` ends its wait, so there is none here. A process with one would be
+        // kept, as its descriptors are.
         self.free();
     }
 }

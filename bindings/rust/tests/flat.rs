@@ -1,5 +1,6 @@
-//! A program that runs for ever takes no more memory: 8 threads pass messages through one queue, and open, use and lose queues of their
-//! own. After the first 100,000 sends and receives the resident size is the same within 1 MB, and there are no page faults.
+//! A program that runs for ever takes no more memory: 8 threads pass messages through one queue,
+//! and open, use and lose queues of their own. After the first 100,000 sends and receives the
+//! resident size is the same within 1 MB, and there are fewer than 0.001 minor page faults a call.
 #![cfg(target_os = "linux")]
 
 use std::fs::read_to_string;
@@ -29,7 +30,8 @@ struct Taken {
 
 impl Taken {
     fn now() -> Taken {
-        // It is counted page by page; `status` has a sum of what processors have counted, which may be late by megabytes.
+        // It is counted page by page; `status` has a sum of what processors have counted, which may
+        // be late by megabytes.
         let sizes = read_to_string("/proc/self/smaps_rollup").unwrap();
         let resident = sizes.lines().find_map(|line| line.strip_prefix("Rss:")).unwrap();
         let stat = read_to_string("/proc/self/stat").unwrap();
