@@ -1,5 +1,5 @@
 /* Writes the calls of a program to the system's message queues, each with the moments at which it began and ended, as a concurrent
-   history (docs/HISTORY.md). It is preloaded: LD_PRELOAD. Each thread that calls, of each process that the program forks, is a process
+   history (docs/formats.md). It is preloaded: LD_PRELOAD. Each thread that calls, of each process that the program forks, is a process
    of the history, numbered in the order of their first calls. The lines of a process go to a file of its own in RECORD_ROOM, of which
    tools/record makes one history: a line with a dash for its end is written when the call begins, and the whole line when it returns.
 

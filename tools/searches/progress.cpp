@@ -5,7 +5,7 @@
 //
 // Prints the reachable worlds; the fewest fair rounds that always bring an entry, if nobody is
 // inside when they begin and if some process is, with another in its entry; and the most steps that
-// change the world while nobody is inside. The points and the steps are those of docs/lamport.md.
+// change the world while nobody is inside. The points and the steps are those of docs/lock.md.
 // The status is 1 if a world is a dead end or a worst case has no bound.
 #include <algorithm>
 #include <array>
