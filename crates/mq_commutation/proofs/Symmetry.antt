@@ -40,10 +40,10 @@ last-back false false false false = refl
 pub independent-back : (past : Past) (a b : Request) → are_independent past b a ≡ are_independent past a b
 independent-back past a b =
     (λ i. not (same-number a.process b.process i)
-        && not (or-back (changes_names a.call && changes_queues b.call) (changes_names b.call && changes_queues a.call) i)
-        && differ-back (whose_notices past a) (whose_notices past b) i
-        && (differ-back (queue_touched past a) (queue_touched past b) i || and-back (only_reads a.call) (only_reads b.call) i || passes past b a || passes past a b))
+    && not (or-back (changes_names a.call && changes_queues b.call) (changes_names b.call && changes_queues a.call) i)
+    && differ-back (whose_notices past a) (whose_notices past b) i
+    && (differ-back (queue_touched past a) (queue_touched past b) i || and-back (only_reads a.call) (only_reads b.call) i || passes past b a || passes past a b))
     ∙ (λ i. not (a.process == b.process)
-        && not (changes_names a.call && changes_queues b.call || changes_names b.call && changes_queues a.call)
-        && differ (whose_notices past a) (whose_notices past b)
-        && last-back (differ (queue_touched past a) (queue_touched past b)) (only_reads a.call && only_reads b.call) (passes past a b) (passes past b a) i)
+    && not (changes_names a.call && changes_queues b.call || changes_names b.call && changes_queues a.call)
+    && differ (whose_notices past a) (whose_notices past b)
+    && last-back (differ (queue_touched past a) (queue_touched past b)) (only_reads a.call && only_reads b.call) (passes past a b) (passes past b a) i)

@@ -110,7 +110,7 @@ alive-below past q h = created-below past q (is_in-filter (is_needed past) (crea
 
 -- needed queues ----------------------------------------------------------------------------------------------------------
 
-named-by : (past : Past) (name : List ℕ) (k : ℕ) → bound_queue past name ≡ Some k → is_needed past k ≡ true
+pub named-by : (past : Past) (name : List ℕ) (k : ℕ) → bound_queue past name ≡ Some k → is_needed past k ≡ true
 named-by past name k e = rw (bound-named past name k e) refl
 
 held-by : (past : Past) (p d q : ℕ) (h : Description) → held past p d ≡ Some h → h.queue ≡ q → is_needed past q ≡ true

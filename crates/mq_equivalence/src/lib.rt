@@ -38,3 +38,18 @@ pub fn structure_stays()
         SameStructure (extended to (length x) (length y))
         (record_of x p call given ∷ x) (record_of y p call given ∷ y) }
 {}
+
+/// A legal journal is equivalent to itself.
+pub fn equivalence_is_reflexive()
+    ensures { (x : Past) → Legal x → Equivalent x x }
+{}
+
+/// Of two journals each is equivalent to the other, or neither is.
+pub fn equivalence_is_symmetric()
+    ensures { (x y : Past) → Equivalent x y → Equivalent y x }
+{}
+
+/// Journals that are equivalent to one journal are equivalent.
+pub fn equivalence_is_transitive()
+    ensures { (x y z : Past) → Equivalent x y → Equivalent y z → Equivalent x z }
+{}

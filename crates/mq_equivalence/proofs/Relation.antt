@@ -1,0 +1,182 @@
+-- Equivalence is an equivalence relation.
+use Rattle.std.proofs.Common.{◌≡◌, ℕ, ◌==◌, true, false, List, [], ◌∷◌, map, Option, Some, None, if◌then◌else◌, refl, sym, ◌∙◌, ap, subst, eqb-true, eq-eqb, ne_eqb}
+use Rattle.std.specs.Option.{option_map}
+use Rattle.std.proofs.lemmas.Bool.{eqb-false}
+use Rattle.mq_model.specs.Record.{Past}
+use Rattle.mq_model.specs.Names.{attributes, bound_queue}
+use Rattle.mq_model.specs.Descriptors.{alive, held}
+use Rattle.mq_model.specs.Messages.{is_in}
+use Rattle.mq_model.specs.Legality.{Legal}
+use Rattle.mq_model.specs.declared.entries.Description.{Description}
+use Rattle.mq_model.proofs.Places.{split}
+use Rattle.mq_model.proofs.HeldQueues.{held-alive}
+use Rattle.placeless.specs.Views.{contents, receivers, senders}
+use Rattle.placeless.proofs.Falling.{Falls}
+use Rattle.mq_equivalence.specs.Structure.{renumbered}
+use Rattle.mq_equivalence.specs.Equivalence.{Equivalent, registered_as}
+use Rattle.mq_equivalence.proofs.Structure.{falls-alive, in-map, named-by, needed-in, one-number}
+
+-- renumberings -------------------------------------------------------------------------------------------------------------
+
+map-self : (ks : List ℕ) → map (λ q. q) ks ≡ ks
+map-self [] = refl
+map-self (k ∷ ks) = ap (λ (js : List ℕ). k ∷ js) (map-self ks)
+
+map-twice : (f g : ℕ → ℕ) (ks : List ℕ) → map g (map f ks) ≡ map (λ q. g (f q)) ks
+map-twice f g [] = refl
+map-twice f g (k ∷ ks) = ap (λ (js : List ℕ). g (f k) ∷ js) (map-twice f g ks)
+
+some-self : (o : Option ℕ) → option_map (λ q. q) o ≡ o
+some-self None = refl
+some-self (Some k) = refl
+
+some-twice : (f g : ℕ → ℕ) (o : Option ℕ) → option_map g (option_map f o) ≡ option_map (λ q. g (f q)) o
+some-twice f g None = refl
+some-twice f g (Some k) = refl
+
+held-self : (o : Option Description) → option_map (renumbered (λ q. q)) o ≡ o
+held-self None = refl
+held-self (Some h) = refl
+
+held-twice : (f g : ℕ → ℕ) (o : Option Description) → option_map (renumbered g) (option_map (renumbered f) o) ≡ option_map (renumbered (λ q. g (f q))) o
+held-twice f g None = refl
+held-twice f g (Some h) = refl
+
+-- of the queues, the one whose number is k
+origin : (ℕ → ℕ) → List ℕ → ℕ → ℕ
+origin to [] k = 0
+origin to (j ∷ qs) k = if to j == k then j else origin to qs k
+
+origin-is : (to : ℕ → ℕ) (qs : List ℕ) → ((i j : ℕ) → is_in qs i ≡ true → is_in qs j ≡ true → to i ≡ to j → i ≡ j) → (q : ℕ) → is_in qs q ≡ true → origin to qs (to q) ≡ q
+unfolding origin
+origin-is to [] once q h = absurd (cc)
+origin-is to (j ∷ qs) once q h = split (to j == to q)
+    (λ t. rw t (once j q (rw (eq-eqb j j refl) refl) h (eqb-true _ _ t)))
+    (λ f. let ne : (j == q) ≡ false = ne_eqb j q (λ e. eqb-false _ _ f (ap to e)) in
+    let rest : is_in qs q ≡ true = rw ne at h in
+    rw f (origin-is to qs (λ i k hi hk e. once i k (older i hi) (older k hk) e) q rest))
+  where
+    older : (i : ℕ) → is_in qs i ≡ true → is_in (j ∷ qs) i ≡ true
+    older i hi = split (j == i) (λ t. rw t refl) (λ f. rw (f, hi) refl)
+
+-- each number is that of a queue
+numbered : (to : ℕ → ℕ) (qs : List ℕ) (k : ℕ) → is_in (map to qs) k ≡ true → (q : ℕ) × (is_in qs q ≡ true) × (to q ≡ k)
+numbered to [] k h = absurd (cc)
+numbered to (j ∷ qs) k h = split (to j == k)
+    (λ t. (j, rw (eq-eqb j j refl) refl, eqb-true _ _ t))
+    (λ f. let rest : is_in (map to qs) k ≡ true = rw f at h in
+    let found = numbered to qs k rest in
+    (found.0, split (j == found.0) (λ t. rw t refl) (λ n. rw (n, found.1) refl), found.2))
+
+-- the relation -------------------------------------------------------------------------------------------------------------
+
+pub equivalent-self : (x : Past) → Legal x → Equivalent x x
+equivalent-self x legal = record {
+  to = λ q. q;
+  equivalent = record {
+    legal = (legal, legal);
+    structure = record {
+      names = λ name. sym (some-self (bound_queue x name));
+      descriptors = λ p d. sym (held-self (held x p d));
+      queues = sym (map-self (alive x));
+      limits = λ q inside. refl;
+    };
+    messages = λ q inside. refl;
+    sending = λ q inside. refl;
+    receiving = λ q inside. refl;
+    registrations = λ q inside. refl;
+    values = λ p. refl;
+    waits = λ p. refl;
+    rooms = λ p. refl;
+    deadlines = λ p. refl;
+    answered = λ p. refl;
+  };
+}
+
+pub equivalent-both : (x y z : Past) → Equivalent x y → Equivalent y z → Equivalent x z
+equivalent-both x y z f g = record {
+  to = λ q. g.to (f.to q);
+  equivalent = record {
+    legal = (f.equivalent.legal.0, g.equivalent.legal.1);
+    structure = record {
+      names = λ name. g.equivalent.structure.names name ∙ ap (option_map g.to) (f.equivalent.structure.names name) ∙ some-twice f.to g.to (bound_queue x name);
+      descriptors = λ p d. g.equivalent.structure.descriptors p d ∙ ap (option_map (renumbered g.to)) (f.equivalent.structure.descriptors p d) ∙ held-twice f.to g.to (held x p d);
+      queues = g.equivalent.structure.queues ∙ ap (map g.to) f.equivalent.structure.queues ∙ map-twice f.to g.to (alive x);
+      limits = λ q inside. g.equivalent.structure.limits (f.to q) (there q inside) ∙ f.equivalent.structure.limits q inside;
+    };
+    messages = λ q inside. g.equivalent.messages (f.to q) (there q inside) ∙ f.equivalent.messages q inside;
+    sending = λ q inside. g.equivalent.sending (f.to q) (there q inside) ∙ f.equivalent.sending q inside;
+    receiving = λ q inside. g.equivalent.receiving (f.to q) (there q inside) ∙ f.equivalent.receiving q inside;
+    registrations = λ q inside. g.equivalent.registrations (f.to q) (there q inside) ∙ f.equivalent.registrations q inside;
+    values = λ p. g.equivalent.values p ∙ f.equivalent.values p;
+    waits = λ p. g.equivalent.waits p ∙ f.equivalent.waits p;
+    rooms = λ p. g.equivalent.rooms p ∙ f.equivalent.rooms p;
+    deadlines = λ p. g.equivalent.deadlines p ∙ f.equivalent.deadlines p;
+    answered = λ p. g.equivalent.answered p ∙ f.equivalent.answered p;
+  };
+}
+  where
+    there : (q : ℕ) → is_in (alive x) q ≡ true → is_in (alive y) (f.to q) ≡ true
+    there q inside = subst (λ (qs : List ℕ). is_in qs (f.to q) ≡ true) (sym f.equivalent.structure.queues) (in-map f.to (alive x) q inside)
+
+module _ (x y : Past) (f : Equivalent x y) where
+  back : ℕ → ℕ
+  back = origin f.to (alive x)
+
+  back-is : (q : ℕ) → is_in (alive x) q ≡ true → back (f.to q) ≡ q
+  unfolding back
+  back-is q inside = origin-is f.to (alive x) (one-number f.to (alive x) (subst Falls f.equivalent.structure.queues (falls-alive y))) q inside
+
+  -- queue k of y is queue `back k` of x, and has its number there
+  from : (k : ℕ) → is_in (alive y) k ≡ true → (is_in (alive x) (back k) ≡ true) × (f.to (back k) ≡ k)
+  from k inside =
+      let n = numbered f.to (alive x) k (subst (λ (qs : List ℕ). is_in qs k ≡ true) f.equivalent.structure.queues inside) in
+      let is : back k ≡ n.0 = ap back (sym n.2) ∙ back-is n.0 n.1 in
+      (subst (λ (q : ℕ). is_in (alive x) q ≡ true) (sym is) n.1, ap f.to is ∙ n.2)
+
+  back-fact : {X : Type 0} (of_x of_y : ℕ → X) → ((q : ℕ) → is_in (alive x) q ≡ true → of_y (f.to q) ≡ of_x q) → (k : ℕ) → is_in (alive y) k ≡ true → of_x (back k) ≡ of_y k
+  back-fact of_x of_y same k inside = let n = from k inside in sym (same (back k) n.0) ∙ ap of_y n.1
+
+  name-back : (name : List ℕ) → bound_queue x name ≡ option_map back (bound_queue y name)
+  name-back name = by (bound_queue x name) refl ∙ sym (ap (option_map back) (f.equivalent.structure.names name))
+    where
+      by : (o : Option ℕ) → bound_queue x name ≡ o → o ≡ option_map back (option_map f.to o)
+      by None is = refl
+      by (Some q) is = ap (λ (k : ℕ). Some k) (sym (back-is q (needed-in x f.equivalent.legal.0 q (named-by x name q is))))
+
+  held-back : (p d : ℕ) → held x p d ≡ option_map (renumbered back) (held y p d)
+  held-back p d = by (held x p d) refl ∙ sym (ap (option_map (renumbered back)) (f.equivalent.structure.descriptors p d))
+    where
+      by : (o : Option Description) → held x p d ≡ o → o ≡ option_map (renumbered back) (option_map (renumbered f.to) o)
+      by None is = refl
+      by (Some h) is = λ i. Some (record { queue = sym (back-is h.queue (held-alive x f.equivalent.legal.0 p d h is)) i; access = h.access; nonblock = h.nonblock })
+
+  all-back : (qs : List ℕ) → ((q : ℕ) → is_in qs q ≡ true → is_in (alive x) q ≡ true) → qs ≡ map back (map f.to qs)
+  all-back [] some = refl
+  all-back (q ∷ qs) some =
+      let first : back (f.to q) ≡ q = back-is q (some q (rw (eq-eqb q q refl) refl)) in
+      let rest : qs ≡ map back (map f.to qs) = all-back qs (λ j h. some j (split (q == j) (λ t. rw t refl) (λ n. rw (n, h) refl))) in
+      λ i. sym first i ∷ rest i
+
+  pub equivalent-back : Equivalent y x
+  equivalent-back = record {
+    to = back;
+    equivalent = record {
+      legal = (f.equivalent.legal.1, f.equivalent.legal.0);
+      structure = record {
+        names = name-back;
+        descriptors = held-back;
+        queues = all-back (alive x) (λ q h. h) ∙ sym (ap (map back) f.equivalent.structure.queues);
+        limits = back-fact (attributes x) (attributes y) f.equivalent.structure.limits;
+      };
+      messages = back-fact (contents x) (contents y) f.equivalent.messages;
+      sending = back-fact (senders x) (senders y) f.equivalent.sending;
+      receiving = back-fact (receivers x) (receivers y) f.equivalent.receiving;
+      registrations = back-fact (registered_as x) (registered_as y) f.equivalent.registrations;
+      values = λ p. sym (f.equivalent.values p);
+      waits = λ p. sym (f.equivalent.waits p);
+      rooms = λ p. sym (f.equivalent.rooms p);
+      deadlines = λ p. sym (f.equivalent.deadlines p);
+      answered = λ p. sym (f.equivalent.answered p);
+    };
+  }
