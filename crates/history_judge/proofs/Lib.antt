@@ -9,3 +9,4 @@ pub mod Written
 pub mod Lines
 pub mod Strangers
 pub mod OwnNumbers
+pub mod LineLengths

@@ -1,148 +1,177 @@
 -- How a text is cut into the lines of calls: in one way only.
-use Rattle.std.proofs.Common.{◌≡◌, ◌<◌, ◌+◌, ◌∙◌, ◌++◌, ◌==◌, ℕ, true, false, List, [], ◌∷◌, length, map, arith, refl, ap, sym, append_assoc, append-nil}
-use Rattle.std.proofs.lemmas.Bool.{and_from}
-use Rattle.std.proofs.lemmas.Bool.Decides.{nat_tests}
+use Rattle.std.proofs.Common.{◌≡◌, ◌≢◌, ◌⊎◌, inl, inr, ◌<◌, ◌+◌, ◌∙◌, ◌++◌, ℕ, true, false, List, [], ◌∷◌, length, map, arith, refl, ap, sym, subst, append_assoc, append-nil, Result, Ok, Err, IfOk, IsErrOf, MatchResult, Vec}
+use Rattle.std.specs.declared.alloc.Global.{Global}
 use Rattle.std.proofs.lemmas.List.{length-append}
-use Rattle.std.specs.List.{list_all, join_with_byte}
-use Rattle.text_io.specs.Words.{Word}
+use Rattle.std.specs.List.{join_with_byte, list_all}
 use Rattle.script_text.specs.Script.{lines_of}
-use Rattle.journal_format.proofs.Splitting.{HasNoFeed, first-whole, no_feed}
-use Rattle.journal_format.proofs.WholeWords.{AreWords, IsWord, parts_none}
+use Rattle.journal_format.specs.Text.{can_go_on, has_feed, is_text_byte}
+use Rattle.journal_format.specs.declared.lines.TheConstants.{MOST_LINE}
+use Rattle.journal_format.specs.declared.fault.JournalFault.{JournalFault}
+use Rattle.journal_format.specs.declared.fault.JournalFault.TheVariants.{BadLine, Input, NoMemory}
+use Rattle.journal_format.proofs.Arriving.{EndsEarly, early_length, early_some, err_only, too_long}
+use Rattle.journal_format.proofs.Splitting.{HasNoFeed, all-append, feed_behind, feed_some, feedless-join, feeds, feeds-append, feeds-one, first_in, line-join, line-start, one_front, text-line}
 use Rattle.history_judge.specs.Fitting.{AllFit, Fits}
-use Rattle.history_judge.specs.HistoryFault.{StopsAt}
-use Rattle.history_judge.specs.Reading.{IsNoLine, IsOneOf}
+use Rattle.history_judge.specs.HistoryFault.{IsAtFault, StopsAt}
+use Rattle.history_judge.specs.Reading.{IsNoLine}
 use Rattle.history_judge.specs.Seen.{AreSameCalls, SeenCall, seen_call}
 use Rattle.history_judge.specs.Text.{called_words, history_text, line_text}
 use Rattle.history_judge.specs.declared.line.Called.{Called}
-use Rattle.history_judge.proofs.Written.{called-words}
+use Rattle.history_judge.proofs.Written.{called-words, same_line}
 
--- ---- feeds
+-- ---- the line of a call
 
-feedless : (bytes : List ℕ) → list_all parts_none bytes ≡ true → HasNoFeed bytes
-feedless [] none = refl
-feedless (b ∷ bytes) none =
-    let here : no_feed b ≡ true = grind (arith, nat_tests) in
-    let rest : list_all parts_none bytes ≡ true = grind (arith, nat_tests) in
-    and_from (no_feed b) (list_all no_feed bytes) here (feedless bytes rest)
-
-feedless_word : (w : Word) → IsWord w → HasNoFeed w
-feedless_word w word = feedless w (grind (arith, nat_tests))
-
-feedless-append : (xs ys : List ℕ) → HasNoFeed xs → HasNoFeed ys → HasNoFeed (xs ++ ys)
-feedless-append [] ys first second = second
-feedless-append (x ∷ xs) ys first second =
-    let here : no_feed x ≡ true = grind (arith, nat_tests) in
-    let rest : HasNoFeed xs = grind (arith, nat_tests) in
-    and_from (no_feed x) (list_all no_feed (xs ++ ys)) here (feedless-append xs ys rest second)
-
-feedless-join : (ws : List Word) → AreWords ws → HasNoFeed (join_with_byte 32 ws)
-feedless-join [] words = refl
-feedless-join (w ∷ []) words = feedless_word w words.0
-feedless-join (w ∷ v ∷ ws) words =
-    feedless-append w (32 ∷ join_with_byte 32 (v ∷ ws)) (feedless_word w words.0) (feedless-join (v ∷ ws) words.1)
-
--- ---- the line of a call comes first
-
-lines_of-front : (u rest : List ℕ) → HasNoFeed u → lines_of (u ++ 10 ∷ rest) ≡ (u ++ 10 ∷ []) ∷ lines_of rest
-lines_of-front [] rest none = refl
-lines_of-front (b ∷ u) rest none =
-    let other : (b == 10) ≡ false = grind (arith, nat_tests) in
-    let behind : HasNoFeed u = grind (arith, nat_tests) in
-    rw (other, lines_of-front u rest behind) refl
-
-line-first : (c : Called) (others : List ℕ) → Fits c → lines_of (line_text c ++ others) ≡ line_text c ∷ lines_of others
-unfolding line_text
-line-first c others fits =
-    rw append_assoc (lines_of-front (join_with_byte 32 (called_words c)) others (feedless-join (called_words c) (called-words c fits)))
+front-feedless : (c : Called) → Fits c → HasNoFeed (join_with_byte 32 (called_words c))
+front-feedless c fits = feedless-join (called_words c) (called-words c fits)
 
 line-some : (c : Called) (others : List ℕ) → 0 < length (line_text c ++ others)
 unfolding line_text
 line-some c others = simp (length-append) (omega arith)
 
-behind_same : (xs ys zs : List ℕ) → xs ++ ys ≡ xs ++ zs → ys ≡ zs
-behind_same [] ys zs same = same
-behind_same (x ∷ xs) ys zs same = behind_same xs ys zs (cc)
+-- the lines of a history have only bytes of lines
+pub history-text : (calls : List Called) → AllFit calls → list_all is_text_byte (history_text calls) ≡ true
+unfolding line_text
+history-text [] fits = refl
+history-text (c ∷ calls) fits =
+    let u = join_with_byte 32 (called_words c) in
+    let line : list_all is_text_byte (u ++ 10 ∷ []) ≡ true = all-append is_text_byte u (10 ∷ []) (text-line u (line-join (called_words c) (called-words c fits.0))) refl in
+    all-append is_text_byte (u ++ 10 ∷ []) (history_text calls) line (history-text calls fits.1)
 
--- a text that begins with the line of a call has it as its first one
-is_first : (rest line others behind : List ℕ) (c : Called) → Fits c → lines_of rest ≡ line ∷ lines_of others → rest ≡ line_text c ++ behind → line ≡ line_text c
-is_first rest line others behind c fits lines is =
-    let first : lines_of rest ≡ line_text c ∷ lines_of behind = ap lines_of is ∙ line-first c behind fits in
-    let both : line ∷ lines_of others ≡ line_text c ∷ lines_of behind = sym lines ∙ first in
-    cc
+-- bytes that no line has begin none, whatever comes after them
+no_line : (rest more : List ℕ) → has_feed rest ≡ false → can_go_on rest ≡ false → (c : Called) (behind : List ℕ) → Fits c → rest ++ more ≢ line_text c ++ behind
+unfolding line_text
+no_line rest more none bad c behind fits is =
+    let u = join_with_byte 32 (called_words c) in
+    let good : can_go_on rest ≡ true = line-start rest more u behind none (line-join (called_words c) (called-words c fits)) (is ∙ append_assoc u (10 ∷ []) behind) in
+    let both : false ≡ true = sym bad ∙ good in cc
 
-is_behind : (rest line others behind : List ℕ) (c : Called) → lines_of rest ≡ line ∷ lines_of others → rest ≡ line_text c ++ behind → line ≡ line_text c → others ≡ behind
-is_behind rest line others behind c lines is first =
-    let whole : rest ≡ line_text c ++ others = first-whole rest line others lines ∙ ap (λ t. t ++ others) first in
-    behind_same (line_text c) others behind (sym whole ∙ is)
+-- each line of a history has one feed
+pub feeds-history : (calls : List Called) → AllFit calls → feeds (history_text calls) ≡ length calls
+unfolding line_text
+feeds-history [] fits = refl
+feeds-history (c ∷ calls) fits =
+    let line = join_with_byte 32 (called_words c) in
+    omega (arith, feeds-append (line ++ 10 ∷ []) (history_text calls), feeds-one line (front-feedless c fits.0), feeds-history calls fits.1)
 
--- ---- a history that was read so far
+line_feed : (c : Called) (behind : List ℕ) → has_feed (line_text c ++ behind) ≡ true
+unfolding line_text
+line_feed c behind =
+    let u = join_with_byte 32 (called_words c) in
+    ap has_feed (append_assoc u (10 ∷ []) behind) ∙ feed_behind u behind
 
--- the history goes on behind these calls, with what is left of its text
-pub record GoesOn (history calls : List Called) (rest : List ℕ) : Type 0 where
-  pub later : List Called
-  pub fits : AllFit later
-  pub same : map seen_call history ≡ map seen_call calls ++ map seen_call later
-  pub text : rest ≡ history_text later
+-- where two texts begin with the line of a call, the lines are one
+one_line : (c d : Called) (x y : List ℕ) → Fits c → Fits d → line_text c ++ x ≡ line_text d ++ y → (line_text c ≡ line_text d) × (x ≡ y)
+unfolding line_text
+one_line c d x y c_fits d_fits same =
+    let u = join_with_byte 32 (called_words c) in
+    let v = join_with_byte 32 (called_words d) in
+    let both : u ++ 10 ∷ x ≡ v ++ 10 ∷ y = sym (append_assoc u (10 ∷ []) x) ∙ same ∙ append_assoc v (10 ∷ []) y in
+    let fronts = one_front u v x y (front-feedless c c_fits) (front-feedless d d_fits) both in
+    (ap (λ t. t ++ 10 ∷ []) fronts.0, fronts.1)
 
--- every history with this text goes on so
-abbrev pub EachGoesOn : List ℕ → List Called → List ℕ → Type 0
-EachGoesOn text calls rest = (history : List Called) → AllFit history → text ≡ history_text history → GoesOn history calls rest
+-- ---- what a reader finds
 
-pub from_start : (text : List ℕ) (calls : List Called) → calls ≡ [] → EachGoesOn text calls text
-from_start text calls none history fits is =
-    record { later = history; fits = fits; same = ap (λ (cs : List Called). map seen_call cs ++ map seen_call history) (sym none); text = is }
+-- the calls of two histories with one text are the same
+one_history : (a b : List Called) → AllFit a → AllFit b → history_text a ≡ history_text b → AreSameCalls a b
+one_history [] [] a_fits b_fits same = refl
+one_history [] (d ∷ b) a_fits b_fits same = let some = line-some d (history_text b) in absurd (omega (arith, ap length same, some))
+one_history (c ∷ a) [] a_fits b_fits same = let some = line-some c (history_text a) in absurd (omega (arith, ap length same, some))
+one_history (c ∷ a) (d ∷ b) a_fits b_fits same =
+    let both = one_line c d (history_text a) (history_text b) a_fits.0 b_fits.0 same in
+    ap (λ (s : SeenCall). s ∷ map seen_call a) (same_line c d a_fits.0 b_fits.0 both.0)
+    ∙ ap (λ t. seen_call d ∷ t) (one_history a b a_fits.1 b_fits.1 both.1)
 
-seen-last : (calls : List Called) (called : Called) (later : List SeenCall) → map seen_call (calls ++ called ∷ []) ++ later ≡ map seen_call calls ++ (seen_call called ∷ later)
-seen-last [] called later = refl
-seen-last (c ∷ calls) called later = ap (λ t. seen_call c ∷ t) (seen-last calls called later)
+stopped : (calls a : List Called) (rest : List ℕ) → AllFit calls → AllFit a → 0 < length rest → ((c : Called) (others : List ℕ) → Fits c → rest ≢ line_text c ++ others) → history_text calls ++ rest ≡ history_text a → ⊥
+stopped [] [] rest fits a_fits some none same = omega (arith, ap length same, some)
+stopped [] (d ∷ a) rest fits a_fits some none same = none d (history_text a) a_fits.0 same
+stopped (c ∷ calls) [] rest fits a_fits some none same =
+    let more = line-some c (history_text calls ++ rest) in
+    omega (arith, ap length (sym (append_assoc (line_text c) (history_text calls) rest) ∙ same), more)
+stopped (c ∷ calls) (d ∷ a) rest fits a_fits some none same =
+    let both = one_line c d (history_text calls ++ rest) (history_text a) fits.0 a_fits.0 (sym (append_assoc (line_text c) (history_text calls) rest) ∙ same) in
+    stopped calls a rest fits.1 a_fits.1 some none both.1
 
-next : (history calls new : List Called) (called : Called) (rest line others : List ℕ) (later : List Called) → AllFit later → map seen_call history ≡ map seen_call calls ++ map seen_call later → rest ≡ history_text later → 0 < length rest → lines_of rest ≡ line ∷ lines_of others → IsOneOf line called → new ≡ calls ++ called ∷ [] → GoesOn history new others
-next history calls new called rest line others [] fits same text some lines one pushed = absurd (omega (arith, ap length text, some))
-next history calls new called rest line others (c ∷ later) fits same text some lines one pushed =
-    let first : line ≡ line_text c = is_first rest line others (history_text later) c fits.0 lines text in
-    let seen : seen_call called ≡ seen_call c = one c fits.0 first in
-    record {
-      later = later;
-      fits = fits.1;
-      same = same ∙ ap (λ (s : SeenCall). map seen_call calls ++ (s ∷ map seen_call later)) (sym seen)
-          ∙ sym (seen-last calls called (map seen_call later))
-          ∙ ap (λ (cs : List Called). map seen_call cs ++ map seen_call later) (sym pushed);
-      text = is_behind rest line others (history_text later) c lines text first;
-    }
+-- a text that stops to be a history's is none
+stops_none : (line : ℕ) (text : List ℕ) (a : List Called) → StopsAt line text → AllFit a → text ≡ history_text a → ⊥
+stops_none line text a stops fits is = stopped stops.calls a stops.rest stops.fits fits stops.some stops.none (sym stops.whole ∙ is)
 
--- a history that was read up to a line, read up to the next one
-pub goes_on : (text rest line others : List ℕ) (calls new : List Called) (called : Called) → EachGoesOn text calls rest → 0 < length rest → lines_of rest ≡ line ∷ lines_of others → IsOneOf line called → new ≡ calls ++ called ∷ [] → EachGoesOn text new others
-goes_on text rest line others calls new called on some lines one pushed history fits is =
-    let before = on history fits is in
-    next history calls new called rest line others before.later before.fits before.same before.text some lines one pushed
+pub found_of : (result : Result (Vec Called Global) JournalFault) (calls : Vec Called Global) (text rest : List ℕ) → text ≡ history_text calls.items ++ rest → IfOk result (λ read. (read ≡ calls) × (rest ≡ [])) → IfOk result (λ read. text ≡ history_text read.items)
+found_of (Err fault) calls text rest is whole = tt
+found_of (Ok read) calls text rest is whole =
+    is ∙ ap (λ t. history_text calls.items ++ t) whole.1 ∙ append-nil (history_text calls.items) ∙ ap (λ (cs : Vec Called Global). history_text cs.items) (sym whole.0)
 
-ended : (history calls : List Called) (rest : List ℕ) (later : List Called) → map seen_call history ≡ map seen_call calls ++ map seen_call later → rest ≡ history_text later → length rest ≡ 0 → AreSameCalls calls history
-ended history calls rest [] same text none = sym (same ∙ append-nil (map seen_call calls))
-ended history calls rest (c ∷ later) same text none = let some = line-some c (history_text later) in absurd (omega (arith, ap length text, some, none))
+pub fits_of : (result : Result (Vec Called Global) JournalFault) (calls : Vec Called Global) (rest : List ℕ) → AllFit calls.items → IfOk result (λ read. (read ≡ calls) × (rest ≡ [])) → IfOk result (λ read. AllFit read.items)
+fits_of (Err fault) calls rest fits whole = tt
+fits_of (Ok read) calls rest fits whole = subst (λ (cs : Vec Called Global). AllFit cs.items) (sym whole.0) fits
 
--- where nothing is left, it was read
-pub whole_read : (text rest : List ℕ) (calls history : List Called) → EachGoesOn text calls rest → length rest ≡ 0 → AllFit history → text ≡ history_text history → AreSameCalls calls history
-whole_read text rest calls history on none fits is =
-    let end = on history fits is in
-    ended history calls rest end.later end.same end.text none
+pub stops_from_start : (line : ℕ) (text : List ℕ) (start : List Called) → start ≡ [] → StopsAt line (history_text start ++ (text ++ [])) → StopsAt line text
+stops_from_start line text start none stops = subst (StopsAt line) (ap (λ (cs : List Called). history_text cs ++ (text ++ [])) none ∙ append-nil text) stops
 
--- ---- a line that is none
+-- the same of an input in which no more is read
+pub found_at_end : (result : Result (Vec Called Global) JournalFault) (calls : Vec Called Global) (text rest : List ℕ) →
+    (text ≡ history_text calls.items ++ rest) ⊎ EndsEarly rest (history_text calls.items ++ rest) text → IfOk result (λ read. (read ≡ calls) × (rest ≡ [])) → IfOk result (λ read. text ≡ history_text read.items)
+found_at_end result calls text rest (inl all) whole = found_of result calls text rest all whole
+found_at_end (Err fault) calls text rest (inr end) whole = tt
+found_at_end (Ok read) calls text rest (inr end) whole = absurd (early_some rest (history_text calls.items ++ rest) text end whole.1)
 
-stopped : (rest line others : List ℕ) (later : List Called) → AllFit later → rest ≡ history_text later → 0 < length rest → lines_of rest ≡ line ∷ lines_of others → IsNoLine line → ⊥
-stopped rest line others [] fits text some lines none = omega (arith, ap length text, some)
-stopped rest line others (c ∷ later) fits text some lines none = none c fits.0 (is_first rest line others (history_text later) c fits.0 lines text)
+early_fault : (line : ℕ) (calls : List Called) (rest more : List ℕ) → AllFit calls → has_feed rest ≡ false → line ≡ length calls + 1 →
+    (MOST_LINE < length rest) ⊎ (can_go_on rest ≡ false) → IsAtFault line (history_text calls ++ (rest ++ more))
+early_fault line calls rest more fits none number (inl long) =
+    inr (record { calls = calls; rest = rest ++ more; fits = fits; whole = refl; line_is = number; long = too_long rest more long none })
+early_fault line calls rest more fits none number (inr bad) = inl (record {
+  calls = calls;
+  rest = rest ++ more;
+  fits = fits;
+  whole = refl;
+  line_is = number;
+  some = omega (arith, length-append rest more, early_length rest bad);
+  none = no_line rest more none bad;
+})
 
-pub no_history : (text rest line others : List ℕ) (calls history : List Called) → EachGoesOn text calls rest → 0 < length rest → lines_of rest ≡ line ∷ lines_of others → IsNoLine line → AllFit history → text ≡ history_text history → ⊥
-no_history text rest line others calls history on some lines none fits is =
-    let end = on history fits is in
-    stopped rest line others end.later end.fits end.text some lines none
+pub at_fault_at_end : (line : ℕ) (calls : List Called) (text rest : List ℕ) → AllFit calls → has_feed rest ≡ false → line ≡ length calls + 1 →
+    (text ≡ history_text calls ++ rest) ⊎ EndsEarly rest (history_text calls ++ rest) text → StopsAt line (history_text calls ++ rest) → IsAtFault line text
+at_fault_at_end line calls text rest fits none number (inl all) stops = inl (subst (StopsAt line) (sym all) stops)
+at_fault_at_end line calls text rest fits none number (inr end) stops =
+    let whole : text ≡ history_text calls ++ (rest ++ end.more) = end.whole ∙ append_assoc (history_text calls) rest end.more in
+    subst (IsAtFault line) (sym whole) (early_fault line calls rest end.more fits none number end.why)
 
-pub stops_here : (number : ℕ) (text rest line others : List ℕ) (calls : List Called) → text ≡ history_text calls ++ rest → number ≡ length calls + 1 → 0 < length rest → lines_of rest ≡ line ∷ lines_of others → IsNoLine line → StopsAt number text
-stops_here number text rest line others calls so_far count some lines none = record {
+-- where the text is a history's, its calls are read, or memory is refused
+pub only_from : (result : Result (Vec Called Global) JournalFault) (text : List ℕ) (history : List Called) → AllFit history → text ≡ history_text history →
+    IfOk result (λ calls. text ≡ history_text calls.items) → IfOk result (λ calls. AllFit calls.items) →
+    ((line : ℕ) → IsErrOf result (BadLine line) → StopsAt line text) → (IsErrOf result Input → ⊥) →
+    MatchResult result (λ calls. AreSameCalls calls.items history) (λ fault. fault ≡ NoMemory)
+only_from (Ok calls) text history fits is found all stops no_input = one_history calls.items history all fits (sym found ∙ is)
+only_from (Err fault) text history fits is found all stops no_input =
+    err_only fault
+    (λ line bad. let named : IsErrOf {T = Vec Called Global} (Err fault) (BadLine line) = ap (λ e. Err e) bad in stops_none line text history (stops line named) fits is)
+    (λ bad. no_input (ap (λ e. Err e) bad))
+
+-- ---- where it stops
+
+none_in : (rest line others more : List ℕ) → has_feed rest ≡ true → lines_of rest ≡ line ∷ lines_of others → IsNoLine line → (c : Called) (behind : List ℕ) → Fits c → rest ++ more ≢ line_text c ++ behind
+unfolding line_text
+none_in rest line others more some lines none c behind fits is =
+    none c fits (first_in rest line others more (join_with_byte 32 (called_words c)) behind some lines (front-feedless c fits) is)
+
+-- at the next line, whatever comes after it
+pub stops_in : (line : ℕ) (text rest first others more : List ℕ) (calls : List Called) → text ≡ history_text calls ++ rest → AllFit calls → line ≡ length calls + 1 → has_feed rest ≡ true → lines_of rest ≡ first ∷ lines_of others → IsNoLine first → StopsAt line (text ++ more)
+stops_in line text rest first others more calls so_far fits number some lines none = record {
+  calls = calls;
+  rest = rest ++ more;
+  fits = fits;
+  whole = ap (λ t. t ++ more) so_far ∙ append_assoc (history_text calls) rest more;
+  line_is = number;
+  some = feed_some rest more some;
+  none = none_in rest first others more some lines none;
+}
+
+-- with a line that lacks its feed
+pub stops_short : (line : ℕ) (rest : List ℕ) (calls : List Called) → AllFit calls → line ≡ length calls + 1 → 0 < length rest → has_feed rest ≡ false → StopsAt line (history_text calls ++ rest)
+stops_short line rest calls fits number some short = record {
   calls = calls;
   rest = rest;
-  whole = so_far;
-  line_is = count;
+  fits = fits;
+  whole = refl;
+  line_is = number;
   some = some;
-  none = λ c behind fits is. none c fits (is_first rest line others behind c fits lines is);
+  none = λ c behind c_fits is. let feed : has_feed rest ≡ true = ap has_feed is ∙ line_feed c behind in let no : false ≡ true = sym short ∙ feed in cc;
 }

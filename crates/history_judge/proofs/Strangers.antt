@@ -1,8 +1,8 @@
 -- Calls of processes from 1 to 32 alone.
-use Rattle.std.proofs.Common.{◌≡◌, ℕ, ◌+◌, Bool, true, false, not, ◌&&◌, cond, List, [], ◌∷◌, length, Option, Some, None, map, refl, ap, sym, ◌∙◌, slice_get, if◌then◌else◌, nat_le}
-use Rattle.std.specs.List.{list_all, position, position_from}
-use Rattle.std.proofs.lemmas.Iterator.Adapters.{position_from-zero}
+use Rattle.std.proofs.Common.{◌≡◌, ℕ, ◌+◌, Bool, true, false, ◌&&◌, List, [], ◌∷◌, Option, Some, None, refl, ap, sym, ◌∙◌, slice_get, if◌then◌else◌, nat_le}
+use Rattle.std.specs.List.{list_all}
 use Rattle.std.proofs.lemmas.List.Folds.{list_all-map}
+use Rattle.history_judge.specs.Fitting.{AllFit}
 use Rattle.history_judge.specs.Fronts.{Return, front_from, front_or, front_part, had_returned, under_way}
 use Rattle.history_judge.specs.Processes.{AreOfProcesses, is_process}
 use Rattle.history_judge.specs.Seen.{AreSameCalls, SeenCall, seen_call}
@@ -10,19 +10,6 @@ use Rattle.history_judge.specs.declared.line.Called.{Called}
 
 abbrev own : Called → Bool
 own c = is_process c.process
-
-one-more : (is : Bool) (i : ℕ) (rest : Option ℕ) (all : Bool) → cond (not is) (Some i) rest ≡ None → (rest ≡ None → all ≡ true) → (is && all) ≡ true
-one-more true i rest all none more = more none
-one-more false i rest all none more = absurd (cc)
-
-no-stranger-from : (i : ℕ) (calls : List Called) → position_from (λ c. not (own c)) i calls ≡ None → AreOfProcesses calls
-no-stranger-from i [] none = refl
-no-stranger-from i (c ∷ calls) none =
-    one-more (own c) i (position_from (λ d. not (own d)) (i + 1) calls) (list_all own calls) none (no-stranger-from (i + 1) calls)
-
--- where there is no first call of another process
-pub no-stranger : (calls : List Called) → position (λ c. not (is_process c.process)) calls ≡ None → AreOfProcesses calls
-no-stranger calls none = no-stranger-from 0 calls (sym (position_from-zero (λ c. not (own c)) calls) ∙ none)
 
 -- of calls that are seen alike
 pub of-processes-alike : (xs ys : List Called) → AreSameCalls xs ys → AreOfProcesses ys → AreOfProcesses xs
@@ -37,6 +24,11 @@ split false b e = absurd (cc)
 both : (a b : Bool) → a ≡ true → b ≡ true → (a && b) ≡ true
 both true b p q = q
 both false b p q = absurd (cc)
+
+-- calls that a history can have
+pub of-fitting : (calls : List Called) → AllFit calls → AreOfProcesses calls
+of-fitting [] fits = refl
+of-fitting (c ∷ calls) fits = both (own c) (list_all own calls) fits.0.process (of-fitting calls fits.1)
 
 one-of : (returned began : Bool) (c : Called) (calls : List Called) → own c ≡ true → AreOfProcesses calls →
     AreOfProcesses (if returned then c ∷ calls else if began then under_way c ∷ calls else calls)

@@ -1,6 +1,6 @@
 -- The text of several calls.
 use Rattle.std.proofs.Common.{◌≡◌, ◌++◌, List, ℕ, [], ◌∷◌, ap, sym, ◌∙◌, append_assoc, append-nil}
-use Rattle.history_judge.specs.Fitting.{AllEndLast, EndsLast}
+use Rattle.history_judge.specs.Fitting.{AllFit, Fits}
 use Rattle.history_judge.specs.Text.{history_text, line_text}
 use Rattle.history_judge.specs.declared.line.Called.{Called}
 
@@ -18,7 +18,7 @@ next_line text rest line others calls c so_far whole is =
     ∙ sym (append_assoc (history_text calls) (line_text c) others)
     ∙ ap (λ t. t ++ others) (sym (history_text-last calls c))
 
--- one call more that had returned, or ended at the greatest moment
-pub last-more : (calls : List Called) (c : Called) → AllEndLast calls → EndsLast c → AllEndLast (calls ++ c ∷ [])
-last-more [] c all one = (one, tt)
-last-more (d ∷ calls) c all one = (all.0, last-more calls c all.1 one)
+-- one call more whose numbers fit
+pub fits-more : (calls : List Called) (c : Called) → AllFit calls → Fits c → AllFit (calls ++ c ∷ [])
+fits-more [] c all one = (one, tt)
+fits-more (d ∷ calls) c all one = (all.0, fits-more calls c all.1 one)

@@ -1,6 +1,7 @@
 -- A line reads as the call that it was written from.
 use Rattle.std.proofs.Common.{◌≡◌, ◌<◌, ◌^◌, ◌-◌, ◌∙◌, ◌++◌, ℕ, true, false, Bool, List, [], ◌∷◌, arith, refl, ap, sym, codes, Option, Some, None, All, IfSome, unwrap_or, if◌then◌else◌}
 use Rattle.std.proofs.lemmas.Bool.{lt-ltb}
+use Rattle.std.proofs.lemmas.Bool.Decides.{nat_tests}
 use Rattle.std.specs.Fmt.{decimal}
 use Rattle.std.specs.List.{join_with_byte}
 use Rattle.percent_encoding.specs.Percent.{percent_decode}
@@ -19,6 +20,7 @@ use Rattle.histories.specs.declared.operation.Outcome.{Outcome}
 use Rattle.histories.specs.declared.operation.Outcome.TheVariants.{Pending, Done, Opened, Got, Attributes, Notice, Refused}
 use Rattle.histories.specs.Histories.{is_pending}
 use Rattle.history_judge.specs.Fitting.{Fits, OutcomeFits}
+use Rattle.history_judge.specs.Processes.{is_process}
 use Rattle.history_judge.specs.Reading.{PartsSeen, Shown, called_of, outcome_at, parts_at, shown}
 use Rattle.history_judge.specs.Seen.{SeenCall, seen_call}
 use Rattle.history_judge.specs.Text.{called_words, end_of, line_text, message_of, result_words, words_between, written_reply}
@@ -66,10 +68,10 @@ result-words (Refused fault) fits = reply-words (reply.Refused fault) tt
 
 -- ---- when it ended
 
-abbrev end_if : Bool → ℕ → Option ℕ
+abbrev pub end_if : Bool → ℕ → Option ℕ
 end_if pending end = if pending then None else Some end
 
-end_fits : (pending : Bool) (end : ℕ) → end < 2 ^ 64 → IfSome (end_if pending end) (λ n. n < 2 ^ 64)
+pub end_fits : (pending : Bool) (end : ℕ) → end < 2 ^ 64 → IfSome (end_if pending end) (λ n. n < 2 ^ 64)
 end_fits true end fits = tt
 end_fits false end fits = fits
 
@@ -78,6 +80,9 @@ end_again true end last = sym (last refl)
 end_again false end last = refl
 
 -- ---- a line
+
+pub process_fits : (p : ℕ) → is_process p ≡ true → p < 2 ^ 32
+process_fits p is = grind (arith, nat_tests)
 
 abbrev parts_from : Called → PartsSeen
 parts_from c = record {
@@ -97,7 +102,7 @@ parts_again c fits =
     let behind = payload_words o.given.items ++ codes "->" ∷ result in
     let end : IfSome (end_of o) (λ n. n < 2 ^ 64) = end_fits (is_pending o.outcome) o.end fits.end in
     rw (
-      small_at_again c.process (decimal o.begin ∷ number_or (codes "-") (end_of o) ∷ call_words o.call ++ behind) fits.process,
+      small_at_again c.process (decimal o.begin ∷ number_or (codes "-") (end_of o) ∷ call_words o.call ++ behind) (process_fits c.process fits.process),
       place_at_again o.begin (number_or (codes "-") (end_of o) ∷ call_words o.call ++ behind) fits.begin,
       number_or_at_again (codes "-") (end_of o) (call_words o.call ++ behind) refl refl end,
       call_again o.call behind fits.call (no_limit o.given.items result),
@@ -109,7 +114,7 @@ pub called-words : (c : Called) → Fits c → AreWords (called_words c)
 called-words c fits =
     let o = c.operation in
     let result = result_words (written_reply o.outcome) (message_of o.outcome) in
-    let small : c.process < 2 ^ 64 = omega (arith, fits.process) in
+    let small : c.process < 2 ^ 64 = omega (arith, process_fits c.process fits.process) in
     let end : IfSome (end_of o) (λ n. n < 2 ^ 64) = end_fits (is_pending o.outcome) o.end fits.end in
     let behind : AreWords (payload_words o.given.items ++ codes "->" ∷ result) =
     words-append (payload_words o.given.items) (codes "->" ∷ result) (payload-words o.given.items) (refl, result-words o.outcome fits.outcome) in (
@@ -160,6 +165,13 @@ outcome_is c line words p fits cut is read =
 -- words without the parts of a line are no call's
 pub no_parts : (c : Called) (line : List ℕ) (words : List Word) → Fits c → words ≡ words_of line → line ≡ line_text c → parts_at words ≡ None → ⊥
 no_parts c line words fits cut is none = let some = parts_are c line words fits cut is in cc
+
+-- nor are those of another process
+pub no_process : (c : Called) (line : List ℕ) (words : List Word) (p : PartsSeen) → Fits c → words ≡ words_of line → line ≡ line_text c → parts_at words ≡ Some p → is_process p.process ≡ false → ⊥
+no_process c line words p fits cut is read other =
+    let same : p ≡ parts_from c = some_is p (parts_from c) (sym read ∙ parts_are c line words fits cut is) in
+    let own : is_process p.process ≡ true = ap (λ (q : PartsSeen). is_process q.process) same ∙ fits.process in
+    let no : true ≡ false = sym own ∙ other in cc
 
 -- nor are those whose last ones no call came to
 pub no_outcome : (c : Called) (line : List ℕ) (words : List Word) (p : PartsSeen) → Fits c → words ≡ words_of line → line ≡ line_text c → parts_at words ≡ Some p → outcome_at p.result ≡ None → ⊥
@@ -246,3 +258,11 @@ line_by-is c = ap (λ end. line_by (seen_call c) end) (end_by-is c.operation.end
 
 pub one_line : (a b : Called) → seen_call a ≡ seen_call b → line_text a ≡ line_text b
 one_line a b same = line_by-is a ∙ ap (λ (c : SeenCall). line_by c (end_by c.operation.reply c.operation.end)) same ∙ sym (line_by-is b)
+
+-- ---- calls with one line are seen alike
+
+pub same_line : (c d : Called) → Fits c → Fits d → line_text c ≡ line_text d → seen_call c ≡ seen_call d
+same_line c d c_fits d_fits same =
+    let words = words_of (line_text c) in
+    sym (called_again c c_fits)
+    ∙ read_seen d (line_text c) words (parts_from c) (shown c.operation.outcome) d_fits refl same (line_again c c_fits) (outcome_again c.operation.outcome c_fits.outcome)

@@ -1,11 +1,12 @@
--- The numbers of a call fit their types. Of a call that the program holds they always do, but for the moment at which a call that had
--- not returned ended: it has no place in a line.
+-- The calls that a history can have: of a process from 1 to 32, with numbers that fit their types. Those of a call that the program
+-- holds do, but for the moment at which a call that had not returned ended: it has no place in a line.
 use Rattle.std.specs.Prelude.{◌≡◌, ◌<◌, ◌-◌, ◌^◌, true, List, All, IfSome}
 use Rattle.std.specs.List.{AllByRecursion}
 use Rattle.journal_format.specs.Fitting.{CallFits, StatusFits}
 use Rattle.histories.specs.Histories.{is_pending}
 use Rattle.histories.specs.declared.operation.Outcome.{Outcome}
 use Rattle.histories.specs.declared.operation.Outcome.TheVariants.{Pending, Done, Opened, Got, Attributes, Notice, Refused}
+use Rattle.history_judge.specs.Processes.{is_process}
 use Rattle.history_judge.specs.declared.line.Called.{Called}
 
 abbrev pub OutcomeFits : Outcome → Type 0
@@ -21,9 +22,9 @@ OutcomeFits (Refused fault) = Unit {0}
 abbrev pub EndsLast : Called → Type 0
 EndsLast c = is_pending c.operation.outcome ≡ true → c.operation.end ≡ 2 ^ 64 - 1
 
--- the numbers of a call fit their types, and one that had not returned ended at the greatest moment
+-- the call is of a process from 1 to 32, its other numbers fit their types, and one that had not returned ended at the greatest moment
 pub record Fits (c : Called) : Type 0 where
-  pub process : c.process < 2 ^ 32
+  pub process : is_process c.process ≡ true
   pub begin : c.operation.begin < 2 ^ 64
   pub end : c.operation.end < 2 ^ 64
   pub call : CallFits c.operation.call
@@ -31,10 +32,6 @@ pub record Fits (c : Called) : Type 0 where
   pub outcome : OutcomeFits c.operation.outcome
   pub pending : EndsLast c
 
--- those of each call do
+-- so is each call
 abbrev pub AllFit : List Called → Type 0
 AllFit calls = AllByRecursion Fits calls
-
--- each that had not returned ended at the greatest moment
-abbrev pub AllEndLast : List Called → Type 0
-AllEndLast calls = AllByRecursion EndsLast calls

@@ -3,9 +3,11 @@
 
 pub mod contents;
 pub mod descriptors;
+mod fitting;
 pub mod front;
 pub mod guide;
 pub mod hints;
+pub mod input;
 pub mod judgement;
 pub mod line;
 pub mod outcome;

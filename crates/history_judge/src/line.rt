@@ -4,16 +4,18 @@ ghost use Rattle.std.specs.Option.{option_map};
 ghost use Rattle.journal_format.specs.Reading.{words_at};
 ghost use Rattle.journal_format.specs.Text.{number_or};
 ghost use Rattle.histories.specs.Histories.{is_pending};
-ghost use Rattle.history_judge.specs.Fitting.{EndsLast};
+ghost use Rattle.history_judge.specs.Fitting.{Fits};
 ghost use Rattle.history_judge.specs.Reading.{IsNoLine, IsOneOf, parts_at, parts_seen};
 ghost use Rattle.history_judge.specs.Text.{end_of, line_text};
 
+use crate::fitting::fits;
 use crate::outcome::{outcome_of, outcome_text};
 use histories::operation::{Operation, Outcome};
 use journal_format::call::{call_of, call_text};
 use journal_format::payload::payload_text;
 use journal_format::words::{number_of, number_or_of, quoted_of, small_number_of, word_of};
 use mq_model::entries::Call;
+use mq_model::forms::is_process;
 use percent_encoding::percent_decode;
 use std::alloc::{AllocError, Global};
 use text_io::words::words;
@@ -93,18 +95,22 @@ fn end_read(outcome: &Outcome, written: Option<u64>) -> u64
     }
 }
 
-/// The call whose line this is, if it is one. The line ends with its feed.
+/// The call of a process from 1 to 32 whose line this is, if it is one. The line ends with its
+/// feed.
 pub fn read_line(alloc: Global, line: &[u8]) -> Result<Option<Called>, AllocError>
     // What is read is written as it was.
     ensures found { IfOk result (λ read. IfSome read (λ called. line.now ≡ line_text called)) }
     // What was written is read as it was.
     ensures only { IfOk result (λ read. MatchOption read (IsNoLine line.now) (IsOneOf line.now)) }
-    ensures pending { IfOk result (λ read. IfSome read EndsLast) }
+    ensures fits { IfOk result (λ read. IfSome read Fits) }
 {
     let words = words(alloc, line)?;
     let Some(parts) = parts_of(words.as_slice()) else {
         return Ok(None);
     };
+    if !is_process(parts.process) {
+        return Ok(None);
+    }
     let Some(outcome) = outcome_of(alloc, parts.result)? else {
         return Ok(None);
     };
@@ -125,5 +131,6 @@ pub fn read_line(alloc: Global, line: &[u8]) -> Result<Option<Called>, AllocErro
     if written.as_bytes() != line {
         return Ok(None);
     }
+    fits(&called);
     Ok(Some(called))
 }

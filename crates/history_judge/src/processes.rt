@@ -1,19 +1,12 @@
 //! The calls of a history by the processes that made them.
-ghost use Rattle.std.specs.Prelude.{◌≡◌, ◌≤◌, ◌++◌, ◌∷◌, [], List, IfOk, OnOk, length, not, position};
+ghost use Rattle.std.specs.Prelude.{◌≡◌, ◌≤◌, ◌++◌, ◌∷◌, [], List, IfOk, OnOk, length};
 ghost use Rattle.history_judge.specs.declared.line.Called.{Called};
-ghost use Rattle.history_judge.specs.Processes.{AreByProcess, is_process, process_count};
+ghost use Rattle.history_judge.specs.Processes.{AreByProcess, process_count};
 
 use crate::line::Called;
 use histories::operation::Operation;
 use mq_model::forms::is_process;
 use std::alloc::{AllocError, Global};
-
-/// The index of the first call of a process that is none of 1 to 32.
-pub fn first_stranger(calls: &[Called]) -> Option<usize>
-    ensures { result ≡ position (λ called. not (is_process called.process)) calls.now }
-{
-    calls.iter().position(|called| !is_process(called.process))
-}
 
 /// How many processes there are: the greatest number of one.
 pub fn process_count(calls: &[Called]) -> u32

@@ -1,25 +1,31 @@
 -- A text that is read as it arrives.
-use Rattle.std.proofs.Common.{◌≡◌, ◌<◌, ◌≤◌, ◌+◌, ◌^◌, ◌∙◌, ◌++◌, ℕ, zero, suc, List, [], ◌∷◌, length, take, arith, refl, ap, sym, subst, Option, Some, None, Result, Ok, Err, IfOk, IsErrOf, MatchResult, append-nil}
+use Rattle.std.proofs.Common.{◌≡◌, ◌<◌, ◌≤◌, ◌+◌, ◌-◌, ◌⊎◌, ◌||◌, ◌==◌, ◌^◌, true, false, ◌∙◌, ◌++◌, ℕ, zero, suc, List, [], ◌∷◌, length, length-append, take, inl, inr, arith, refl, ap, sym, subst, Option, Some, None, Result, Ok, Err, IfOk, IsErrOf, MatchResult, append-nil, append_assoc}
 use Rattle.std.specs.Io.KnownBytes.{Consumes, IsAtEnd}
+use Rattle.std.specs.List.{list_all}
+use Rattle.std.proofs.lemmas.Bool.Decides.{nat_tests}
+use Rattle.std.proofs.lemmas.List.{take-append-le}
+use Rattle.std.proofs.lemmas.List.Folds.{list_any-append}
 use Rattle.mq_model.specs.Record.{Past}
 use Rattle.mq_model.specs.declared.journals.Journal.{Journal}
 use Rattle.journal_format.specs.Fitting.{AllFit}
-use Rattle.journal_format.specs.JournalFault.{StopsAt}
-use Rattle.journal_format.specs.Text.{journal_text}
+use Rattle.journal_format.specs.JournalFault.{IsAtFault, StopsAt}
+use Rattle.journal_format.specs.Lines.{HasEnded, HasNewLine, HasRead, IsTooLong, ReadsUpTo}
+use Rattle.journal_format.specs.Text.{can_go_on, has_feed, is_text_byte, journal_text}
+use Rattle.journal_format.specs.declared.lines.TheConstants.{CHUNK, MOST_BYTES, MOST_LINE}
 use Rattle.journal_format.specs.declared.fault.JournalFault.{JournalFault}
 use Rattle.journal_format.specs.declared.fault.JournalFault.TheVariants.{BadLine, Input, NoMemory}
 use Rattle.text_io.proofs.KnownBytes.{Consumes-more}
-use Rattle.journal_format.proofs.Splitting.{one_journal, stops_none}
+use Rattle.journal_format.proofs.Splitting.{all-append, feeds, feeds-append, feeds-unseen, left_short, no_line, one_journal, stops_none, text-line}
 
 -- ---- what was read, and what is left
 
 -- these bytes stand first in all, and the others are left
-pub record IsFront (xs all : List ℕ) (new : Option (List ℕ)) : Type 0 where
-  pub left : List ℕ
-  pub whole : all ≡ xs ++ left
-  pub is : new ≡ Some left
+record IsFront (xs all : List ℕ) (new : Option (List ℕ)) : Type 0 where
+  left : List ℕ
+  whole : all ≡ xs ++ left
+  is : new ≡ Some left
 
-pub front_of : (old new : Option (List ℕ)) (xs all : List ℕ) → old ≡ Some all → Consumes old new xs → IsFront xs all new
+front_of : (old new : Option (List ℕ)) (xs all : List ℕ) → old ≡ Some all → Consumes old new xs → IsFront xs all new
 front_of None new xs all known read = absurd (cc)
 front_of (Some a) None xs all known read = absurd read
 front_of (Some a) (Some b) xs all known read =
@@ -31,13 +37,8 @@ take-onto [] ys n k is = let same : n ≡ k = omega arith in ap (λ j. take j ys
 take-onto (x ∷ xs) ys zero k is = absurd (omega arith)
 take-onto (x ∷ xs) ys (suc n) k is = ap (λ t. x ∷ t) (take-onto xs ys n k (omega arith))
 
-pub take-front : (xs ys : List ℕ) (n : ℕ) → n ≤ length xs → take n (xs ++ ys) ≡ take n xs
-take-front [] ys n few = let zero_is : n ≡ 0 = omega (arith, few) in ap (λ k. take k ys) zero_is ∙ sym (ap (λ k. take k []) zero_is)
-take-front (x ∷ xs) ys zero few = refl
-take-front (x ∷ xs) ys (suc n) few = ap (λ t. x ∷ t) (take-front xs ys n (omega (arith, few)))
-
 -- of what is read at most, some was read and k more bytes may be
-pub front_taken : (xs all : List ℕ) (new : Option (List ℕ)) (n k : ℕ) → (front : IsFront xs all new) → length xs + k ≡ n → take n all ≡ xs ++ take k front.left
+front_taken : (xs all : List ℕ) (new : Option (List ℕ)) (n k : ℕ) → (front : IsFront xs all new) → length xs + k ≡ n → take n all ≡ xs ++ take k front.left
 front_taken xs all new n k front count = ap (take n) front.whole ∙ take-onto xs front.left n k count
 
 take_none : (k : ℕ) → ◌≡◌ {A = List ℕ} (take k []) []
@@ -48,20 +49,109 @@ none_left : (left : List ℕ) (new : Option (List ℕ)) → new ≡ Some left �
 none_left left None is at = absurd (cc)
 none_left left (Some b) is at = let same : b ≡ left = cc in sym same ∙ at
 
-pub all_at_end : (xs all : List ℕ) (new : Option (List ℕ)) (n k : ℕ) → IsFront xs all new → length xs + k ≡ n → IsAtEnd new → take n all ≡ xs
+all_at_end : (xs all : List ℕ) (new : Option (List ℕ)) (n k : ℕ) → IsFront xs all new → length xs + k ≡ n → IsAtEnd new → take n all ≡ xs
 all_at_end xs all new n k front count at =
     let none = none_left front.left new front.is at in
     front_taken xs all new n k front count ∙ ap (λ t. xs ++ take k t) none ∙ ap (λ t. xs ++ t) (take_none k) ∙ append-nil xs
 
-pub all_taken : (xs all : List ℕ) (new : Option (List ℕ)) (n : ℕ) → IsFront xs all new → length xs + 0 ≡ n → take n all ≡ xs
+all_taken : (xs all : List ℕ) (new : Option (List ℕ)) (n : ℕ) → IsFront xs all new → length xs + 0 ≡ n → take n all ≡ xs
 all_taken xs all new n front count = front_taken xs all new n 0 front count ∙ append-nil xs
 
--- a read that gave nothing, after others
-pub end_read : (start old new : Option (List ℕ)) (xs front all : List ℕ) (n k : ℕ) → start ≡ Some all → Consumes start old xs → Consumes old new front → front ≡ [] → IsAtEnd new → length xs + k ≡ n → take n all ≡ xs
-end_read start old new xs front all n k known before read none at count =
-    let both : Consumes start new (xs ++ front) = Consumes-more start old new xs front before read in
-    let whole : xs ++ front ≡ xs = ap (λ t. xs ++ t) none ∙ append-nil xs in
-    all_at_end xs all new n k (front_of start new xs all known (subst (Consumes start new) whole both)) count at
+-- nothing was read yet
+consumes_none : (now : Option (List ℕ)) (bytes : List ℕ) → bytes ≡ [] → Consumes now now bytes
+consumes_none None bytes none = tt
+consumes_none (Some xs) bytes none = ap (λ t. t ++ xs) (sym none)
+
+pub read_none : (now : Option (List ℕ)) (bytes : List ℕ) (left : ℕ) → bytes ≡ [] → left ≡ MOST_BYTES + 1 → HasRead now now bytes left
+read_none now bytes left none most = record { bytes_are = consumes_none now bytes none; count = omega (arith, ap length none, most) }
+
+-- a read that gave these bytes, after others
+pub read_more : (start old new : Option (List ℕ)) (front rest chunk more : List ℕ) (left count less : ℕ) → HasRead start old (front ++ rest) left →
+    Consumes old new chunk → length chunk ≡ count → count ≤ left → less ≡ left - count → more ≡ rest ++ chunk → HasRead start new (front ++ more) less
+read_more start old new front rest chunk more left count less was gave size most less_is more_is =
+    let text : (front ++ rest) ++ chunk ≡ front ++ more = append_assoc front rest chunk ∙ ap (λ t. front ++ t) (sym more_is) in
+    record {
+      bytes_are = subst (Consumes start new) text (Consumes-more start old new (front ++ rest) chunk was.bytes_are gave);
+      count = omega (arith, ap length text, length-append (front ++ rest) chunk, size, most, less_is, was.count);
+    }
+
+-- a read that gave nothing
+pub read_nothing : (start old new : Option (List ℕ)) (bytes chunk : List ℕ) (left : ℕ) → HasRead start old bytes left → Consumes old new chunk → chunk ≡ [] → HasRead start new bytes left
+read_nothing start old new bytes chunk left was gave none =
+    let both : Consumes start new (bytes ++ chunk) = Consumes-more start old new bytes chunk was.bytes_are gave in
+    let whole : bytes ++ chunk ≡ bytes = ap (λ t. bytes ++ t) none ∙ append-nil bytes in
+    record { bytes_are = subst (Consumes start new) whole both; count = was.count }
+
+-- where nothing more is read, these are all bytes
+pub all_read : (start now : Option (List ℕ)) (all bytes : List ℕ) (left : ℕ) → HasRead start now bytes left → start ≡ Some all → (left ≡ 0) ⊎ IsAtEnd now → take (MOST_BYTES + 1) all ≡ bytes
+all_read start now all bytes left read known (inl none) =
+    all_taken bytes all now _ (front_of start now bytes all known read.bytes_are) (ap (λ k. length bytes + k) (sym none) ∙ read.count)
+all_read start now all bytes left read known (inr at) = all_at_end bytes all now _ left (front_of start now bytes all known read.bytes_are) read.count at
+
+-- they come first, whatever more there is
+pub some_read : (start now : Option (List ℕ)) (all bytes : List ℕ) (left : ℕ) → HasRead start now bytes left → start ≡ Some all → (more : List ℕ) × (take (MOST_BYTES + 1) all ≡ bytes ++ more)
+some_read start now all bytes left read known =
+    let front = front_of start now bytes all known read.bytes_are in
+    (take left front.left, front_taken bytes all now _ left front read.count)
+
+-- these bytes come first, and the rest of them is too long for a line, or has a byte that no line has
+pub record EndsEarly (rest bytes text : List ℕ) : Type 0 where
+  pub more : List ℕ
+  pub whole : text ≡ bytes ++ more
+  pub why : (MOST_LINE < length rest) ⊎ (can_go_on rest ≡ false)
+
+-- where no more of a line is read, these are all bytes, or it is none, whatever more there is
+pub ended : (start now : Option (List ℕ)) (all front rest : List ℕ) (left : ℕ) → HasRead start now (front ++ rest) left → start ≡ Some all → HasEnded rest left now →
+    (take (MOST_BYTES + 1) all ≡ front ++ rest) ⊎ EndsEarly rest (front ++ rest) (take (MOST_BYTES + 1) all)
+ended start now all front rest left read known (inl none) = inl (all_read start now all (front ++ rest) left read known (inl none))
+ended start now all front rest left read known (inr (inl at)) = inl (all_read start now all (front ++ rest) left read known (inr at))
+ended start now all front rest left read known (inr (inr why)) =
+    let some = some_read start now all (front ++ rest) left read known in
+    inr (record { more = some.0; whole = some.1; why = why })
+
+-- then something is left
+pub early_some : (rest bytes text : List ℕ) → EndsEarly rest bytes text → rest ≡ [] → ⊥
+early_some rest bytes text end none = elim end.why [
+  | inl long ↦ omega (arith, long, ap length none)
+  | inr bad ↦ let both : false ≡ true = sym bad ∙ ap can_go_on none in cc
+]
+
+pub early_length : (rest : List ℕ) → can_go_on rest ≡ false → 0 < length rest
+early_length [] bad = absurd (cc)
+early_length (b ∷ rest) bad = omega arith
+
+take-feedless : (n : ℕ) (bytes : List ℕ) → has_feed bytes ≡ false → has_feed (take n bytes) ≡ false
+take-feedless zero bytes none = refl
+take-feedless (suc n) [] none = refl
+take-feedless (suc n) (b ∷ bytes) none =
+    let rest : has_feed bytes ≡ false = grind (arith, nat_tests) in
+    let later = take-feedless n bytes rest in
+    grind (arith, nat_tests)
+
+pub too_long : (rest more : List ℕ) → MOST_LINE < length rest → has_feed rest ≡ false → IsTooLong (rest ++ more)
+too_long rest more long none =
+    let some : MOST_LINE < length (rest ++ more) = omega (arith, length-append rest more, long) in
+    let first : take MOST_LINE (rest ++ more) ≡ take MOST_LINE rest = take-append-le MOST_LINE rest more (omega (arith, long)) in
+    (some, ap has_feed first ∙ take-feedless MOST_LINE rest none)
+
+-- what is left behind the lines that have come, came with the last read
+pub left_in_last : (xs ys bytes rest : List ℕ) → xs ++ bytes ≡ ys ++ rest → HasNewLine bytes → has_feed bytes ≡ true → has_feed rest ≡ false → length rest ≤ CHUNK
+left_in_last xs ys bytes rest same new some none =
+    let text : (xs ++ new.before) ++ new.last ≡ ys ++ rest = append_assoc xs new.before new.last ∙ ap (λ t. xs ++ t) (sym new.whole) ∙ same in
+    let parts : has_feed bytes ≡ (has_feed new.before || has_feed new.last) = ap has_feed new.whole ∙ list_any-append (λ b. b == 10) new.before new.last in
+    let last : has_feed new.last ≡ true = ap (λ t. t || has_feed new.last) (sym new.none) ∙ sym parts ∙ some in
+    omega (arith, left_short (xs ++ new.before) ys new.last rest text last none, new.size)
+
+-- a line is at fault among those that came with the last read, or behind them
+pub reads_up_to : (line : ℕ) (old now : Option (List ℕ)) (front rest : List ℕ) (left : ℕ) → HasRead old now (front ++ rest) left → HasNewLine rest → feeds front < line → list_all is_text_byte front ≡ true → ReadsUpTo line old now
+reads_up_to line old now front rest left read new few plain = record {
+  before = front ++ new.before;
+  last = new.last;
+  read = subst (Consumes old now) (ap (λ t. front ++ t) new.whole ∙ sym (append_assoc front new.before new.last)) read.bytes_are;
+  few = omega (arith, feeds-append front new.before, feeds-unseen new.before new.none, few);
+  plain = all-append is_text_byte front new.before plain (text-line new.before new.goes_on);
+  size = new.size;
+}
 
 -- ---- what a text that was read comes to
 
@@ -71,7 +161,35 @@ found_of (Ok read) journal text rest fits is whole =
     let text_is : text ≡ journal_text journal.records = is ∙ ap (λ t. journal_text journal.records ++ t) whole.1 ∙ append-nil (journal_text journal.records) in
     (subst (λ (j : Journal). AllFit j.records) (sym whole.0) fits, text_is ∙ ap (λ (j : Journal). journal_text j.records) (sym whole.0))
 
-err_only : (fault : JournalFault) → ((line : ℕ) → fault ≡ BadLine line → ⊥) → (fault ≡ Input → ⊥) → fault ≡ NoMemory
+-- the same of an input in which no more is read
+pub found_at_end : (result : Result Journal JournalFault) (journal : Journal) (text rest bytes : List ℕ) → AllFit journal.records → bytes ≡ journal_text journal.records ++ rest →
+    (text ≡ bytes) ⊎ EndsEarly rest bytes text → IfOk result (λ read. (read ≡ journal) × (rest ≡ [])) → IfOk result (λ read. AllFit read.records × (text ≡ journal_text read.records))
+found_at_end result journal text rest bytes fits is (inl all) whole = found_of result journal text rest fits (all ∙ is) whole
+found_at_end (Err fault) journal text rest bytes fits is (inr end) whole = tt
+found_at_end (Ok read) journal text rest bytes fits is (inr end) whole = absurd (early_some rest bytes text end whole.1)
+
+early_fault : (line : ℕ) (past : Past) (rest more : List ℕ) → AllFit past → length past < 2 ^ 64 → has_feed rest ≡ false → line ≡ length past + 1 →
+    (MOST_LINE < length rest) ⊎ (can_go_on rest ≡ false) → IsAtFault line (journal_text past ++ (rest ++ more))
+early_fault line past rest more fits small none number (inl long) =
+    inr (record { past = past; rest = rest ++ more; fits = fits; whole = refl; line_is = number; long = too_long rest more long none })
+early_fault line past rest more fits small none number (inr bad) = inl (record {
+  past = past;
+  rest = rest ++ more;
+  fits = fits;
+  whole = refl;
+  line_is = number;
+  some = omega (arith, length-append rest more, early_length rest bad);
+  none = no_line (length past) rest more small none bad;
+})
+
+pub at_fault_at_end : (line : ℕ) (past : Past) (text rest bytes : List ℕ) → AllFit past → length past < 2 ^ 64 → has_feed rest ≡ false → bytes ≡ journal_text past ++ rest → line ≡ length past + 1 →
+    (text ≡ bytes) ⊎ EndsEarly rest bytes text → StopsAt line bytes → IsAtFault line text
+at_fault_at_end line past text rest bytes fits small none is number (inl all) stops = inl (subst (StopsAt line) (sym all) stops)
+at_fault_at_end line past text rest bytes fits small none is number (inr end) stops =
+    let whole : text ≡ journal_text past ++ (rest ++ end.more) = end.whole ∙ ap (λ t. t ++ end.more) is ∙ append_assoc (journal_text past) rest end.more in
+    subst (IsAtFault line) (sym whole) (early_fault line past rest end.more fits small none number end.why)
+
+pub err_only : (fault : JournalFault) → ((line : ℕ) → fault ≡ BadLine line → ⊥) → (fault ≡ Input → ⊥) → fault ≡ NoMemory
 err_only (BadLine line) no_line no_input = absurd (no_line line refl)
 err_only Input no_line no_input = absurd (no_input refl)
 err_only NoMemory no_line no_input = refl

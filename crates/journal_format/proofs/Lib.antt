@@ -6,3 +6,4 @@ pub mod WrittenLines
 pub mod Parts
 pub mod Splitting
 pub mod Arriving
+pub mod LineLengths

@@ -1,8 +1,10 @@
 -- How a text is cut into the lines of records: in one way only.
-use Rattle.std.proofs.Common.{◌≡◌, ◌≢◌, ◌<◌, ◌+◌, ◌^◌, ◌∙◌, ◌++◌, ℕ, suc, Bool, true, false, not, ◌==◌, List, [], ◌∷◌, length, arith, refl, ap, sym, Option, Some, None, append_assoc, append-nil, inl, inr}
+use Rattle.std.proofs.Common.{◌≡◌, ◌≢◌, ◌<◌, ◌+◌, ◌^◌, ◌∙◌, ◌++◌, ℕ, suc, cond, count_by, Bool, true, false, not, ◌==◌, ◌||◌, List, [], ◌∷◌, length, arith, refl, ap, sym, Option, Some, None, append_assoc, append-nil, inl, inr}
 use Rattle.std.proofs.lemmas.Bool.{and_from, cases_Bool}
 use Rattle.std.proofs.lemmas.Bool.Decides.{nat_tests}
 use Rattle.std.proofs.lemmas.List.{length-append}
+use Rattle.std.proofs.lemmas.List.Folds.{list_any-append}
+use Rattle.std.proofs.lemmas.List.Sums.{sum_by-append}
 use Rattle.std.specs.List.{list_all, join_with_byte, concat}
 use Rattle.text_io.specs.Words.{Word, words_of}
 use Rattle.mq_model.specs.Record.{Record, Past}
@@ -10,10 +12,10 @@ use Rattle.mq_model.specs.declared.entries.Entry.{Entry}
 use Rattle.script_text.specs.Script.{lines_of, onto_first_line}
 use Rattle.journal_format.specs.Fitting.{AllFit, Fits}
 use Rattle.journal_format.specs.JournalFault.{IsNoLine, StopsAt}
-use Rattle.journal_format.specs.Text.{escaped, has_feed, journal_text, line_text, record_words}
+use Rattle.journal_format.specs.Text.{can_go_on, escaped, has_feed, is_line_byte, is_text_byte, journal_text, line_text, record_words}
 use Rattle.journal_format.specs.Reading.{entry_at}
 use Rattle.percent_encoding.specs.Percent.{percent_decode}
-use Rattle.journal_format.proofs.WholeWords.{AreWords, IsWord, parts_none}
+use Rattle.journal_format.proofs.WholeWords.{AreWords, IsWord, is_plain}
 use Rattle.journal_format.proofs.WrittenLines.{line_again, payload_again, record-words}
 
 -- ---- feeds
@@ -24,15 +26,19 @@ no_feed b = not (b == 10)
 abbrev pub HasNoFeed : List ℕ → Type 0
 HasNoFeed bytes = list_all no_feed bytes ≡ true
 
-feedless : (bytes : List ℕ) → list_all parts_none bytes ≡ true → HasNoFeed bytes
+feedless : (bytes : List ℕ) → list_all is_plain bytes ≡ true → HasNoFeed bytes
 feedless [] none = refl
 feedless (b ∷ bytes) none =
     let here : no_feed b ≡ true = grind (arith, nat_tests) in
-    let rest : list_all parts_none bytes ≡ true = grind (arith, nat_tests) in
+    let rest : list_all is_plain bytes ≡ true = grind (arith, nat_tests) in
     and_from (no_feed b) (list_all no_feed bytes) here (feedless bytes rest)
 
 feedless_word : (w : Word) → IsWord w → HasNoFeed w
 feedless_word w word = feedless w (grind (arith, nat_tests))
+
+or_true : (b : Bool) → (b || true) ≡ true
+or_true true = refl
+or_true false = refl
 
 feedless-append : (xs ys : List ℕ) → HasNoFeed xs → HasNoFeed ys → HasNoFeed (xs ++ ys)
 feedless-append [] ys first second = second
@@ -41,13 +47,65 @@ feedless-append (x ∷ xs) ys first second =
     let rest : HasNoFeed xs = grind (arith, nat_tests) in
     and_from (no_feed x) (list_all no_feed (xs ++ ys)) here (feedless-append xs ys rest second)
 
-feedless-join : (ws : List Word) → AreWords ws → HasNoFeed (join_with_byte 32 ws)
+pub feedless-join : (ws : List Word) → AreWords ws → HasNoFeed (join_with_byte 32 ws)
 feedless-join [] words = refl
 feedless-join (w ∷ []) words = feedless_word w words.0
 feedless-join (w ∷ v ∷ ws) words = feedless-append w (32 ∷ join_with_byte 32 (v ∷ ws)) (feedless_word w words.0) (feedless-join (v ∷ ws) words.1)
 
+-- ---- bytes of lines
+
+plain-line : (bytes : List ℕ) → list_all is_plain bytes ≡ true → can_go_on bytes ≡ true
+plain-line [] plain = refl
+plain-line (b ∷ bytes) plain =
+    let here : is_line_byte b ≡ true = grind (arith, nat_tests) in
+    let rest : list_all is_plain bytes ≡ true = grind (arith, nat_tests) in
+    and_from (is_line_byte b) (can_go_on bytes) here (plain-line bytes rest)
+
+pub all-append : (p : ℕ → Bool) (xs ys : List ℕ) → list_all p xs ≡ true → list_all p ys ≡ true → list_all p (xs ++ ys) ≡ true
+all-append p [] ys first second = second
+all-append p (x ∷ xs) ys first second =
+    let here : p x ≡ true = grind (arith, nat_tests) in
+    let rest : list_all p xs ≡ true = grind (arith, nat_tests) in
+    and_from (p x) (list_all p (xs ++ ys)) here (all-append p xs ys rest second)
+
+pub line-join : (ws : List Word) → AreWords ws → can_go_on (join_with_byte 32 ws) ≡ true
+line-join [] words = refl
+line-join (w ∷ []) words = plain-line w (grind (arith, nat_tests))
+line-join (w ∷ v ∷ ws) words =
+    let here : list_all is_plain w ≡ true = grind (arith, nat_tests) in
+    all-append is_line_byte w (32 ∷ join_with_byte 32 (v ∷ ws)) (plain-line w here) (line-join (v ∷ ws) words.1)
+
+pub text-line : (bytes : List ℕ) → can_go_on bytes ≡ true → list_all is_text_byte bytes ≡ true
+text-line [] all = refl
+text-line (b ∷ bytes) all =
+    let here : is_text_byte b ≡ true = grind (arith, nat_tests) in
+    let rest : can_go_on bytes ≡ true = grind (arith, nat_tests) in
+    and_from (is_text_byte b) (list_all is_text_byte bytes) here (text-line bytes rest)
+
+-- the line that begins with these bytes has only such before its feed
+pub line-start : (rest more u behind : List ℕ) → has_feed rest ≡ false → can_go_on u ≡ true → rest ++ more ≡ u ++ 10 ∷ behind → can_go_on rest ≡ true
+line-start [] more u behind none all same = refl
+line-start (b ∷ rest) more [] behind none all same = let is : b ≡ 10 = cc in absurd (grind (arith, nat_tests))
+line-start (b ∷ rest) more (d ∷ u) behind none all same =
+    let is : b ≡ d = cc in
+    let later : rest ++ more ≡ u ++ 10 ∷ behind = cc in
+    let short : has_feed rest ≡ false = grind (arith, nat_tests) in
+    let others : can_go_on u ≡ true = grind (arith, nat_tests) in
+    let here : is_line_byte b ≡ true = grind (arith, nat_tests) in
+    and_from (is_line_byte b) (can_go_on rest) here (line-start rest more u behind short others later)
+
+-- what is left behind the last feed is shorter than what had one
+pub left_short : (xs ys last rest : List ℕ) → xs ++ last ≡ ys ++ rest → has_feed last ≡ true → has_feed rest ≡ false → length rest < length last
+left_short [] [] last rest same some none = let both : false ≡ true = sym none ∙ ap has_feed (sym same) ∙ some in absurd (cc)
+left_short [] (y ∷ ys) last rest same some none = omega (arith, ap length same, length-append ys rest)
+left_short (x ∷ xs) [] last rest same some none =
+    let feed : has_feed (xs ++ last) ≡ true = list_any-append (λ b. b == 10) xs last ∙ ap (λ t. has_feed xs || t) some ∙ or_true (has_feed xs) in
+    let whole : has_feed (x ∷ xs ++ last) ≡ true = grind (arith, nat_tests) in
+    let both : false ≡ true = sym none ∙ ap has_feed (sym same) ∙ whole in absurd (cc)
+left_short (x ∷ xs) (y ∷ ys) last rest same some none = let later : xs ++ last ≡ ys ++ rest = cc in left_short xs ys last rest later some none
+
 -- where two texts begin with a front without a feed, and then a feed, the fronts are one
-one_front : (u v x y : List ℕ) → HasNoFeed u → HasNoFeed v → u ++ 10 ∷ x ≡ v ++ 10 ∷ y → (u ≡ v) × (x ≡ y)
+pub one_front : (u v x y : List ℕ) → HasNoFeed u → HasNoFeed v → u ++ 10 ∷ x ≡ v ++ 10 ∷ y → (u ≡ v) × (x ≡ y)
 one_front [] [] x y first second same = (refl, cc)
 one_front [] (b ∷ v) x y first second same = let is : 10 ≡ b = cc in absurd (grind (arith, nat_tests))
 one_front (b ∷ u) [] x y first second same = let is : b ≡ 10 = cc in absurd (grind (arith, nat_tests))
@@ -58,6 +116,33 @@ one_front (b ∷ u) (d ∷ v) x y first second same =
     let other : HasNoFeed v = grind (arith, nat_tests) in
     let fronts = one_front u v x y rest other behind in
     (ap (λ t. b ∷ t) fronts.0 ∙ ap (λ h. h ∷ v) is, fronts.1)
+
+-- how many feeds stand in these bytes
+abbrev pub feeds : List ℕ → ℕ
+feeds bytes = count_by (λ b. b == 10) bytes
+
+pub feeds-append : (xs ys : List ℕ) → feeds (xs ++ ys) ≡ feeds xs + feeds ys
+feeds-append xs ys = sum_by-append (λ b. cond (b == 10) 1 0) xs ys
+
+feeds-none : (bytes : List ℕ) → HasNoFeed bytes → feeds bytes ≡ 0
+feeds-none [] none = refl
+feeds-none (b ∷ bytes) none =
+    let rest : HasNoFeed bytes = grind (arith, nat_tests) in
+    let other : (b == 10) ≡ false = grind (arith, nat_tests) in
+    let one : feeds (b ∷ []) ≡ 0 = rw other refl in
+    omega (arith, feeds-append (b ∷ []) bytes, one, feeds-none bytes rest)
+
+-- a front without a feed, and then a feed
+pub feeds-one : (u : List ℕ) → HasNoFeed u → feeds (u ++ 10 ∷ []) ≡ 1
+feeds-one u none = feeds-append u (10 ∷ []) ∙ ap (λ n. n + 1) (feeds-none u none)
+
+pub feeds-unseen : (bytes : List ℕ) → has_feed bytes ≡ false → feeds bytes ≡ 0
+feeds-unseen [] none = refl
+feeds-unseen (b ∷ bytes) none =
+    let rest : has_feed bytes ≡ false = grind (arith, nat_tests) in
+    let other : (b == 10) ≡ false = grind (arith, nat_tests) in
+    let one : feeds (b ∷ []) ≡ 0 = rw other refl in
+    omega (arith, feeds-append (b ∷ []) bytes, one, feeds-unseen bytes rest)
 
 -- ---- lines
 
@@ -76,7 +161,7 @@ concat-lines (b ∷ text) = elim (cases_Bool (b == 10)) [
 pub first-whole : (text line others : List ℕ) → lines_of text ≡ line ∷ lines_of others → text ≡ line ++ others
 first-whole text line others lines = sym (concat-lines text) ∙ ap concat lines ∙ ap (λ t. line ++ t) (concat-lines others)
 
-lines_of-front : (u rest : List ℕ) → HasNoFeed u → lines_of (u ++ 10 ∷ rest) ≡ (u ++ 10 ∷ []) ∷ lines_of rest
+pub lines_of-front : (u rest : List ℕ) → HasNoFeed u → lines_of (u ++ 10 ∷ rest) ≡ (u ++ 10 ∷ []) ∷ lines_of rest
 lines_of-front [] rest none = refl
 lines_of-front (b ∷ u) rest none =
     let other : (b == 10) ≡ false = grind (arith, nat_tests) in
@@ -87,6 +172,34 @@ lines_of-front (b ∷ u) rest none =
 
 front-feedless : (place : ℕ) (r : Record) → place < 2 ^ 64 → Fits r → HasNoFeed (join_with_byte 32 (record_words place r))
 front-feedless place r small fits = feedless-join (record_words place r) (record-words place r small fits)
+
+-- the lines of a journal have only bytes of lines
+pub journal-text : (past : Past) → AllFit past → length past < 2 ^ 64 → list_all is_text_byte (journal_text past) ≡ true
+unfolding line_text
+journal-text [] fits small = refl
+journal-text (r ∷ past) fits small =
+    let low : length past < 2 ^ 64 = omega arith in
+    let u = join_with_byte 32 (record_words (length past) r) in
+    all-append is_text_byte (journal_text past) (u ++ 10 ∷ []) (journal-text past fits.1 low)
+    (all-append is_text_byte u (10 ∷ []) (text-line u (line-join (record_words (length past) r) (record-words (length past) r low fits.0))) refl)
+
+-- bytes that no line has begin none, whatever comes after them
+pub no_line : (place : ℕ) (rest more : List ℕ) → place < 2 ^ 64 → has_feed rest ≡ false → can_go_on rest ≡ false → (r : Record) (behind : List ℕ) → Fits r → rest ++ more ≢ line_text place r ++ behind
+unfolding line_text
+no_line place rest more small none bad r behind fits is =
+    let u = join_with_byte 32 (record_words place r) in
+    let good : can_go_on rest ≡ true = line-start rest more u behind none (line-join (record_words place r) (record-words place r small fits)) (is ∙ append_assoc u (10 ∷ []) behind) in
+    let both : false ≡ true = sym bad ∙ good in cc
+
+-- each line of a journal has one feed
+pub feeds-journal : (past : Past) → AllFit past → length past < 2 ^ 64 → feeds (journal_text past) ≡ length past
+unfolding line_text
+feeds-journal [] fits small = refl
+feeds-journal (r ∷ past) fits small =
+    let low : length past < 2 ^ 64 = omega arith in
+    let line = join_with_byte 32 (record_words (length past) r) in
+    let one : feeds (line ++ 10 ∷ []) ≡ 1 = feeds-one line (front-feedless (length past) r low fits.0) in
+    omega (arith, feeds-append (journal_text past) (line ++ 10 ∷ []), one, feeds-journal past fits.1 low)
 
 pub line-first : (place : ℕ) (r : Record) (others : List ℕ) → place < 2 ^ 64 → Fits r → lines_of (line_text place r ++ others) ≡ line_text place r ∷ lines_of others
 unfolding line_text
@@ -276,11 +389,11 @@ cut_at (b ∷ bytes) some = elim (cases_Bool (b == 10)) [
       record { front = b ∷ later.front; behind = later.behind; none = and_from (no_feed b) (list_all no_feed later.front) here later.none; is = ap (λ t. b ∷ t) later.is }
 ]
 
-feed_some : (bytes more : List ℕ) → has_feed bytes ≡ true → 0 < length (bytes ++ more)
+pub feed_some : (bytes more : List ℕ) → has_feed bytes ≡ true → 0 < length (bytes ++ more)
 feed_some [] more some = absurd (cc)
 feed_some (b ∷ bytes) more some = omega arith
 
-feed_behind : (front behind : List ℕ) → has_feed (front ++ 10 ∷ behind) ≡ true
+pub feed_behind : (front behind : List ℕ) → has_feed (front ++ 10 ∷ behind) ≡ true
 feed_behind [] behind = refl
 feed_behind (b ∷ front) behind = let later = feed_behind front behind in grind (arith, nat_tests)
 
@@ -290,17 +403,21 @@ line_feed place r behind =
     let u = join_with_byte 32 (record_words place r) in
     ap has_feed (append_assoc u (10 ∷ []) behind) ∙ feed_behind u behind
 
+-- where a text has a feed, what its first line is does not depend on what comes after the text
+pub first_in : (rest line others more u behind : List ℕ) → has_feed rest ≡ true → lines_of rest ≡ line ∷ lines_of others → HasNoFeed u → rest ++ more ≡ (u ++ 10 ∷ []) ++ behind → line ≡ u ++ 10 ∷ []
+first_in rest line others more u behind some lines none is =
+    let cut = cut_at rest some in
+    let left : rest ++ more ≡ cut.front ++ 10 ∷ (cut.behind ++ more) = ap (λ t. t ++ more) cut.is ∙ append_assoc cut.front (10 ∷ cut.behind) more in
+    let right : (u ++ 10 ∷ []) ++ behind ≡ u ++ 10 ∷ behind = append_assoc u (10 ∷ []) behind in
+    let fronts = one_front cut.front u (cut.behind ++ more) behind cut.none none (sym left ∙ is ∙ right) in
+    let first : line ∷ lines_of others ≡ (cut.front ++ 10 ∷ []) ∷ lines_of cut.behind = sym lines ∙ ap lines_of cut.is ∙ lines_of-front cut.front cut.behind cut.none in
+    let line_is : line ≡ cut.front ++ 10 ∷ [] = cc in
+    line_is ∙ ap (λ t. t ++ 10 ∷ []) fronts.0
+
 no_first_in : (place : ℕ) (rest line others more : List ℕ) → place < 2 ^ 64 → has_feed rest ≡ true → lines_of rest ≡ line ∷ lines_of others → IsNoLine place line → (r : Record) (behind : List ℕ) → Fits r → rest ++ more ≢ line_text place r ++ behind
 unfolding line_text
 no_first_in place rest line others more small some lines none r behind fits is =
-    let cut = cut_at rest some in
-    let u = join_with_byte 32 (record_words place r) in
-    let left : rest ++ more ≡ cut.front ++ 10 ∷ (cut.behind ++ more) = ap (λ t. t ++ more) cut.is ∙ append_assoc cut.front (10 ∷ cut.behind) more in
-    let right : (u ++ 10 ∷ []) ++ behind ≡ u ++ 10 ∷ behind = append_assoc u (10 ∷ []) behind in
-    let fronts = one_front cut.front u (cut.behind ++ more) behind cut.none (front-feedless place r small fits) (sym left ∙ is ∙ right) in
-    let first : line ∷ lines_of others ≡ (cut.front ++ 10 ∷ []) ∷ lines_of cut.behind = sym lines ∙ ap lines_of cut.is ∙ lines_of-front cut.front cut.behind cut.none in
-    let line_is : line ≡ cut.front ++ 10 ∷ [] = cc in
-    none r fits (line_is ∙ ap (λ t. t ++ 10 ∷ []) fronts.0)
+    none r fits (first_in rest line others more (join_with_byte 32 (record_words place r)) behind some lines (front-feedless place r small fits) is)
 
 -- a text that stops at the next line, whatever it goes on with
 pub stops_in : (line place : ℕ) (text rest first others more : List ℕ) (past : Past) → text ≡ journal_text past ++ rest → AllFit past → place ≡ length past → place < 2 ^ 63 → line ≡ place + 1 → has_feed rest ≡ true → lines_of rest ≡ first ∷ lines_of others → IsNoLine place first → StopsAt line (text ++ more)

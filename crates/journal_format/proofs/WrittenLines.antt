@@ -1,15 +1,15 @@
 -- A line reads as the record that it was written from.
-use Rattle.std.proofs.Common.{◌≡◌, ◌≢◌, ◌<◌, ◌^◌, ◌-◌, ◌∙◌, ◌++◌, ℕ, true, false, List, [], ◌∷◌, length, take, arith, refl, ap, codes, All, Some, None, append_assoc, ltb}
-use Rattle.std.proofs.lemmas.Bool.{and_from, both_ways, lt-ltb}
+use Rattle.std.proofs.Common.{◌≡◌, ◌≢◌, ◌<◌, ◌≤◌, ◌⊎◌, ◌&&◌, ◌^◌, ◌-◌, ◌∙◌, ◌++◌, ℕ, zero, suc, Bool, inl, inr, true, false, List, [], ◌∷◌, length, take, arith, refl, ap, codes, All, Some, None, append_assoc, ltb}
+use Rattle.std.proofs.lemmas.Bool.{and_from, both_ways, cases_Bool, lt-ltb}
 use Rattle.std.proofs.lemmas.Bool.Decides.{nat_tests}
 use Rattle.std.proofs.lemmas.List.{length-append}
 use Rattle.std.proofs.lemmas.List.Elements.{All-head, All-tail}
 use Rattle.std.proofs.Math.Seq.{take-append_seam}
 use Rattle.std.specs.Fmt.{decimal}
 use Rattle.std.specs.List.{list_all, join_with_byte}
-use Rattle.percent_encoding.specs.AsciiSet.{should_percent_encode}
+use Rattle.percent_encoding.specs.AsciiSet.{contains, should_percent_encode}
 use Rattle.percent_encoding.specs.Percent.{percent_decode}
-use Rattle.percent_encoding.proofs.AsciiSetLemmas.{escaped_from_inside}
+use Rattle.percent_encoding.proofs.AsciiSetLemmas.{ascii_from_kept, escaped_from_inside}
 use Rattle.percent_encoding.proofs.PercentLemmas.{IsEscapeByte, All-percent_encode, percent_encode-nil, round_trip}
 use Rattle.text_io.specs.Words.{Word, words_of}
 use Rattle.mq_model.specs.Record.{Record}
@@ -22,47 +22,78 @@ use Rattle.journal_format.specs.declared.payload.TheConstants.{ESCAPED}
 use Rattle.journal_format.specs.Fitting.{Fits}
 use Rattle.journal_format.specs.Text.{call_words, escaped, line_text, payload_text, payload_words, record_words, reply_words}
 use Rattle.journal_format.specs.Reading.{entry_at, limits_at, quoted_at, word_at}
-use Rattle.journal_format.proofs.WholeWords.{AreWords, parts_none, word-decimal, words-append, words_of-line}
+use Rattle.journal_format.proofs.WholeWords.{AreWords, is_plain, word-decimal, words-append, words_of-line}
 use Rattle.journal_format.proofs.WrittenCalls.{call_again, call-words, small_at_again}
 use Rattle.journal_format.proofs.WrittenReplies.{reply_again, reply-words}
 
 -- ---- what stands between quotes
 
-space_escaped : should_percent_encode ESCAPED 32 ≡ true
-space_escaped = escaped_from_inside ESCAPED 32 refl
+both_true : (a b : Bool) → (a && b) ≡ true → (a ≡ true) × (b ≡ true)
+both_true true b is = (refl, is)
+both_true false b is = absurd (cc)
 
-feed_escaped : should_percent_encode ESCAPED 10 ≡ true
-feed_escaped = escaped_from_inside ESCAPED 10 refl
+last_or_below : (n b : ℕ) → b < suc n → (b ≡ n) ⊎ (b < n)
+last_or_below zero zero small = inl refl
+last_or_below zero (suc b) small = absurd (omega (arith, small))
+last_or_below (suc n) zero small = inr (omega arith)
+last_or_below (suc n) (suc b) small = elim (last_or_below n b (omega (arith, small))) [
+  | inl is ↦ inl (ap suc is)
+  | inr less ↦ inr (omega (arith, less))
+]
 
-kept_parts_none : (b : ℕ) → should_percent_encode ESCAPED b ≡ false → parts_none b ≡ true
-kept_parts_none b kept =
-    let no_space : b ≢ 32 = λ is. both_ways (should_percent_encode ESCAPED b) kept (ap (should_percent_encode ESCAPED) is ∙ space_escaped) in
-    let no_feed : b ≢ 10 = λ is. both_ways (should_percent_encode ESCAPED b) kept (ap (should_percent_encode ESCAPED) is ∙ feed_escaped) in
+not_small : (b : ℕ) → (b < 33 → ⊥) → 33 ≤ b
+not_small b large = elim (cases_Bool (ltb b 33)) [
+  | inl small ↦ absurd (large (grind (arith, nat_tests)))
+  | inr other ↦ grind (arith, nat_tests)
+]
+
+-- what is so of each number below n
+abbrev each_below : ℕ → (ℕ → Bool) → Bool
+each_below zero p = true
+each_below (suc n) p = p n && each_below n p
+
+below : (n : ℕ) (p : ℕ → Bool) (b : ℕ) → each_below n p ≡ true → b < n → p b ≡ true
+below zero p b all small = absurd (omega (arith, small))
+below (suc n) p b all small =
+    let parts = both_true (p n) (each_below n p) all in
+    elim (last_or_below n b small) [
+      | inl is ↦ ap p is ∙ parts.0
+      | inr less ↦ below n p b parts.1 less
+    ]
+
+controls_escaped : (b : ℕ) → b < 33 → contains ESCAPED b ≡ true
+controls_escaped b small = below 33 (contains ESCAPED) b refl small
+
+kept_plain : (b : ℕ) → should_percent_encode ESCAPED b ≡ false → is_plain b ≡ true
+kept_plain b kept =
+    let low : b < 128 = ascii_from_kept ESCAPED b kept in
+    let no_delete : b ≢ 127 = λ is. both_ways (should_percent_encode ESCAPED b) kept (ap (should_percent_encode ESCAPED) is ∙ escaped_from_inside ESCAPED 127 refl) in
+    let high : 33 ≤ b = not_small b (λ small. both_ways (should_percent_encode ESCAPED b) kept (escaped_from_inside ESCAPED b (controls_escaped b small))) in
     grind (arith, nat_tests)
 
-hex_parts_none : (b : ℕ) → IsEscapeByte b → parts_none b ≡ true
-hex_parts_none b hex = grind (arith, nat_tests)
+hex_plain : (b : ℕ) → IsEscapeByte b → is_plain b ≡ true
+hex_plain b hex = grind (arith, nat_tests)
 
-all_from : (bs : List ℕ) → All (λ b. parts_none b ≡ true) bs → list_all parts_none bs ≡ true
+all_from : (bs : List ℕ) → All (λ b. is_plain b ≡ true) bs → list_all is_plain bs ≡ true
 all_from [] all = refl
-all_from (b ∷ bs) all = and_from (parts_none b) (list_all parts_none bs) (All-head (λ b. parts_none b ≡ true) b bs all) (all_from bs (All-tail (λ b. parts_none b ≡ true) b bs all))
+all_from (b ∷ bs) all = and_from (is_plain b) (list_all is_plain bs) (All-head (λ b. is_plain b ≡ true) b bs all) (all_from bs (All-tail (λ b. is_plain b ≡ true) b bs all))
 
-list_all-append : (xs ys : List ℕ) → list_all parts_none xs ≡ true → list_all parts_none ys ≡ true → list_all parts_none (xs ++ ys) ≡ true
+list_all-append : (xs ys : List ℕ) → list_all is_plain xs ≡ true → list_all is_plain ys ≡ true → list_all is_plain (xs ++ ys) ≡ true
 list_all-append [] ys first second = second
 list_all-append (x ∷ xs) ys first second =
-    let here : parts_none x ≡ true = grind (arith, nat_tests) in
-    let rest : list_all parts_none xs ≡ true = grind (arith, nat_tests) in
-    and_from (parts_none x) (list_all parts_none (xs ++ ys)) here (list_all-append xs ys rest second)
+    let here : is_plain x ≡ true = grind (arith, nat_tests) in
+    let rest : list_all is_plain xs ≡ true = grind (arith, nat_tests) in
+    and_from (is_plain x) (list_all is_plain (xs ++ ys)) here (list_all-append xs ys rest second)
 
-escaped_part_none : (bytes : List ℕ) → list_all parts_none (escaped bytes) ≡ true
-escaped_part_none bytes = all_from (escaped bytes) (All-percent_encode (λ b. parts_none b ≡ true) ESCAPED bytes kept_parts_none hex_parts_none)
+escaped_plain : (bytes : List ℕ) → list_all is_plain (escaped bytes) ≡ true
+escaped_plain bytes = all_from (escaped bytes) (All-percent_encode (λ b. is_plain b ≡ true) ESCAPED bytes kept_plain hex_plain)
 
 pub payload-words : (payload : List ℕ) → AreWords (payload_words payload)
 payload-words [] = tt
 payload-words (b ∷ bytes) =
     let quoted = 34 ∷ escaped (b ∷ bytes) ++ 34 ∷ [] in
-    let none = list_all-append (escaped (b ∷ bytes)) (34 ∷ []) (escaped_part_none (b ∷ bytes)) refl in
-    (and_from (ltb 0 (length quoted)) (list_all parts_none quoted) (lt-ltb 0 (length quoted) (omega arith)) none, tt)
+    let none = list_all-append (escaped (b ∷ bytes)) (34 ∷ []) (escaped_plain (b ∷ bytes)) refl in
+    (and_from (ltb 0 (length quoted)) (list_all is_plain quoted) (lt-ltb 0 (length quoted) (omega arith)) none, tt)
 
 all_but_last : (xs : List ℕ) (x : ℕ) → take (length (xs ++ x ∷ []) - 1) (xs ++ x ∷ []) ≡ xs
 all_but_last xs x = let e : length (xs ++ x ∷ []) - 1 ≡ length xs = omega (arith, length-append xs (x ∷ [])) in rw e (take-append_seam xs (x ∷ []))

@@ -1,8 +1,9 @@
 -- Why a journal was not read.
-use Rattle.std.specs.Prelude.{ℕ, ◌≡◌, ◌≢◌, ◌<◌, ◌+◌, List, ◌++◌, length, codes}
+use Rattle.std.specs.Prelude.{ℕ, ◌≡◌, ◌≢◌, ◌⊎◌, ◌<◌, ◌+◌, List, ◌++◌, length, codes}
 use Rattle.std.specs.Fmt.{decimal}
 use Rattle.mq_model.specs.Record.{Record, Past}
 use Rattle.journal_format.specs.Fitting.{AllFit, Fits}
+use Rattle.journal_format.specs.Lines.{IsTooLong}
 use Rattle.journal_format.specs.Text.{journal_text, line_text}
 use Rattle.journal_format.specs.declared.fault.JournalFault.{JournalFault}
 use Rattle.journal_format.specs.declared.fault.JournalFault.TheVariants.{BadLine, Input, NoMemory}
@@ -27,3 +28,16 @@ pub record StopsAt (line : ℕ) (text : List ℕ) : Type 0 where
   pub line_is : line ≡ length past + 1
   pub some : 0 < length rest
   pub none : (r : Record) (others : List ℕ) → Fits r → rest ≢ line_text (length past) r ++ others
+
+-- The text has a line that is too long, and this one is the first: those before it are the text of a journal.
+pub record HasLongLine (line : ℕ) (text : List ℕ) : Type 0 where
+  pub past : Past
+  pub rest : List ℕ
+  pub fits : AllFit past
+  pub whole : text ≡ journal_text past ++ rest
+  pub line_is : line ≡ length past + 1
+  pub long : IsTooLong rest
+
+-- this line of an input is the first that is not the line of an entry at its place, or it is too long for one
+abbrev pub IsAtFault : ℕ → List ℕ → Type 0
+IsAtFault line text = StopsAt line text ⊎ HasLongLine line text

@@ -1,7 +1,7 @@
 -- The text of a journal: a line for each record.
-use Rattle.std.specs.Prelude.{ℕ, ◌==◌, Bool, true, false, List, [], ◌∷◌, ◌++◌, length, Option, None, Some, codes}
+use Rattle.std.specs.Prelude.{ℕ, ◌==◌, ◌&&◌, ◌||◌, nat_le, Bool, true, false, List, [], ◌∷◌, ◌++◌, length, Option, None, Some, codes}
 use Rattle.std.specs.Fmt.{decimal, signed_decimal}
-use Rattle.std.specs.List.{join_with_byte, list_any}
+use Rattle.std.specs.List.{join_with_byte, list_all, list_any}
 use Rattle.percent_encoding.specs.Percent.{percent_encode}
 use Rattle.text_io.specs.Words.{Word}
 use Rattle.mq_model.specs.Fault.{text_of}
@@ -117,3 +117,15 @@ journal_text (r ∷ past) = journal_text past ++ line_text (length past) r
 -- a feed stands in these bytes
 abbrev pub has_feed : List ℕ → Bool
 has_feed bytes = list_any (λ b. b == 10) bytes
+
+-- a byte that can stand in a line before its feed: printable ASCII
+abbrev pub is_line_byte : ℕ → Bool
+is_line_byte b = nat_le 32 b && nat_le b 126
+
+-- a byte of lines
+abbrev pub is_text_byte : ℕ → Bool
+is_text_byte b = is_line_byte b || b == 10
+
+-- the bytes before the feed of a line that has not ended yet can only be such
+abbrev pub can_go_on : List ℕ → Bool
+can_go_on bytes = list_all is_line_byte bytes

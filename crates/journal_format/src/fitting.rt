@@ -3,8 +3,8 @@ ghost use Rattle.journal_format.specs.Fitting.{CallFits, Fits, ReplyFits};
 
 use mq_model::entries::{Attr, Call, Entry, Reply};
 
-// The numbers of a call.
-fn call_fits(call: Call)
+/// The numbers of a call.
+pub fn call_fits(call: Call)
     ensures { CallFits call }
 {
     match call {
@@ -50,8 +50,8 @@ fn call_fits(call: Call)
     }
 }
 
-// The numbers of a reply.
-fn reply_fits(reply: Reply)
+/// The numbers of a reply.
+pub fn reply_fits(reply: Reply)
     ensures { ReplyFits reply }
 {
     match reply {

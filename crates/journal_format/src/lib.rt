@@ -3,9 +3,10 @@
 
 pub mod call;
 pub mod fault;
-mod fitting;
+pub mod fitting;
 pub mod input;
 pub mod line;
+pub mod lines;
 pub mod payload;
 pub mod reply;
 pub mod text;

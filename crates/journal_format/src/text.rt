@@ -1,6 +1,6 @@
 //! The text of a journal.
-ghost use Rattle.std.specs.Prelude.{◌≡◌, ◌<◌, ◌≤◌, ◌^◌, ◌++◌, ◌∷◌, [], ℕ, List, false, IfOk, IsErrOf, MatchResult, OnOk, length};
-ghost use Rattle.mq_model.specs.Record.{Past};
+ghost use Rattle.std.specs.Prelude.{◌≡◌, ◌<◌, ◌≤◌, ◌+◌, ◌^◌, ◌++◌, ◌∷◌, [], ℕ, List, false, IfOk, IsErrOf, MatchResult, OnOk, length};
+ghost use Rattle.mq_model.specs.Record.{Past, Record};
 ghost use Rattle.journal_format.specs.Fitting.{AllFit, Fits};
 ghost use Rattle.journal_format.specs.JournalFault.{StopsAt};
 ghost use Rattle.journal_format.specs.Text.{has_feed, journal_text, line_text};
@@ -9,6 +9,7 @@ ghost use Rattle.journal_format.specs.declared.fault.JournalFault.TheVariants.{B
 use crate::fault::JournalFault;
 use crate::fitting::fits;
 use crate::line::{line_of, read_line};
+use crate::lines::MOST_LINE;
 use mq_model::entries::Entry;
 use mq_model::journals::Journal;
 use script_text::line::first_line;
@@ -77,6 +78,7 @@ pub fn read_lines<'t>(
         journal_text journal.new.records ++ rest.now) }
     ensures rest { IfOk result (λ rest. has_feed rest.now ≡ false) }
     ensures number { (line : ℕ) → IsErrOf result (BadLine line) → line ≤ 2 ^ 63 }
+    ensures later { (line : ℕ) → IsErrOf result (BadLine line) → length journal.old.records < line }
     ensures bad_line { (line : ℕ) → IsErrOf result (BadLine line) → (more : List ℕ) →
         StopsAt line (journal_text journal.old.records ++ (text.now ++ more)) }
     ensures no_input { IsErrOf result Input → ⊥ }
@@ -100,6 +102,7 @@ pub fn whole(journal: Journal, rest: &[u8]) -> Result<Journal, JournalFault>
     ensures whole { IfOk result (λ read. (read ≡ journal) × (rest.now ≡ [])) }
     ensures few { IfOk result (λ read. length read.records < 2 ^ 63) }
     ensures number { (line : ℕ) → IsErrOf result (BadLine line) → line ≤ 2 ^ 63 }
+    ensures next { (line : ℕ) → IsErrOf result (BadLine line) → line ≡ length journal.records + 1 }
     ensures bad_line { (line : ℕ) → IsErrOf result (BadLine line) →
         StopsAt line (journal_text journal.records ++ rest.now) }
     ensures fault { IsErrOf result NoMemory → ⊥ }
@@ -117,6 +120,13 @@ pub fn whole(journal: Journal, rest: &[u8]) -> Result<Journal, JournalFault>
 pub fn one_text()
     ensures { (a b : Past) → AllFit a → AllFit b → length b < 2 ^ 64 →
         journal_text a ≡ journal_text b → a ≡ b }
+{}
+
+/// No entry whose name or message has up to 65,536 bytes has a longer line than is read. The
+/// function does nothing: its contract is the law.
+pub fn lines_are_short()
+    ensures { (place : ℕ) (r : Record) → place < 2 ^ 64 → Fits r → length r.payload ≤ 2 ^ 16 →
+        length (line_text place r) ≤ MOST_LINE }
 {}
 
 // Adds an entry with its payload after all others.

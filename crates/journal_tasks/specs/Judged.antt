@@ -1,22 +1,18 @@
 -- What a concurrent history comes to.
-use Rattle.std.specs.Prelude.{◌≡◌, ℕ, Bool, not, List, Option, None}
-use Rattle.std.specs.List.{position}
+use Rattle.std.specs.Prelude.{◌≡◌, ℕ, Bool, List, Option}
 use Rattle.std.specs.Io.KnownBytes as known
 use Rattle.text_io.specs.Output.{AppendsTooLittle}
-use Rattle.history_judge.specs.Fitting.{AllEndLast}
+use Rattle.history_judge.specs.Fitting.{AllFit}
 use Rattle.history_judge.specs.Text.{history_text}
-use Rattle.history_judge.specs.Processes.{is_process}
 use Rattle.history_judge.specs.Said.{judgement_text, status_of}
 use Rattle.history_judge.specs.Verdicts.{IsJudgement}
 use Rattle.history_judge.specs.declared.line.Called.{Called}
 use Rattle.history_judge.specs.declared.judgement.Judgement.{Judgement}
 
--- the bytes are the text of a history of processes from 1 to 32, in which each call that had not returned ended at the greatest moment,
--- and this is a judgement of it
+-- the bytes are the text of a history, whose calls are of processes from 1 to 32 and have numbers that fit, and this is a judgement of it
 pub record IsJudged (bytes : List ℕ) (calls : List Called) (judgement : Judgement) : Type 0 where
   pub text : bytes ≡ history_text calls
-  pub pending : AllEndLast calls
-  pub processes : position (λ c. not (is_process c.process)) calls ≡ None
+  pub fits : AllFit calls
   pub judges : IsJudgement calls judgement
 
 -- the status is that of a judgement of the bytes; known bytes have grown by its text

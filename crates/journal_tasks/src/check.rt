@@ -1,20 +1,24 @@
 //! A journal, from its bytes to the verdict on it.
 ghost use Rattle.std.specs.Prelude.{◌≡◌, ◌+◌, ℕ, List, IfOk, IsErrOf, Some, take};
 ghost use Rattle.text_io.specs.Output.{AppendsTooLittle};
-ghost use Rattle.journal_format.specs.JournalFault.{StopsAt};
+ghost use Rattle.journal_format.specs.JournalFault.{IsAtFault};
+ghost use Rattle.journal_format.specs.Lines.{ReadsUpTo};
 ghost use Rattle.journal_tasks.specs.Verdict.{Checks, StopsInVerdict};
 ghost use Rattle.journal_tasks.specs.declared.fault.LogFault.TheVariants.{BadLine, Input, NoMemory, Output};
 
 use crate::fault::LogFault;
 use crate::verdict::{Verdict, verdict_of, verdict_text};
-use journal_format::input::{MOST_BYTES, read_input};
+use journal_format::input::read_input;
+use journal_format::lines::MOST_BYTES;
 use std::alloc::Global;
 use std::io::{Read, Write};
 use text_io::output::write_all;
 
-/// Reads a journal line by line, checks it, and writes a line with what stands in it, or the first entry that is not legal and why.
-/// `LogFault::BadLine`: a line is not that of an entry, and this is the first one. `LogFault::Input`: a read failed.
-/// `LogFault::Output`: a write failed, and a front part of the verdict is written. Of the others nothing is written.
+/// Reads a journal line by line, checks it, and writes a line with what stands in it, or the first
+/// entry that is not legal and why. `LogFault::BadLine`: a line is not that of an entry, or is too
+/// long for one, and this is the first one; no read was made after those that brought it.
+/// `LogFault::Input`: a read failed. `LogFault::Output`: a write failed, and a front part of the
+/// verdict is written. Of the others nothing is written.
 pub fn check_journal<R: Read, W: Write>(
     alloc: Global,
     input: &mut R,
@@ -24,7 +28,9 @@ pub fn check_journal<R: Read, W: Write>(
         IfOk result (λ verdict. Checks (take (MOST_BYTES + 1) all) verdict (W.contents output.old)
         (W.contents output.new)) }
     ensures bad_line { (all : List ℕ) (line : ℕ) → R.remaining input.old ≡ Some all →
-        IsErrOf result (BadLine line) → StopsAt line (take (MOST_BYTES + 1) all) }
+        IsErrOf result (BadLine line) → IsAtFault line (take (MOST_BYTES + 1) all) }
+    ensures soon { (line : ℕ) → IsErrOf result (BadLine line) →
+        ReadsUpTo line (R.remaining input.old) (R.remaining input.new) }
     ensures input { IsErrOf result Input → W.contents output.new ≡ W.contents output.old }
     ensures no_memory { IsErrOf result NoMemory → W.contents output.new ≡ W.contents output.old }
     ensures unwritten { (line : ℕ) → IsErrOf result (BadLine line) →

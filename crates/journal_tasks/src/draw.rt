@@ -1,20 +1,24 @@
 //! A journal, from its bytes to a picture of it.
 ghost use Rattle.std.specs.Prelude.{◌≡◌, ◌+◌, ℕ, List, IsErrOf, OnOk, Some, take};
-ghost use Rattle.journal_format.specs.JournalFault.{StopsAt};
+ghost use Rattle.journal_format.specs.JournalFault.{IsAtFault};
+ghost use Rattle.journal_format.specs.Lines.{ReadsUpTo};
 ghost use Rattle.journal_tasks.specs.Window.{Draws, DrawsInPart};
 ghost use Rattle.journal_tasks.specs.declared.fault.LogFault.TheVariants.{BadLine, Input, NoMemory, Output};
 
 use crate::fault::LogFault;
 use crate::window::{Window, shown};
-use journal_format::input::{MOST_BYTES, read_input};
+use journal_format::input::read_input;
+use journal_format::lines::MOST_BYTES;
 use journal_picture::picture_of;
 use std::alloc::Global;
 use std::io::{Read, Write};
 use text_io::output::write_all;
 
-/// Reads a journal line by line, which need not be legal, and writes a picture of its entries in the window, of the first 2,000 of these.
-/// `LogFault::BadLine`: a line is not that of an entry, and this is the first one. `LogFault::Input`: a read failed.
-/// `LogFault::Output`: a write failed, and of the picture a front part is written that lacks a byte or more. Of the others nothing is written.
+/// Reads a journal line by line, which need not be legal, and writes a picture of its entries in
+/// the window, of the first 2,000 of these. `LogFault::BadLine`: a line is not that of an entry, or
+/// is too long for one, and this is the first one; no read was made after those that brought it.
+/// `LogFault::Input`: a read failed. `LogFault::Output`: a write failed, and of the picture a front
+/// part is written that lacks a byte or more. Of the others nothing is written.
 pub fn draw_journal<R: Read, W: Write>(
     alloc: Global,
     input: &mut R,
@@ -24,7 +28,9 @@ pub fn draw_journal<R: Read, W: Write>(
     ensures done { (all : List ℕ) → R.remaining input.old ≡ Some all →
         OnOk result (Draws (take (MOST_BYTES + 1) all) window (W.contents output.old) (W.contents output.new)) }
     ensures bad_line { (all : List ℕ) (line : ℕ) → R.remaining input.old ≡ Some all →
-        IsErrOf result (BadLine line) → StopsAt line (take (MOST_BYTES + 1) all) }
+        IsErrOf result (BadLine line) → IsAtFault line (take (MOST_BYTES + 1) all) }
+    ensures soon { (line : ℕ) → IsErrOf result (BadLine line) →
+        ReadsUpTo line (R.remaining input.old) (R.remaining input.new) }
     ensures output { (all : List ℕ) → R.remaining input.old ≡ Some all →
         IsErrOf result Output → DrawsInPart (take (MOST_BYTES + 1) all) window
         (W.contents output.old) (W.contents output.new) }

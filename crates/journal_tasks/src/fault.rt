@@ -12,7 +12,8 @@ use text_io::output::WriteFailed;
 /// Why a journal was not checked. Its text is the line that the program writes to the error stream.
 #[derive(Clone, Copy, Debug, PartialEq, Eq)]
 pub enum LogFault {
-    /// This line, counted from 1, is the first that is not the line of an entry.
+    /// This line, counted from 1, is the first that is not the line of an entry, or of a call of a
+    /// history, or it is too long for one.
     BadLine(u64),
     /// The journal could not be read.
     Input,

@@ -1,17 +1,17 @@
 //! A concurrent history, from its bytes to the judgement of it.
 ghost use Rattle.std.specs.Prelude.{◌≡◌, ◌+◌, ℕ, List, IfOk, IsErrOf, Some, take};
+ghost use Rattle.history_judge.specs.HistoryFault.{IsAtFault};
+ghost use Rattle.journal_format.specs.Lines.{ReadsUpTo};
 ghost use Rattle.journal_tasks.specs.Judged.{JudgesHistory, StopsInJudgement};
 ghost use Rattle.journal_tasks.specs.declared.fault.LogFault.TheVariants.{BadLine, Input, NoMemory, Output};
 
 use crate::fault::LogFault;
+use history_judge::input::read_input;
 use history_judge::judgement::judge_calls;
-use history_judge::processes::first_stranger;
 use history_judge::said::{judgement_text, status_of};
-use history_judge::text::read_history;
-use journal_format::input::MOST_BYTES;
+use journal_format::lines::MOST_BYTES;
 use std::alloc::Global;
 use std::io::{Read, Write};
-use text_io::input::{ReadFault, read_all};
 use text_io::output::write_all;
 
 /// How a history is judged.
@@ -29,10 +29,12 @@ pub const PLAIN: Question = Question {
     budget: 1_000_000,
 };
 
-/// Reads a concurrent history, judges it, and writes what it comes to. The number is the exit status: 0 where it is possible, 1 where
-/// it is not, 5 where the budget was used up. `LogFault::BadLine`: this line is not that of a call of a process from 1 to 32.
-/// `LogFault::Input`: a read failed. `LogFault::Output`: a write failed, and a front part of what the history comes to is written. Of the
-/// others nothing is written.
+/// Reads a concurrent history line by line, judges it, and writes what it comes to. The number is
+/// the exit status: 0 where it is possible, 1 where it is not, 5 where the budget was used up.
+/// `LogFault::BadLine`: a line is not that of a call of a process from 1 to 32, or is too long for
+/// one, and this is the first one; no read was made after those that brought it. `LogFault::Input`:
+/// a read failed. `LogFault::Output`: a write failed, and a front part of what the history comes to
+/// is written. Of the others nothing is written.
 pub fn judge_history<R: Read, W: Write>(
     alloc: Global,
     input: &mut R,
@@ -42,6 +44,10 @@ pub fn judge_history<R: Read, W: Write>(
     ensures done { (all : List ℕ) → R.remaining input.old ≡ Some all →
         IfOk result (λ status. JudgesHistory (take (MOST_BYTES + 1) all) question.journal status
         (W.contents output.old) (W.contents output.new)) }
+    ensures bad_line { (all : List ℕ) (line : ℕ) → R.remaining input.old ≡ Some all →
+        IsErrOf result (BadLine line) → IsAtFault line (take (MOST_BYTES + 1) all) }
+    ensures soon { (line : ℕ) → IsErrOf result (BadLine line) →
+        ReadsUpTo line (R.remaining input.old) (R.remaining input.new) }
     ensures input { IsErrOf result Input → W.contents output.new ≡ W.contents output.old }
     ensures no_memory { IsErrOf result NoMemory → W.contents output.new ≡ W.contents output.old }
     ensures unwritten { (line : ℕ) → IsErrOf result (BadLine line) →
@@ -50,15 +56,7 @@ pub fn judge_history<R: Read, W: Write>(
         IsErrOf result Output → StopsInJudgement (take (MOST_BYTES + 1) all) question.journal
         (W.contents output.old) (W.contents output.new) }
 {
-    let text = match read_all(alloc, input, MOST_BYTES) {
-        Ok(text) => text,
-        Err(ReadFault::Failed) => return Err(LogFault::Input),
-        Err(ReadFault::NoMemory) => return Err(LogFault::NoMemory),
-    };
-    let calls = read_history(alloc, text.as_slice())?;
-    if let Some(index) = first_stranger(&calls) {
-        return Err(LogFault::BadLine((index as u64).saturating_add(1)));
-    }
+    let calls = read_input(alloc, input)?;
     let judgement = judge_calls(alloc, &calls, question.budget)?;
     let said = judgement_text(alloc, &calls, &judgement, question.journal)?;
     write_all(output, said.as_slice())?;

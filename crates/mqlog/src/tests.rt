@@ -1,5 +1,6 @@
 // Journals as text: what is printed of them, and texts that are none.
 use journal_format::fault::JournalFault;
+use journal_format::lines::MOST_LINE;
 use journal_format::text::{read_journal, write_journal};
 use journal_tasks::{
     Counts, LogFault, Task, Verdict, WHOLE, Window, check_journal, draw_journal, task_of,
@@ -343,6 +344,34 @@ fn a_line_that_is_none_is_named_before_the_next_is_read(rt: HostRuntime) {
     let outcome = check_journal(rt.alloc(), &mut input, &mut output);
     assert_eq!(rt; outcome, Err(LogFault::BadLine(1)));
     assert_eq!(rt; input.given, 2);
+}
+
+// Fills each buffer with one byte, and counts the bytes.
+#[derive(Drop)]
+struct Flood {
+    byte: u8,
+    given: usize,
+}
+
+impl Read for Flood {
+    fn read(&mut self, buf: &mut [u8]) -> io::Result<usize> {
+        for place in buf.iter_mut() {
+            *place = self.byte;
+        }
+        self.given = self.given.wrapping_add(buf.len());
+        Ok(buf.len())
+    }
+}
+
+#[test]
+fn a_line_without_an_end_is_named(rt: HostRuntime) {
+    for (byte, most) in [(b'0', MOST_LINE.wrapping_add(4096)), (0, 4096)] {
+        let mut input = Flood { byte, given: 0 };
+        let mut output = Vec::new(rt.alloc());
+        let outcome = check_journal(rt.alloc(), &mut input, &mut output);
+        assert_eq!(rt; outcome, Err(LogFault::BadLine(1)));
+        assert!(rt; input.given <= most, "{byte}");
+    }
 }
 
 // Takes one byte a write, as long as there is room.

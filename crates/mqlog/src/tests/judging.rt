@@ -1,5 +1,5 @@
 // Concurrent histories: what is said of them, and the journals that explain them.
-use super::output_of;
+use super::{Endless, output_of};
 use journal_tasks::{LogFault, PLAIN, Question, Verdict, judge_history};
 use std::alloc::Global;
 use std::process::Abort;
@@ -252,12 +252,13 @@ fn orders_that_come_to_the_same_are_tried_once(rt: HostRuntime) {
 }
 
 // Texts with the first line that is none of a call of a process from 1 to 32.
-static NO_HISTORIES: [(&str, u64); 6] = [
+static NO_HISTORIES: [(&str, u64); 7] = [
     ("1 0 10 close 0 -> EBADF", 1),
     ("1 0 10 close 0 -> EBADF\n\n", 2),
     ("1 0 10 close 0 -> EBADF\n1 00 10 close 0 -> EBADF\n", 2),
     ("1 0 10 close 0 -> EBADF\n33 0 10 close 0 -> EBADF\n", 2),
     ("0 0 10 close 0 -> EBADF\n", 1),
+    ("33 0 10 close 0 -> EBADF\n1 00 10 close 0 -> EBADF\n", 1),
     ("1 0 - close 0 -> EBADF\n1 0 10 close 0 ->\n", 1),
 ];
 
@@ -268,4 +269,16 @@ fn the_first_line_that_is_none_is_named(rt: HostRuntime) {
         assert_eq!(rt; outcome, Err(LogFault::BadLine(*line)), "{text}");
         assert!(rt; output.is_empty(), "{text}");
     }
+}
+
+#[test]
+fn the_first_line_that_is_none_is_named_before_the_next_is_read(rt: HostRuntime) {
+    let mut input = Endless {
+        line: b"33 0 10 close 0 -> EBADF\n",
+        given: 0,
+    };
+    let mut output = Vec::new(rt.alloc());
+    let outcome = judge_history(rt.alloc(), &mut input, &mut output, PLAIN);
+    assert_eq!(rt; outcome, Err(LogFault::BadLine(1)));
+    assert_eq!(rt; input.given, 25);
 }

@@ -5,10 +5,11 @@ use Rattle.text_io.specs.Words.{words_of}
 use Rattle.percent_encoding.specs.Iter.{decoded_bytes}
 use Rattle.percent_encoding.specs.Percent.{percent_decode}
 use Rattle.journal_format.specs.Reading.{words_at}
+use Rattle.history_judge.specs.Processes.{is_process}
 use Rattle.history_judge.specs.Reading.{outcome_at, parts_at, parts_seen, shown}
 use Rattle.history_judge.specs.Seen.{seen_call}
 use Rattle.history_judge.specs.declared.line.Called.{Called}
-use Rattle.history_judge.proofs.Written.{ended_seen, no_outcome, no_parts, one_line}
+use Rattle.history_judge.proofs.Written.{ended_seen, no_outcome, no_parts, no_process, one_line}
 use Rattle.history_judge.proofs.line.read_line.Goals as goal
 
 differs : (r b : Bool) → r ≡ true → r ≡ not b → b ≡ true → ⊥
@@ -21,6 +22,15 @@ returns-in_default-clause-only c = λ d fits is.
     let cut : words ≡ words_of c.args.line.now = ap words_at c.as_slice.ensures.value ∙ c.in_ok-words.ensures in
     let none : parts_at words ≡ None = search (rules, c.in_default.ensures) in
     no_parts d c.args.line.now words fits cut is none
+
+pub returns-then-not-is_process-clause-only : goal.returns-then-not-is_process-clause-only
+returns-then-not-is_process-clause-only c = λ d fits is.
+    let words = words_at c.as_slice.result.now in
+    let parts = parts_seen c.in-Some.parts in
+    let cut : words ≡ words_of c.args.line.now = ap words_at c.as_slice.ensures.value ∙ c.in_ok-words.ensures in
+    let read : parts_at words ≡ Some parts = sym c.in-Some.ensures in
+    let other : is_process c.in-Some.parts.process ≡ false = grind rules in
+    no_process d c.args.line.now words parts fits cut is read other
 
 pub returns-in_default-2-clause-only : goal.returns-in_default-2-clause-only
 returns-in_default-2-clause-only c = λ d fits is.

@@ -1,86 +1,74 @@
-use Rattle.std.proofs.Common.{rules, arith, ◌≡◌, ◌<◌, ◌≤◌, ◌+◌, ◌-◌, ◌∙◌, Err, Result, length-append, ◌++◌, [], Ok, take, length, ap, sym, subst, append_assoc}
-use Rattle.std.specs.Io.KnownBytes.{Consumes}
-use Rattle.std.proofs.lemmas.List.{length-take-le}
-use Rattle.text_io.proofs.KnownBytes.{Consumes-more, read_at}
+use Rattle.std.proofs.Common.{rules, arith, ◌≡◌, ◌<◌, ◌≤◌, ◌+◌, ◌^◌, ◌∙◌, ◌++◌, false, true, inl, Err, IfOk, [], Result, length, refl, sym, subst, append_assoc}
+use Rattle.mq_model.specs.declared.journals.Journal.{Journal}
 use Rattle.journal_format.specs.JournalFault.{StopsAt}
-use Rattle.journal_format.specs.Text.{journal_text}
+use Rattle.journal_format.specs.Lines.{HasRead}
+use Rattle.journal_format.specs.Text.{has_feed, journal_text}
 use Rattle.journal_format.specs.declared.fault.JournalFault.{JournalFault}
 use Rattle.journal_format.specs.declared.fault.JournalFault.TheVariants.{BadLine}
-use Rattle.journal_format.proofs.Arriving.{all_taken, end_read, found_of, front_of, front_taken, take-front}
+use Rattle.journal_format.proofs.Arriving.{at_fault_at_end, ended, found_at_end, left_in_last, reads_up_to, some_read}
+use Rattle.journal_format.proofs.Splitting.{feeds, feeds-journal, journal-text}
 use Rattle.journal_format.proofs.input.read_input.Goals as goal
 
-pub returns-then-count-eq0-clause-found : goal.returns-then-count-eq0-clause-found
-returns-then-count-eq0-clause-found g c = λ all known.
-    let was = c.loop-left.invariant in let count = c.in_ok-count.count in
-    let ok : c.read.result ≡ Ok count = grind rules in
-    let gave = read_at _ _ _ _ count c.read.ensures.bytes ok in
-    let zero : count ≡ 0 = grind rules in
-    let some : 0 < length c.read.new.buf = grind rules in
-    let none : take count c.read.new.buf ≡ [] = ap (λ k. take k c.read.new.buf) zero in
-    let whole = end_read _ _ _ _ _ all _ c.loop-left.left known was.read gave.0 none (gave.1 zero some) was.count in
-    let front = journal_text c.loop-left.journal.records in
-    found_of c.whole.result c.loop-left.journal _ c.as_slice.result.now was.fits (whole ∙ ap (λ t. front ++ t) (sym c.as_slice.ensures.value)) c.whole.ensures.whole
-
-pub returns-then-count-eq0-clause-bad_line : goal.returns-then-count-eq0-clause-bad_line
-returns-then-count-eq0-clause-bad_line g c = λ all line known bad.
-    let was = c.loop-left.invariant in let count = c.in_ok-count.count in
-    let ok : c.read.result ≡ Ok count = grind rules in
-    let gave = read_at _ _ _ _ count c.read.ensures.bytes ok in
-    let zero : count ≡ 0 = grind rules in
-    let some : 0 < length c.read.new.buf = grind rules in
-    let none : take count c.read.new.buf ≡ [] = ap (λ k. take k c.read.new.buf) zero in
-    let whole = end_read _ _ _ _ _ all _ c.loop-left.left known was.read gave.0 none (gave.1 zero some) was.count in
-    let front = journal_text c.loop-left.journal.records in
-    subst (StopsAt line) (sym (whole ∙ ap (λ t. front ++ t) (sym c.as_slice.ensures.value))) (c.whole.ensures.bad_line line bad)
-
-pub loop-left-preserved : goal.loop-left-preserved
-loop-left-preserved g c =
-    let was = c.loop-left.invariant in let count = c.in_ok-count.count in let buf = c.read.new.buf in
-    let front = journal_text c.loop-left.journal.records in let rest = c.loop-left.rest.items in
-    let ok : c.read.result ≡ Ok count = grind rules in
-    let gave = read_at _ _ _ _ count c.read.ensures.bytes ok in
-    let below : count ≤ length buf = grind rules in
-    let most : count ≤ c.loop-left.left = grind rules in
-    let text : (front ++ rest) ++ take count buf ≡ journal_text c.take_in.new.journal.records ++ c.take_in.new.rest.items =
-    append_assoc front rest (take count buf) ∙ ap (λ t. front ++ (rest ++ t)) (sym (take-front buf _ count below)) ∙ c.in_ok-take_in.ensures.lines in
+pub lines-preserved : goal.lines-preserved
+lines-preserved g c =
+    let front = journal_text c.lines.journal.records in
+    let read = c.in_ok-come.ensures.read (g.R.Read.remaining c.args.input.now) front c.lines.invariant.read in
+    let lines = c.in_ok-take_in.ensures.lines in
+    let feed : has_feed c.come.new.self.rest.items ≡ true = grind rules in
     record {
       fits = c.in_ok-take_in.ensures.fits;
       rest = c.in_ok-take_in.ensures.rest;
-      read = subst (λ t. Consumes (g.R.Read.remaining c.args.input.now) (g.R.Read.remaining c.read.new.self) t) text (Consumes-more _ _ _ (front ++ rest) (take count buf) was.read gave.0);
-      count = omega (arith, ap length text, length-append (front ++ rest) (take count buf), length-take-le count buf below, most, was.count);
+      short = left_in_last front (journal_text c.take_in.new.journal.records) c.come.new.self.rest.items c.take_in.new.rest.items lines c.in_ok-come.ensures.last feed c.in_ok-take_in.ensures.rest;
+      read = subst (λ t. HasRead (g.R.Read.remaining c.args.input.now) (g.R.Read.remaining c.come.new.input) t c.come.new.self.left) lines read;
     }
 
 pub returns-in_err-take_in-clause-bad_line : goal.returns-in_err-take_in-clause-bad_line
 returns-in_err-take_in-clause-bad_line g c = λ all line known bad.
-    let was = c.loop-left.invariant in let count = c.in_ok-count.count in let buf = c.read.new.buf in
-    let front = journal_text c.loop-left.journal.records in let rest = c.loop-left.rest.items in
-    let ok : c.read.result ≡ Ok count = grind rules in
-    let gave = read_at _ _ _ _ count c.read.ensures.bytes ok in
-    let below : count ≤ length buf = grind rules in
-    let most : count ≤ c.loop-left.left = grind rules in
-    let read = front_of _ _ _ all known (Consumes-more _ _ _ (front ++ rest) (take count buf) was.read gave.0) in
-    let long : length ((front ++ rest) ++ take count buf) + (c.loop-left.left - count) ≡ 1099511627777 =
-    omega (arith, length-append (front ++ rest) (take count buf), length-take-le count buf below, most, was.count) in
-    let more = take (c.loop-left.left - count) read.left in
+    let front = journal_text c.lines.journal.records in
+    let read = c.in_ok-come.ensures.read (g.R.Read.remaining c.args.input.now) front c.lines.invariant.read in
+    let more = some_read _ _ all _ _ read known in
     let named : ◌≡◌ {A = Result (Unit {0}) JournalFault} (Err c.in_err-take_in.field-0.0) (Err (BadLine line)) = search (rules, bad) in
-    subst (StopsAt line)
-    (sym (append_assoc front (rest ++ _) more) ∙ ap (λ t. t ++ more) (sym (append_assoc front rest _) ∙ ap (λ t. (front ++ rest) ++ t) (take-front buf _ count below)) ∙ sym (front_taken _ all _ _ _ read long))
-    (c.in_err-take_in.ensures.bad_line line named more)
+    inl (subst (StopsAt line) (sym (append_assoc front c.come.new.self.rest.items more.0) ∙ sym more.1) (c.in_err-take_in.ensures.bad_line line named more.0))
+
+pub returns-in_err-take_in-clause-soon : goal.returns-in_err-take_in-clause-soon
+returns-in_err-take_in-clause-soon g c = λ line bad.
+    let past = c.lines.journal.records in
+    let read = c.in_ok-come.ensures.read (g.R.Read.remaining c.args.input.now) (journal_text past) c.lines.invariant.read in
+    let named : ◌≡◌ {A = Result (Unit {0}) JournalFault} (Err c.in_err-take_in.field-0.0) (Err (BadLine line)) = search (rules, bad) in
+    let later : length past < line = c.in_err-take_in.ensures.later line named in
+    let number : line ≤ 2 ^ 63 = c.in_err-take_in.ensures.number line named in
+    let small : length past < 2 ^ 64 = omega (arith, later, number) in
+    let few : feeds (journal_text past) < line = omega (arith, feeds-journal past c.lines.invariant.fits small, later) in
+    reads_up_to line _ _ (journal_text past) _ _ read c.in_ok-come.ensures.last few (journal-text past c.lines.invariant.fits small)
 
 pub returns-clause-found : goal.returns-clause-found
 returns-clause-found g c = λ all known.
-    let was = c.loop-left.invariant in
-    let zero : c.loop-left.left ≡ 0 = grind rules in
-    let front = journal_text c.loop-left.journal.records in
-    let count : length (front ++ c.loop-left.rest.items) + 0 ≡ 1099511627777 = ap (λ k. length (front ++ c.loop-left.rest.items) + k) (sym zero) ∙ was.count in
-    let whole = all_taken _ all _ _ (front_of _ _ _ all known was.read) count in
-    found_of c.whole-2.result c.loop-left.journal _ c.as_slice-2.result.now was.fits (whole ∙ ap (λ t. front ++ t) (sym c.as_slice-2.ensures.value)) c.whole-2.ensures.whole
+    let front = journal_text c.lines.journal.records in
+    let rest = c.come.new.self.rest.items in
+    let read = c.in_ok-come.ensures.read (g.R.Read.remaining c.args.input.now) front c.lines.invariant.read in
+    let end = ended _ _ all front rest _ read known (c.come.ensures.end (grind rules)) in
+    let whole = subst (λ t. IfOk c.whole.result (λ (journal : Journal). (journal ≡ c.lines.journal) × (t ≡ []))) c.as_slice.ensures.value c.whole.ensures.whole in
+    found_at_end c.whole.result c.lines.journal _ rest (front ++ rest) c.lines.invariant.fits refl end whole
 
 pub returns-clause-bad_line : goal.returns-clause-bad_line
 returns-clause-bad_line g c = λ all line known bad.
-    let was = c.loop-left.invariant in
-    let zero : c.loop-left.left ≡ 0 = grind rules in
-    let front = journal_text c.loop-left.journal.records in
-    let count : length (front ++ c.loop-left.rest.items) + 0 ≡ 1099511627777 = ap (λ k. length (front ++ c.loop-left.rest.items) + k) (sym zero) ∙ was.count in
-    let whole = all_taken _ all _ _ (front_of _ _ _ all known was.read) count in
-    subst (StopsAt line) (sym (whole ∙ ap (λ t. front ++ t) (sym c.as_slice-2.ensures.value))) (c.whole-2.ensures.bad_line line bad)
+    let past = c.lines.journal.records in
+    let rest = c.come.new.self.rest.items in
+    let read = c.in_ok-come.ensures.read (g.R.Read.remaining c.args.input.now) (journal_text past) c.lines.invariant.read in
+    let end = ended _ _ all (journal_text past) rest _ read known (c.come.ensures.end (grind rules)) in
+    let none : has_feed rest ≡ false = grind rules in
+    let stops = subst (λ t. StopsAt line (journal_text past ++ t)) c.as_slice.ensures.value (c.whole.ensures.bad_line line bad) in
+    let next : line ≡ length past + 1 = c.whole.ensures.next line bad in
+    let number : line ≤ 2 ^ 63 = c.whole.ensures.number line bad in
+    let small : length past < 2 ^ 64 = omega (arith, next, number) in
+    at_fault_at_end line past _ rest _ c.lines.invariant.fits small none refl next end stops
+
+pub returns-clause-soon : goal.returns-clause-soon
+returns-clause-soon g c = λ line bad.
+    let past = c.lines.journal.records in
+    let read = c.in_ok-come.ensures.read (g.R.Read.remaining c.args.input.now) (journal_text past) c.lines.invariant.read in
+    let next : line ≡ length past + 1 = c.whole.ensures.next line bad in
+    let number : line ≤ 2 ^ 63 = c.whole.ensures.number line bad in
+    let small : length past < 2 ^ 64 = omega (arith, next, number) in
+    let few : feeds (journal_text past) < line = omega (arith, feeds-journal past c.lines.invariant.fits small, next) in
+    reads_up_to line _ _ (journal_text past) _ _ read c.in_ok-come.ensures.last few (journal-text past c.lines.invariant.fits small)

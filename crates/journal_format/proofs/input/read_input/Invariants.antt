@@ -1,17 +1,18 @@
-use Rattle.std.proofs.Common.{◌≡◌, ◌+◌, ◌++◌, false, length}
-use Rattle.std.specs.Io.KnownBytes.{Consumes}
+use Rattle.std.proofs.Common.{◌≡◌, ◌≤◌, ◌++◌, false, length}
 use Rattle.journal_format.specs.Fitting.{AllFit}
+use Rattle.journal_format.specs.Lines.{HasRead}
 use Rattle.journal_format.specs.Text.{has_feed, journal_text}
+use Rattle.journal_format.specs.declared.lines.TheConstants.{CHUNK}
 use Rattle.journal_format.proofs.input.read_input.Given as goal
 
 -- the text of what was read, and the line that lacks its feed
-abbrev pub invariant-loop-left : goal.invariant-loop-left
-invariant-loop-left g l = record {
+abbrev pub invariant-lines : goal.invariant-lines
+invariant-lines g l = record {
   fits : AllFit l.journal.records;
-  rest : has_feed l.rest.items ≡ false;
-  read : Consumes (g.R.Read.remaining l.fn.input) (g.R.Read.remaining l.input) (journal_text l.journal.records ++ l.rest.items);
-  count : length (journal_text l.journal.records ++ l.rest.items) + l.left ≡ 1099511627777;
+  rest : has_feed l.lines.rest.items ≡ false;
+  short : length l.lines.rest.items ≤ CHUNK;
+  read : HasRead (g.R.Read.remaining l.fn.input) (g.R.Read.remaining l.input) (journal_text l.journal.records ++ l.lines.rest.items) l.lines.left;
 }
 
-abbrev pub decreases-loop-left : goal.decreases-loop-left
-decreases-loop-left g l = l.left
+abbrev pub decreases-lines : goal.decreases-lines
+decreases-lines g l = l.lines.left

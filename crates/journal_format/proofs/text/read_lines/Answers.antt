@@ -20,6 +20,7 @@ lines-preserved c =
     record {
       text = next_line (journal_text c.args.journal.now.records ++ c.args.text.now) c.lines.rest.now c.first_line.result.0.now c.first_line.result.1.now past new c.len.result r was.text c.first_line.ensures.lines line c.len.ensures.count pushed;
       fits = allfit_next past new r was.fits fits pushed;
+      count = omega (arith, ap length pushed, was.count);
     }
 
 pub returns-in_default-clause-bad_line : goal.returns-in_default-clause-bad_line

@@ -1,4 +1,4 @@
-use Rattle.std.proofs.Common.{◌≡◌, ◌++◌, length}
+use Rattle.std.proofs.Common.{◌≡◌, ◌≤◌, ◌++◌, length}
 use Rattle.journal_format.specs.Fitting.{AllFit}
 use Rattle.journal_format.specs.Text.{journal_text}
 use Rattle.journal_format.proofs.text.read_lines.Given as goal
@@ -8,6 +8,7 @@ abbrev pub invariant-lines : goal.invariant-lines
 invariant-lines l = record {
   text : journal_text l.initial.journal.records ++ l.text ≡ journal_text l.journal.records ++ l.rest;
   fits : AllFit l.journal.records;
+  count : length l.initial.journal.records ≤ length l.journal.records;
 }
 
 abbrev pub decreases-lines : goal.decreases-lines

@@ -1,6 +1,10 @@
-use Rattle.std.proofs.Common.{◌≡◌, ◌∙◌}
+use Rattle.std.proofs.Common.{◌≡◌, ◌∙◌, Err, Result, ap}
 use Rattle.journal_tasks.specs.Verdict.{verdict_text}
 use Rattle.journal_tasks.specs.declared.fault.LogFault.TheVariants.{NoMemory, Output}
+use Rattle.mq_model.specs.declared.journals.Journal.{Journal}
+use Rattle.journal_format.specs.declared.fault.JournalFault.{JournalFault}
+use Rattle.journal_format.specs.declared.fault.JournalFault.TheVariants as journal
+use Rattle.journal_tasks.proofs.Naming.{named_line}
 use Rattle.journal_tasks.proofs.check.check_journal.Goals as goal
 
 pub returns-in_err-line-clause-output : goal.returns-in_err-line-clause-output
@@ -33,3 +37,9 @@ returns-in_err-write_all-clause-output g c = λ all known failed.
       judges = c.in_ok-verdict.ensures;
       written = rw line at c.in_err-write_all.ensures.failed;
     }
+
+pub returns-in_err-journal-clause-bad_line : goal.returns-in_err-journal-clause-bad_line
+returns-in_err-journal-clause-bad_line g c = λ all line known bad.
+    let named : ◌≡◌ {A = Result Journal JournalFault} (Err c.in_err-journal.field-0.0) (Err (journal.BadLine line)) =
+    ap (λ fault. Err fault) (named_line c.in_err-journal.field-0.0 line (rw bad at c.from_residual.ensures.1)) in
+    c.in_err-journal.ensures.bad_line all line known named

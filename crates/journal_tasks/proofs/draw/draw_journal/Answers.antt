@@ -1,10 +1,12 @@
-use Rattle.std.proofs.Common.{◌≡◌, ◌∙◌, ap, length}
+use Rattle.std.proofs.Common.{◌≡◌, ◌∙◌, Err, Result, ap, length}
 use Rattle.journal_format.specs.declared.fault.JournalFault.{JournalFault}
 use Rattle.journal_format.specs.declared.fault.JournalFault.TheVariants as journal
 use Rattle.journal_picture.specs.Picture.{picture_text}
 use Rattle.journal_tasks.specs.LogFault.{of_journal_fault}
 use Rattle.journal_tasks.specs.Window.{count_shown, first_shown}
 use Rattle.journal_tasks.specs.declared.fault.LogFault.TheVariants.{NoMemory, Output}
+use Rattle.mq_model.specs.declared.journals.Journal.{Journal}
+use Rattle.journal_tasks.proofs.Naming.{named_line}
 use Rattle.journal_tasks.proofs.draw.draw_journal.Goals as goal
 
 -- reading the journal comes to no output fault
@@ -50,3 +52,9 @@ returns-clause-done g c = λ all known.
       text = found.1;
       written = rw picture at c.in_ok-write_all.ensures.whole;
     }
+
+pub returns-in_err-journal-clause-bad_line : goal.returns-in_err-journal-clause-bad_line
+returns-in_err-journal-clause-bad_line g c = λ all line known bad.
+    let named : ◌≡◌ {A = Result Journal JournalFault} (Err c.in_err-journal.field-0.0) (Err (journal.BadLine line)) =
+    ap (λ fault. Err fault) (named_line c.in_err-journal.field-0.0 line (rw bad at c.from_residual.ensures.1)) in
+    c.in_err-journal.ensures.bad_line all line known named

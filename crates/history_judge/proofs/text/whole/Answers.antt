@@ -1,0 +1,12 @@
+use Rattle.std.proofs.Common.{rules, arith, ◌≡◌, ◌<◌, ◌+◌, ◌∙◌, length, ap}
+use Rattle.std.proofs.lemmas.Bool.Decides.{nat_tests}
+use Rattle.history_judge.proofs.Lines.{stops_short}
+use Rattle.history_judge.proofs.text.whole.Goals as goal
+
+pub returns-else-is_empty-clause-bad_line : goal.returns-else-is_empty-clause-bad_line
+returns-else-is_empty-clause-bad_line c = λ line is.
+    let calls = c.args.calls.items in
+    let count : c.len-len.result ≡ length calls = search (rules, c.len-len.ensures) in
+    let number : line ≡ c.len-len.result + 1 = search (rules, is) in
+    let some : 0 < length c.args.rest.now = grind (arith, nat_tests) in
+    stops_short line c.args.rest.now calls c.requires.fits (number ∙ ap (λ n. n + 1) count) some c.requires.rest

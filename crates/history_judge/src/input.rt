@@ -1,0 +1,55 @@
+//! A history from its text on an input, which is read as it comes.
+ghost use Rattle.std.specs.Prelude.{◌≡◌, ◌<◌, ◌+◌, ◌++◌, ℕ, List, false, IfOk, IsErrOf, OnOk, Some, length, take};
+ghost use Rattle.journal_format.specs.Lines.{ReadsUpTo};
+ghost use Rattle.journal_format.specs.Text.{has_feed};
+ghost use Rattle.journal_format.specs.declared.fault.JournalFault.TheVariants.{BadLine, Input};
+ghost use Rattle.history_judge.specs.Fitting.{AllFit};
+ghost use Rattle.history_judge.specs.HistoryFault.{IsAtFault, StopsAt};
+ghost use Rattle.history_judge.specs.Text.{history_text};
+
+use crate::line::Called;
+use crate::text::{read_lines, whole};
+use journal_format::fault::JournalFault;
+use journal_format::lines::{Lines, MOST_BYTES};
+use std::alloc::Global;
+use std::io::Read;
+
+/// The calls whose text an input has: of a longer input the first 2^40 + 1 bytes. Each line is read
+/// as it comes, and no more of the text is kept than the line that lacks its feed yet.
+/// `JournalFault::BadLine`: this line, counted from 1, is the first that is not the line of a call
+/// of a process from 1 to 32, or it has no feed within `MOST_LINE` bytes; and no read was made
+/// after those that brought so much of it. `JournalFault::Input`: a read failed.
+pub fn read_input<R: Read>(alloc: Global, input: &mut R) -> Result<Vec<Called>, JournalFault>
+    ensures found { (all : List ℕ) → R.remaining input.old ≡ Some all →
+        IfOk result (λ calls. take (MOST_BYTES + 1) all ≡ history_text calls.items) }
+    ensures fits { IfOk result (λ calls. AllFit calls.items) }
+    ensures soon { (line : ℕ) → IsErrOf result (BadLine line) →
+        ReadsUpTo line (R.remaining input.old) (R.remaining input.new) }
+    ensures bad_line { (all : List ℕ) (line : ℕ) → R.remaining input.old ≡ Some all →
+        IsErrOf result (BadLine line) → IsAtFault line (take (MOST_BYTES + 1) all) }
+{
+    let mut calls: Vec<Called> = Vec::new(alloc);
+    let mut lines = Lines::new(alloc);
+    'lines: while lines.come(input)? {
+        take_in(alloc, &mut calls, &mut lines.rest)?;
+    }
+    whole(calls, lines.rest.as_slice())
+}
+
+// Reads the lines that have come behind the calls. What stands after the last feed is the rest.
+fn take_in(alloc: Global, calls: &mut Vec<Called>, rest: &mut Vec<u8>) -> Result<(), JournalFault>
+    requires fits { AllFit calls.old.items }
+    ensures fits { OnOk result (AllFit calls.new.items) }
+    ensures rest { OnOk result (has_feed rest.new.items ≡ false) }
+    ensures lines { OnOk result (history_text calls.old.items ++ rest.old.items ≡
+        history_text calls.new.items ++ rest.new.items) }
+    ensures later { (line : ℕ) → IsErrOf result (BadLine line) → length calls.old.items < line }
+    ensures bad_line { (line : ℕ) → IsErrOf result (BadLine line) → (more : List ℕ) →
+        StopsAt line (history_text calls.old.items ++ (rest.old.items ++ more)) }
+    ensures no_input { IsErrOf result Input → ⊥ }
+{
+    let mut others = Vec::new(alloc);
+    others.extend_from_slice(read_lines(alloc, calls, rest.as_slice())?)?;
+    *rest = others;
+    Ok(())
+}
