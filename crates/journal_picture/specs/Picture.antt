@@ -118,7 +118,7 @@ left_out_text before behind =
 unfoldable pub note_text : Past → Place → ℕ → List ℕ
 note_text past from count =
     if length past == 0 then
-      codes "<text class=\"queue\" x=\"60\" y=\"12\">the journal is empty</text>\n"
+    codes "<text class=\"queue\" x=\"60\" y=\"12\">the journal is empty</text>\n"
     else left_out_text from (length past - (from + count))
 
 -- the front of a picture: its size, its colours, and the tips of arrows
