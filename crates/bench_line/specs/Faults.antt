@@ -9,7 +9,7 @@ use Rattle.text_io.specs.declared.input.ReadFault.TheVariants as read
 use Rattle.bench_line.specs.declared.fault.BenchFault.{BenchFault}
 use Rattle.bench_line.specs.declared.fault.BenchFault.TheVariants.{BadLine, Input, Output, Failed}
 use Rattle.bench_line.specs.declared.fault.LineFault.{LineFault}
-use Rattle.bench_line.specs.declared.fault.LineFault.TheVariants.{NoWorkload, OutOfRange, DeepMessages, CrowdMessages, OddCrowd}
+use Rattle.bench_line.specs.declared.fault.LineFault.TheVariants.{NoWorkload, OutOfRange, DeepMessages, CrowdMessages, OddCrowd, NoJournal}
 use Rattle.bench_line.specs.declared.fault.WorkFault.{WorkFault}
 use Rattle.bench_line.specs.declared.fault.WorkFault.TheVariants.{NoMemory, NoThread, NoClock, Refused}
 use Rattle.bench_line.specs.declared.workload.Request.{Request}
@@ -30,6 +30,7 @@ line_fault_text (OutOfRange size) =
 line_fault_text DeepMessages = codes "line 1: D times N must be at most 10000000"
 line_fault_text CrowdMessages = codes "line 1: P times N must be at most 10000000"
 line_fault_text OddCrowd = codes "line 1: P must be even"
+line_fault_text NoJournal = codes "line 1: check and replay read a journal, and unstored stores none"
 
 -- the line on the error stream
 abbrev pub fault_text : BenchFault → List ℕ

@@ -1,15 +1,17 @@
 -- What the line of an input asks for.
-use Rattle.std.specs.Prelude.{ℕ, Bool, not, ◌&&◌, ◌==◌, ◌*◌, ◌%◌, nat_lt, nat_le, List, [], ◌∷◌, length, take, slice_index, ◌-◌, find, None, Some, Result, Ok, Err, ok_or, if◌then◌else◌, codes}
+use Rattle.std.specs.Prelude.{ℕ, Bool, true, false, not, ◌&&◌, ◌==◌, ◌*◌, ◌%◌, nat_lt, nat_le, List, [], ◌∷◌, length, take, slice_index, ◌-◌, find, Option, Result, Ok, Err, ok_or, if◌then◌else◌, codes}
 use Rattle.std.specs.List.{list_any}
 use Rattle.std.specs.Str.{bytes_eq}
 use Rattle.text_io.specs.Words.{Word, words_of}
 use Rattle.bench_line.specs.Sizes.{◌>>=◌, size_written}
 use Rattle.bench_line.specs.declared.fault.LineFault.{LineFault}
-use Rattle.bench_line.specs.declared.fault.LineFault.TheVariants.{NoWorkload, DeepMessages, CrowdMessages, OddCrowd}
+use Rattle.bench_line.specs.declared.fault.LineFault.TheVariants.{NoWorkload, DeepMessages, CrowdMessages, OddCrowd, NoJournal}
 use Rattle.bench_line.specs.declared.size.Size.{Size}
 use Rattle.bench_line.specs.declared.size.Size.TheVariants as sizes
 use Rattle.bench_line.specs.declared.workload.Workload.{Workload}
 use Rattle.bench_line.specs.declared.workload.Workload.TheVariants as workload
+use Rattle.bench_line.specs.declared.workload.Storage.{Storage}
+use Rattle.bench_line.specs.declared.workload.Storage.TheVariants as storage
 use Rattle.bench_line.specs.declared.workload.Request.{Request}
 use Rattle.bench_line.specs.declared.workload.Request.TheVariants as request
 use Rattle.bench_line.specs.declared.workload.Name.{Name}
@@ -45,8 +47,8 @@ crowd_written (processes ∷ rounds ∷ []) = do
   processes ← size_written sizes.Sharers processes
   rounds ← size_written sizes.Rounds rounds
   if processes % 2 == 0 then
-    (if nat_le (processes * rounds) 10000000 then Ok (workload.Crowd processes rounds) else Err CrowdMessages)
-    else Err OddCrowd
+      (if nat_le (processes * rounds) 10000000 then Ok (workload.Crowd processes rounds) else Err CrowdMessages)
+      else Err OddCrowd
 crowd_written words = Err NoWorkload
 
 -- from 2 to 32 processes, and at most a minute
@@ -81,9 +83,13 @@ name_text name.Storm = codes "storm"
 abbrev pub names : List Name
 names = name.Pair ∷ name.Deep ∷ name.Wide ∷ name.PingPong ∷ name.Stream ∷ name.Check ∷ name.Replay ∷ name.Crowd ∷ name.Idle ∷ name.Storm ∷ []
 
+-- the name that a word is
+abbrev pub named : Word → Option Name
+named word = find (λ name. bytes_eq word (name_text name)) names
+
 -- the workload that a word names
 abbrev pub name_written : Word → Result Name LineFault
-name_written word = ok_or (find (λ name. bytes_eq word (name_text name)) names) NoWorkload
+name_written word = ok_or (named word) NoWorkload
 
 -- the workload that a name and the words after it write
 abbrev pub workload_written : Name → List Word → Result Workload LineFault
@@ -115,20 +121,41 @@ bounded_written busy (entries ∷ bytes ∷ word ∷ arguments) = do
   bytes ← size_written sizes.MostBytes bytes
   name ← name_written word
   workload ← workload_written name arguments
-  Ok (request.Measure workload (record { bounds = Some (record { entries = entries; bytes = bytes }); busy = busy }))
+  Ok (request.Measure workload (record { storage = storage.Bounded (record { entries = entries; bytes = bytes }); busy = busy }))
 bounded_written busy words = Err NoWorkload
 
--- a workload in a system without bounds
+-- whether a workload reads a journal
+abbrev pub reads_journal : Workload → Bool
+reads_journal (workload.Check entries) = true
+reads_journal (workload.Replay entries processes) = true
+reads_journal _ = false
+
+-- whether a system stores its journal
+abbrev pub is_stored : Storage → Bool
+is_stored storage.Unstored = false
+is_stored _ = true
+
+-- a workload that reads no journal, in a system that stores none
+abbrev pub unstored_written : ℕ → List Word → Result Request LineFault
+unstored_written busy [] = Err NoWorkload
+unstored_written busy (word ∷ arguments) = do
+  name ← name_written word
+  workload ← workload_written name arguments
+  if reads_journal workload then Err NoJournal else Ok (request.Measure workload (record { storage = storage.Unstored; busy = busy }))
+
+-- a workload in a system that stores its journal without bounds
 abbrev pub unbounded_written : ℕ → Word → List Word → Result Request LineFault
 unbounded_written busy word arguments = do
   name ← name_written word
   workload ← workload_written name arguments
-  Ok (request.Measure workload (record { bounds = None; busy = busy }))
+  Ok (request.Measure workload (record { storage = storage.Whole; busy = busy }))
 
 -- a workload beside so many threads that count
 abbrev pub measured_written : ℕ → List Word → Result Request LineFault
 measured_written busy [] = Err NoWorkload
-measured_written busy (word ∷ arguments) = if bytes_eq word (codes "bounded") then bounded_written busy arguments else unbounded_written busy word arguments
+measured_written busy (word ∷ arguments) =
+    if bytes_eq word (codes "bounded") then bounded_written busy arguments
+    else (if bytes_eq word (codes "unstored") then unstored_written busy arguments else unbounded_written busy word arguments)
 
 -- how many threads count, at most 32, and a workload beside them
 abbrev pub busy_written : List Word → Result Request LineFault

@@ -38,6 +38,8 @@ pub enum LineFault {
     CrowdMessages,
     /// The number of a crowd's processes is odd.
     OddCrowd,
+    /// The workload reads a journal, and the system is to store none.
+    NoJournal,
 }
 
 /// Why a run ended without a result. Its text is the line that the program writes to the error stream.
@@ -92,15 +94,19 @@ impl fmt::Display for LineFault {
             }
             LineFault::OutOfRange(size) => {
                 let (letter, least, most) = (size.letter(), size.least(), size.most());
-                write!(f, "line 1: {letter} must be a number from {least} to {most}")
+                write!(
+                    f,
+                    "line 1: {letter} must be a number from {least} to {most}"
+                )
             }
-            LineFault::DeepMessages => {
-                f.write_str("line 1: D times N must be at most 10000000")
-            }
+            LineFault::DeepMessages => { f.write_str("line 1: D times N must be at most 10000000") }
             LineFault::CrowdMessages => {
                 f.write_str("line 1: P times N must be at most 10000000")
             }
             LineFault::OddCrowd => f.write_str("line 1: P must be even"),
+            LineFault::NoJournal => {
+                f.write_str("line 1: check and replay read a journal, and unstored stores none")
+            }
         }
     }
 }

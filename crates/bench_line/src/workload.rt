@@ -1,6 +1,6 @@
 //! What a run is asked for, and the words that write it.
 ghost use Rattle.std.specs.Prelude.{◌≡◌, ◌≤◌, ◌*◌, map};
-ghost use Rattle.bench_line.specs.Grammar.{request_written, busy_written, measured_written, bounded_written, workload_written, size_alone, deep_written, replay_written, crowd_written, idle_written, storm_written, name_written};
+ghost use Rattle.bench_line.specs.Grammar.{request_written, busy_written, measured_written, bounded_written, unstored_written, reads_journal, is_stored, workload_written, size_alone, deep_written, replay_written, crowd_written, idle_written, storm_written, name_written, named};
 
 use crate::fault::LineFault;
 use crate::size::Size;
@@ -31,11 +31,46 @@ pub enum Workload {
     Storm { seed: u32, calls: u32 },
 }
 
+impl Workload {
+    /// Whether the workload reads a journal.
+    pub fn reads_journal(self) -> bool
+        ensures { result ≡ reads_journal self }
+    {
+        match self {
+            Workload::Check { .. } | Workload::Replay { .. } => true,
+            _ => false,
+        }
+    }
+}
+
+/// What a system stores of its journal.
+#[derive(Clone, Copy)]
+pub enum Storage {
+    /// Every entry.
+    Whole,
+    /// Every entry, as many as the bounds allow.
+    Bounded(Bounds),
+    /// Nothing: the journal is a history variable.
+    Unstored,
+}
+
+impl Storage {
+    /// Whether the system stores its journal.
+    pub fn is_stored(self) -> bool
+        ensures { result ≡ is_stored self }
+    {
+        match self {
+            Storage::Whole | Storage::Bounded(_) => true,
+            Storage::Unstored => false,
+        }
+    }
+}
+
 /// In what a workload is carried out.
 #[derive(Clone, Copy)]
 pub struct Conditions {
-    /// What the journal may hold, where it has bounds.
-    pub bounds: Option<Bounds>,
+    /// What the system stores of its journal.
+    pub storage: Storage,
     /// How many threads do nothing but count beside the workload.
     pub busy: u32,
 }
@@ -134,8 +169,12 @@ fn measured_of(busy: u32, words: &[&[u8]]) -> Result<Request, LineFault>
             if *word == b"bounded".as_slice() {
                 return bounded_of(busy, arguments);
             }
+            if *word == b"unstored".as_slice() {
+                return unstored_of(busy, arguments);
+            }
             let workload = workload_of(name_of(word)?, arguments)?;
-            Ok(Request::Measure(workload, Conditions { bounds: None, busy }))
+            let storage = Storage::Whole;
+            Ok(Request::Measure(workload, Conditions { storage, busy }))
         }
     }
 }
@@ -148,21 +187,39 @@ fn bounded_of(busy: u32, arguments: &[&[u8]]) -> Result<Request, LineFault>
             let entries = u64::from(Size::MostEntries.read(entries)?);
             let bytes = u64::from(Size::MostBytes.read(bytes)?);
             let workload = workload_of(name_of(word)?, arguments)?;
-            let bounds = Some(Bounds { entries, bytes });
-            Ok(Request::Measure(workload, Conditions { bounds, busy }))
+            let storage = Storage::Bounded(Bounds { entries, bytes });
+            Ok(Request::Measure(workload, Conditions { storage, busy }))
         }
         _ => Err(LineFault::NoWorkload),
     }
 }
 
+fn unstored_of(busy: u32, arguments: &[&[u8]]) -> Result<Request, LineFault>
+    ensures { result ≡ unstored_written busy (map (λ word. word.now) arguments.now) }
+{
+    match arguments {
+        [] => Err(LineFault::NoWorkload),
+        [word, arguments @ ..] => {
+            let workload = workload_of(name_of(word)?, arguments)?;
+            if workload.reads_journal() {
+                return Err(LineFault::NoJournal);
+            }
+            let storage = Storage::Unstored;
+            Ok(Request::Measure(workload, Conditions { storage, busy }))
+        }
+    }
+}
+
+fn named(word: &[u8]) -> Option<Name>
+    ensures { result ≡ named word.now }
+{
+    NAMES.iter().copied().find(|name| word == name.text())
+}
+
 fn name_of(word: &[u8]) -> Result<Name, LineFault>
     ensures { result ≡ name_written word.now }
 {
-    NAMES
-        .iter()
-        .copied()
-        .find(|name| word == name.text())
-        .ok_or(LineFault::NoWorkload)
+    named(word).ok_or(LineFault::NoWorkload)
 }
 
 fn workload_of(name: Name, arguments: &[&[u8]]) -> Result<Workload, LineFault>

@@ -3,11 +3,11 @@ ghost use Rattle.std.specs.Prelude.{◌≡◌, OnOk};
 ghost use Rattle.bench_workloads.specs.Ready.{IsReady};
 
 use crate::calls::{open, receive, send};
-use crate::made::make;
+use crate::made::{journal_left, make};
 use bench_line::fault::WorkFault;
+use bench_line::workload::Storage;
 use fast_mutex::Look;
 use mq::{Guarded, Mq, Process};
-use mq_model::bounds::Bounds;
 use mq_model::journals::Journal;
 use std::alloc::Global;
 use std::sync::Wait;
@@ -28,23 +28,20 @@ pub enum Task {
 pub const DEPTH: u32 = 10;
 
 /// Does the task over a fresh system of one process. Gives the time that the task took, without the open before it, and the
-/// journal.
+/// journal, if the system stores one.
 pub fn alone<L: Look<Guarded>, R: Wait + Clock>(
     rt: &R,
     alloc: Global,
-    bounds: Option<Bounds>,
+    storage: Storage,
     task: Task,
-) -> Result<(Duration, Journal), WorkFault> {
-    let (mq, mut processes) = make::<L>(alloc, 1, bounds)?;
+) -> Result<(Duration, Option<Journal>), WorkFault> {
+    let (mq, mut processes) = make::<L>(alloc, 1, storage)?;
     let Some(mut process) = processes.pop() else {
         unreachable!()
     };
     let time = time_of(rt, &mq, &mut process, task)?;
     processes.push_reserved(process);
-    let Ok(journal) = mq.finish(processes) else {
-        unreachable!()
-    };
-    Ok((time, journal))
+    Ok((time, journal_left(mq, processes, storage)?))
 }
 
 // The time that the task takes on a queue that is opened for it.

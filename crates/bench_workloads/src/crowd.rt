@@ -7,9 +7,9 @@ use crate::course::Course;
 use crate::made::make;
 use crate::members::{Part, start_members};
 use bench_line::fault::WorkFault;
+use bench_line::workload::Storage;
 use fast_mutex::Look;
 use mq::{Guarded, Mq, Process};
-use mq_model::bounds::Bounds;
 use std::alloc::Global;
 use std::sync::Wait;
 use std::thread;
@@ -21,7 +21,7 @@ use std::time::{Clock, Duration, Instant};
 pub fn crowd<L: Look<Guarded> + Sync, R: Wait + Threads + Clock + Sync>(
     rt: &R,
     alloc: Global,
-    bounds: Option<Bounds>,
+    storage: Storage,
     count: u32,
     parts: (Part, Part),
     rounds: u32,
@@ -30,7 +30,7 @@ where
     L::Seat: Send,
     L::Walk: Send,
 {
-    let (mq, processes) = make::<L>(alloc, count, bounds)?;
+    let (mq, processes) = make::<L>(alloc, count, storage)?;
     let course = Course::new();
     let start = Instant::now(rt)?;
     in_threads(rt, &mq, &course, processes, parts, rounds)?;

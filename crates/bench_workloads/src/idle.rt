@@ -9,9 +9,9 @@ use crate::course::Course;
 use crate::made::make;
 use crate::members::{Part, start_members};
 use bench_line::fault::WorkFault;
+use bench_line::workload::Storage;
 use fast_mutex::Look;
 use mq::{Guarded, Mq, Process};
-use mq_model::bounds::Bounds;
 use mq_model::faults::Fault;
 use std::alloc::Global;
 use std::sync::Wait;
@@ -36,7 +36,7 @@ const PAIRS: u32 = 64;
 pub fn idle<L: Look<Guarded> + Sync, R: Wait + Threads + Clock + CpuClock + Sync>(
     rt: &R,
     alloc: Global,
-    bounds: Option<Bounds>,
+    storage: Storage,
     count: u32,
     time: Duration,
 ) -> Result<Worked, WorkFault>
@@ -44,7 +44,7 @@ where
     L::Seat: Send,
     L::Walk: Send,
 {
-    let (mq, mut processes) = make::<L>(alloc, count, bounds)?;
+    let (mq, mut processes) = make::<L>(alloc, count, storage)?;
     let Some(mut worker) = processes.pop() else {
         return Err(WorkFault::Refused(Fault::Invalid));
     };

@@ -1,26 +1,58 @@
-//! Systems to be measured.
-ghost use Rattle.std.specs.Prelude.{◌≡◌, true, IfOk};
+//! Systems to be measured, and the journals that they leave.
+ghost use Rattle.std.specs.Prelude.{◌≡◌, IfOk, IfSome};
+ghost use Rattle.std.specs.List.{All};
+ghost use Rattle.bench_line.specs.Grammar.{is_stored};
 ghost use Rattle.fast_mutex.specs.Items.{tickets_from};
 ghost use Rattle.mq.specs.Calls.{stored_in};
+ghost use Rattle.mq_model.specs.Legality.{Legal};
 
 use bench_line::fault::WorkFault;
+use bench_line::workload::Storage;
 use fast_mutex::Look;
 use mq::{Guarded, Mq, Process};
 use mq_model::bounds::Bounds;
+use mq_model::faults::Fault;
+use mq_model::journals::Journal;
 use std::alloc::Global;
 
-/// A system of so many processes, whose journal has these bounds.
+/// A system of so many processes, which stores this of its journal.
 pub fn make<L: Look<Guarded>>(
     alloc: Global,
     n: u32,
-    bounds: Option<Bounds>,
+    storage: Storage,
 ) -> Result<(Mq<L>, Vec<Process<L>>), WorkFault>
     ensures count { IfOk result (λ r. r.0.count ≡ n) }
-    ensures stored { IfOk result (λ r. stored_in r.0.fixed ≡ true) }
+    ensures stored { IfOk result (λ r. stored_in r.0.fixed ≡ is_stored storage) }
     ensures processes { IfOk result (λ r. r.1.items ≡ tickets_from r.0 1 n) }
 {
-    match bounds {
-        None => Ok(Mq::<L>::new(alloc, n)?),
-        Some(Bounds { entries, bytes }) => Ok(Mq::<L>::bounded(alloc, n, entries, bytes)?),
+    match storage {
+        Storage::Whole => Ok(Mq::<L>::new(alloc, n)?),
+        Storage::Bounded(Bounds { entries, bytes }) => {
+            Ok(Mq::<L>::bounded(alloc, n, entries, bytes)?)
+        }
+        Storage::Unstored => Ok(Mq::<L>::unstored(alloc, n)?),
+    }
+}
+
+/// The journal of a system that is not used any more, if it stores one. `Busy`: a process is missing.
+pub fn journal_left<L: Look<Guarded>>(
+    mq: Mq<L>,
+    processes: Vec<Process<L>>,
+    storage: Storage,
+) -> Result<Option<Journal>, WorkFault>
+    requires made { All (λ p. p.lock ≡ mq) processes.items }
+    requires stored { stored_in mq.fixed ≡ is_stored storage }
+    ensures legal { IfOk result (λ left. IfSome left (λ journal. Legal journal.records)) }
+{
+    let missing = WorkFault::Refused(Fault::Busy);
+    if storage.is_stored() {
+        return match mq.finish(processes) {
+            Ok(journal) => Ok(Some(journal)),
+            Err(_) => Err(missing),
+        };
+    }
+    match mq.finish_unstored(processes) {
+        Ok(_) => Ok(None),
+        Err(_) => Err(missing),
     }
 }

@@ -5,6 +5,7 @@ ghost use Rattle.mq_model.specs.Legality.{Legal};
 use crate::alone::DEPTH;
 use crate::calls::{MESSAGE, MESSAGE_SIZE};
 use bench_line::fault::WorkFault;
+use bench_line::workload::Storage;
 use mq_model::bounds::Bounds;
 use mq_model::entries::{Access, Attr, OpenFlags, Reply};
 use mq_model::faults::Fault;
@@ -35,10 +36,10 @@ pub fn is_legal(alloc: Global, journal: &Journal) -> Result<bool, AllocError>
 }
 
 /// A journal of so many entries: each process opens two queues, and then the processes call in turn, each of which sends to a queue of
-/// its own, receives from it, and goes on with the other one.
+/// its own, receives from it, and goes on with the other one. `Invalid`: a journal that is not stored can't be made.
 pub fn journal_of(
     alloc: Global,
-    bounds: Option<Bounds>,
+    storage: Storage,
     entries: u32,
     processes: u32,
 ) -> Result<Journal, WorkFault>
@@ -47,9 +48,12 @@ pub fn journal_of(
     if processes < 1 || processes > PROCESSES {
         return Err(WorkFault::Refused(Fault::Invalid));
     }
-    let mut books = match bounds {
-        None => Books::new(alloc, processes)?,
-        Some(Bounds { entries, bytes }) => Books::bounded(alloc, processes, entries, bytes)?,
+    let mut books = match storage {
+        Storage::Whole => Books::new(alloc, processes)?,
+        Storage::Bounded(Bounds { entries, bytes }) => {
+            Books::bounded(alloc, processes, entries, bytes)?
+        }
+        Storage::Unstored => return Err(WorkFault::Refused(Fault::Invalid)),
     };
     for k in 0..entries {
         call(&mut books, k % processes + 1, k / processes)?;

@@ -1,6 +1,6 @@
 //! The workload of 32 processes, each in a thread of its own, that make calls of every kind at random. No call waits for ever: what
 //! may wait has a deadline, or is a wait that is given up.
-ghost use Rattle.std.specs.Prelude.{◌≡◌, [], IfOk};
+ghost use Rattle.std.specs.Prelude.{◌≡◌, [], IfOk, IfSome};
 ghost use Rattle.std.specs.List.{All};
 ghost use Rattle.mq_model.specs.Legality.{Legal};
 ghost use Rattle.bench_workloads.specs.Ready.{IsReady};
@@ -8,11 +8,11 @@ ghost use Rattle.bench_workloads.specs.Ready.{IsReady};
 use crate::course::Course;
 use crate::dice::Dice;
 use crate::gusts;
-use crate::made::make;
+use crate::made::{journal_left, make};
 use bench_line::fault::WorkFault;
+use bench_line::workload::Storage;
 use fast_mutex::Look;
 use mq::{Guarded, Monotonic, Mq, Process};
-use mq_model::bounds::Bounds;
 use mq_model::faults::Fault;
 use mq_model::journals::Journal;
 use mq_model::limits::PROCESSES;
@@ -37,32 +37,40 @@ impl<'s, L: Look<Guarded>> Promise<Process<L>> for GivesBack<'s, L> {
     ghost kept_by = { λ p process. process.lock ≡ p.0.now };
 }
 
-/// About so many calls of every kind over a fresh system, at random from a seed. Gives the time that they took, and the journal.
+/// About so many calls of every kind over a fresh system, at random from a seed. Gives the time that they took, and the
+/// journal, if the system stores one.
 pub fn storm<L: Look<Guarded> + Sync, R: Wait + Threads + Clock + Sync>(
     rt: &R,
     alloc: Global,
-    bounds: Option<Bounds>,
+    storage: Storage,
     seed: u32,
     calls: u32,
-) -> Result<(Duration, Journal), WorkFault>
+) -> Result<(Duration, Option<Journal>), WorkFault>
 where
     L::Seat: Send,
     L::Walk: Send,
-    ensures legal { IfOk result (λ r. Legal r.1.records) }
+    ensures legal { IfOk result (λ r. IfSome r.1 (λ journal. Legal journal.records)) }
 {
-    let (mq, processes) = make::<L>(alloc, PROCESSES, bounds)?;
+    let (mq, processes) = make::<L>(alloc, PROCESSES, storage)?;
     let ride = Ride {
         seed,
-        rounds: calls / PROCESSES + 1,
+        rounds: rounds_of(calls),
     };
     let course = Course::new();
     let start = Instant::now(rt)?;
     let processes = in_threads(rt, alloc, &mq, &course, processes, ride)?;
     let time = start.elapsed(rt)?;
-    match mq.finish(processes) {
-        Ok(journal) => Ok((time, journal)),
-        Err(_) => Err(WorkFault::Refused(Fault::Busy)),
-    }
+    Ok((time, journal_left(mq, processes, storage)?))
+}
+
+// How many calls each process makes of about so many.
+fn rounds_of(calls: u32) -> u32 {
+    calls / PROCESSES + 1
+}
+
+/// How many calls a storm of about so many makes.
+pub fn calls_in(calls: u32) -> u32 {
+    rounds_of(calls).saturating_mul(PROCESSES)
 }
 
 // Lets each process ride in a thread of its own, to its end.

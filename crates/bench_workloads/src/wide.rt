@@ -7,9 +7,9 @@ use crate::alone::{DEPTH, pairs};
 use crate::calls::open;
 use crate::made::make;
 use bench_line::fault::WorkFault;
+use bench_line::workload::Storage;
 use fast_mutex::Look;
 use mq::{Guarded, Mq, Process};
-use mq_model::bounds::Bounds;
 use mq_model::limits;
 use mq_model::limits::PROCESSES;
 use std::alloc::Global;
@@ -30,10 +30,10 @@ const LAST: u32 = 1;
 pub fn wide<L: Look<Guarded>, R: Wait + Clock>(
     rt: &R,
     alloc: Global,
-    bounds: Option<Bounds>,
+    storage: Storage,
     rounds: u32,
 ) -> Result<Duration, WorkFault> {
-    let (mq, mut others) = make::<L>(alloc, PROCESSES, bounds)?;
+    let (mq, mut others) = make::<L>(alloc, PROCESSES, storage)?;
     let Some(mut process) = others.pop() else {
         unreachable!()
     };

@@ -20,7 +20,7 @@ fn output_of<S: Wait + Threads + Clock + CpuClock + Sync>(
 }
 
 // Lines, and how their results begin.
-static RESULTS: [(&str, &str); 15] = [
+static RESULTS: [(&str, &str); 20] = [
     ("pair 3\n", "pair: 6 operations, "),
     (" deep  4 2 \n", "deep: 16 operations, "),
     ("deep 1 002", "deep: 4 operations, "),
@@ -36,6 +36,11 @@ static RESULTS: [(&str, &str); 15] = [
     ("busy 2 pair 3\n", "pair: 6 operations, "),
     ("busy 1 bounded 8 54 pair 3\n", "pair: 6 operations, "),
     ("bounded 1000 1000 crowd 4 20\n", "crowd: 80 operations, "),
+    ("unstored pair 3\n", "pair: 6 operations, "),
+    ("unstored deep 4 2\n", "deep: 16 operations, "),
+    ("busy 1 unstored crowd 4 20\n", "crowd: 80 operations, "),
+    ("unstored pingpong 20\n", "pingpong: 80 operations, "),
+    ("unstored storm 7 640\n", "storm: 672 operations, "),
 ];
 
 #[test]
@@ -93,7 +98,7 @@ fn a_replay_prints_its_history(rt: HostRuntime) {
 }
 
 // Lines that name no workload, or have a word too many or too few.
-static UNNAMED: [&str; 23] = [
+static UNNAMED: [&str; 25] = [
     "word\n",
     "Pair 1\n",
     "pair\n",
@@ -113,6 +118,8 @@ static UNNAMED: [&str; 23] = [
     "busy 2\n",
     "busy 1 busy 1 pair 1\n",
     "bounded 1 1 busy 1 pair 1\n",
+    "unstored\n",
+    "unstored bounded 1 1 pair 1\n",
     "pair 1\npair 1\n",
     "pair 1\n\n",
     "pair\n1\n",
@@ -145,16 +152,42 @@ static OUT_OF_RANGE: [(&str, Size); 21] = [
 ];
 
 // What each of these lines is refused with.
-static MESSAGES: [(&str, &str); 9] = [
-    ("word\n", "the line names no workload (an empty input prints the usage)"),
-    ("pair 10000001\n", "line 1: N must be a number from 1 to 10000000"),
+static MESSAGES: [(&str, &str); 11] = [
+    (
+        "word\n",
+        "the line names no workload (an empty input prints the usage)",
+    ),
+    (
+        "pair 10000001\n",
+        "line 1: N must be a number from 1 to 10000000",
+    ),
     ("replay 1 33\n", "line 1: P must be a number from 1 to 32"),
     ("idle 1 1\n", "line 1: P must be a number from 2 to 32"),
-    ("idle 2 60001\n", "line 1: T must be a number from 1 to 60000"),
-    ("bounded 1 1000000001 pair 1\n", "line 1: B must be a number from 1 to 1000000000"),
-    ("deep 4096 2442\n", "line 1: D times N must be at most 10000000"),
-    ("crowd 32 312501\n", "line 1: P times N must be at most 10000000"),
+    (
+        "idle 2 60001\n",
+        "line 1: T must be a number from 1 to 60000",
+    ),
+    (
+        "bounded 1 1000000001 pair 1\n",
+        "line 1: B must be a number from 1 to 1000000000",
+    ),
+    (
+        "deep 4096 2442\n",
+        "line 1: D times N must be at most 10000000",
+    ),
+    (
+        "crowd 32 312501\n",
+        "line 1: P times N must be at most 10000000",
+    ),
     ("crowd 3 1\n", "line 1: P must be even"),
+    (
+        "unstored check 1\n",
+        "line 1: check and replay read a journal, and unstored stores none",
+    ),
+    (
+        "unstored replay 1 2\n",
+        "line 1: check and replay read a journal, and unstored stores none",
+    ),
 ];
 
 // Workloads that the journal has no room for.
