@@ -28,8 +28,8 @@ impl System {
         System::make(processes, Storage::Nothing)
     }
 
-    /// The same, with a journal that is stored and can be read. It grows with each call, by 64 to
-    /// 120 bytes and the name or message.
+    /// The same, with a journal that is stored and can be read. It grows with each call: an entry
+    /// takes 64 to 120 bytes, and the name or message.
     ///
     /// # Errors
     /// As of [`new`](System::new).
