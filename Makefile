@@ -1,0 +1,83 @@
+# make                                     says this
+# make install PREFIX=/usr/local DESTDIR=  installs the programs, the tools yak-run, yak-seeds and
+#                                          yak-record, the libraries and headers for C, the manual,
+#                                          the pages, and the completion of mqlog for bash
+# make uninstall PREFIX=/usr/local         removes what install has put there
+# make dist                                writes dist/yakyrombe-VERSION-linux-x86_64.tar.gz
+# make clean                               removes what make has built, but no proved library
+#
+# BINDIR, LIBDIR, INCLUDEDIR, MANDIR, DOCDIR and COMPLETIONSDIR are as usual. What is proved has to
+# be built before: ./test builds all of it. With PROGRAMS= no program is installed, and only
+# tools/c_library has to be run before.
+CC ?= cc
+INSTALL ?= install
+CFLAGS ?= -O2 -g
+LDFLAGS ?=
+PREFIX ?= /usr/local
+BINDIR ?= $(PREFIX)/bin
+LIBDIR ?= $(PREFIX)/lib
+MANDIR ?= $(PREFIX)/share/man
+DOCDIR ?= $(PREFIX)/share/doc/yakyrombe
+COMPLETIONSDIR ?= $(PREFIX)/share/bash-completion/completions
+DESTDIR ?=
+LIB ?= $(CURDIR)/lib
+VERSION := $(shell cat VERSION)
+PROGRAMS = mqrun mqlog mqbench
+TOOLS = run seeds record
+RECORDER = libyakyrombe-record.so
+MANUAL = $(PROGRAMS:%=%.1) $(TOOLS:%=yak-%.1)
+COMPLETIONS = $(filter mqlog,$(PROGRAMS))
+DOCS = $(wildcard docs/*)
+# Where the tools find the libraries, from their own folder.
+NEAR = $(shell realpath -m --relative-to='$(BINDIR)' '$(LIBDIR)')
+
+help:
+	@sed -n '/^#/!q;s/^# \{0,1\}//p' Makefile
+
+$(foreach it,$(PROGRAMS),crates/$(it)/out/$(it)):
+	@echo "$@ is not there: run ./test, or (cd crates/$(@F) && rt run -- --help < stdin)" >&2 && false
+
+$(LIB)/$(RECORDER): tools/recorder/record.c
+	@mkdir -p $(@D)
+	$(CC) $(CFLAGS) $(LDFLAGS) -shared -fPIC -Wl,-soname,$(RECORDER) -o $@ $< -ldl -lrt
+
+install: $(foreach it,$(PROGRAMS),crates/$(it)/out/$(it)) $(LIB)/$(RECORDER)
+	$(MAKE) -C c install LIB='$(LIB)'
+	$(INSTALL) -d $(DESTDIR)$(BINDIR) $(DESTDIR)$(LIBDIR) $(DESTDIR)$(MANDIR)/man1 \
+	  $(DESTDIR)$(DOCDIR)/docs $(DESTDIR)$(COMPLETIONSDIR)
+	for program in $(PROGRAMS); do \
+	  $(INSTALL) -m 755 crates/$$program/out/$$program $(DESTDIR)$(BINDIR) || exit 1; \
+	done
+	for tool in $(TOOLS); do \
+	  sed -e 's|^libraries=.*|libraries=$$here/$(NEAR)|' -e 's|^version=.*|version=$(VERSION)|' \
+	    -e 's|^LIBRARIES = .*|LIBRARIES = f"{HERE}/$(NEAR)"|' \
+	    -e 's|^VERSION = .*|VERSION = "$(VERSION)"|' -e '/^# `make install` writes/d' \
+	    tools/$$tool > $(DESTDIR)$(BINDIR)/yak-$$tool && \
+	  chmod 755 $(DESTDIR)$(BINDIR)/yak-$$tool || exit 1; \
+	done
+	$(INSTALL) -m 755 $(LIB)/$(RECORDER) $(DESTDIR)$(LIBDIR)
+	$(INSTALL) -m 644 $(MANUAL:%=man/%) $(DESTDIR)$(MANDIR)/man1
+	$(INSTALL) -m 644 README.md CHANGELOG.md $(DESTDIR)$(DOCDIR)
+	$(INSTALL) -m 644 $(DOCS) $(DESTDIR)$(DOCDIR)/docs
+	for program in $(COMPLETIONS); do \
+	  $(INSTALL) -m 644 tools/completions/$$program $(DESTDIR)$(COMPLETIONSDIR) || exit 1; \
+	done
+
+uninstall:
+	rm -f $(PROGRAMS:%=$(DESTDIR)$(BINDIR)/%) $(TOOLS:%=$(DESTDIR)$(BINDIR)/yak-%) \
+	  $(DESTDIR)$(LIBDIR)/$(RECORDER) $(MANUAL:%=$(DESTDIR)$(MANDIR)/man1/%) \
+	  $(COMPLETIONS:%=$(DESTDIR)$(COMPLETIONSDIR)/%) \
+	  $(DESTDIR)$(DOCDIR)/README.md $(DESTDIR)$(DOCDIR)/CHANGELOG.md $(DOCS:%=$(DESTDIR)$(DOCDIR)/%)
+	for folder in $(DESTDIR)$(DOCDIR)/docs $(DESTDIR)$(DOCDIR); do \
+	  [ ! -d $$folder ] || rmdir --ignore-fail-on-non-empty $$folder; \
+	done
+	$(MAKE) -C c uninstall LIB='$(LIB)'
+
+dist:
+	tools/dist
+
+clean:
+	$(MAKE) -C c clean LIB='$(LIB)'
+	rm -rf $(LIB)/$(RECORDER) dist
+
+.PHONY: help install uninstall dist clean
