@@ -4,6 +4,7 @@
 #                                          the pages, and the completion of mqlog for bash
 # make uninstall PREFIX=/usr/local         removes what install has put there
 # make dist                                writes dist/yakyrombe-VERSION-linux-x86_64.tar.gz
+# make deb                                 writes Debian packages into dist
 # make clean                               removes what make has built, but no proved library
 #
 # BINDIR, LIBDIR, INCLUDEDIR, MANDIR, DOCDIR and COMPLETIONSDIR are as usual. What is proved has to
@@ -76,8 +77,11 @@ uninstall:
 dist:
 	tools/dist
 
+deb:
+	tools/deb
+
 clean:
 	$(MAKE) -C c clean LIB='$(LIB)'
 	rm -rf $(LIB)/$(RECORDER) dist
 
-.PHONY: help install uninstall dist clean
+.PHONY: help install uninstall dist deb clean
