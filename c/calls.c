@@ -1,13 +1,14 @@
 /* The calls of POSIX's <mqueue.h>, as exported symbols. */
 #define _GNU_SOURCE
-#include "program.h"
+#include "the_program.h"
 
 #include <errno.h>
 #include <fcntl.h>
 #include <stdarg.h>
 #include <string.h>
 
-/* As the system's <mqueue.h> has them; its declarations say that pointers are not null, which the compiler would believe here. */
+/* As the system's <mqueue.h> has them; its declarations say that pointers are not null, which the
+ * compiler would believe here. */
 typedef int mqd_t;
 
 struct mq_attr {
@@ -26,12 +27,14 @@ int mq_getattr(mqd_t mqdes, struct mq_attr *attr);
 int mq_setattr(mqd_t mqdes, const struct mq_attr *set, struct mq_attr *before);
 int mq_notify(mqd_t mqdes, const struct sigevent *event);
 int mq_send(mqd_t mqdes, const char *bytes, size_t len, unsigned prio);
-int mq_timedsend(mqd_t mqdes, const char *bytes, size_t len, unsigned prio, const struct timespec *until);
+int mq_timedsend(mqd_t mqdes, const char *bytes, size_t len, unsigned prio,
+                 const struct timespec *until);
 ssize_t mq_receive(mqd_t mqdes, char *buf, size_t len, unsigned *prio);
-ssize_t mq_timedreceive(mqd_t mqdes, char *buf, size_t len, unsigned *prio, const struct timespec *until);
+ssize_t mq_timedreceive(mqd_t mqdes, char *buf, size_t len, unsigned *prio,
+                        const struct timespec *until);
 
 /* The last moment of all, which stands for the deadline of a call without one. */
-static const yak_moment NEVER = {INT64_MAX, 999999999};
+static const yak_moment NEVER = {.sec = INT64_MAX, .nsec = 999999999};
 
 static int fails(int error)
 {
@@ -45,13 +48,15 @@ static int result(uint32_t answer)
 }
 
 /* Keeps what the program was given under a number. */
-static void keep(uint32_t d, const char *name, size_t len, const yak_opening *opening, bool nonblock)
+static void keep(uint32_t d, const char *name, size_t len, const yak_opening *opening,
+                 bool nonblock)
 {
     descriptor *it = &the_program.descriptors[d];
     it->queue = 0;
     for (uint32_t other = 0; other < DESCRIPTORS; ++other) {
         const descriptor *held = &the_program.descriptors[other];
-        if (held->made != 0 && held->is_bound && held->len == len && memcmp(held->name, name, len) == 0)
+        if (held->made != 0 && held->is_bound && held->len == len &&
+            memcmp(held->name, name, len) == 0)
             it->queue = held->queue;
     }
     if (it->queue == 0)
@@ -66,7 +71,12 @@ static void keep(uint32_t d, const char *name, size_t len, const yak_opening *op
 
 static mqd_t open_queue(const char *name, int oflag, const struct mq_attr *attr)
 {
-    yak_opening opening = {0, 0, (uint32_t)(oflag & O_ACCMODE), (oflag & O_CREAT) != 0, (oflag & O_EXCL) != 0, true, false};
+    yak_opening opening = {
+        .access = (uint32_t)(oflag & O_ACCMODE),
+        .create = (oflag & O_CREAT) != 0,
+        .exclusive = (oflag & O_EXCL) != 0,
+        .nonblock = true,
+    };
     uint32_t answer, d = 0;
     size_t len;
     int error;
@@ -80,7 +90,8 @@ static mqd_t open_queue(const char *name, int oflag, const struct mq_attr *attr)
     len = strlen(name);
     if ((error = program_enter()) != 0)
         return fails(error);
-    MADE(answer, yak_open(&the_program.processes[HOME], (const uint8_t *)name, len, &opening, &d));
+    MADE(answer,
+         yak_proved_open(&the_program.processes[HOME], (const uint8_t *)name, len, &opening, &d));
     program_count(len + (opening.limited ? MORE_BYTES : 0));
     if (answer == YAK_DONE)
         keep(d, name, len, &opening, (oflag & O_NONBLOCK) != 0);
@@ -114,7 +125,7 @@ int mq_close(mqd_t mqdes)
     if ((error = program_enter()) != 0)
         return fails(error);
     d = program_number(mqdes);
-    MADE(answer, yak_close(&the_program.processes[HOME], d));
+    MADE(answer, yak_proved_close(&the_program.processes[HOME], d));
     if (answer == YAK_DONE) {
         the_program.descriptors[d].made = 0;
         program_close_mirrors(d);
@@ -138,7 +149,7 @@ int mq_unlink(const char *name)
     if ((error = program_enter()) != 0)
         return fails(error);
     program_mirror_all((const uint8_t *)name, len);
-    MADE(answer, yak_unlink(&the_program.processes[HOME], (const uint8_t *)name, len));
+    MADE(answer, yak_proved_unlink(&the_program.processes[HOME], (const uint8_t *)name, len));
     program_count(len);
     for (uint32_t d = 0; answer == YAK_DONE && d < DESCRIPTORS; ++d) {
         descriptor *it = &the_program.descriptors[d];
@@ -160,16 +171,17 @@ static int fill(uint32_t answer, const yak_attributes *from, struct mq_attr *att
     return result(answer);
 }
 
-/* Asks for the attributes, in which the flag is the program's own, and then sets that where it is to be set. */
+/* Asks for the attributes, in which the flag is the program's own, and then sets that where it is
+ * to be set. */
 static int exchange(mqd_t mqdes, const struct mq_attr *set, struct mq_attr *before)
 {
-    yak_attributes attributes = {0, 0, 0, false};
+    yak_attributes attributes = {0};
     uint32_t answer, d;
     int error;
     if ((error = program_enter()) != 0)
         return fails(error);
     d = program_number(mqdes);
-    MADE(answer, yak_getattr(&the_program.processes[HOME], d, &attributes));
+    MADE(answer, yak_proved_getattr(&the_program.processes[HOME], d, &attributes));
     if (answer == YAK_DONE) {
         attributes.nonblock = the_program.descriptors[d].nonblock;
         if (set != 0)
@@ -202,7 +214,8 @@ int mq_notify(mqd_t mqdes, const struct sigevent *event)
 
 /* What is left of a send or a receive that the home has tried: a wait, the wakes and notices for
  * others, and a warning. Leaves the lock. */
-static __attribute__((noinline)) uint32_t go_on(uint32_t d, const request *asked, yak_message *message, uint32_t answer)
+static __attribute__((noinline)) uint32_t go_on(uint32_t d, const request *asked,
+                                                yak_message *message, uint32_t answer)
 {
     unsigned process = HOME;
     uint32_t answered = 0;
@@ -233,10 +246,12 @@ static __attribute__((noinline)) uint32_t go_on(uint32_t d, const request *asked
 }
 
 /* A send or a receive. */
-static inline __attribute__((always_inline)) uint32_t make(const char *call, bool is_send, mqd_t mqdes, uint8_t *bytes, size_t len, uint32_t prio,
-                                                           yak_message *message, const struct timespec *until)
+static inline __attribute__((always_inline)) uint32_t make(const char *call, bool is_send,
+                                                           mqd_t mqdes, uint8_t *bytes, size_t len,
+                                                           uint32_t prio, yak_message *message,
+                                                           const struct timespec *until)
 {
-    yak_moment moment = {0, 0};
+    yak_moment moment = {0};
     uint32_t answer, d;
     int error;
     /* A pointer that is no good is met outside the lock. */
@@ -251,9 +266,17 @@ static inline __attribute__((always_inline)) uint32_t make(const char *call, boo
     d = program_number(mqdes);
     answer = program_try(is_send, d, bytes, len, prio, message);
     if (answer != YAK_DONE || the_program.until_large < 0 ||
-        (the_program.registered | the_program.stranded |
-         the_program.processes[HOME].answered) != 0) {
-        request asked = {call, is_send, until != 0, until != 0 ? moment : NEVER, bytes, len, prio};
+        (the_program.registered | the_program.stranded | the_program.processes[HOME].answered) !=
+            0) {
+        request asked = {
+            .call = call,
+            .is_send = is_send,
+            .is_timed = until != 0,
+            .until = until != 0 ? moment : NEVER,
+            .bytes = bytes,
+            .len = len,
+            .prio = prio,
+        };
         return go_on(d, &asked, message, answer);
     }
     program_leave();
@@ -269,14 +292,17 @@ static int last_result(uint32_t answer)
     return fails(answer >= YAK_INTERRUPTED ? EINTR : yak_errno(answer));
 }
 
-static inline __attribute__((always_inline)) int send_until(const char *call, mqd_t mqdes, const char *bytes, size_t len, unsigned prio,
+static inline __attribute__((always_inline)) int send_until(const char *call, mqd_t mqdes,
+                                                            const char *bytes, size_t len,
+                                                            unsigned prio,
                                                             const struct timespec *until)
 {
-    yak_message message = {0, 0};
+    yak_message message = {0};
     pthread_testcancel();
     if (bytes == 0 && len != 0)
         return fails(EFAULT);
-    return last_result(make(call, true, mqdes, (uint8_t *)(uintptr_t)(len != 0 ? bytes : ""), len, prio, &message, until));
+    return last_result(make(call, true, mqdes, (uint8_t *)(uintptr_t)(len != 0 ? bytes : ""), len,
+                            prio, &message, until));
 }
 
 int mq_send(mqd_t mqdes, const char *bytes, size_t len, unsigned prio)
@@ -284,20 +310,24 @@ int mq_send(mqd_t mqdes, const char *bytes, size_t len, unsigned prio)
     return send_until("mq_send", mqdes, bytes, len, prio, 0);
 }
 
-int mq_timedsend(mqd_t mqdes, const char *bytes, size_t len, unsigned prio, const struct timespec *until)
+int mq_timedsend(mqd_t mqdes, const char *bytes, size_t len, unsigned prio,
+                 const struct timespec *until)
 {
     return send_until("mq_timedsend", mqdes, bytes, len, prio, until);
 }
 
-static inline __attribute__((always_inline)) ssize_t receive_until(const char *call, mqd_t mqdes, char *buf, size_t len, unsigned *prio,
+static inline __attribute__((always_inline)) ssize_t receive_until(const char *call, mqd_t mqdes,
+                                                                   char *buf, size_t len,
+                                                                   unsigned *prio,
                                                                    const struct timespec *until)
 {
-    yak_message message = {0, 0};
+    yak_message message = {0};
     uint8_t none = 0;
     pthread_testcancel();
     if (buf == 0 && len != 0)
         return fails(EFAULT);
-    if (last_result(make(call, false, mqdes, len != 0 ? (uint8_t *)buf : &none, len, 0, &message, until)) != 0)
+    if (last_result(make(call, false, mqdes, len != 0 ? (uint8_t *)buf : &none, len, 0, &message,
+                         until)) != 0)
         return -1;
     if (prio != 0)
         *prio = message.prio;
@@ -309,7 +339,8 @@ ssize_t mq_receive(mqd_t mqdes, char *buf, size_t len, unsigned *prio)
     return receive_until("mq_receive", mqdes, buf, len, prio, 0);
 }
 
-ssize_t mq_timedreceive(mqd_t mqdes, char *buf, size_t len, unsigned *prio, const struct timespec *until)
+ssize_t mq_timedreceive(mqd_t mqdes, char *buf, size_t len, unsigned *prio,
+                        const struct timespec *until)
 {
     return receive_until("mq_timedreceive", mqdes, buf, len, prio, until);
 }

@@ -1,6 +1,5 @@
 /* Random calls of five processes have the same answers, and write the same, on a system that stores
  * its journal and on one that stores none: usage: alike RUNS, each of 80 calls. */
-#define YAKYROMBE_IMPLEMENTATION
 #include <yakyrombe.h>
 
 #include <stdio.h>
@@ -9,8 +8,22 @@
 enum { PROCESSES = 5, CALLS = 80, NAMES = 3, MOST_BYTES = 40 };
 
 typedef enum call {
-    OPEN, CLOSE, UNLINK, SEND, RECEIVE, TIMED_SEND, TIMED_RECEIVE, GETATTR, SETATTR, NOTIFY,
-    NEXT_NOTICE, EXIT, ANSWERED, COLLECT, END_WAIT, KINDS
+    OPEN,
+    CLOSE,
+    UNLINK,
+    SEND,
+    RECEIVE,
+    TIMED_SEND,
+    TIMED_RECEIVE,
+    GETATTR,
+    SETATTR,
+    NOTIFY,
+    NEXT_NOTICE,
+    EXIT,
+    ANSWERED,
+    COLLECT,
+    END_WAIT,
+    KINDS
 } call;
 
 /* One call, with all that any kind of call may need. */
@@ -51,8 +64,8 @@ static unsigned below(unsigned bound)
 static asked any_call(int64_t moment, bool opens)
 {
     static const char *const names[NAMES] = {"/a", "/jobs", "/a-longer-name"};
-    static const call often[] = {SEND, RECEIVE, SEND, RECEIVE, TIMED_SEND, TIMED_RECEIVE, COLLECT,
-                                 COLLECT, COLLECT, END_WAIT, ANSWERED};
+    static const call often[] = {SEND,    RECEIVE, SEND,    RECEIVE,  TIMED_SEND, TIMED_RECEIVE,
+                                 COLLECT, COLLECT, COLLECT, END_WAIT, ANSWERED};
     asked a;
     memset(&a, 0, sizeof a);
     a.call = below(5) ? often[below(sizeof often / sizeof often[0])] : (call)below(KINDS);
@@ -79,7 +92,7 @@ static asked any_call(int64_t moment, bool opens)
     return a;
 }
 
-static uint32_t try_once(yak_process *process, const asked *a, outcome *o, yak_message *message)
+static uint32_t answer_to(yak_process *process, const asked *a, outcome *o, yak_message *message)
 {
     const uint8_t *name = (const uint8_t *)a->name;
     switch (a->call) {
@@ -123,7 +136,7 @@ static outcome make(yak_process *processes, const asked *a)
     yak_message message = {0, 0};
     outcome o;
     memset(&o, 0, sizeof o);
-    YAK_TRY(o.answer, process, try_once(process, a, &o, &message));
+    o.answer = answer_to(process, a, &o, &message);
     o.len = message.len;
     o.prio = message.prio;
     return o;
@@ -139,14 +152,8 @@ static bool same(const outcome *x, const outcome *y)
            !memcmp(x->buf, y->buf, sizeof x->buf);
 }
 
-/* Frees all handles, whatever waits are open: nobody calls again. */
-static void free_all(yak_process *processes)
-{
-    for (unsigned p = 0; p < PROCESSES; ++p)
-        (yak_free)(&processes[p]);
-}
-
-/* One run. The counts are of the calls that were done, of those that waited, and of those served. */
+/* One run. The counts are of the calls that were done, of those that waited, and of those served.
+ */
 static bool run(unsigned long *counts)
 {
     static const yak_process empty = YAK_PROCESS_EMPTY;
@@ -167,9 +174,9 @@ static bool run(unsigned long *counts)
             printf("call %d of kind %d: %u and %u\n", (int)i, (int)a.call, (unsigned)x.answer,
                    (unsigned)y.answer);
     }
-    free_all(stored);
-    free_all(unstored);
-    return alike;
+    /* Also the waits that are open. */
+    return yak_finish(stored, PROCESSES, 0, 0) == YAK_DONE &&
+           yak_finish(unstored, PROCESSES, 0, 0) == YAK_DONE && alike;
 }
 
 int main(int count, char **words)

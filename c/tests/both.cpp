@@ -1,5 +1,5 @@
-// The headers for C in a program in C++: a worker by handles, and the calls of <mqueue.h> by the header in front of the system's.
-#define YAKYROMBE_IMPLEMENTATION
+// The headers for C in a program in C++: a worker by handles, and the calls of <mqueue.h> by the
+// header in front of the system's.
 #include <mqueue.h>
 
 #include <cstdio>
@@ -15,7 +15,8 @@ static void answer_one()
     char buf[8];
     unsigned prio = 0;
     const ssize_t len = mq_receive(asked, buf, sizeof buf, &prio);
-    mq_send(answers, len == 3 && std::memcmp(buf, "how", 3) == 0 ? "well" : "badly", len == 3 ? 4 : 5, prio + 1);
+    mq_send(answers, len == 3 && std::memcmp(buf, "how", 3) == 0 ? "well" : "badly",
+            len == 3 ? 4 : 5, prio + 1);
 }
 
 int main()
@@ -27,13 +28,15 @@ int main()
     if (yak_new(processes, 2) != YAK_DONE)
         return 1;
     yak_process *const here = &processes[0];
-    YAK_TRY(answer, here, yak_open(here, reinterpret_cast<const std::uint8_t *>("/asked"), 6, &opening, &asked));
-    YAK_TRY(answer, here, yak_open(here, reinterpret_cast<const std::uint8_t *>("/answers"), 8, &opening, &answers));
+    answer = yak_open(here, reinterpret_cast<const std::uint8_t *>("/asked"), 6, &opening, &asked);
+    answer =
+        yak_open(here, reinterpret_cast<const std::uint8_t *>("/answers"), 8, &opening, &answers);
     std::thread worker(answer_one);
     answer = yak_send(here, asked, reinterpret_cast<const std::uint8_t *>("how"), 3, 4);
     if (answer == YAK_DONE)
         answer = yak_receive(here, answers, buf, sizeof buf, &message);
     worker.join();
-    std::printf("%u: %.*s, priority %u\n", unsigned(answer), int(message.len), reinterpret_cast<const char *>(buf), unsigned(message.prio));
+    std::printf("%u: %.*s, priority %u\n", unsigned(answer), int(message.len),
+                reinterpret_cast<const char *>(buf), unsigned(message.prio));
     return yak_finish(processes, 2, nullptr, nullptr) != YAK_DONE;
 }

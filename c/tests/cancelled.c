@@ -1,5 +1,5 @@
-/* A thread that writes the journal, if it is stored, or a report to a full pipe holds nobody up, and
- * it can be cancelled there. */
+/* A thread that writes the journal, if it is stored, or a report to a full pipe holds nobody up,
+ * and it can be cancelled there. */
 #define _GNU_SOURCE
 #include <errno.h>
 #include <fcntl.h>

@@ -1,5 +1,6 @@
-/* Two tokens lie in two queues. A thread takes both, and lays them back; one begins with the left and the other with the right. Where each has taken
- * its first they wait for good, which few schedules come to. Over the system's <mqueue.h>. */
+/* Two tokens lie in two queues. A thread takes both, and lays them back; one begins with the left
+ * and the other with the right. Where each has taken its first they wait for good, which few
+ * schedules come to. Over the system's <mqueue.h>. */
 #include <fcntl.h>
 #include <mqueue.h>
 #include <pthread.h>
@@ -13,7 +14,8 @@ static void *work(void *of)
 {
     long first = (long)of;
     char buf[8];
-    if (mq_receive(queues[first], buf, sizeof buf, 0) != 1 || mq_receive(queues[1 - first], buf, sizeof buf, 0) != 1)
+    if (mq_receive(queues[first], buf, sizeof buf, 0) != 1 ||
+        mq_receive(queues[1 - first], buf, sizeof buf, 0) != 1)
         exit(1);
     if (mq_send(queues[1 - first], "t", 1, 0) != 0 || mq_send(queues[first], "t", 1, 0) != 0)
         exit(1);

@@ -6,7 +6,6 @@
  * usage: flat [CALLS]     CALLS is how many sends and receives the shared queue has, 1,000,000 if
  * left out */
 #define _GNU_SOURCE
-#define YAKYROMBE_IMPLEMENTATION
 #include <errno.h>
 #include <fcntl.h>
 #include <mqueue.h>
@@ -58,7 +57,7 @@ static void take_notice(void)
 {
     uint64_t value = 0;
     uint32_t answer;
-    YAK_TRY(answer, yak_attached, yak_next_notice(yak_attached, &value));
+    answer = yak_next_notice(yak_attached, &value);
     WANT(answer == YAK_DONE);
 }
 #else

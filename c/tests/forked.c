@@ -1,5 +1,6 @@
-/* What a forked child may do with the queues of its program: forked by main; beside threads that are inside calls; and by a handler that interrupted
- * a wait. The argument is what is wanted of the child: refused, or new (YAK_FORK=new). */
+/* What a forked child may do with the queues of its program: forked by main; beside threads that
+ * are inside calls; and by a handler that interrupted a wait. The argument is what is wanted of the
+ * child: refused, or new (YAK_FORK=new). */
 #define _GNU_SOURCE
 #include <errno.h>
 #include <fcntl.h>
@@ -125,7 +126,8 @@ static void fork_in_handler(int number)
     of_handler = fork();
 }
 
-/* The wait of the parent is interrupted; that of the child ends too, since nobody is there who could answer it. */
+/* The wait of the parent is interrupted; that of the child ends too, since nobody is there who
+ * could answer it. */
 static void fork_from_a_wait(void)
 {
     struct sigaction action;

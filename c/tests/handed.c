@@ -1,6 +1,5 @@
-/* What is written before a message is sent can be read after it is received: boxes go from thread to thread by their pointers, and no lock guards
- * them. A look for races finds none. */
-#define YAKYROMBE_IMPLEMENTATION
+/* What is written before a message is sent can be read after it is received: boxes go from thread
+ * to thread by their pointers, and no lock guards them. A look for races finds none. */
 #include <yakyrombe.h>
 
 #include <pthread.h>
@@ -39,7 +38,7 @@ static void *work(void *of)
 {
     yak_process *process = (yak_process *)of;
     uint32_t *fault = &failed[process - processes], d = 0;
-    YAK_TRY(*fault, process, yak_open(process, NAME, sizeof NAME, &OPENING, &d));
+    *fault = yak_open(process, NAME, sizeof NAME, &OPENING, &d);
     for (int i = 0; i < ROUNDS && *fault == YAK_DONE; ++i) {
         box *it;
         *fault = take(process, d, &it);
@@ -60,7 +59,7 @@ int main(void)
     uint32_t answer, d = 0;
     if (yak_new(processes, 1 + THREADS) != YAK_DONE)
         return 1;
-    YAK_TRY(answer, &processes[0], yak_open(&processes[0], NAME, sizeof NAME, &OPENING, &d));
+    answer = yak_open(&processes[0], NAME, sizeof NAME, &OPENING, &d);
     for (int i = 0; i < THREADS; ++i)
         if (pthread_create(&threads[i], 0, work, &processes[1 + i]) != 0)
             return 1;
@@ -73,5 +72,6 @@ int main(void)
         count += it->count;
     }
     printf("%u: %lu\n", (unsigned)answer, count);
-    return yak_finish(processes, 1 + THREADS, 0, 0) != YAK_DONE || answer != YAK_DONE || count != (unsigned long)THREADS * ROUNDS;
+    return yak_finish(processes, 1 + THREADS, 0, 0) != YAK_DONE || answer != YAK_DONE ||
+           count != (unsigned long)THREADS * ROUNDS;
 }

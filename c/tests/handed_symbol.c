@@ -1,4 +1,5 @@
-/* handed.c over the system's <mqueue.h>: boxes go from thread to thread by their pointers, and a look for races finds none. */
+/* handed.c over the system's <mqueue.h>: boxes go from thread to thread by their pointers, and a
+ * look for races finds none. */
 #include <fcntl.h>
 #include <mqueue.h>
 #include <pthread.h>

@@ -1,8 +1,10 @@
 /* Memory that is given or refused has the alignment that was asked for. A handle is as long as the
  * library takes it to be: of several in an array each is the one that C means. No two share a cache
  * line, also where a processor fetches lines by twos. */
-#define YAKYROMBE_IMPLEMENTATION
-#include <yakyrombe.h>
+#define _GNU_SOURCE
+#include "../wait.h"
+
+#include "sanitized.h"
 
 enum { PROCESSES = 32, LINES = 128 };
 
@@ -13,9 +15,30 @@ static bool is_aligned(void *p, size_t align)
     return (uintptr_t)p % align == 0;
 }
 
+/* As in c/memory.c. */
+typedef struct rattle_tried {
+    bool ok;
+    void *p;
+} rattle_tried;
+
+rattle_tried rattle_alloc(size_t size, size_t align);
+rattle_tried rattle_realloc(void *p, size_t kept, size_t size, size_t align);
+void rattle_dealloc(void *p);
+
+/* A sanitizer ends a program that asks for so much. */
+static bool refused_is_aligned(void)
+{
+#if HAS_ADDRESS_SANITIZER || HAS_THREAD_SANITIZER
+    return true;
+#else
+    const volatile size_t most = SIZE_MAX / 2;
+    const rattle_tried refused = rattle_alloc(most, 16);
+    return !refused.ok && refused.p != 0 && is_aligned(refused.p, 16);
+#endif
+}
+
 static bool memory_is_aligned(void)
 {
-    const rattle_tried refused = rattle_answer(0);
     for (size_t align = 1; align <= 16; align *= 2) {
         rattle_tried one = rattle_alloc(1, align), more;
         if (!one.ok || !is_aligned(one.p, align))
@@ -25,22 +48,37 @@ static bool memory_is_aligned(void)
             return false;
         rattle_dealloc(more.p);
     }
-    return !refused.ok && refused.p != 0 && is_aligned(refused.p, 16);
+    return refused_is_aligned();
 }
 
-/* A sleep on a bell ends when it rings, which the kernel is told by the half of the word that is 0
- * or 1. */
+/* Sleeps on a word while it is 1, for so many milliseconds at the most, and returns how many
+ * passed. */
+static int64_t sleep_on(uint32_t *at, bool is_shared, clockid_t clock, long millis)
+{
+    const yak_word_ word = {.at = at, .is_shared = is_shared};
+    struct timespec until;
+    const yak_sleep_ sleep = {.until = &until, .clock = clock};
+    yak_moment before = yak_monotonic_now(), after;
+    clock_gettime(clock, &until);
+    until.tv_nsec += millis * 1000000;
+    until.tv_sec += until.tv_nsec / 1000000000;
+    until.tv_nsec %= 1000000000;
+    yak_sleep_on_(word, 1, &sleep);
+    after = yak_monotonic_now();
+    return (after.sec - before.sec) * 1000 + (after.nsec - before.nsec) / 1000000;
+}
+
+/* A sleep ends if the word has another value, and at its moment by either clock, whether or not
+ * other programs share the word. */
 static bool sleeps_while_it_is_one(void)
 {
-    static uint64_t bells[2] = {0, 1};
-    yak_moment before = yak_now(), after;
-    yak_sleep(&bells[0], 2000);
-    after = yak_now();
-    if (after.sec - before.sec >= 2)
-        return false;
-    yak_sleep(&bells[1], 30);
-    before = yak_now();
-    return (before.sec - after.sec) * 1000000000 + before.nsec - after.nsec >= 20000000;
+    static uint32_t words[2] = {0, 1};
+    for (int is_shared = 0; is_shared <= 1; ++is_shared)
+        if (sleep_on(&words[0], is_shared, CLOCK_MONOTONIC, 2000) >= 2000 ||
+            sleep_on(&words[1], is_shared, CLOCK_MONOTONIC, 30) < 20 ||
+            sleep_on(&words[1], is_shared, CLOCK_REALTIME, 30) < 20)
+            return false;
+    return true;
 }
 
 int main(void)

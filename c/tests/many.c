@@ -1,5 +1,6 @@
-/* More calls wait than the library has processes for: the first 31 are served in the order of their beginning, and each of the others once. A call
- * among the others can be refused, be late, be interrupted, be cancelled, and lose its descriptor. */
+/* More calls wait than the library has processes for: the first 31 are served in the order of their
+ * beginning, and each of the others once. A call among the others can be refused, be late, be
+ * interrupted, be cancelled, and lose its descriptor. */
 #define _GNU_SOURCE
 #include <errno.h>
 #include <fcntl.h>
@@ -124,7 +125,8 @@ static void *receive_other(void *of)
 {
     char buf[8];
     sem_post(&begun);
-    result = of != 0 ? mq_timedreceive(other, buf, sizeof buf, 0, (const struct timespec *)of) : mq_receive(other, buf, sizeof buf, 0);
+    result = of != 0 ? mq_timedreceive(other, buf, sizeof buf, 0, (const struct timespec *)of)
+                     : mq_receive(other, buf, sizeof buf, 0);
     error = errno;
     return 0;
 }

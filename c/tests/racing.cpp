@@ -1,13 +1,11 @@
 // Two threads of a program in C++ race for a counter. ThreadSanitizer reports that also with what
 // c/tsan.supp leaves out: it hides the library alone.
-#define YAKYROMBE_IMPLEMENTATION
 #include <mqueue.h>
 
 #include <cstdio>
 #include <thread>
 
-namespace app
-{
+namespace app {
 
 struct counter {
     int value = 0;

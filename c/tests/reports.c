@@ -1,5 +1,7 @@
-/* What the reports of calls that wait say: who, in which call, on which queue, since when and until when; by the seconds of YAK_REPORT, by the signal
- * of YAK_REPORT_SIGNAL, and by a call. Each report that the environment asks for writes the journal too. The argument is seconds or signal. */
+/* What the reports of calls that wait say: who, in which call, on which queue, since when and until
+ * when; by the seconds of YAK_REPORT, by the signal of YAK_REPORT_SIGNAL, and by a call. Each
+ * report that the environment asks for writes the journal too. The argument is seconds or signal.
+ */
 #define _GNU_SOURCE
 #include <errno.h>
 #include <fcntl.h>
@@ -69,18 +71,22 @@ static bool tells(const char *line, int which, mqd_t queue, double began, double
     long number;
     int d, rest = 0;
     double since, left;
-    if (sscanf(line, "yakyrombe: thread %ld waits in %31s on descriptor %d, %63s for %lf s, %n", &number, call, &d, name, &since, &rest) != 5)
+    if (sscanf(line, "yakyrombe: thread %ld waits in %31s on descriptor %d, %63s for %lf s, %n",
+               &number, call, &d, name, &since, &rest) != 5)
         return false;
-    if (number != atomic_load(&numbers[which]) || strcmp(call, calls[which]) != 0 || d != queue || strcmp(name, names[which]) != 0)
+    if (number != atomic_load(&numbers[which]) || strcmp(call, calls[which]) != 0 || d != queue ||
+        strcmp(name, names[which]) != 0)
         return false;
     if (since < 0 || since > written - began + 0.1)
         return false;
     if (which != 2)
         return strcmp(line + rest, "without a deadline\n") == 0;
-    return sscanf(line + rest, "until its deadline in %lf s", &left) == 1 && left > 3000 && left <= 3600;
+    return sscanf(line + rest, "until its deadline in %lf s", &left) == 1 && left > 3000 &&
+           left <= 3600;
 }
 
-/* How many of the three waits a file tells of, and whether all its lines are of them or say that nobody goes on. */
+/* How many of the three waits a file tells of, and whether all its lines are of them or say that
+ * nobody goes on. */
 static int told(const char *of, double began, int *wholes)
 {
     bool has[3] = {false, false, false};
@@ -136,7 +142,8 @@ static void ring(int number)
     (void)number;
 }
 
-/* Where the main thread waits too, and nobody has a deadline, the report says that nobody goes on. */
+/* Where the main thread waits too, and nobody has a deadline, the report says that nobody goes on.
+ */
 static void all_wait(double began, bool by_signal)
 {
     struct sigaction action;
@@ -153,14 +160,16 @@ static void all_wait(double began, bool by_signal)
     memset(&event, 0, sizeof event);
     event.sigev_notify = SIGEV_SIGNAL;
     event.sigev_signo = SIGALRM;
-    WANT(timer_create(CLOCK_MONOTONIC, &event, &timer) == 0 && timer_settime(timer, 0, &after, 0) == 0);
+    WANT(timer_create(CLOCK_MONOTONIC, &event, &timer) == 0 &&
+         timer_settime(timer, 0, &after, 0) == 0);
     if (by_signal) {
         /* Sent by a second timer while the main thread waits. */
         struct sigevent asks = event;
         struct itimerspec soon = {{0, 0}, {1, 0}};
         timer_t other;
         asks.sigev_signo = SIGUSR2;
-        WANT(timer_create(CLOCK_MONOTONIC, &asks, &other) == 0 && timer_settime(other, 0, &soon, 0) == 0);
+        WANT(timer_create(CLOCK_MONOTONIC, &asks, &other) == 0 &&
+             timer_settime(other, 0, &soon, 0) == 0);
     }
     WANT(mq_receive(own, buf, sizeof buf, 0) == -1 && errno == EINTR);
     told(path, began, &wholes);
@@ -180,7 +189,8 @@ int main(int count, char **words)
     FILE *to;
     WANT(errors != -1 && dup2(errors, STDERR_FILENO) != -1);
     began = now();
-    WANT((empty = fresh("/yak-empty")) != -1 && (full = fresh("/yak-full")) != -1 && (late = fresh("/yak-late")) != -1);
+    WANT((empty = fresh("/yak-empty")) != -1 && (full = fresh("/yak-full")) != -1 &&
+         (late = fresh("/yak-late")) != -1);
     WANT(mq_send(full, "a", 1, 0) == 0);
     WANT(yak_program_report(stderr) == 0);
     sigfillset(&all);

@@ -1,5 +1,5 @@
-/* What a program over the system's <mqueue.h> sees, a line for each thing. Run over the kernel's queues and over libyakyrombe-mqueue it writes the
- * same. */
+/* What a program over the system's <mqueue.h> sees, a line for each thing. Run over the kernel's
+ * queues and over libyakyrombe-mqueue it writes the same. */
 #define _GNU_SOURCE
 #include <errno.h>
 #include <fcntl.h>
@@ -133,7 +133,8 @@ static void alone(void)
     SAY(mq_timedsend(queue, "high", 4, 7, none));
     SAY(mq_timedsend(queue, "full", 4, 7, &past));
     SAY(mq_getattr(queue, &got));
-    printf("%ld %ld %ld %d\n", got.mq_maxmsg, got.mq_msgsize, got.mq_curmsgs, (got.mq_flags & O_NONBLOCK) != 0);
+    printf("%ld %ld %ld %d\n", got.mq_maxmsg, got.mq_msgsize, got.mq_curmsgs,
+           (got.mq_flags & O_NONBLOCK) != 0);
     other = mq_open("/yak-alone", O_RDWR | O_NONBLOCK);
     SAY(mq_send(other, "full", 4, 0));
     memset(&set, 0, sizeof set);
@@ -210,7 +211,9 @@ static void crowd(void)
         pthread_join(threads[i], 0);
         in_order = in_order && given[i] == 'A' + i;
     }
-    printf("%d receives waited on one descriptor of an unlinked queue: in order %d, priorities %d\n", CROWD, in_order, atomic_load(&sum));
+    printf(
+        "%d receives waited on one descriptor of an unlinked queue: in order %d, priorities %d\n",
+        CROWD, in_order, atomic_load(&sum));
     for (int i = 0; i < 4; ++i)
         mq_send(shared, "x", 1, 9);
     for (long i = 0; i < CROWD; ++i) {
@@ -385,7 +388,8 @@ static void *waits_timed(void *of)
     char buf[8];
     tell_wait();
     errno = 0;
-    snprintf(text[0], sizeof text[0], "%s", said(mq_timedreceive(shared, buf, sizeof buf, 0, &late)));
+    snprintf(text[0], sizeof text[0], "%s",
+             said(mq_timedreceive(shared, buf, sizeof buf, 0, &late)));
     return 0;
 }
 
@@ -482,8 +486,8 @@ static void notifying(void)
     SAY(mq_receive(shared, buf, sizeof buf, 0));
     SAY(mq_send(shared, "c", 1, 0));
     await_step();
-    printf("a signal: %d, value %d, by a queue %d, of this process %d\n", atomic_load(&handled), last.si_value.sival_int, last.si_code == SI_MESGQ,
-           last.si_pid == getpid());
+    printf("a signal: %d, value %d, by a queue %d, of this process %d\n", atomic_load(&handled),
+           last.si_value.sival_int, last.si_code == SI_MESGQ, last.si_pid == getpid());
     SAY(mq_receive(shared, buf, sizeof buf, 0));
     SAY(mq_send(shared, "d", 1, 0));
     printf("no second one: %d\n", atomic_load(&handled));

@@ -1,7 +1,7 @@
-/* The two tokens of deadlock.c by handles, under a seed. A token that has not come after two simulated seconds is a fault where the argument is
- * "late": then a seed shows that, and no deadlock. */
+/* The two tokens of deadlock.c by handles, under a seed. A token that has not come after two
+ * simulated seconds is a fault where the argument is "late": then a seed shows that, and no
+ * deadlock. */
 #define _GNU_SOURCE
-#define YAKYROMBE_IMPLEMENTATION
 #include <yakyrombe/seed.h>
 
 #include <yakyrombe.h>
@@ -25,7 +25,7 @@ static void open_both(yak_process *process, uint32_t *d)
 {
     uint32_t answer;
     for (int i = 0; i < 2; ++i) {
-        YAK_TRY(answer, process, yak_open(process, NAMES[i], sizeof NAMES[i], &OPENING, &d[i]));
+        answer = yak_open(process, NAMES[i], sizeof NAMES[i], &OPENING, &d[i]);
         want(answer);
     }
 }
@@ -36,7 +36,8 @@ static void take(yak_process *process, uint32_t d)
     yak_message message;
     yak_moment until = yak_now();
     until.sec += 2;
-    want(has_deadlines ? yak_timed_receive(process, d, buf, sizeof buf, &message, &until) : yak_receive(process, d, buf, sizeof buf, &message));
+    want(has_deadlines ? yak_timed_receive(process, d, buf, sizeof buf, &message, &until)
+                       : yak_receive(process, d, buf, sizeof buf, &message));
 }
 
 static void lay_back(yak_process *process, uint32_t d)

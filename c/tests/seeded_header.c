@@ -1,7 +1,6 @@
-/* The two tokens of deadlock.c over the header in front of the system's <mqueue.h>, under a seed: each thread is attached to a process and opens both
- * queues. */
+/* The two tokens of deadlock.c over the header in front of the system's <mqueue.h>, under a seed:
+ * each thread is attached to a process and opens both queues. */
 #define _GNU_SOURCE
-#define YAKYROMBE_IMPLEMENTATION
 #include <yakyrombe/seed.h>
 
 #include <mqueue.h>
@@ -25,7 +24,8 @@ static void *work(void *of)
     yak_attach(&processes[1 + first]);
     queues[0] = open_queue("/left");
     queues[1] = open_queue("/right");
-    if (mq_receive(queues[first], buf, sizeof buf, 0) != 1 || mq_receive(queues[1 - first], buf, sizeof buf, 0) != 1)
+    if (mq_receive(queues[first], buf, sizeof buf, 0) != 1 ||
+        mq_receive(queues[1 - first], buf, sizeof buf, 0) != 1)
         exit(1);
     if (mq_send(queues[1 - first], "t", 1, 0) != 0 || mq_send(queues[first], "t", 1, 0) != 0)
         exit(1);
@@ -38,7 +38,8 @@ int main(void)
     if (yak_new(processes, 3) != YAK_DONE)
         return 1;
     yak_attach(&processes[0]);
-    if (mq_send(open_queue("/left"), "t", 1, 0) != 0 || mq_send(open_queue("/right"), "t", 1, 0) != 0)
+    if (mq_send(open_queue("/left"), "t", 1, 0) != 0 ||
+        mq_send(open_queue("/right"), "t", 1, 0) != 0)
         return 1;
     for (long i = 0; i < 2; ++i)
         if (pthread_create(&threads[i], 0, work, (void *)i) != 0)

@@ -1,5 +1,6 @@
-/* A thread that is stopped outside the lock keeps nobody out: while one is held between its calls, and one in a call that waits, two others make
- * thousands of calls. A signal's handler holds them, as a stop of that thread alone would. */
+/* A thread that is stopped outside the lock keeps nobody out: while one is held between its calls,
+ * and one in a call that waits, two others make thousands of calls. A signal's handler holds them,
+ * as a stop of that thread alone would. */
 #define _GNU_SOURCE
 #include <fcntl.h>
 #include <pthread.h>
@@ -108,7 +109,8 @@ int main(void)
     WANT(mq_send(queue, "w", 1, 0) == 0);
     for (int i = 0; i < HELD; ++i)
         WANT(pthread_join(stopped[i], 0) == 0);
-    WANT(mq_unlink("/yak_stopped_between") == 0 && mq_unlink("/yak_stopped_wait") == 0 && mq_unlink("/yak_stopped_work") == 0);
+    WANT(mq_unlink("/yak_stopped_between") == 0 && mq_unlink("/yak_stopped_wait") == 0 &&
+         mq_unlink("/yak_stopped_work") == 0);
     puts("well");
     return 0;
 }

@@ -1,6 +1,5 @@
 /* A system whose journal is not stored: messages pass between two threads, and what would read the
  * journal is YAK_UNSTORED. */
-#define YAKYROMBE_IMPLEMENTATION
 #include <yakyrombe.h>
 
 #include <pthread.h>
@@ -15,7 +14,7 @@ static yak_process processes[2];
 static uint32_t open_queue(yak_process *process, uint32_t *d)
 {
     uint32_t answer;
-    YAK_TRY(answer, process, yak_open(process, NAME, sizeof NAME, &OPENING, d));
+    answer = yak_open(process, NAME, sizeof NAME, &OPENING, d);
     return answer;
 }
 
@@ -75,14 +74,14 @@ static bool is_unstored(yak_process *process)
     yak_room_left room = {0, 0};
     uint32_t checked, read, left, nobody;
     FILE *to = tmpfile();
-    const bool is_written = to == 0 || yak_write_journal(process, to) != YAK_UNSTORED ||
-                            ftell(to) != 0;
+    const bool is_written =
+        to == 0 || yak_write_journal(process, to) != YAK_UNSTORED || ftell(to) != 0;
     if (to != 0)
         fclose(to);
-    YAK_TRY(checked, process, yak_check(process));
-    YAK_TRY(read, process, yak_entry(process, 0, line, sizeof line, &len));
-    YAK_TRY(left, process, yak_room(process, &room));
-    YAK_TRY(nobody, process, yak_nobody_can_call(process));
+    checked = yak_check(process);
+    read = yak_entry(process, 0, line, sizeof line, &len);
+    left = yak_room(process, &room);
+    nobody = yak_nobody_can_call(process);
     return !is_written && checked == YAK_UNSTORED && read == YAK_UNSTORED &&
            yak_errno(read) == ENOTSUP && left == YAK_DONE && room.entries == UINT64_MAX &&
            room.bytes == UINT64_MAX && nobody == YAK_GOES_ON;

@@ -1,6 +1,6 @@
-/* The journal of the exported mq_* is stored if YAK_JOURNAL names a file at the first call, or under
- * a seed. Else yak_program_journal writes nothing and fails with ENOTSUP, as does yak_program_check.
- * The report says in either case who waits.
+/* The journal of the exported mq_* is stored if YAK_JOURNAL names a file at the first call, or
+ * under a seed. Else yak_program_journal writes nothing and fails with ENOTSUP, as does
+ * yak_program_check. The report says in either case who waits.
  *
  * usage: unstored_symbol [FILE]     FILE is named by YAK_JOURNAL after the first call */
 #define _GNU_SOURCE

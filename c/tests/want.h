@@ -10,13 +10,13 @@
 #include <unistd.h>
 
 /* Ends the process, a forked child too, where it does not hold. */
-#define WANT(what)                                                                                                               \
-    do                                                                                                                           \
-        if (!(what)) {                                                                                                           \
-            printf("line %d: not so: %s, %s\n", __LINE__, #what, strerrorname_np(errno));                                        \
-            fflush(stdout);                                                                                                      \
-            _exit(1);                                                                                                            \
-        }                                                                                                                        \
+#define WANT(what)                                                                        \
+    do                                                                                    \
+        if (!(what)) {                                                                    \
+            printf("line %d: not so: %s, %s\n", __LINE__, #what, strerrorname_np(errno)); \
+            fflush(stdout);                                                               \
+            _exit(1);                                                                     \
+        }                                                                                 \
     while (0)
 
 static inline void pause_for(long milliseconds)

@@ -1,4 +1,3 @@
-#define YAKYROMBE_IMPLEMENTATION
 #include <yakyrombe.h>
 
 int main(void)
@@ -9,7 +8,7 @@ int main(void)
     yak_message message = {0, 0};
     uint8_t buf[64];
     uint32_t d = 0, answer = yak_new(&process, 1);
-    YAK_TRY(answer, &process, yak_open(&process, name, sizeof name - 1, &opening, &d));
+    answer = yak_open(&process, name, sizeof name - 1, &opening, &d);
     answer = yak_send(&process, d, sweep, sizeof sweep - 1, 1);
     answer = yak_send(&process, d, fire, sizeof fire - 1, 9);
     answer = yak_receive(&process, d, buf, sizeof buf, &message);

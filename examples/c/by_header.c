@@ -1,4 +1,3 @@
-#define YAKYROMBE_IMPLEMENTATION
 #include <mqueue.h>
 
 int main(void)

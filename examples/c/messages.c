@@ -1,5 +1,4 @@
 /* One producer and two consumers over one queue: priorities, a timeout, a notice, and what they came to. */
-#define YAKYROMBE_IMPLEMENTATION
 #include <yakyrombe.h>
 
 #include <pthread.h>
@@ -22,7 +21,7 @@ static void *produce(void *of)
 {
     share *mine = of;
     uint32_t d = 0;
-    YAK_TRY(mine->failed, mine->process, yak_open(mine->process, NAME, sizeof NAME, &OPENING, &d));
+    mine->failed = yak_open(mine->process, NAME, sizeof NAME, &OPENING, &d);
     for (uint32_t i = 1; i <= MESSAGES && mine->failed == YAK_DONE; ++i) {
         uint8_t bytes[4];
         memcpy(bytes, &i, sizeof i);
@@ -38,7 +37,7 @@ static void *consume(void *of)
 {
     share *mine = of;
     uint32_t d = 0;
-    YAK_TRY(mine->failed, mine->process, yak_open(mine->process, NAME, sizeof NAME, &OPENING, &d));
+    mine->failed = yak_open(mine->process, NAME, sizeof NAME, &OPENING, &d);
     while (mine->failed == YAK_DONE) {
         uint8_t bytes[16];
         uint32_t number;
@@ -61,7 +60,7 @@ static uint32_t alone(yak_process *process)
     uint32_t answer, d = 0;
     uint64_t value = 0;
     yak_message message;
-    YAK_TRY(answer, process, yak_open(process, name, sizeof name, &OPENING, &d));
+    answer = yak_open(process, name, sizeof name, &OPENING, &d);
     for (uint32_t prio = 1; prio <= 3; ++prio)
         answer = yak_send(process, d, (const uint8_t *)"abc" + prio - 1, 1, prio);
     for (int i = 0; i < 3; ++i) {
@@ -76,11 +75,11 @@ static uint32_t alone(yak_process *process)
     }
     answer = yak_timed_receive(process, d, bytes, sizeof bytes, &message, &until);
     printf("timed out: %s\n", answer == YAK_TIMEDOUT ? "yes" : "no");
-    YAK_TRY(answer, process, yak_notify(process, d, true, 7));
+    answer = yak_notify(process, d, true, 7);
     answer = yak_send(process, d, bytes, 1, 0);
-    YAK_TRY(answer, process, yak_next_notice(process, &value));
+    answer = yak_next_notice(process, &value);
     printf("notice %llu\n", (unsigned long long)value);
-    YAK_TRY(answer, process, yak_exit(process));
+    answer = yak_exit(process);
     return answer;
 }
 

@@ -1,5 +1,4 @@
 /* Each call of <mqueue.h> with each of its errors, and the numbers from calls on handles that have no errno. */
-#define YAKYROMBE_IMPLEMENTATION
 #include <mqueue.h>
 
 #include <stdio.h>

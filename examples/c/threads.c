@@ -1,6 +1,5 @@
 /* Many threads on one queue, by the calls of <mqueue.h>: usage: threads PROCESSES ROUNDS, an even number of processes from 2 to 32, half of
  * which send and half receive, ROUNDS messages each. Then a receive whose wait another thread answers, and an unlink while others hold. */
-#define YAKYROMBE_IMPLEMENTATION
 #include <mqueue.h>
 
 #include <pthread.h>
@@ -128,7 +127,7 @@ int main(int argc, char **argv)
     printf("%u threads: %s, sums %s\n", count, are_well ? "all well" : "FAILED", sent_sum == received_sum ? "equal" : "DIFFER");
     bool is_late_well = in_threads(2, wait_for_it, send_it_late, shares);
     printf("late: %s\n", is_late_well ? "well" : "FAILED");
-    YAK_TRY(answer, &processes[0], yak_check(&processes[0]));
+    answer = yak_check(&processes[0]);
     printf("history %s\n", answer == YAK_DONE ? "ok" : "FAILED");
     for (unsigned i = 0; i < count; ++i)
         yak_free(&processes[i]);

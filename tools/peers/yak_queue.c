@@ -1,5 +1,4 @@
 /* `pair` and `crowd` of mqbench over the queues for C, by handles. Behind `unstored` no journal is stored. */
-#define YAKYROMBE_IMPLEMENTATION
 #include "yakyrombe.h"
 
 #include <pthread.h>
@@ -25,7 +24,7 @@ static void open_queue(yak_process *process)
 {
     yak_opening opening = {DEPTH, 16, 2, true, false, false, true};
     uint32_t answer, d;
-    YAK_TRY(answer, process, yak_open(process, NAME, sizeof NAME, &opening, &d));
+    answer = yak_open(process, NAME, sizeof NAME, &opening, &d);
     if (answer != YAK_DONE)
         stop("yak_open", answer);
 }

@@ -1,7 +1,7 @@
-/* Threads that call the system's message queues at random, so that their history can be recorded and judged (tools/histories).
-   usage: crowd SEED THREADS CALLS [forked]
-   Each thread opens the one queue twice, once without waiting, and makes that many calls. The same seed makes the same calls, in whatever
-   order their threads come to them. With the fourth word each is a forked child. */
+/* Threads that call the system's message queues at random, so that their history can be recorded
+   and judged (tools/histories). usage: crowd SEED THREADS CALLS [forked] Each thread opens the one
+   queue twice, once without waiting, and makes that many calls. The same seed makes the same calls,
+   in whatever order their threads come to them. With the fourth word each is a forked child. */
 #define _GNU_SOURCE
 #include <errno.h>
 #include <fcntl.h>
@@ -24,14 +24,16 @@ static unsigned long seed, threads, calls;
 static pthread_barrier_t *start;
 
 /* The next number of a thread, by xorshift. */
-static uint64_t next(uint64_t *state) {
+static uint64_t next(uint64_t *state)
+{
     *state ^= *state << 13;
     *state ^= *state >> 7;
     *state ^= *state << 17;
     return *state >> 11;
 }
 
-static struct timespec soon(uint64_t micros) {
+static struct timespec soon(uint64_t micros)
+{
     struct timespec t;
     clock_gettime(CLOCK_REALTIME, &t);
     t.tv_nsec += (long)micros * 1000;
@@ -41,22 +43,39 @@ static struct timespec soon(uint64_t micros) {
 }
 
 /* One call. Half of the seeds have messages that all differ, the others four. */
-static void call(mqd_t waits, mqd_t hurries, uint64_t *state, unsigned long thread, unsigned long place) {
+static void call(mqd_t waits, mqd_t hurries, uint64_t *state, unsigned long thread,
+                 unsigned long place)
+{
     char message[MESSAGE];
     struct timespec until = soon(next(state) % 300);
     struct mq_attr attr;
     unsigned prio = (unsigned)(next(state) % 3);
-    int len = seed % 2 ? snprintf(message, sizeof message, "%lu.%lu", thread, place) : snprintf(message, sizeof message, "%d", (int)(next(state) % 4));
+    int len = seed % 2 ? snprintf(message, sizeof message, "%lu.%lu", thread, place)
+                       : snprintf(message, sizeof message, "%d", (int)(next(state) % 4));
     switch (next(state) % 9) {
-    case 0: case 1: case 2: mq_send(hurries, message, (size_t)len, prio); break;
-    case 3: mq_timedsend(waits, message, (size_t)len, prio, &until); break;
-    case 4: case 5: case 6: mq_receive(hurries, message, sizeof message, NULL); break;
-    case 7: mq_timedreceive(waits, message, sizeof message, NULL, &until); break;
-    default: mq_getattr(waits, &attr);
+    case 0:
+    case 1:
+    case 2:
+        mq_send(hurries, message, (size_t)len, prio);
+        break;
+    case 3:
+        mq_timedsend(waits, message, (size_t)len, prio, &until);
+        break;
+    case 4:
+    case 5:
+    case 6:
+        mq_receive(hurries, message, sizeof message, NULL);
+        break;
+    case 7:
+        mq_timedreceive(waits, message, sizeof message, NULL, &until);
+        break;
+    default:
+        mq_getattr(waits, &attr);
     }
 }
 
-static void *work(void *number) {
+static void *work(void *number)
+{
     unsigned long thread = (unsigned long)(uintptr_t)number;
     uint64_t state = (seed + 1) * 0x9E3779B97F4A7C15u ^ (thread + 1) * 0xBF58476D1CE4E5B9u;
     mqd_t waits = mq_open(name, O_RDWR), hurries = mq_open(name, O_RDWR | O_NONBLOCK);
@@ -65,44 +84,53 @@ static void *work(void *number) {
         exit(1);
     }
     pthread_barrier_wait(start);
-    for (unsigned long place = 0; place < calls; place++) call(waits, hurries, &state, thread, place);
+    for (unsigned long place = 0; place < calls; place++)
+        call(waits, hurries, &state, thread, place);
     mq_close(waits);
     mq_close(hurries);
     return NULL;
 }
 
 /* Starts the threads, or children, and waits for their end. */
-static int run(bool forked) {
+static int run(bool forked)
+{
     pthread_t workers[MOST_THREADS];
     int failed = 0, status;
     for (unsigned long thread = 0; thread < threads; thread++) {
         if (!forked) {
-            if (pthread_create(&workers[thread], NULL, work, (void *)(uintptr_t)thread)) exit(1);
+            if (pthread_create(&workers[thread], NULL, work, (void *)(uintptr_t)thread))
+                exit(1);
             continue;
         }
         pid_t child = fork();
-        if (child < 0) exit(1);
+        if (child < 0)
+            exit(1);
         if (!child) {
             work((void *)(uintptr_t)thread);
             _exit(0);
         }
     }
     for (unsigned long thread = 0; thread < threads; thread++) {
-        if (!forked) pthread_join(workers[thread], NULL);
-        else if (wait(&status) < 0 || status) failed = 1;
+        if (!forked)
+            pthread_join(workers[thread], NULL);
+        else if (wait(&status) < 0 || status)
+            failed = 1;
     }
     return failed;
 }
 
-int main(int count, char **words) {
+int main(int count, char **words)
+{
     struct mq_attr limits = {.mq_maxmsg = 4, .mq_msgsize = MESSAGE};
     pthread_barrierattr_t shared;
     bool forked = count == 5 && !strcmp(words[4], "forked");
-    if (count != 4 && !forked) return 2;
+    if (count != 4 && !forked)
+        return 2;
     seed = strtoul(words[1], NULL, 10);
     threads = strtoul(words[2], NULL, 10);
     calls = strtoul(words[3], NULL, 10);
-    if (threads < 1 || threads > MOST_THREADS) return 2;
+    if (threads < 1 || threads > MOST_THREADS)
+        return 2;
     snprintf(name, sizeof name, "/yakyrombe-crowd-%d", (int)getpid());
     mqd_t first = mq_open(name, O_RDWR | O_CREAT | O_EXCL, 0600, &limits);
     if (first == (mqd_t)-1) {
@@ -110,7 +138,8 @@ int main(int count, char **words) {
         return 1;
     }
     start = mmap(NULL, sizeof *start, PROT_READ | PROT_WRITE, MAP_SHARED | MAP_ANONYMOUS, -1, 0);
-    if (start == MAP_FAILED) return 1;
+    if (start == MAP_FAILED)
+        return 1;
     pthread_barrierattr_init(&shared);
     pthread_barrierattr_setpshared(&shared, PTHREAD_PROCESS_SHARED);
     pthread_barrier_init(start, &shared, (unsigned)threads);

@@ -1,42 +1,43 @@
 //! Why calls are refused.
 
-use crate::raw::answer;
+use crate::raw::{answer, errno_of};
 use std::fmt;
 use std::io;
 
 /// Why a call was refused. It prints as the name that POSIX gives the error; `NOMEMORY`,
 /// `JOURNALFULL` and `UNSTORED` are the library's own.
 #[derive(Clone, Copy, Debug, PartialEq, Eq, Hash)]
+#[repr(u32)]
 pub enum Error {
     /// `EAGAIN`: the call would wait, and its descriptor is nonblocking, or it is a `try_` call.
-    Again,
+    Again = 1,
     /// `EBADF`: the process does not hold the descriptor, or not with the access that the call needs.
-    BadDescriptor,
+    BadDescriptor = 2,
     /// `EBUSY`: a registration stands on the queue already.
-    Busy,
+    Busy = 3,
     /// `EEXIST`: the name is bound, and the open asks for a new queue.
-    Exists,
+    Exists = 4,
     /// `EINVAL`: a priority, limits, a name's form, a removal or a number of processes that the call does not allow.
-    Invalid,
+    Invalid = 5,
     /// `EMFILE`: the process holds 16 descriptors.
-    TooManyOpen,
+    TooManyOpen = 6,
     /// `EMSGSIZE`: a message longer than those of the queue, or a buffer shorter.
-    MessageSize,
+    MessageSize = 7,
     /// `ENAMETOOLONG`: a name with more than 255 bytes after its slash.
-    NameTooLong,
+    NameTooLong = 8,
     /// `ENOENT`: the name is not bound.
-    NoEntry,
+    NoEntry = 9,
     /// `ENOSPC`: 64 queues exist.
-    NoSpace,
+    NoSpace = 10,
     /// `NOMEMORY`: memory for the call was refused. Nothing has changed.
-    NoMemory,
+    NoMemory = 11,
     /// `ETIMEDOUT`: the time of the call was over.
-    TimedOut,
+    TimedOut = 12,
     /// `JOURNALFULL`: the journal has bounds, and no room for what the call needs. Nothing has changed.
-    JournalFull,
+    JournalFull = 13,
     /// `UNSTORED`: the call reads the journal, and that of the system is not stored
     /// ([`System::with_journal`](crate::System::with_journal) stores one).
-    Unstored,
+    Unstored = answer::UNSTORED,
 }
 
 impl Error {
@@ -63,47 +64,28 @@ impl Error {
     /// The number of the error in `errno.h` of this system: of `NoMemory` that of `ENOMEM`, of
     /// `JournalFull` that of `ENOSPC`, of `Unstored` that of `ENOTSUP`.
     pub fn errno(self) -> i32 {
-        let (linux, bsd) = match self {
-            Error::Again => (11, 35),
-            Error::BadDescriptor => (9, 9),
-            Error::Busy => (16, 16),
-            Error::Exists => (17, 17),
-            Error::Invalid => (22, 22),
-            Error::TooManyOpen => (24, 24),
-            Error::MessageSize => (90, 40),
-            Error::NameTooLong => (36, 63),
-            Error::NoEntry => (2, 2),
-            Error::NoSpace | Error::JournalFull => (28, 28),
-            Error::NoMemory => (12, 12),
-            Error::TimedOut => (110, 60),
-            Error::Unstored => (95, 45),
-        };
-        if cfg!(target_os = "linux") {
-            linux
-        } else {
-            bsd
-        }
+        errno_of(self as u32)
     }
 
     /// The error whose number the library returned.
     pub(crate) fn of_answer(number: u32) -> Option<Error> {
-        Some(match number {
-            1 => Error::Again,
-            2 => Error::BadDescriptor,
-            3 => Error::Busy,
-            4 => Error::Exists,
-            5 => Error::Invalid,
-            6 => Error::TooManyOpen,
-            7 => Error::MessageSize,
-            8 => Error::NameTooLong,
-            9 => Error::NoEntry,
-            10 => Error::NoSpace,
-            11 => Error::NoMemory,
-            12 => Error::TimedOut,
-            13 => Error::JournalFull,
-            answer::UNSTORED => Error::Unstored,
-            _ => return None,
-        })
+        const ALL: [Error; 14] = [
+            Error::Again,
+            Error::BadDescriptor,
+            Error::Busy,
+            Error::Exists,
+            Error::Invalid,
+            Error::TooManyOpen,
+            Error::MessageSize,
+            Error::NameTooLong,
+            Error::NoEntry,
+            Error::NoSpace,
+            Error::NoMemory,
+            Error::TimedOut,
+            Error::JournalFull,
+            Error::Unstored,
+        ];
+        ALL.into_iter().find(|&error| error as u32 == number)
     }
 }
 

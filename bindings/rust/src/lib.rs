@@ -73,7 +73,7 @@
 //! # What to keep in mind
 //!
 //! - A wait that nobody answers lasts for ever, as that of a channel does.
-//! - The library takes its memory from C's `malloc`; a program that also links C over the same library leaves `YAKYROMBE_IMPLEMENTATION` out.
+//! - The library takes its memory from C's `malloc`.
 //! - No call may be made from a signal handler, or in a forked child of a program with threads.
 
 mod error;
@@ -81,7 +81,6 @@ mod options;
 mod process;
 #[allow(missing_docs)]
 mod raw;
-mod wait;
 
 pub use error::Error;
 pub use options::{Attr, Descriptor, Journal, OpenOptions, Received, Room};

@@ -2,8 +2,7 @@
 
 use crate::error::Error;
 use crate::options::{Attr, Descriptor, Journal, OpenOptions, Received, Room};
-use crate::raw::{answer, Attributes, Handle, Message, RoomLeft, Storage};
-use crate::wait::{after, now};
+use crate::raw::{answer, Attributes, Handle, Message, Moment, RoomLeft, Storage};
 use std::fmt;
 use std::time::Duration;
 
@@ -87,7 +86,7 @@ impl Process {
     /// [`NameTooLong`](Error::NameTooLong), [`TooManyOpen`](Error::TooManyOpen), [`NoSpace`](Error::NoSpace).
     pub fn open(&mut self, name: impl AsRef<[u8]>, options: OpenOptions) -> Result<Descriptor, Error> {
         let mut d = 0;
-        done(self.handle.through(|handle| handle.open(name.as_ref(), &options.0, &mut d)))?;
+        done(self.handle.open(name.as_ref(), &options.0, &mut d))?;
         Ok(Descriptor(d))
     }
 
@@ -96,7 +95,7 @@ impl Process {
     /// # Errors
     /// [`BadDescriptor`](Error::BadDescriptor).
     pub fn close(&mut self, queue: Descriptor) -> Result<(), Error> {
-        done(self.handle.through(|handle| handle.close(queue.0)))
+        done(self.handle.close(queue.0))
     }
 
     /// Takes the name off a queue, which lasts until nobody has it open (`mq_unlink`).
@@ -104,7 +103,7 @@ impl Process {
     /// # Errors
     /// [`NoEntry`](Error::NoEntry), [`Invalid`](Error::Invalid), [`NameTooLong`](Error::NameTooLong).
     pub fn unlink(&mut self, name: impl AsRef<[u8]>) -> Result<(), Error> {
-        done(self.handle.through(|handle| handle.unlink(name.as_ref())))
+        done(self.handle.unlink(name.as_ref()))
     }
 
     /// Sends a message, and waits while the queue is full (`mq_send`).
@@ -114,10 +113,7 @@ impl Process {
     /// [`MessageSize`](Error::MessageSize); [`Again`](Error::Again) by a descriptor that is nonblocking.
     #[inline]
     pub fn send(&mut self, queue: Descriptor, message: &[u8], priority: u32) -> Result<(), Error> {
-        match self.handle.through(|handle| handle.start_send(queue.0, message, priority)) {
-            answer::WAITS => done(self.handle.await_end(&mut [], &mut Message::default())),
-            answer => done(answer),
-        }
+        done(self.handle.send(queue.0, message, priority))
     }
 
     /// Receives the oldest message of the highest priority into the front of the buffer, and waits while there is none (`mq_receive`).
@@ -128,9 +124,7 @@ impl Process {
     #[inline]
     pub fn receive(&mut self, queue: Descriptor, buf: &mut [u8]) -> Result<Received, Error> {
         let mut message = Message::default();
-        let started = self.handle.through(|handle| handle.start_receive(queue.0, buf, &mut message));
-        let answer = if started == answer::WAITS { self.handle.await_end(buf, &mut message) } else { started };
-        received(answer, &message)
+        received(self.handle.receive(queue.0, buf, &mut message), &message)
     }
 
     /// As [`send`](Process::send), and waits no longer than that (`mq_timedsend`).
@@ -138,12 +132,7 @@ impl Process {
     /// # Errors
     /// As of `send`, and [`TimedOut`](Error::TimedOut).
     pub fn send_timeout(&mut self, queue: Descriptor, message: &[u8], priority: u32, timeout: Duration) -> Result<(), Error> {
-        let now = now();
-        let until = after(now, timeout);
-        match self.handle.through(|handle| handle.start_timed_send(queue.0, message, priority, until, now)) {
-            answer::WAITS => done(self.handle.await_end_until(&mut [], &mut Message::default(), until)),
-            answer => done(answer),
-        }
+        done(self.handle.send_until(queue.0, message, priority, Moment::after(timeout)))
     }
 
     /// As [`receive`](Process::receive), and waits no longer than that (`mq_timedreceive`).
@@ -151,11 +140,8 @@ impl Process {
     /// # Errors
     /// As of `receive`, and [`TimedOut`](Error::TimedOut).
     pub fn receive_timeout(&mut self, queue: Descriptor, buf: &mut [u8], timeout: Duration) -> Result<Received, Error> {
-        let now = now();
-        let until = after(now, timeout);
         let mut message = Message::default();
-        let started = self.handle.through(|handle| handle.start_timed_receive(queue.0, buf, &mut message, until, now));
-        let answer = if started == answer::WAITS { self.handle.await_end_until(buf, &mut message, until) } else { started };
+        let answer = self.handle.receive_until(queue.0, buf, &mut message, Moment::after(timeout));
         received(answer, &message)
     }
 
@@ -165,7 +151,7 @@ impl Process {
     /// # Errors
     /// As of `send`, and [`Again`](Error::Again) where it would wait.
     pub fn try_send(&mut self, queue: Descriptor, message: &[u8], priority: u32) -> Result<(), Error> {
-        self.send_timeout(queue, message, priority, Duration::ZERO).map_err(would_wait)
+        done(self.handle.try_send(queue.0, message, priority)).map_err(would_wait)
     }
 
     /// As [`receive`](Process::receive), and never waits for others, in the way of [`try_send`](Process::try_send).
@@ -173,7 +159,8 @@ impl Process {
     /// # Errors
     /// As of `receive`, and [`Again`](Error::Again) where it would wait.
     pub fn try_receive(&mut self, queue: Descriptor, buf: &mut [u8]) -> Result<Received, Error> {
-        self.receive_timeout(queue, buf, Duration::ZERO).map_err(would_wait)
+        let mut message = Message::default();
+        received(self.handle.try_receive(queue.0, buf, &mut message), &message).map_err(would_wait)
     }
 
     /// The attributes of a queue (`mq_getattr`).
@@ -182,7 +169,7 @@ impl Process {
     /// [`BadDescriptor`](Error::BadDescriptor).
     pub fn getattr(&mut self, queue: Descriptor) -> Result<Attr, Error> {
         let mut found = Attributes::default();
-        done(self.handle.through(|handle| handle.getattr(queue.0, &mut found)))?;
+        done(self.handle.getattr(queue.0, &mut found))?;
         Ok(Attr::of(&found))
     }
 
@@ -192,7 +179,7 @@ impl Process {
     /// [`BadDescriptor`](Error::BadDescriptor).
     pub fn setattr(&mut self, queue: Descriptor, nonblocking: bool) -> Result<Attr, Error> {
         let mut before = Attributes::default();
-        done(self.handle.through(|handle| handle.setattr(queue.0, nonblocking, &mut before)))?;
+        done(self.handle.setattr(queue.0, nonblocking, &mut before))?;
         Ok(Attr::of(&before))
     }
 
@@ -203,7 +190,7 @@ impl Process {
     /// [`BadDescriptor`](Error::BadDescriptor); [`Busy`](Error::Busy) where a registration stands; [`Invalid`](Error::Invalid) where there
     /// is none of this process to end.
     pub fn notify(&mut self, queue: Descriptor, notice: Option<u64>) -> Result<(), Error> {
-        done(self.handle.through(|handle| handle.notify(queue.0, notice)))
+        done(self.handle.notify(queue.0, notice))
     }
 
     /// Takes the oldest notice that came to this process.
@@ -212,7 +199,7 @@ impl Process {
     /// None of its own.
     pub fn next_notice(&mut self) -> Result<Option<u64>, Error> {
         let mut value = 0;
-        match self.handle.through(|handle| handle.next_notice(&mut value)) {
+        match self.handle.next_notice(&mut value) {
             answer::NO_NOTICE => Ok(None),
             answer => done(answer).map(|()| Some(value)),
         }
@@ -223,19 +210,19 @@ impl Process {
     /// # Errors
     /// [`JournalFull`](Error::JournalFull) where the journal has no room for a close: those before it are made.
     pub fn exit(&mut self) -> Result<(), Error> {
-        done(self.handle.through(Handle::exit))
+        done(self.handle.exit())
     }
 
     /// For how much more the journal has room: without end, if it has no bounds.
     pub fn room(&mut self) -> Room {
         let mut left = RoomLeft::default();
-        self.handle.through(|handle| handle.room(&mut left));
+        self.handle.room(&mut left);
         Room { entries: left.entries, bytes: left.bytes }
     }
 
     /// Whether no process of the system can make a call any more, now or later: then it stays so.
     pub fn nobody_can_call(&mut self) -> bool {
-        self.handle.through(Handle::nobody_can_call) == answer::DONE
+        self.handle.nobody_can_call() == answer::DONE
     }
 
     /// Checks the whole stored journal, which is proved to be legal at all times.
@@ -243,7 +230,7 @@ impl Process {
     /// # Errors
     /// [`Unstored`](Error::Unstored).
     pub fn check(&mut self) -> Result<(), Error> {
-        done(self.handle.through(Handle::check))
+        done(self.handle.check())
     }
 
     /// The line of the entry of the stored journal at a place, from 0, or `None` where the journal
@@ -279,7 +266,7 @@ impl Process {
         loop {
             text.try_reserve(len).map_err(|_| Error::NoMemory)?;
             text.resize(front + len, 0);
-            let answer = self.handle.through(|handle| handle.entry(place, &mut text[front..], &mut len));
+            let answer = self.handle.entry(place, &mut text[front..], &mut len);
             text.truncate(front + len);
             match answer {
                 answer::SHORT => {}
@@ -296,7 +283,7 @@ impl Process {
 impl Drop for Process {
     fn drop(&mut self) {
         // Refused is it only where the journal, or memory for it, has an end: then the descriptors stay held.
-        self.handle.through(Handle::exit);
+        self.handle.exit();
     }
 }
 

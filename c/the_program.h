@@ -1,4 +1,4 @@
-/* program.h: what the exported calls of libyakyrombe-mqueue are made of.
+/* the_program.h: what the exported calls of libyakyrombe-mqueue are made of.
  *
  * One system of the library serves the whole program. Its process 1 is the home: it holds a
  * descriptor for each that the program holds, always nonblocking, and makes each call. Where a send
@@ -10,8 +10,8 @@
  * All of this is guarded by one mutex, which is held for the time of a call and never while a call
  * waits.
  */
-#ifndef YAKYROMBE_PROGRAM_INTERNAL_H
-#define YAKYROMBE_PROGRAM_INTERNAL_H
+#ifndef YAKYROMBE_THE_PROGRAM_H
+#define YAKYROMBE_THE_PROGRAM_H
 
 #ifdef YAK_SEEDED
 #include "real.h"
@@ -20,8 +20,10 @@
 #define REAL(name) name
 #endif
 
-#include <yakyrombe.h>
+#include "proved.h"
+#include "wait.h"
 
+#include <errno.h>
 #include <pthread.h>
 #include <signal.h>
 #include <stdatomic.h>
@@ -145,6 +147,13 @@ extern _Thread_local volatile int program_place;
 /* The wait of this thread. */
 extern _Thread_local waiting program_own_wait;
 
+/* The word on which the wait of a process sleeps. */
+static inline yak_word_ program_news(unsigned process)
+{
+    const yak_word_ news = {.at = (uint32_t *)&the_program.news[process]};
+    return news;
+}
+
 /* The notices that a call has brought, to be delivered once the lock is free. */
 typedef struct notices {
     unsigned count;
@@ -237,10 +246,10 @@ static inline __attribute__((always_inline)) uint32_t program_try(bool is_send, 
     yak_process *home = &the_program.processes[HOME];
     uint32_t answer;
     if (is_send) {
-        MADE(answer, yak_start_send(home, d, bytes, len, prio));
+        MADE(answer, yak_proved_start_send(home, d, bytes, len, prio));
         program_count(answer == YAK_DONE ? len : 0);
     } else {
-        MADE(answer, yak_start_receive(home, d, bytes, len, message));
+        MADE(answer, yak_proved_start_receive(home, d, bytes, len, message));
     }
     return answer;
 }

@@ -1,7 +1,15 @@
-/* seed_machine.h: the choices of seed.h. yakyrombe.h includes it in the C file that defines
- * YAKYROMBE_IMPLEMENTATION. */
-#ifndef YAKYROMBE_SEED_MACHINE_H
-#define YAKYROMBE_SEED_MACHINE_H
+/* The choices of seed.h. A program that includes seed.h takes this part of libyakyrombe.a, and
+ * libyakyrombe-seed has it, compiled with YAK_SEEDED. */
+#define _GNU_SOURCE
+#ifdef YAK_SEEDED
+#include "real.h"
+#endif
+#ifndef YAK_SEED_WITHOUT_NAMES
+#define YAK_SEED_WITHOUT_NAMES
+#endif
+#include <yakyrombe/seed.h>
+
+#include "wait.h"
 
 #include <dirent.h>
 #include <errno.h>
@@ -11,22 +19,7 @@
 #include <string.h>
 #ifdef __linux__
 #include <sys/syscall.h>
-#ifndef __cplusplus
-/* Under a strict -std <unistd.h> leaves it out. */
-long syscall(long number, ...);
 #endif
-#endif
-#if defined __GLIBC__ && !defined __USE_GNU
-int pthread_cond_clockwait(pthread_cond_t *cond, pthread_mutex_t *mutex, clockid_t clock,
-                           const struct timespec *until);
-int pthread_mutex_clocklock(pthread_mutex_t *mutex, clockid_t clock, const struct timespec *until);
-int pthread_rwlock_clockrdlock(pthread_rwlock_t *lock, clockid_t clock,
-                               const struct timespec *until);
-int pthread_rwlock_clockwrlock(pthread_rwlock_t *lock, clockid_t clock,
-                               const struct timespec *until);
-int sem_clockwait(sem_t *sem, clockid_t clock, const struct timespec *until);
-#endif
-
 /* How a function of the system is called, whatever its name stands for in the program. */
 #ifndef YAK_REAL
 #define YAK_REAL(name) (name)
@@ -34,12 +27,10 @@ int sem_clockwait(sem_t *sem, clockid_t clock, const struct timespec *until);
 
 enum { YAK_SEATS = 1024, YAK_NO_SEAT = 0 };
 
-/* The most threads beside those of the program: ThreadSanitizer has one. */
-#ifdef YAK_TELLS_ORDER_
-enum { YAK_SEED_OTHERS = 1 };
-#else
-enum { YAK_SEED_OTHERS = 0 };
-#endif
+const char yak_seed_machine;
+
+/* It is there with ThreadSanitizer, which has a thread of its own. */
+extern void __tsan_acquire(void *at) __attribute__((weak));
 
 typedef enum yak_seat_state {
     YAK_SEAT_OUT,
@@ -221,7 +212,7 @@ static const char *yak_seed_doubt_of_threads(void)
     int strangers = yak_seed_strangers();
     if (strangers == -1)
         return "but /proc does not tell whether other threads do";
-    if (strangers > YAK_SEED_OTHERS)
+    if (strangers > (__tsan_acquire != 0))
         return "but there is a thread that the machine does not know, which was not started by "
                "pthread_create";
     for (unsigned at = 0; at < yak_seeds.used; ++at)
@@ -264,7 +255,7 @@ static const char *yak_seed_doubt(void)
     }
     /* What has just begun to wait, or has just ended, is given a second. */
     for (int i = 0; i < 1000 && (doubt = yak_seed_doubt_of_threads()) != 0; ++i) {
-        struct timespec pause = {0, 1000000};
+        struct timespec pause = {.tv_nsec = 1000000};
         YAK_REAL(nanosleep)(&pause, 0);
     }
     return doubt;
@@ -564,7 +555,7 @@ int yak_seed_cancel(pthread_t thread)
 
 /* A moment that has passed by every clock: a lock that is waited for until then is tried, and one
  * that checks errors says so. */
-static const struct timespec yak_seed_past = {0, 0};
+static const struct timespec yak_seed_past = {0};
 
 static int yak_seed_lock_until(const char *call, pthread_mutex_t *mutex,
                                const struct timespec *until)
@@ -839,8 +830,36 @@ unsigned yak_seed_sleep(unsigned seconds)
 
 int yak_seed_usleep(unsigned micros)
 {
-    struct timespec time = {(time_t)(micros / 1000000), (long)(micros % 1000000) * 1000};
+    struct timespec time = {.tv_sec = (time_t)(micros / 1000000),
+                            .tv_nsec = (long)(micros % 1000000) * 1000};
     return yak_seed_nanosleep(&time, 0);
+}
+
+/* ---- calls by a handle ---- */
+
+static bool yak_seed_is_answered(void *of)
+{
+    return yak_answered(of) != YAK_WAITS;
+}
+
+static void yak_seed_write(void *of, FILE *to)
+{
+    yak_write_journal(of, to);
+}
+
+static void yak_seed_await_answer(yak_process *process, const yak_moment *until, const char *call,
+                                  uint32_t d)
+{
+    struct timespec end = {0};
+    char what[96];
+    if (until != 0) {
+        end.tv_sec = (time_t)until->sec;
+        end.tv_nsec = (long)until->nsec;
+    }
+    snprintf(what, sizeof what, "as process %u in %s on descriptor %u", (unsigned)process->number,
+             call, (unsigned)d);
+    yak_seed_writes_journal(yak_seed_write, process);
+    yak_seed_wait(yak_seed_is_answered, process, until != 0 ? &end : 0, what);
 }
 
 /* ---- the begin ---- */
@@ -862,13 +881,15 @@ static void yak_seed_in_child(void)
 
 static __attribute__((constructor)) void yak_seed_begin(void)
 {
+    static const yak_turns_ turns = {
+        .turn = yak_seed_turn,
+        .await_answer = yak_seed_await_answer,
+        .now = yak_seed_now,
+    };
     const char *seed = getenv("YAK_SEED");
     char *end;
     if (seed == 0 || *seed == 0)
         return;
-#ifdef YAK_REAL_NAMES
-    YAK_REAL_NAMES
-#endif
     errno = 0;
     yak_seeds.x = (strtoull(seed, &end, 10) + 1) * 0x9E3779B97F4A7C15u;
     if (*seed < '0' || *seed > '9' || *end != 0 || errno != 0) {
@@ -891,6 +912,45 @@ static __attribute__((constructor)) void yak_seed_begin(void)
     yak_seeds.used = 1;
     yak_seed_sit_down(1);
     yak_seeds.decides = true;
+    yak_follow_(&turns);
 }
 
+#ifdef YAKYROMBE_REAL_H
+/* ---- the names of the system ----
+ *
+ * libyakyrombe-seed takes them, so that a seed decides in a program that is not compiled anew.
+ * Without YAK_SEED each does what the system's does. */
+
+#define YAK_TAKES(name, ours) extern __typeof__(name) name __attribute__((alias(#ours)))
+YAK_TAKES(pthread_create, yak_seed_create);
+YAK_TAKES(pthread_join, yak_seed_join);
+YAK_TAKES(pthread_mutex_lock, yak_seed_lock);
+YAK_TAKES(pthread_kill, yak_seed_pthread_kill);
+YAK_TAKES(kill, yak_seed_kill);
+YAK_TAKES(pthread_mutex_timedlock, yak_seed_timedlock);
+YAK_TAKES(pthread_mutex_clocklock, yak_seed_clocklock);
+YAK_TAKES(pthread_mutex_unlock, yak_seed_unlock);
+YAK_TAKES(pthread_cond_wait, yak_seed_cond_wait);
+YAK_TAKES(pthread_cond_timedwait, yak_seed_cond_timedwait);
+YAK_TAKES(pthread_cond_signal, yak_seed_cond_signal);
+YAK_TAKES(pthread_cond_broadcast, yak_seed_cond_broadcast);
+YAK_TAKES(pthread_cond_clockwait, yak_seed_cond_clockwait);
+YAK_TAKES(pthread_rwlock_rdlock, yak_seed_rdlock);
+YAK_TAKES(pthread_rwlock_wrlock, yak_seed_wrlock);
+YAK_TAKES(pthread_rwlock_timedrdlock, yak_seed_timedrdlock);
+YAK_TAKES(pthread_rwlock_timedwrlock, yak_seed_timedwrlock);
+YAK_TAKES(pthread_rwlock_clockrdlock, yak_seed_clockrdlock);
+YAK_TAKES(pthread_rwlock_clockwrlock, yak_seed_clockwrlock);
+YAK_TAKES(pthread_rwlock_unlock, yak_seed_rwunlock);
+YAK_TAKES(pthread_barrier_wait, yak_seed_barrier_wait);
+YAK_TAKES(sem_wait, yak_seed_sem_wait);
+YAK_TAKES(sem_timedwait, yak_seed_sem_timedwait);
+YAK_TAKES(sem_clockwait, yak_seed_sem_clockwait);
+YAK_TAKES(sem_post, yak_seed_sem_post);
+YAK_TAKES(clock_gettime, yak_seed_clock_gettime);
+YAK_TAKES(time, yak_seed_time);
+YAK_TAKES(nanosleep, yak_seed_nanosleep);
+YAK_TAKES(sleep, yak_seed_sleep);
+YAK_TAKES(usleep, yak_seed_usleep);
+YAK_TAKES(sched_yield, yak_seed_yield);
 #endif

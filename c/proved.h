@@ -1,0 +1,47 @@
+/* proved.h: the exports of the proved library, which wait.c and libyakyrombe-mqueue call.
+ *
+ * Each makes one try of its call and never sleeps: YAK_RETRY if the process did not come inside the
+ * lock by this try. It is on its way then and keeps others out, until a call on it comes inside.
+ * The proved library exports yak_open and so on; c/Makefile gives its symbols the names that stand
+ * here, so that yak_open is the call that waits for the lock, from C and from every other language
+ * that links the archive. */
+#ifndef YAKYROMBE_PROVED_H
+#define YAKYROMBE_PROVED_H
+
+/* It declares two of them, yak_proved_start_send and yak_proved_start_receive. */
+#include <yakyrombe/quick.h>
+
+#pragma GCC visibility push(hidden)
+
+uint32_t yak_proved_open(yak_process *process, const uint8_t *name, size_t len,
+                         const yak_opening *opening, uint32_t *d);
+uint32_t yak_proved_close(yak_process *process, uint32_t d);
+uint32_t yak_proved_unlink(yak_process *process, const uint8_t *name, size_t len);
+uint32_t yak_proved_notify(yak_process *process, uint32_t d, bool registers, uint64_t value);
+uint32_t yak_proved_next_notice(yak_process *process, uint64_t *value);
+uint32_t yak_proved_getattr(yak_process *process, uint32_t d, yak_attributes *attributes);
+uint32_t yak_proved_setattr(yak_process *process, uint32_t d, bool nonblock,
+                            yak_attributes *before);
+uint32_t yak_proved_exit(yak_process *process);
+uint32_t yak_proved_start_timed_send(yak_process *process, uint32_t d, const uint8_t *bytes,
+                                     size_t len, uint32_t prio, const yak_moment *until,
+                                     const yak_moment *now);
+uint32_t yak_proved_start_timed_receive(yak_process *process, uint32_t d, uint8_t *buf, size_t len,
+                                        yak_message *message, const yak_moment *until,
+                                        const yak_moment *now);
+uint32_t yak_proved_collect(yak_process *process, uint8_t *buf, size_t len, yak_message *message);
+uint32_t yak_proved_end_wait(yak_process *process, uint8_t *buf, size_t len, yak_message *message,
+                             const yak_moment *now);
+uint32_t yak_proved_check(yak_process *process);
+uint32_t yak_proved_entry(yak_process *process, uint64_t place, uint8_t *text, size_t size,
+                          size_t *len);
+uint32_t yak_proved_room(yak_process *process, yak_room_left *room);
+uint32_t yak_proved_nobody_can_call(yak_process *process);
+/* Empties the handle, also if its process has an open wait. */
+uint32_t yak_proved_free(yak_process *process);
+/* Which bell the process sleeps on (wait.h). */
+uint32_t yak_proved_bell(yak_process *process, uint32_t *bell);
+
+#pragma GCC visibility pop
+
+#endif

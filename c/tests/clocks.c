@@ -1,0 +1,139 @@
+/* A deadline is one of the clock that the call is given: of real time, of a clock that is never
+ * set, or of a clock of the program. A wait in two parts ends in the same ways. */
+#include <yakyrombe.h>
+
+#include <pthread.h>
+
+static yak_process processes[2];
+static int asked;
+
+/* A clock that moves on by a second each time it is asked. */
+static yak_moment steps(void)
+{
+    const yak_moment now = {++asked, 0};
+    return now;
+}
+
+static int64_t millis_between(yak_moment from, yak_moment to)
+{
+    return (to.sec - from.sec) * 1000 + (to.nsec - from.nsec) / 1000000;
+}
+
+/* So many milliseconds after now. */
+static yak_moment after(yak_clock *clock, int millis)
+{
+    yak_moment moment = clock();
+    moment.nsec += (int64_t)millis * 1000000;
+    moment.sec += moment.nsec / 1000000000;
+    moment.nsec %= 1000000000;
+    return moment;
+}
+
+/* A wait that nobody answers ends at its deadline, and no more than a second later. */
+static bool ends_by(yak_clock *clock, uint32_t d)
+{
+    const yak_moment start = yak_monotonic_now(), until = after(clock, 150);
+    yak_message message;
+    uint8_t buf[8];
+    int64_t took;
+    if (yak_clock_receive(&processes[0], d, buf, sizeof buf, &message, &until, clock) !=
+        YAK_TIMEDOUT)
+        return false;
+    took = millis_between(start, yak_monotonic_now());
+    return took >= 145 && took < 1150;
+}
+
+/* The clock of the program is at its sixth second after some sleeps. */
+static bool ends_by_steps(uint32_t d)
+{
+    const yak_moment until = {6, 0}, bad = {6, 1000000000}, past = {0, 0};
+    yak_message message;
+    uint8_t buf[8];
+    asked = 0;
+    return yak_clock_receive(&processes[0], d, buf, sizeof buf, &message, &bad, steps) ==
+               YAK_INVAL &&
+           yak_clock_receive(&processes[0], d, buf, sizeof buf, &message, &past, steps) ==
+               YAK_TIMEDOUT &&
+           asked == 2 &&
+           yak_clock_receive(&processes[0], d, buf, sizeof buf, &message, &until, steps) ==
+               YAK_TIMEDOUT &&
+           asked >= 6;
+}
+
+static void *send_late(void *clock)
+{
+    const struct timespec pause = {0, 30000000};
+    const uint8_t byte = 'a';
+    const yak_moment until = after(yak_monotonic_now, 60000);
+    nanosleep(&pause, 0);
+    if (clock != 0)
+        yak_clock_send(&processes[1], 0, &byte, 1, 0, &until, yak_monotonic_now);
+    else
+        yak_send(&processes[1], 0, &byte, 1, 0);
+    return 0;
+}
+
+/* The four ways to wait that another thread answers. */
+static bool is_answered(uint32_t d)
+{
+    static int has_clock = 1;
+    const yak_moment soon = after(yak_monotonic_now, 60000), late = after(yak_now, 60000);
+    for (int way = 0; way < 4; ++way) {
+        yak_process *process = &processes[0];
+        yak_message message = {0, 0};
+        uint8_t buf[8];
+        uint32_t answer;
+        pthread_t sender;
+        if (way >= 2 && yak_start_receive(process, d, buf, sizeof buf, &message) != YAK_WAITS)
+            return false;
+        if (pthread_create(&sender, 0, send_late, way % 2 == 0 ? &has_clock : 0) != 0)
+            return false;
+        if (way == 0)
+            answer =
+                yak_clock_receive(process, d, buf, sizeof buf, &message, &soon, yak_monotonic_now);
+        else if (way == 1)
+            answer = yak_timed_receive(process, d, buf, sizeof buf, &message, &late);
+        else if (way == 2)
+            answer = yak_await(process, buf, sizeof buf, &message);
+        else
+            answer = yak_await_until(process, buf, sizeof buf, &message, &late);
+        pthread_join(sender, 0);
+        if (answer != YAK_DONE || message.len != 1 || buf[0] != 'a')
+            return false;
+    }
+    return true;
+}
+
+/* A wait whose deadline is later than the one that is waited for is too early to end before. */
+static bool ends_at_its_own(uint32_t d)
+{
+    const yak_moment now = yak_now(), soon = after(yak_now, 20), late = after(yak_now, 150);
+    yak_message message;
+    uint8_t buf[8];
+    if (yak_start_timed_receive(&processes[0], d, buf, sizeof buf, &message, &late, &now) !=
+            YAK_WAITS ||
+        yak_await_until(&processes[0], buf, sizeof buf, &message, &soon) != YAK_TIMEDOUT)
+        return false;
+    return millis_between(now, yak_now()) >= 145;
+}
+
+int main(void)
+{
+    static const yak_opening opening = {1, 8, 2, true, false, false, true};
+    static const uint8_t name[] = {'/', 'q'};
+    uint32_t d, other;
+    if (yak_new(processes, 2) != YAK_DONE ||
+        yak_open(&processes[0], name, sizeof name, &opening, &d) != YAK_DONE ||
+        yak_open(&processes[1], name, sizeof name, &opening, &other) != YAK_DONE || other != 0)
+        return 1;
+    if (!ends_by(yak_now, d) || !ends_by(yak_monotonic_now, d))
+        return 2;
+    if (!ends_by_steps(d))
+        return 3;
+    if (!is_answered(d))
+        return 4;
+    if (!ends_at_its_own(d))
+        return 5;
+    puts("well");
+    return yak_finish(processes, 2, 0, 0) != YAK_DONE;
+}

@@ -1,0 +1,581 @@
+/* How a call by a handle waits: for the lock, and for the call of another process that answers it.
+ *
+ * A bell is a word of the library that is 1 if a thread may sleep on it. A thread that is about to
+ * sleep stores 1, looks once more at what it waits for, and sleeps while the word is 1. A thread
+ * that changes what others wait for stores 0 and wakes one. Word 0 is the bell of the lock, word j
+ * that of process j's flag, and word YAK_ANSWER_BELL_ + j that of its answer. A missed wake-up
+ * makes a sleep late and does not lose it, since each sleep has an end. */
+#define _GNU_SOURCE
+/* quick.h must not define yak_send and yak_receive: they are below. */
+#define YAK_DEFINES_CALLS_
+#include "wait.h"
+
+#include "proved.h"
+
+#include <errno.h>
+#include <stdlib.h>
+#include <string.h>
+#ifdef __linux__
+#include <linux/futex.h>
+#include <sys/syscall.h>
+#include <unistd.h>
+#ifndef SYS_futex_waitv
+#define SYS_futex_waitv 449
+#endif
+#endif
+
+#define SELDOM(what) __builtin_expect(!!(what), 0)
+
+enum { LOCK_BELL = 0, SECOND = 1000000000, MILLISECOND = 1000000 };
+
+/* The process that the thread is attached to (yakyrombe/mqueue.h). */
+_Thread_local yak_process *yak_attached;
+
+/* ---- the sleep and the wake-up ---- */
+
+#if defined __linux__ && defined FUTEX_32
+/* A sleep that a handler with SA_RESTART does not end: -1 with ENOSYS before Linux 5.16. */
+static long sleep_and_restart(yak_word_ word, uint32_t value, const yak_sleep_ *sleep)
+{
+    static bool is_missing;
+    struct futex_waitv one;
+    long slept;
+    if (__atomic_load_n(&is_missing, __ATOMIC_RELAXED)) {
+        errno = ENOSYS;
+        return -1;
+    }
+    memset(&one, 0, sizeof one);
+    one.val = value;
+    one.uaddr = (uintptr_t)word.at;
+    one.flags = FUTEX_32 | (word.is_shared ? 0 : FUTEX_PRIVATE_FLAG);
+    slept = syscall(SYS_futex_waitv, &one, 1, 0, sleep->until, sleep->clock);
+    if (slept < 0 && errno == ENOSYS)
+        __atomic_store_n(&is_missing, true, __ATOMIC_RELAXED);
+    return slept;
+}
+#endif
+
+int yak_sleep_on_(yak_word_ word, uint32_t value, const yak_sleep_ *sleep)
+{
+#ifdef __linux__
+    const int how = FUTEX_WAIT_BITSET | (word.is_shared ? 0 : FUTEX_PRIVATE_FLAG) |
+                    (sleep->clock == CLOCK_REALTIME ? FUTEX_CLOCK_REALTIME : 0);
+    long slept;
+#ifdef FUTEX_32
+    if (sleep->restarts &&
+        ((slept = sleep_and_restart(word, value, sleep)) >= 0 || errno != ENOSYS))
+        return slept < 0 && errno == EINTR ? EINTR : 0;
+#endif
+    slept = syscall(SYS_futex, word.at, how, value, sleep->until, 0, FUTEX_BITSET_MATCH_ANY);
+    return slept < 0 && errno == EINTR ? EINTR : 0;
+#else
+    const struct timespec nap = {.tv_nsec = MILLISECOND};
+    (void)word, (void)value, (void)sleep;
+    return nanosleep(&nap, 0) != 0 ? EINTR : 0;
+#endif
+}
+
+void yak_wake_on_(yak_word_ word, int most)
+{
+#ifdef __linux__
+    syscall(SYS_futex, word.at, FUTEX_WAKE | (word.is_shared ? 0 : FUTEX_PRIVATE_FLAG), most, 0, 0,
+            0);
+#else
+    (void)word, (void)most;
+#endif
+}
+
+/* The half of a bell that is 0 or 1. */
+static yak_word_ low_half(uint64_t *bell)
+{
+    const yak_word_ half = {
+        .at = (uint32_t *)bell + (__BYTE_ORDER__ == __ORDER_BIG_ENDIAN__),
+    };
+    return half;
+}
+
+/* Sleeps on a bell that was announced, for so many nanoseconds at the most. */
+static void sleep_on(uint64_t *bell, int64_t nanos)
+{
+    struct timespec until;
+    const yak_sleep_ sleep = {.until = &until, .clock = CLOCK_MONOTONIC};
+    clock_gettime(CLOCK_MONOTONIC, &until);
+    nanos += until.tv_nsec;
+    until.tv_sec += (time_t)(nanos / SECOND);
+    until.tv_nsec = (long)(nanos % SECOND);
+    yak_sleep_on_(low_half(bell), 1, &sleep);
+}
+
+static void announce(uint64_t *bell)
+{
+    __atomic_store_n(bell, 1, __ATOMIC_SEQ_CST);
+}
+
+/* Wakes one that announced that it sleeps on the bell. */
+static void ring(uint64_t *bell)
+{
+    if (__atomic_load_n(bell, __ATOMIC_SEQ_CST) == 1) {
+        __atomic_store_n(bell, 0, __ATOMIC_SEQ_CST);
+        yak_wake_on_(low_half(bell), 1);
+    }
+}
+
+bool yak_spin_(unsigned *tries, unsigned most)
+{
+    unsigned left = YAK_SHORT_PAUSE_;
+    if (*tries >= most)
+        return false;
+    for (unsigned i = 0; i < *tries && left < YAK_LONG_PAUSE_; ++i)
+        left *= 2;
+    for (; left != 0; --left)
+        __asm__ volatile("" ::: "memory"); /* so that the loop stays */
+    ++*tries;
+    return true;
+}
+
+/* ---- what watches calls: a seed, and ThreadSanitizer ---- */
+
+/* ThreadSanitizer does not see the atomics of the library, so it is told what they give: a call
+ * comes after those that came inside before it. It is there if its functions are. */
+extern void __tsan_acquire(void *at) __attribute__((weak));
+extern void __tsan_release(void *at) __attribute__((weak));
+
+static const yak_turns_ *turns;
+/* Whether there is either. */
+static bool is_watched;
+
+static __attribute__((constructor)) void begin(void)
+{
+    is_watched = is_watched || __tsan_acquire != 0;
+}
+
+void yak_follow_(const yak_turns_ *them)
+{
+    turns = them;
+    is_watched = turns != 0 || __tsan_acquire != 0;
+}
+
+/* Where ThreadSanitizer keeps the order: at an address that no access has, since a store to a bell
+ * would begin it anew. */
+static void *order_of(const yak_process *process)
+{
+    return (char *)process->bells + 4;
+}
+
+static void begin_call(const yak_process *process)
+{
+    if (!SELDOM(is_watched))
+        return;
+    if (turns != 0)
+        turns->turn();
+    if (__tsan_release != 0 && process->bells != 0)
+        __tsan_release(order_of(process));
+}
+
+/* ---- the way into the lock ---- */
+
+/* Wakes those that wait for what the last call of the process changed. */
+static void end_call(yak_process *process)
+{
+    if (process->bells == 0)
+        return;
+    if (SELDOM(is_watched) && __tsan_acquire != 0)
+        __tsan_acquire(order_of(process));
+    ring(&process->bells[LOCK_BELL]);
+    ring(&process->bells[process->number]);
+    for (uint32_t left = process->answered; left != 0; left &= left - 1)
+        ring(&process->bells[YAK_ANSWER_BELL_ + 1 + __builtin_ctz(left)]);
+}
+
+/* Passes the time before the next try of a call: pauses, and after some tries announces that the
+ * process sleeps. If the next try fails too, and for the same reason, it sleeps, and begins anew.
+ * A process that wakes from a sleep for the lock announces the next sleep for those that sleep on,
+ * since each departure wakes one. A process that wakes from a sleep for the flag of another wakes
+ * the next, since nobody may come to lower that flag again. */
+static __attribute__((noinline)) void rest(yak_process *process, unsigned *tries)
+{
+    uint32_t bell;
+    if (yak_spin_(tries, YAK_SPINS_) || process->bells == 0 ||
+        yak_proved_bell(process, &bell) != YAK_DONE || bell > YAK_ANSWER_BELL_)
+        return;
+    ring(&process->bells[process->number]); /* its own flag, which the last try may have lowered */
+    if (*tries != YAK_SPINS_ + 1 + bell) {
+        *tries = YAK_SPINS_ + 1 + bell;
+        announce(&process->bells[bell]);
+        return;
+    }
+    *tries = 0;
+    sleep_on(&process->bells[bell], (int64_t)YAK_LOCK_NAP_ * MILLISECOND);
+    if (bell == LOCK_BELL)
+        announce(&process->bells[bell]);
+    else
+        yak_wake_on_(low_half(&process->bells[bell]), 1);
+}
+
+/* The call of this name, which makes its proved try again until its process comes inside the lock.
+ */
+#define THROUGH(name, parameters, ...)                                  \
+    uint32_t yak_##name parameters                                      \
+    {                                                                   \
+        unsigned tries_ = 0;                                            \
+        uint32_t answer_;                                               \
+        begin_call(process);                                            \
+        while ((answer_ = yak_proved_##name(__VA_ARGS__)) == YAK_RETRY) \
+            rest(process, &tries_);                                     \
+        end_call(process);                                              \
+        return answer_;                                                 \
+    }
+
+#define PROCESS yak_process *process
+
+THROUGH(open, (PROCESS, const uint8_t *name, size_t len, const yak_opening *opening, uint32_t *d),
+        process, name, len, opening, d)
+THROUGH(close, (PROCESS, uint32_t d), process, d)
+THROUGH(unlink, (PROCESS, const uint8_t *name, size_t len), process, name, len)
+THROUGH(notify, (PROCESS, uint32_t d, bool registers, uint64_t value), process, d, registers, value)
+THROUGH(next_notice, (PROCESS, uint64_t *value), process, value)
+THROUGH(getattr, (PROCESS, uint32_t d, yak_attributes *now), process, d, now)
+THROUGH(setattr, (PROCESS, uint32_t d, bool nonblock, yak_attributes *old), process, d, nonblock,
+        old)
+THROUGH(exit, (PROCESS), process)
+THROUGH(start_send, (PROCESS, uint32_t d, const uint8_t *bytes, size_t len, uint32_t prio), process,
+        d, bytes, len, prio)
+THROUGH(start_receive, (PROCESS, uint32_t d, uint8_t *buf, size_t len, yak_message *message),
+        process, d, buf, len, message)
+THROUGH(start_timed_send,
+        (PROCESS, uint32_t d, const uint8_t *bytes, size_t len, uint32_t prio,
+         const yak_moment *until, const yak_moment *now),
+        process, d, bytes, len, prio, until, now)
+THROUGH(start_timed_receive,
+        (PROCESS, uint32_t d, uint8_t *buf, size_t len, yak_message *message,
+         const yak_moment *until, const yak_moment *now),
+        process, d, buf, len, message, until, now)
+THROUGH(collect, (PROCESS, uint8_t *buf, size_t len, yak_message *message), process, buf, len,
+        message)
+THROUGH(end_wait, (PROCESS, uint8_t *buf, size_t len, yak_message *message, const yak_moment *now),
+        process, buf, len, message, now)
+THROUGH(check, (PROCESS), process)
+THROUGH(entry, (PROCESS, uint64_t place, uint8_t *text, size_t size, size_t *len), process, place,
+        text, size, len)
+THROUGH(room, (PROCESS, yak_room_left *room), process, room)
+THROUGH(nobody_can_call, (PROCESS), process)
+
+uint32_t yak_free(yak_process *process)
+{
+    const uint32_t answer = yak_answered(process);
+    return answer == YAK_NOT_WAITING || answer == YAK_EMPTY ? yak_proved_free(process)
+                                                            : (uint32_t)YAK_WAITING;
+}
+
+/* ---- waits for an answer ---- */
+
+/* An open wait. */
+typedef struct waiting {
+    const char *call;
+    uint32_t d;
+    uint8_t *buf;
+    size_t len;
+    yak_message *message;
+    const yak_moment *until; /* null if it has no deadline */
+    yak_clock *clock;
+} waiting;
+
+static yak_moment now_by(clockid_t clock)
+{
+    struct timespec now;
+    yak_moment moment;
+    if (SELDOM(turns != 0))
+        now = turns->now();
+    else
+        clock_gettime(clock, &now);
+    moment.sec = (int64_t)now.tv_sec;
+    moment.nsec = (int64_t)now.tv_nsec;
+    return moment;
+}
+
+yak_moment yak_now(void)
+{
+    return now_by(CLOCK_REALTIME);
+}
+
+yak_moment yak_monotonic_now(void)
+{
+    return now_by(CLOCK_MONOTONIC);
+}
+
+/* The nanoseconds until a moment, and no more than that; 0 if it has come. */
+static int64_t time_left(const yak_moment *until, yak_moment now, int64_t most)
+{
+    int64_t left;
+    if (until->sec < now.sec)
+        return 0;
+    if ((uint64_t)until->sec - (uint64_t)now.sec > 1)
+        return most;
+    left = (until->sec != now.sec ? SECOND : 0) + until->nsec - now.nsec;
+    return left < 0 ? 0 : left < most ? left : most;
+}
+
+/* The doubt of a process after it has looked for an answer. It doubts if one in four of its last
+ * looks or more was in vain, and after so many waits tries again. */
+static uint64_t learn(uint64_t doubt, bool was_answered)
+{
+    if (doubt >= YAK_MOST_DOUBT_ + YAK_DOUBTFUL_WAITS_)
+        return YAK_MOST_DOUBT_ - YAK_VAIN_LOOK_;
+    if (doubt >= YAK_MOST_DOUBT_)
+        return doubt + 1;
+    return !was_answered ? doubt + YAK_VAIN_LOOK_ : doubt != 0 ? doubt - 1 : 0;
+}
+
+/* Looks with pauses, and says whether the open wait still is not answered. */
+static bool looks_in_vain(yak_process *process)
+{
+    uint64_t *word = &process->bells[YAK_DOUBT_WORD_ + process->number];
+    const uint64_t doubt = __atomic_load_n(word, __ATOMIC_RELAXED);
+    const unsigned most = doubt < YAK_MOST_DOUBT_ ? YAK_LONG_LOOKS_ : YAK_SHORT_LOOKS_;
+    unsigned tries = 0;
+    bool in_vain;
+    do
+        in_vain = yak_answered(process) == YAK_WAITS;
+    while (in_vain && yak_spin_(&tries, most));
+    __atomic_store_n(word, learn(doubt, !in_vain), __ATOMIC_RELAXED);
+    return in_vain;
+}
+
+/* Looks until the open wait is answered, and then sleeps until the call that answers it wakes the
+ * process, for so many nanoseconds at the most: false if it is not answered. */
+static bool await_answer(yak_process *process, const waiting *it, int64_t nanos)
+{
+    if (SELDOM(turns != 0)) {
+        turns->await_answer(process, it->until, it->call, it->d);
+    } else if (process->bells != 0 && looks_in_vain(process)) {
+        uint64_t *bell = &process->bells[YAK_ANSWER_BELL_ + process->number];
+        announce(bell);
+        if (yak_answered(process) == YAK_WAITS)
+            sleep_on(bell, nanos);
+        __atomic_store_n(bell, 0, __ATOMIC_SEQ_CST);
+    }
+    return yak_answered(process) != YAK_WAITS;
+}
+
+/* Waits until the open wait is answered, or its deadline has passed, and ends it. If it is too
+ * early for that, the wait has another deadline, or none. */
+static uint32_t await_end(yak_process *process, const waiting *it)
+{
+    int64_t nap = (int64_t)YAK_FIRST_NAP_ * MILLISECOND, left = nap;
+    uint32_t answer = YAK_WAITS;
+    while (answer == YAK_WAITS || answer == YAK_EARLY) {
+        if (it->until != 0 && answer == YAK_WAITS)
+            left = time_left(it->until, it->clock(), nap);
+        answer = YAK_WAITS;
+        if (await_answer(process, it, left)) {
+            answer = yak_collect(process, it->buf, it->len, it->message);
+        } else if (it->until != 0) {
+            const yak_moment now = it->clock();
+            if (time_left(it->until, now, 1) == 0)
+                answer = yak_end_wait(process, it->buf, it->len, it->message, &now);
+        }
+        if (nap < (int64_t)YAK_LONGEST_NAP_ * MILLISECOND)
+            nap *= 2;
+        left = nap;
+    }
+    return answer;
+}
+
+uint32_t yak_await_until(yak_process *process, uint8_t *buf, size_t len, yak_message *message,
+                         const yak_moment *until)
+{
+    const waiting it = {
+        .call = "a call",
+        .buf = buf,
+        .len = len,
+        .message = message,
+        .until = until,
+        .clock = yak_now,
+    };
+    return await_end(process, &it);
+}
+
+uint32_t yak_await(yak_process *process, uint8_t *buf, size_t len, yak_message *message)
+{
+    return yak_await_until(process, buf, len, message, 0);
+}
+
+uint32_t yak_send_on_(yak_process *process, uint32_t d, const uint8_t *bytes, size_t len,
+                      uint32_t prio, uint32_t answer)
+{
+    uint8_t none = 0;
+    yak_message message = {0};
+    const waiting it = {.call = "a send", .d = d, .buf = &none, .message = &message};
+    unsigned tries = 0;
+    while (answer == YAK_RETRY) {
+        rest(process, &tries);
+        answer = yak_proved_start_send(process, d, bytes, len, prio);
+    }
+    end_call(process);
+    return answer == YAK_WAITS ? await_end(process, &it) : answer;
+}
+
+uint32_t yak_receive_on_(yak_process *process, uint32_t d, uint8_t *buf, size_t len,
+                         yak_message *message, uint32_t answer)
+{
+    const waiting it = {.call = "a receive", .d = d, .buf = buf, .len = len, .message = message};
+    unsigned tries = 0;
+    while (answer == YAK_RETRY) {
+        rest(process, &tries);
+        answer = yak_proved_start_receive(process, d, buf, len, message);
+    }
+    end_call(process);
+    return answer == YAK_WAITS ? await_end(process, &it) : answer;
+}
+
+uint32_t yak_send(yak_process *process, uint32_t d, const uint8_t *bytes, size_t len, uint32_t prio)
+{
+    if (!SELDOM(is_watched))
+        return yak_quick_send_(process, d, bytes, len, prio);
+    begin_call(process);
+    return yak_send_on_(process, d, bytes, len, prio,
+                        yak_proved_start_send(process, d, bytes, len, prio));
+}
+
+uint32_t yak_receive(yak_process *process, uint32_t d, uint8_t *buf, size_t len,
+                     yak_message *message)
+{
+    if (!SELDOM(is_watched))
+        return yak_quick_receive_(process, d, buf, len, message);
+    begin_call(process);
+    return yak_receive_on_(process, d, buf, len, message,
+                           yak_proved_start_receive(process, d, buf, len, message));
+}
+
+uint32_t yak_clock_send(yak_process *process, uint32_t d, const uint8_t *bytes, size_t len,
+                        uint32_t prio, const yak_moment *until, yak_clock *clock)
+{
+    uint8_t none = 0;
+    yak_message message = {0};
+    const waiting it = {.call = "a timed send",
+                        .d = d,
+                        .buf = &none,
+                        .message = &message,
+                        .until = until,
+                        .clock = clock};
+    const yak_moment now = clock();
+    const uint32_t answer = yak_start_timed_send(process, d, bytes, len, prio, until, &now);
+    return answer == YAK_WAITS ? await_end(process, &it) : answer;
+}
+
+uint32_t yak_clock_receive(yak_process *process, uint32_t d, uint8_t *buf, size_t len,
+                           yak_message *message, const yak_moment *until, yak_clock *clock)
+{
+    const waiting it = {.call = "a timed receive",
+                        .d = d,
+                        .buf = buf,
+                        .len = len,
+                        .message = message,
+                        .until = until,
+                        .clock = clock};
+    const yak_moment now = clock();
+    const uint32_t answer = yak_start_timed_receive(process, d, buf, len, message, until, &now);
+    return answer == YAK_WAITS ? await_end(process, &it) : answer;
+}
+
+uint32_t yak_timed_send(yak_process *process, uint32_t d, const uint8_t *bytes, size_t len,
+                        uint32_t prio, const yak_moment *until)
+{
+    return yak_clock_send(process, d, bytes, len, prio, until, yak_now);
+}
+
+uint32_t yak_timed_receive(yak_process *process, uint32_t d, uint8_t *buf, size_t len,
+                           yak_message *message, const yak_moment *until)
+{
+    return yak_clock_receive(process, d, buf, len, message, until, yak_now);
+}
+
+/* ---- the journal, and the end of a system ---- */
+
+/* Gives the line of each entry to `line`, from a buffer that grows: YAK_NO_ENTRY behind the last.
+ */
+static uint32_t give_lines(yak_process *process, yak_line *line, void *with)
+{
+    static uint8_t none[1];
+    uint8_t *text = none, *larger;
+    size_t size = 0, len;
+    uint64_t place = 0;
+    uint32_t answer;
+    for (;;) {
+        answer = yak_entry(process, place, text, size, &len);
+        if (answer == YAK_DONE) {
+            line(with, text, len);
+            ++place;
+        } else if (answer != YAK_SHORT) {
+            break;
+        } else if ((larger = realloc(text != none ? text : 0, 2 * len)) != 0) {
+            text = larger;
+            size = 2 * len;
+        } else {
+            answer = YAK_NOMEMORY;
+            break;
+        }
+    }
+    free(text != none ? text : 0);
+    return answer;
+}
+
+static void write_line(void *with, const uint8_t *text, size_t len)
+{
+    fwrite(text, 1, len, with);
+}
+
+uint32_t yak_write_journal(yak_process *process, FILE *to)
+{
+    const uint32_t answer = give_lines(process, write_line, to);
+    if (answer != YAK_NO_ENTRY)
+        return answer;
+    return fflush(to) != 0 || ferror(to) ? YAK_NOT_WRITTEN : YAK_DONE;
+}
+
+uint32_t yak_finish(yak_process *processes, size_t count, yak_line *line, void *with)
+{
+    uint32_t answer;
+    if (count == 0)
+        return YAK_EMPTY;
+    for (size_t i = 0; i < count; ++i)
+        if (yak_answered(&processes[i]) == YAK_EMPTY)
+            return YAK_EMPTY;
+    for (size_t i = 1; i < count; ++i)
+        if (processes[i].bells != processes[0].bells)
+            return YAK_INVAL;
+    answer = yak_check(&processes[0]);
+    if (answer == YAK_DONE && line != 0)
+        answer = give_lines(&processes[0], line, with);
+    if (answer == YAK_NOMEMORY || (answer == YAK_UNSTORED && line != 0))
+        return answer;
+    for (size_t i = 0; i < count; ++i)
+        yak_proved_free(&processes[i]);
+    return YAK_DONE;
+}
+
+int yak_errno(uint32_t answer)
+{
+    static const int faults[] = {
+        [YAK_DONE] = 0,
+        [YAK_AGAIN] = EAGAIN,
+        [YAK_BADF] = EBADF,
+        [YAK_BUSY] = EBUSY,
+        [YAK_EXIST] = EEXIST,
+        [YAK_INVAL] = EINVAL,
+        [YAK_MFILE] = EMFILE,
+        [YAK_MSGSIZE] = EMSGSIZE,
+        [YAK_NAMETOOLONG] = ENAMETOOLONG,
+        [YAK_NOENT] = ENOENT,
+        [YAK_NOSPC] = ENOSPC,
+        [YAK_NOMEMORY] = ENOMEM,
+        [YAK_TIMEDOUT] = ETIMEDOUT,
+        [YAK_JOURNALFULL] = ENOSPC,
+    };
+    if (answer < sizeof faults / sizeof faults[0])
+        return faults[answer];
+    return answer == YAK_WAITING    ? EBUSY
+           : answer == YAK_EMPTY    ? EPERM
+           : answer == YAK_UNSTORED ? ENOTSUP
+                                    : EINVAL;
+}

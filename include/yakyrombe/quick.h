@@ -1,0 +1,81 @@
+/* quick.h: the first try of yak_send and yak_receive, for yakyrombe.h, which declares the two.
+ *
+ * Inline it spares a call of a function: a send or a receive that meets nobody, and that nobody
+ * waits for, goes on at once. What is left of any other, and all that waits, is in libyakyrombe.a,
+ * which has both functions whole too. */
+#ifndef YAKYROMBE_QUICK_H
+#define YAKYROMBE_QUICK_H
+
+#include "../yakyrombe.h"
+
+#ifdef __cplusplus
+extern "C" {
+#endif
+
+/* One try of the call, which does not wait: YAK_RETRY if its process did not come inside the lock,
+ * and then the rest of the call has to follow. */
+uint32_t yak_proved_start_send(yak_process *process, uint32_t d, const uint8_t *bytes, size_t len,
+                               uint32_t prio);
+uint32_t yak_proved_start_receive(yak_process *process, uint32_t d, uint8_t *buf, size_t len,
+                                  yak_message *message);
+
+/* The rest of the call, after a first try with this answer. */
+uint32_t yak_send_on_(yak_process *process, uint32_t d, const uint8_t *bytes, size_t len,
+                      uint32_t prio, uint32_t answer);
+uint32_t yak_receive_on_(yak_process *process, uint32_t d, uint8_t *buf, size_t len,
+                         yak_message *message, uint32_t answer);
+
+/* Inline in each file that calls it, and a function of its own in none. */
+#define YAK_INLINE_ extern inline __attribute__((gnu_inline, always_inline))
+
+/* Whether a call came inside and is done, and nobody may sleep until what it changed. A bell is 0
+ * or 1. */
+YAK_INLINE_ bool yak_is_through_(const yak_process *process, uint32_t answer)
+{
+    const uint64_t *bells = process->bells;
+    return __builtin_expect(
+        answer == YAK_DONE &&
+            ((uint32_t)(__atomic_load_n(&bells[0], __ATOMIC_SEQ_CST) |
+                        __atomic_load_n(&bells[process->number], __ATOMIC_SEQ_CST)) |
+             process->answered) == 0,
+        1);
+}
+
+YAK_INLINE_ uint32_t yak_quick_send_(yak_process *process, uint32_t d, const uint8_t *bytes,
+                                     size_t len, uint32_t prio)
+{
+    const uint32_t answer = yak_proved_start_send(process, d, bytes, len, prio);
+    return yak_is_through_(process, answer) ? (uint32_t)YAK_DONE
+                                            : yak_send_on_(process, d, bytes, len, prio, answer);
+}
+
+YAK_INLINE_ uint32_t yak_quick_receive_(yak_process *process, uint32_t d, uint8_t *buf, size_t len,
+                                        yak_message *message)
+{
+    const uint32_t answer = yak_proved_start_receive(process, d, buf, len, message);
+    return yak_is_through_(process, answer)
+               ? (uint32_t)YAK_DONE
+               : yak_receive_on_(process, d, buf, len, message, answer);
+}
+
+/* The library has functions of these names too, which the compiler takes where it does not inline.
+ */
+#ifndef YAK_DEFINES_CALLS_
+extern inline __attribute__((gnu_inline)) uint32_t
+yak_send(yak_process *process, uint32_t d, const uint8_t *bytes, size_t len, uint32_t prio)
+{
+    return yak_quick_send_(process, d, bytes, len, prio);
+}
+
+extern inline __attribute__((gnu_inline)) uint32_t
+yak_receive(yak_process *process, uint32_t d, uint8_t *buf, size_t len, yak_message *message)
+{
+    return yak_quick_receive_(process, d, buf, len, message);
+}
+#endif
+
+#ifdef __cplusplus
+}
+#endif
+
+#endif
