@@ -1,5 +1,6 @@
 /* A program that passes pointers and lengths that the system refuses, as programs that test a
- * system do. Run by tools/record it ends as without, and its history has each call. */
+ * system do, and one of whose sends waits until its deadline. Run by tools/record it ends as
+ * without, and its history has each call. */
 #define _GNU_SOURCE
 #include <errno.h>
 #include <fcntl.h>
@@ -20,7 +21,7 @@ static void *const volatile nowhere = (void *)(uintptr_t)8, *const volatile none
 int main(void)
 {
     struct mq_attr attr = room_for(2);
-    struct timespec past = {0, 0};
+    struct timespec past = {0, 0}, soon;
     char name[32], buf[8], *bad = nowhere, *null = none;
     mqd_t queue;
     snprintf(name, sizeof name, "/yak-recorded-%d", (int)getpid());
@@ -42,6 +43,12 @@ int main(void)
     WANT(mq_timedsend(queue, "kept", 4, 3, none) == 0);
     WANT(mq_timedreceive(queue, buf, 8, none, none) == 4 && memcmp(buf, "kept", 4) == 0);
     WANT(mq_setattr(queue, none, &attr) == 0 && attr.mq_maxmsg == 2);
+    attr.mq_flags = 0;
+    WANT(mq_setattr(queue, &attr, none) == 0);
+    WANT(mq_send(queue, "one", 3, 0) == 0 && mq_send(queue, "two", 3, 0) == 0);
+    clock_gettime(CLOCK_REALTIME, &soon);
+    soon.tv_sec += 1;
+    REFUSED(ETIMEDOUT, mq_timedsend(queue, "late", 4, 0, &soon));
     WANT(mq_close(queue) == 0 && mq_unlink(name) == 0);
     puts("well");
     return 0;

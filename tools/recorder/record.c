@@ -7,7 +7,8 @@
 
    The program may pass pointers and lengths that the system refuses. So the recorder passes them on
    as they are. It reads what they point to through the kernel before the call, and directly only
-   what a call that succeeded has used. A send that was refused has no message in its line. */
+   what a call that succeeded has used. A send that was refused has no message in its line, unless
+   its deadline passed: it may have waited, and a wait has its message. */
 #define _GNU_SOURCE
 #include <dlfcn.h>
 #include <errno.h>
@@ -306,6 +307,8 @@ static int sent(uint64_t began, struct line *call, int status, const char *messa
     int error = errno;
     if (!status)
         quote(call, message, len);
+    else if (error == ETIMEDOUT)
+        quote_message(call, message, len);
     errno = error;
     return done(began, call, status);
 }
