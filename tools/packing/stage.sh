@@ -17,7 +17,7 @@ logic_of() {
   { grep -ao 'rattle logic=[0-9a-f]\{64\}' "$1" || true; } | sed -n '1s/.*=//p'
 }
 
-# Installs what is built to $room/root, for a prefix and a folder of libraries. The C parts are
+# Installs what is built to $room/tree, for a prefix and a folder of libraries. The C parts are
 # compiled for it; their debugging information names no folder of this machine. Each proved file
 # must say that it was proved by the logic that README.md names.
 install_to_room() {
@@ -27,13 +27,13 @@ install_to_room() {
   [ -f lib/libyakyrombe.a ] || stop "lib/libyakyrombe.a is not there: run ./test"
   mkdir "$room/lib"
   cp lib/libyakyrombe.a "$room/lib"
-  make -s install DESTDIR="$room/root" PREFIX="$prefix" LIBDIR="$libraries" LIB="$room/lib" \
+  make -s install DESTDIR="$room/tree" PREFIX="$prefix" LIBDIR="$libraries" LIB="$room/lib" \
     CFLAGS="-O2 -g -ffile-prefix-map=$PWD=. -ffile-prefix-map=$room=." >&2
-  logic=$(logic_of "$room/root$libraries/libyakyrombe.a")
+  logic=$(logic_of "$room/tree$libraries/libyakyrombe.a")
   [ -n "$logic" ] || stop "lib/libyakyrombe.a does not say by which logic it was proved"
   grep -q "logic ${logic:0:16}" README.md || stop "README.md does not name the logic $logic"
   for file in mqrun mqlog mqbench; do
-    [[ $(logic_of "$room/root$prefix/bin/$file") == "$logic" ]] \
+    [[ $(logic_of "$room/tree$prefix/bin/$file") == "$logic" ]] \
       || stop "$file does not say that it was proved by the logic of lib/libyakyrombe.a: $logic"
   done
 }
