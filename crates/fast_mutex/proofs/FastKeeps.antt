@@ -1,5 +1,5 @@
 -- Each step of Lamport's lock keeps its rule.
-use Rattle.std.proofs.Common.{◌≡◌, ℕ, zero, suc, ◌+◌, ◌≤◌, ◌<◌, ◌≢◌, ◌⊎◌, ◌-◌, ◌*◌, ◌||◌, ◌==◌, inl, inr, eqb, cond, Bool, true, false, List, [], ◌∷◌, ◌++◌, set, take, replicate, get_or, length, length-append, sym, refl, ap, ◌∙◌, subst, ⊎_elim, arith, Option as Opt, Some}
+use Rattle.std.proofs.Common.{◌≡◌, ℕ, zero, suc, ◌+◌, ◌≤◌, ◌<◌, ◌≢◌, ◌⊎◌, ◌-◌, ◌||◌, ◌==◌, inl, inr, eqb, cond, Bool, true, false, List, [], ◌∷◌, ◌++◌, set, get_or, length, length-append, drop, sym, refl, ap, ◌∙◌, subst, ⊎_elim, arith, Option as Opt, Some}
 use Rattle.std.specs.List.{All, AllByRecursion as Each}
 use mathlib.Core.Logic.{dite}
 use mathlib.Core.Option.{none, some, some-injective, some-ne-none}
@@ -15,7 +15,7 @@ use Rattle.lamport_core.specs.declared.At.{At}
 use Rattle.lamport_core.specs.declared.At.TheVariants.{Rest, Start, SetX, TestY, BackB, AwaitY, SetY, TestX, SlowB, Scan, SlowY, SlowAwait, Leaving}
 use Rattle.fast_mutex.specs.Items.{Grows, GrowsBy}
 use Rattle.fast_mutex.specs.Seats.{Claim, Fixed, IsGood, Deals, new_claims, last_left, sum_over, times, first_view, view_of_others, view_of_first, joint_view}
-use Rattle.fast_mutex.specs.Marks.{flag, mark_in, has, answer_bits, Course, Marked}
+use Rattle.fast_mutex.specs.Marks.{flag, mark_in, has, answer_bits, Course, Marked, ShowAnswers}
 use Rattle.fast_mutex.specs.declared.seats.About.{About}
 use Rattle.fast_mutex.specs.declared.fast.view.Plan.{Plan}
 use Rattle.fast_mutex.specs.declared.fast.view.View.{View}
@@ -283,41 +283,44 @@ module _ {S I : Type 0} (shows : S → List I) (fixes : S → List ℕ) (author 
   leaves slots id k p found fixed l more plan n st is adds same shown s r len at small = (seat Leaving k (shows st) fixed (shows st) more no_plan (n + 1), gives, tt, left_home s r id k p found fixed l more plan n st is adds same shown at, record { inside = is; on = (refl, refl, refl); stores = refl; goes = refl })
 
   -- the one seat of a new table
-  only_first : (id : ℕ) (v : View I) → get_elem? (first_view (resting {I = I}) fixes about ∷ []) id ≡ some v → v ≡ first_view resting fixes about
+  only_first : (id : ℕ) (v : View I) → get_elem? (first_view (resting {I = I}) shows fixes about ∷ []) id ≡ some v → v ≡ first_view resting shows fixes about
   only_first zero v e = sym (some-injective _ _ e)
   only_first (suc id) v e = absurd (some-ne-none v (sym e))
 
-  total_new : sum_over many (first_view (resting {I = I}) fixes about ∷ []) ≡ about.count
-  total_new = let h = length-new_claims I 1 about.count in omega arith
+  total_new : sum_over many (first_view (resting {I = I}) shows fixes about ∷ []) ≡ about.count
+  total_new = let h = length-new_claims (shows about.state.value) 1 about.count in omega arith
 
-  new_claims_rest : (k n : ℕ) → Each (λ (c : Claim I). Rest ≡ Rest) (new_claims k n)
-  new_claims_rest k zero = tt
-  new_claims_rest k (suc n) = (refl, new_claims_rest (suc k) n)
+  new_claims_rest : (left : List I) (k n : ℕ) → Each (λ (c : Claim I). Rest ≡ Rest) (new_claims left k n)
+  new_claims_rest left k zero = tt
+  new_claims_rest left k (suc n) = (refl, new_claims_rest left (suc k) n)
 
-  new_claims_stand : (n : ℕ) → On (λ _. Rest) Rest (new_claims 1 n)
-  new_claims_stand zero = refl
-  new_claims_stand (suc n) = (refl, new_claims_rest 2 n)
+  new_claims_stand : (left : List I) (n : ℕ) → On (λ _. Rest) Rest (new_claims left 1 n)
+  new_claims_stand left zero = refl
+  new_claims_stand left (suc n) = (refl, new_claims_rest left 2 n)
 
   -- the table that `new` makes
-  pub starts : ((p : ℕ) → answered p [] ≡ false) → (n : ℕ) (st : S) (slots : List (Opt S)) → n ≡ about.count → n ≤ 32 → slots ≡ Some st ∷ [] → about.state.value ≡ st → shows st ≡ [] → Rule (opening (take (2 * n + 2) (replicate 66 0)) slots (first_view resting fixes about))
-  starts nobody n st slots count few filled same none_yet =
-      let course : Course I = record { now = []; next = []; done = []; marks = replicate about.count 0 } in subst (λ xs. Rule (opening (take (2 * n + 2) (replicate 66 0)) xs (first_view resting fixes about))) (sym filled) record {
+  pub starts : (words : List ℕ) (st : S) (slots : List (Opt S)) → ShowAnswers answered about.count (shows about.state.value) words → slots ≡ Some st ∷ [] → about.state.value ≡ st → Rule (opening words slots (first_view resting shows fixes about))
+  starts words st slots first filled same =
+      let now : List I = shows about.state.value in
+      let marks : List ℕ = drop about.count (drop 2 words) in
+      let safe : IsSafeWorld about.count words marks (λ _. Rest) = starting_world answered about.count now words first in
+      let course : Course I = record { now = now; next = now; done = []; marks = marks } in subst (λ xs. Rule (opening words xs (first_view resting shows fixes about))) (sym filled) record {
         at = λ _. Rest;
         course = course;
-        world = let P : ℕ → Type 0 = λ m. IsSafeWorld m (take (2 * n + 2) (replicate 66 0)) (replicate m 0) (λ _. Rest) in subst P count (starting_world n few);
-        home = λ e. (st, refl, none_yet, ap fixes (sym same));
+        world = safe;
+        home = λ e. (st, refl, ap shows (sym same), ap fixes (sym same));
         away = λ i z. absurd (cc);
         comes = inl refl;
         idle = λ _. refl;
-        marked = marks_new answered about.count nobody;
+        marked = marks_new answered about.count now words first safe;
         seats = λ j d e. let P : View I → Type 0 = λ w. Fit (λ _. Rest) course w in subst P (sym (only_first j d e)) record {
-          stands = new_claims_stand about.count;
+          stands = new_claims_stand now about.count;
           found = λ q. absurd (cc);
           planned = λ q. absurd (cc);
           told = λ _ t. absurd (cc);
-          good = good_new_claims shows fixes author about 1 about.count (omega arith) (omega arith);
+          good = good_new_claims shows fixes author about now 1 about.count (omega arith) (omega arith);
         };
-        once = λ j. let h = new_claims_once I j 1 about.count in omega arith;
+        once = λ j. let h = new_claims_once now j 1 about.count in omega arith;
         total = total_new;
       }
 

@@ -1,8 +1,8 @@
 -- Each line of Lamport's algorithm, taken on the words: where words and points are a world that keeps the condition,
 -- they are one after the line. Each cites the law of its line.
-use Rattle.std.proofs.Common.{◌≡◌, ◌≢◌, ◌<◌, ◌≤◌, ◌+◌, ◌-◌, ◌*◌, ℕ, zero, suc, eqb, cond, Bool, true, false, List, [], ◌∷◌, ◌++◌, set, take, replicate, get_or, length, length-set, refl, sym, ap, ◌∙◌, subst, inl, inr, ⊎_elim, arith, get_or-set_same, get_or-set_other, eq-eqb, ne_eqb}
+use Rattle.std.proofs.Common.{◌≡◌, ◌≢◌, ◌<◌, ◌≤◌, ◌+◌, ◌-◌, ℕ, zero, suc, eqb, cond, Bool, true, false, List, [], ◌∷◌, ◌++◌, set, take, drop, get_or, length, length-set, refl, sym, ap, ◌∙◌, subst, inl, inr, ⊎_elim, arith, get_or-set_same, get_or-set_other, eq-eqb, ne_eqb}
 use Rattle.std.specs.List.{AllByRecursion as Each}
-use Rattle.std.proofs.lemmas.List.{set-append_left, set-append_right, get_or_append_left, get_or-append_right, take-replicate, replicate-append-replicate, length-replicate}
+use Rattle.std.proofs.lemmas.List.{set-append_left, set-append_right, get_or_append_left, get_or-append_right, take-append-drop, length-take-le}
 use Rattle.lamport_core.specs.State.{IsProcess, IsInsidePoint, after_TestX, after_SlowY}
 use Rattle.lamport_core.specs.Safe.{Safe, Moves, Sets, IsPoint, moved_to}
 use Rattle.lamport_core.proofs.Steps
@@ -10,7 +10,7 @@ use Rattle.lamport_core.proofs.Along.{moves_to, one_inside_at, admitted_alone}
 use Rattle.lamport_core.proofs.Worlds.{rest_safe}
 use Rattle.lamport_core.specs.declared.At.{At}
 use Rattle.lamport_core.specs.declared.At.TheVariants.{Rest, Start, SetX, TestY, BackB, AwaitY, SetY, TestX, SlowB, Scan, SlowY, SlowAwait, Fast, Slow, Leaving}
-use Rattle.fast_mutex.specs.Marks.{mark_in}
+use Rattle.fast_mutex.specs.Marks.{mark_in, ShowAnswers}
 use Rattle.fast_mutex.specs.Fast.{is_inside, flag_in, IsSafeWorld, after_store, after_load}
 
 pub moved_here : (at : ℕ → At) (k : ℕ) (q : At) → moved_to at k q k ≡ q
@@ -217,7 +217,7 @@ pub found_nobody : (n : ℕ) (words marks : List ℕ) (at : ℕ → At) (k : ℕ
 found_nobody n words marks at k P Q w e out i j = not_true (is_inside (at j)) (λ h.
     admitted_alone n w.x w.y _ at _ k P Q w.safe (moves_to at k P Q e) (outside_point P out) (inside_point Q i) j (inside_point (at j) h))
 
--- at the start each word is 0 and each process at rest
+-- at the start x, y and the flags are 0 and each process is at rest
 module _ where
   zeros_at : (zs : List ℕ) (k : ℕ) → Each (λ (z : ℕ). z ≡ 0) zs → get_or zs k 0 ≡ 0
   zeros_at [] k h = refl
@@ -228,21 +228,20 @@ module _ where
   flags_down zs h zero = refl
   flags_down zs h (suc k) = ap (λ z. eqb z 1) (zeros_at zs k h)
 
-  all_zeros : (n : ℕ) → Each (λ (z : ℕ). z ≡ 0) (replicate n 0)
-  all_zeros zero = tt
-  all_zeros (suc n) = (refl, all_zeros n)
+  front_zeros : (zs : List ℕ) (n : ℕ) → ((i : ℕ) → i < n → get_or zs i 0 ≡ 0) → Each (λ (z : ℕ). z ≡ 0) (take n zs)
+  front_zeros [] zero h = tt
+  front_zeros [] (suc n) h = tt
+  front_zeros (z ∷ zs) zero h = tt
+  front_zeros (z ∷ zs) (suc n) h = (h 0 (omega arith), front_zeros zs n (λ i lt. h (suc i) (omega arith)))
 
-  pub starting_world : (n : ℕ) → n ≤ 32 → IsSafeWorld n (take (2 * n + 2) (replicate 66 0)) (replicate n 0) (λ _. Rest)
-  starting_world n few = let two : 2 * n + 2 ≡ suc (suc (n + n)) = omega arith in record {
+  pub starting_world : {I : Type 0} (answered : ℕ → List I → Bool) (n : ℕ) (now : List I) (words : List ℕ) → ShowAnswers answered n now words → IsSafeWorld n words (drop n (drop 2 words)) (λ _. Rest)
+  starting_world answered n now [] first = let wide = first.wide in absurd (omega arith)
+  starting_world answered n now (x ∷ []) first = let wide = first.wide in absurd (omega arith)
+  starting_world answered n now (x ∷ y ∷ rest) first = let wide = first.wide in record {
     x = 0;
     y = 0;
-    flags = replicate n 0;
-    is = take-replicate (2 * n + 2) 66 0 (omega arith) ∙ ap (λ m. replicate m 0) two ∙ ap (λ l. 0 ∷ 0 ∷ l) (sym (replicate-append-replicate n n 0));
-    wide = length-replicate n 0;
-    safe = rest_safe n 0 0 _ _ (λ i. refl) (flags_down (replicate n 0) (all_zeros n));
+    flags = take n rest;
+    is = (λ i. first.low 0 (omega arith) i ∷ first.low 1 (omega arith) i ∷ rest) ∙ ap (λ l. 0 ∷ 0 ∷ l) (sym (take-append-drop n rest));
+    wide = length-take-le n rest (omega arith);
+    safe = rest_safe n 0 0 _ _ (λ i. refl) (flags_down (take n rest) (front_zeros rest n (λ i lt. first.low (suc (suc i)) (omega arith))));
   }
-
-  -- each word s is 0
-  pub marks_down : (n p : ℕ) → mark_in (replicate n 0) p ≡ 0
-  marks_down n zero = refl
-  marks_down n (suc m) = zeros_at (replicate n 0) m (all_zeros n)

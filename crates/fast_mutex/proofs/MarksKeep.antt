@@ -1,7 +1,6 @@
 -- What the words s show, from step to step.
-use Rattle.std.proofs.Common.{◌≡◌, ◌≢◌, ◌⊎◌, ◌≤◌, ◌<◌, ◌+◌, ◌-◌, ◌*◌, ◌%◌, ◌/◌, ◌^◌, ℕ, zero, suc, cond, Bool, true, false, List, [], ◌∷◌, ◌++◌, set, replicate, length, length-set, sym, refl, ap, ◌∙◌, subst, ⊎_elim, arith, eq-eqb, ne_eqb, get_or-set_same, get_or-set_other}
+use Rattle.std.proofs.Common.{◌≡◌, ◌≢◌, ◌⊎◌, ◌≤◌, ◌<◌, ◌+◌, ◌-◌, ◌*◌, ◌%◌, ◌/◌, ◌^◌, ℕ, zero, suc, cond, Bool, true, false, List, [], ◌∷◌, ◌++◌, set, drop, length, length-set, length-drop, sym, refl, ap, ◌∙◌, subst, ⊎_elim, arith, eq-eqb, ne_eqb, get_or-set_same, get_or-set_other}
 use Rattle.std.specs.List.{All, AllByRecursion as Each}
-use Rattle.std.proofs.lemmas.List.{length-replicate}
 use Rattle.std.proofs.lemmas.List.Elements.{All-from_recursion, recursion_from_All}
 use Rattle.std.proofs.Math.Decide.{dec_lt}
 use Rattle.std.proofs.Math.Nat.{pow-succ'}
@@ -9,11 +8,12 @@ use Rattle.std.proofs.Math.Pow.{pow_mono}
 use mathlib.Core.Logic.{dite}
 use native.Mathlib.Decide.{ℕ_discrete}
 use Rattle.lamport_core.specs.declared.At.{At}
+use Rattle.lamport_core.specs.declared.At.TheVariants.{Rest}
 use Rattle.fast_mutex.specs.Items.{items_of, Grows, GrowsBy}
-use Rattle.fast_mutex.specs.Marks.{flag, mark_in, has, answer_bits, Course, Marked}
-use Rattle.fast_mutex.specs.Fast.{is_inside}
+use Rattle.fast_mutex.specs.Marks.{flag, mark_in, has, answer_bits, Course, Marked, ShowAnswers}
+use Rattle.fast_mutex.specs.Fast.{is_inside, IsSafeWorld}
 use Rattle.fast_mutex.proofs.Sums.{each_weaker}
-use Rattle.fast_mutex.proofs.FastWorld.{marks_down}
+use Rattle.fast_mutex.proofs.FastWorld.{mark_loaded}
 
 split : (b : Bool) (P : Bool → Type 0) → (b ≡ true → P true) → (b ≡ false → P false) → P b
 split true P f g = f refl
@@ -73,9 +73,12 @@ module _ {I : Type 0} (answered : ℕ → List I → Bool) (n : ℕ) where
         (λ _ down. m.1 p low high ∙ ap (λ b. flag (answered p (cond b c.next c.now))) down ∙ ap flag (unstored p low high down)) refl,
   )
 
-  -- at the start nobody is answered
-  pub marks_new : ((p : ℕ) → answered p [] ≡ false) → Marked answered n record { now = []; next = []; done = []; marks = replicate n 0 }
-  marks_new nobody = (length-replicate n 0, λ p low high. marks_down n p ∙ ap flag (sym (nobody p)))
+  -- at the start the words show the answers in the list that the lock begins with
+  pub marks_new : (now : List I) (words : List ℕ) → ShowAnswers answered n now words → IsSafeWorld n words (drop n (drop 2 words)) (λ _. Rest) → Marked answered n record { now = now; next = now; done = []; marks = drop n (drop 2 words) }
+  marks_new now words first safe = (
+    (let all = length-drop 2 words in let some = length-drop n (drop 2 words) in let wide = first.wide in omega arith),
+    λ p low high. sym (mark_loaded n words (drop n (drop 2 words)) (λ _. Rest) safe p low) ∙ first.marks p low high,
+  )
 
   -- a told process finds its wait answered, where nobody is inside
   pub shown_now : (c : Course I) → Marked answered n c → c.done ≡ [] → (p : ℕ) → 1 ≤ p → p ≤ n → mark_in c.marks p ≡ 1 → answered p c.now ≡ true

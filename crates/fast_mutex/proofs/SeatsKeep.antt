@@ -8,20 +8,20 @@ use lib.ListN.{get_elem?}
 use Rattle.atomic_table.specs.Table.{State, Me, Final, Seen}
 use Rattle.atomic_table.specs.Seated.{TableId}
 use Rattle.atomic_table.specs.declared.shared.Seat.{Seat}
-use Rattle.fast_mutex.specs.Items.{LockId, Ticket, new_ticket, tickets_from, Grows}
+use Rattle.fast_mutex.specs.Items.{LockId, Ticket, ticket_with, tickets_with, Grows}
 use Rattle.fast_mutex.specs.declared.seats.About.{About}
 use Rattle.fast_mutex.specs.Seats.{Claim, Fixed, Resting, Deals, IsAlone, fresh, claim_of, joint_view, new_claims, last_left, lock_id, ticket_of}
 
-module _ {I : Type 0} (lock : LockId) where
-  tickets_from-suc : (k n : ℕ) → tickets_from {I = I} lock k (suc n) ≡ tickets_from lock k n ++ new_ticket lock (k + n) ∷ []
-  tickets_from-suc k zero = let e : k ≡ k + 0 = omega arith in ap (λ (z : ℕ). new_ticket {I = I} lock z ∷ []) e
-  tickets_from-suc k (suc n) = let e : suc k + n ≡ k + suc n = omega arith in ap (λ l. new_ticket {I = I} lock k ∷ l) (tickets_from-suc (suc k) n ∙ ap (λ z. tickets_from {I = I} lock (suc k) n ++ new_ticket lock z ∷ []) e)
+module _ {I : Type 0} (lock : LockId) (left : List I) where
+  tickets_with-suc : (k n : ℕ) → tickets_with lock left k (suc n) ≡ tickets_with lock left k n ++ ticket_with lock left (k + n) ∷ []
+  tickets_with-suc k zero = let e : k ≡ k + 0 = omega arith in ap (λ (z : ℕ). ticket_with lock left z ∷ []) e
+  tickets_with-suc k (suc n) = let e : suc k + n ≡ k + suc n = omega arith in ap (λ l. ticket_with lock left k ∷ l) (tickets_with-suc (suc k) n ∙ ap (λ z. tickets_with lock left (suc k) n ++ ticket_with lock left z ∷ []) e)
 
-  pub tickets_pushed : {A : Type 0} (f : A → Ticket I) (xs ys : List A) (x : A) (k : ℕ) → 1 ≤ k → ys ≡ xs ++ x ∷ [] → f x ≡ new_ticket lock k → map f xs ≡ tickets_from lock 1 (k - 1) → map f ys ≡ tickets_from lock 1 k
+  pub tickets_pushed : {A : Type 0} (f : A → Ticket I) (xs ys : List A) (x : A) (k : ℕ) → 1 ≤ k → ys ≡ xs ++ x ∷ [] → f x ≡ ticket_with lock left k → map f xs ≡ tickets_with lock left 1 (k - 1) → map f ys ≡ tickets_with lock left 1 k
   tickets_pushed f xs ys x k low e fx h =
       let a : 1 + (k - 1) ≡ k = omega arith in
       let b : suc (k - 1) ≡ k = omega arith in
-      ap (map f) e ∙ map-append f xs (x ∷ []) ∙ ap (λ l. l ++ f x ∷ []) h ∙ ap (λ z. tickets_from {I = I} lock 1 (k - 1) ++ z ∷ []) (fx ∙ ap (new_ticket lock) (sym a)) ∙ sym (tickets_from-suc 1 (k - 1)) ∙ ap (tickets_from lock 1) b
+      ap (map f) e ∙ map-append f xs (x ∷ []) ∙ ap (λ l. l ++ f x ∷ []) h ∙ ap (λ z. tickets_with lock left 1 (k - 1) ++ z ∷ []) (fx ∙ ap (ticket_with lock left) (sym a)) ∙ sym (tickets_with-suc 1 (k - 1)) ∙ ap (tickets_with lock left 1) b
 
 module _ {A I : Type 0} (f : A → Claim I) where
   pub pop_claims : (xs ys : List A) (x : A) (ds cs : List (Claim I)) → xs ≡ ys ++ x ∷ [] → ds ≡ f x ∷ [] → map f ys ++ (ds ++ cs) ≡ map f xs ++ cs
@@ -59,11 +59,11 @@ module _ {S V I : Type 0} (r : Resting V I) where
   pub alone_is : (me : Me (Opt S) V) (f : Fixed) (k : ℕ) → IsAlone r k me → r.fixed me.0 ≡ f → me.0 ≡ r.rest me.0 f (r.claims me.0)
   alone_is me f k e same = ap (λ m. m.0) e ∙ (λ i. r.rest me.0 (same i) (sym (alone_claims me k e) i))
 
-  -- the ticket of a seat that has left nothing
-  pub last_ticket : (s : Seat (Opt S) V) (z : TableId) (f : Fixed) (k n : ℕ) → s.table_id ≡ z → s.me ≡ (fresh r f (new_claims k (suc n)), []) → ticket_of r k s ≡ new_ticket (lock_id z f) k
-  last_ticket s z f k n own me =
-      let v : s.me.0 ≡ fresh r f (new_claims k (suc n)) = ap (λ m. m.0) me in
-      let t : r.told s.me.0 ≡ false = ap r.told v ∙ r.fresh_told f (new_claims k (suc n)) in
+  -- the ticket of a seat that has left the list that all have left
+  pub last_ticket : (s : Seat (Opt S) V) (z : TableId) (f : Fixed) (left : List I) (k n : ℕ) → s.table_id ≡ z → s.me ≡ (fresh r f (new_claims left k (suc n)), []) → ticket_of r k s ≡ ticket_with (lock_id z f) left k
+  last_ticket s z f left k n own me =
+      let v : s.me.0 ≡ fresh r f (new_claims left k (suc n)) = ap (λ m. m.0) me in
+      let t : r.told s.me.0 ≡ false = ap r.told v ∙ r.fresh_told f (new_claims left k (suc n)) in
       λ i. record { lock = lock_id (own i) (fresh_fixed r s.me.0 f _ v i); number = k; left = last_left (fresh_claims r s.me.0 f _ v i); told = t i }
 
 -- the state that the table ends with

@@ -70,18 +70,18 @@ module _ {I : Type 0} where
   times-append k [] ds = omega arith
   times-append k (c ∷ cs) ds = let h = times-append k cs ds in omega arith
 
-module _ (I : Type 0) where
-  pub times-below : (j k n : ℕ) → j < k → times j (new_claims {I = I} k n) ≡ 0
+module _ {I : Type 0} (left : List I) where
+  pub times-below : (j k n : ℕ) → j < k → times j (new_claims left k n) ≡ 0
   times-below j k zero h = refl
-  times-below j k (suc n) h = times_other j k [] (new_claims {I = I} (suc k) n) (λ e. omega arith) ∙ times-below j (suc k) n (omega arith)
+  times-below j k (suc n) h = times_other j k left (new_claims left (suc k) n) (λ e. omega arith) ∙ times-below j (suc k) n (omega arith)
 
-  pub new_claims_once : (j k n : ℕ) → times j (new_claims {I = I} k n) ≤ 1
+  pub new_claims_once : (j k n : ℕ) → times j (new_claims left k n) ≤ 1
   new_claims_once j k zero = omega arith
   new_claims_once j k (suc n) = dite (ℕ_discrete k j)
-      (λ e. let a = times_here k [] (new_claims {I = I} (suc k) n) in let b = times-below k (suc k) n (omega arith) in let P : ℕ → Type 0 = λ z. times z (new_claims {I = I} k (suc n)) ≤ 1 in subst P e (omega arith))
-      (λ ne. let a = times_other j k [] (new_claims {I = I} (suc k) n) ne in let b = new_claims_once j (suc k) n in omega arith)
+      (λ e. let a = times_here k left (new_claims left (suc k) n) in let b = times-below k (suc k) n (omega arith) in let P : ℕ → Type 0 = λ z. times z (new_claims left k (suc n)) ≤ 1 in subst P e (omega arith))
+      (λ ne. let a = times_other j k left (new_claims left (suc k) n) ne in let b = new_claims_once j (suc k) n in omega arith)
 
-  pub length-new_claims : (k n : ℕ) → length (new_claims {I = I} k n) ≡ n
+  pub length-new_claims : (k n : ℕ) → length (new_claims left k n) ≡ n
   length-new_claims k zero = refl
   length-new_claims k (suc n) = ap suc (length-new_claims (suc k) n)
 

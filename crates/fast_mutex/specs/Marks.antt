@@ -1,5 +1,5 @@
 -- The words s, one for each process: each shows whether the wait of its process is answered.
-use Rattle.std.specs.Prelude.{◌≡◌, ℕ, zero, suc, ◌+◌, ◌*◌, ◌≤◌, Bool, true, false, cond, eqb, List, [], ◌∷◌, length, slice_index}
+use Rattle.std.specs.Prelude.{◌≡◌, ℕ, zero, suc, ◌+◌, ◌*◌, ◌<◌, ◌≤◌, Bool, true, false, cond, eqb, List, [], ◌∷◌, length, slice_index}
 
 abbrev pub flag : Bool → ℕ
 flag b = cond b 1 0
@@ -27,6 +27,12 @@ pub record Course (I : Type 0) : Type 0 where
   pub marks : List ℕ
 
 module _ {I : Type 0} (answered : ℕ → List I → Bool) where
+  -- The words of a new lock of n processes: all are 0 but the words s, which show the answers in the list that it begins with.
+  pub record ShowAnswers (n : ℕ) (now : List I) (words : List ℕ) : Type 0 where
+    pub wide : length words ≡ 2 * n + 2
+    pub low : (i : ℕ) → i < n + 2 → slice_index words i ≡ 0
+    pub marks : (p : ℕ) → 1 ≤ p → p ≤ n → slice_index words (n + 1 + p) ≡ flag (answered p now)
+
   -- The word of p is 1 exactly where p is answered: in the list to come where the word was stored in this stay, else in the current list.
   abbrev pub Marked : ℕ → Course I → Type 0
   Marked n c = (length c.marks ≡ n) × ((p : ℕ) → 1 ≤ p → p ≤ n → mark_in c.marks p ≡ flag (answered p (cond (has p c.done) c.next c.now)))

@@ -26,10 +26,10 @@ sum_over f [] = 0
 sum_over f (v ∷ vs) = f v + sum_over f vs
 
 module _ {I : Type 0} where
-  -- the claims of n seats from number k on, which have left nothing yet
-  abbrev pub new_claims : ℕ → ℕ → List (Claim I)
-  new_claims k zero = []
-  new_claims k (suc n) = (k, []) ∷ new_claims (suc k) n
+  -- the claims of n seats from number k on, all of which have left this list
+  abbrev pub new_claims : List I → ℕ → ℕ → List (Claim I)
+  new_claims left k zero = []
+  new_claims left k (suc n) = (k, left) ∷ new_claims left (suc k) n
 
   -- how often the number k is claimed
   abbrev pub times : ℕ → List (Claim I) → ℕ
@@ -104,10 +104,10 @@ module _ {S V I : Type 0} (r : Resting V I) where
   abbrev pub ticket_of : ℕ → Seat (Opt S) V → Ticket I
   ticket_of k s = record { lock = lock_id s.table_id (r.fixed s.me.0); number = k; left = last_left (r.claims s.me.0); told = r.told s.me.0 }
 
--- The first seat has the claims of all.
-module _ {S V I : Type 0} (r : Resting V I) (fixes : S → List ℕ) where
+-- The first seat has the claims of all, who have left the list of the state that the lock was made with.
+module _ {S V I : Type 0} (r : Resting V I) (shows : S → List I) (fixes : S → List ℕ) where
   abbrev pub first_view : About S → V
-  first_view about = fresh r (made_with fixes about) (new_claims 1 about.count)
+  first_view about = fresh r (made_with fixes about) (new_claims (shows about.state.value) 1 about.count)
 
 -- What the rule of a lock has to keep: seats at rest split and join, and who has all claims finds the state at home.
 pub record Deals {S V I : Type 0} (r : Resting V I) (shows : S → List I) (fixes : S → List ℕ) (author : I → ℕ) (about : About S) (holds : State (Opt S) V → Type 0) : Type 0 where

@@ -3,11 +3,11 @@
 //!
 //! Of n processes, word 0 is x, word 1 is y, word i + 1 is the flag b[i] of process i, 1 where it is true, and word
 //! n + 1 + i is s[i], 1 where the wait of process i is answered. The state lies in the one slot of the table.
-ghost use Rattle.std.specs.Prelude.{◌≡◌, ◌<◌, ◌≤◌, ◌+◌, ◌-◌, ◌*◌, ◌||◌, ◌⊎◌, ◌↔◌, [], ◌∷◌, true, false, Some, None, map, length, IfOk, IfErr, IsOk};
+ghost use Rattle.std.specs.Prelude.{ℕ, slice_index, ◌≡◌, ◌<◌, ◌≤◌, ◌+◌, ◌-◌, ◌*◌, ◌||◌, ◌⊎◌, ◌↔◌, [], ◌∷◌, true, false, Some, None, map, length, IfOk, IfErr, IsOk};
 ghost use Rattle.std.specs.List.{All};
 ghost use Rattle.lamport_core.specs.Line.{IsLine, IsCounted, one_more, pass_steps};
 ghost use Rattle.lamport_core.specs.declared.At.TheVariants.{Rest, Start, SetX, TestY, BackB, AwaitY, SetY, TestX, SlowB, Scan, SlowY, SlowAwait, Fast, Slow, Leaving};
-ghost use Rattle.fast_mutex.specs.Items.{tickets_from, Grows, GrowsBy};
+ghost use Rattle.fast_mutex.specs.Items.{tickets_with, Grows, GrowsBy};
 ghost use Rattle.fast_mutex.specs.Seats.{first_view, last_left, lock_id, made_with};
 ghost use Rattle.fast_mutex.specs.Word.{HasGrown};
 ghost use Rattle.fast_mutex.specs.Marks.{flag, answer_bits};
@@ -563,6 +563,21 @@ impl<S: Logged> FastMutex<S> {
         seat.number
     }
 
+    // The words that a lock begins with: all are 0 but the words s of those whose waits are answered in the state's list.
+    fn first_words(count: u32, state: &S) -> [u64; 66]
+        requires { (1 ≤ count) × (count ≤ 32) }
+        ensures low { (i : ℕ) → i < count + 2 → slice_index result i ≡ 0 }
+        ensures marks { (p : ℕ) → 1 ≤ p → p ≤ count → slice_index result (count + 1 + p) ≡
+            flag (S.is_answered p (S.items state.now)) }
+    {
+        let mut words = [0; 66];
+        for process in 1..count + 1 {
+            let word = (count + 1 + process) as usize;
+            words[word] = if state.answered(process) { 1 } else { 0 };
+        }
+        words
+    }
+
     // A lock with the state at home, and the seat at its table that has the numbers of all.
     fn furnish(
         alloc: Global,
@@ -570,19 +585,20 @@ impl<S: Logged> FastMutex<S> {
         bells: Bells,
         state: S,
     ) -> Result<(FastMutex<S>, TableSeat<S>), (S, AllocError)>
-        requires count { (1 ≤ count) × (count ≤ 32) }
-        requires empty { S.items state ≡ [] }
+        requires { (1 ≤ count) × (count ≤ 32) }
+        ensures items { IfOk result (λ r.
+            S.items r.0.table.shared.key.state.value ≡ S.items state) }
         ensures made { IfOk result (λ r. made_with S.fixed r.0.table.shared.key ≡
             (count, S.fixed state)) }
         ensures first { IfOk result (λ r. (r.1.table_id ≡ r.0.table.shared.table_id) ×
-            (r.1.me ≡ (first_view resting S.fixed r.0.table.shared.key, []))) }
+            (r.1.me ≡ (first_view resting S.items S.fixed r.0.table.shared.key, []))) }
         ensures back { IfErr result (λ r. r.0 ≡ state) }
     {
         let about = About {
             count,
             state: Snapshot::of(&state),
         };
-        let words = [0u64; 66];
+        let words = FastMutex::first_words(count, &state);
         let (table, first) = furnish(alloc, &words[..2 * count as usize + 2], &about, state)?;
         Ok((
             FastMutex {
@@ -600,13 +616,12 @@ impl<S: Logged> FastMutex<S> {
         n: u32,
         state: S,
     ) -> Result<(FastMutex<S>, Vec<FastSeat<S>>), (S, AllocError)>
-        requires number { (1 ≤ n) × (n ≤ 32) }
-        requires empty { S.items state ≡ [] }
+        requires { (1 ≤ n) × (n ≤ 32) }
         ensures lock { IfOk result (λ r. made_with S.fixed r.0.table.shared.key ≡
             (n, S.fixed state)) }
         ensures seats { IfOk result (λ r. map (λ s. ticket_of s.number s.seat) r.1.items ≡
-            tickets_from (lock_id r.0.table.shared.table_id
-            (made_with S.fixed r.0.table.shared.key)) 1 n) }
+            tickets_with (lock_id r.0.table.shared.table_id
+            (made_with S.fixed r.0.table.shared.key)) (S.items state) 1 n) }
         ensures back { IfErr result (λ r. r.0 ≡ state) }
     {
         let seats = match Vec::with_capacity(alloc, n as usize) {

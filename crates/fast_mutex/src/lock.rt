@@ -1,7 +1,7 @@
 //! The contract of a lock: what a process finds when it enters, and what it owes when it leaves.
 ghost use Rattle.std.specs.Prelude.{◌≡◌, ◌≤◌, ◌+◌, ◌↔◌, ◌||◌, ℕ, Bool, true, false, List, [], map, length, IfOk, IfErr, IsOk};
 ghost use Rattle.std.specs.List.{All};
-ghost use Rattle.fast_mutex.specs.Items.{LockId, Ticket, tickets_from, Grows, GrowsBy};
+ghost use Rattle.fast_mutex.specs.Items.{LockId, Ticket, tickets_with, Grows, GrowsBy};
 
 use crate::bells::Bells;
 use crate::logged::Logged;
@@ -64,13 +64,13 @@ pub trait Lock<S: Logged>: Sized + Drop {
     // how many the process of a stay has made
     ghost stay_accesses: { Self.Inside → ℕ };
 
-    /// A lock for the processes 1 to `n`, and their seats in order, which have left the empty list.
+    /// A lock for the processes 1 to `n`, and their seats in order, which have left the list of the state.
     /// It takes all the memory that later calls need. At want of memory it hands the state back.
     fn new(alloc: Global, n: u32, state: S) -> Result<(Self, Vec<Self::Seat>), (S, AllocError)>
-        requires number { (1 ≤ n) × (n ≤ 32) }
-        requires empty { S.items state ≡ [] }
+        requires { (1 ≤ n) × (n ≤ 32) }
         ensures lock { IfOk result (λ r. ((id r.0).count ≡ n) × ((id r.0).fixed ≡ S.fixed state)) }
-        ensures seats { IfOk result (λ r. map ticket r.1.items ≡ tickets_from (id r.0) 1 n) }
+        ensures seats { IfOk result (λ r. map ticket r.1.items ≡
+            tickets_with (id r.0) (S.items state) 1 n) }
         ensures back { IfErr result (λ r. r.0 ≡ state) };
 
     /// The process of the seat.

@@ -1,7 +1,7 @@
 //! The seats of a lock: dealt out when it is made, joined again when it ends. Both are the same for each lock.
 ghost use Rattle.std.specs.Prelude.{◌≡◌, ◌<◌, ◌≤◌, ◌+◌, ◌-◌, [], map, length, suc, vec_len, vec_capacity};
 ghost use Rattle.std.specs.List.{All};
-ghost use Rattle.fast_mutex.specs.Items.{new_ticket, tickets_from, Grows};
+ghost use Rattle.fast_mutex.specs.Items.{ticket_with, tickets_with, Grows};
 ghost use Rattle.fast_mutex.specs.Seats.{Resting, Deals, IsAlone, first_view, fresh, claim_of, new_claims, made_with, lock_id, ticket_of};
 
 use crate::logged::Logged;
@@ -74,17 +74,20 @@ fn deal_one<S: Logged, V: RestView<S::Item>, R: TableRule<Option<S>, V, About<S>
     requires number { (1 ≤ number) × (number ≤ shared.now.key.count) }
     requires claims { first.old.me ≡ (
       fresh V.resting (made_with S.fixed shared.now.key)
-          (new_claims number (suc (shared.now.key.count - number))),
+          (new_claims (S.items shared.now.key.state.value) number
+          (suc (shared.now.key.count - number))),
       [],
     ) }
     ensures own { first.new.table_id ≡ first.old.table_id }
     ensures claims { first.new.me ≡ (
       fresh V.resting (made_with S.fixed shared.now.key)
-          (new_claims (number + 1) (shared.now.key.count - number)),
+          (new_claims (S.items shared.now.key.state.value) (number + 1)
+          (shared.now.key.count - number)),
       [],
     ) }
     ensures ticket { ticket_of V.resting result.number result.seat ≡
-        new_ticket (lock_id shared.now.table_id (made_with S.fixed shared.now.key)) number }
+        ticket_with (lock_id shared.now.table_id (made_with S.fixed shared.now.key))
+        (S.items shared.now.key.state.value) number }
 {
     let seat = shared.split_seat::<DealsFirst<S::Item>>(first);
     LockSeat {
@@ -106,10 +109,11 @@ pub(crate) fn deal<S: Logged, V: RestView<S::Item>, R: TableRule<Option<S>, V, A
     requires words { 0 < shared.now.table_id.words }
     requires count { (1 ≤ count) × (count ≡ shared.now.key.count) }
     requires first { (first.table_id ≡ shared.now.table_id) ×
-        (first.me ≡ (first_view V.resting S.fixed shared.now.key, [])) }
+        (first.me ≡ (first_view V.resting S.items S.fixed shared.now.key, [])) }
     requires room { (vec_len seats ≡ 0) × (count ≤ vec_capacity seats) }
     ensures tickets { map (λ s. ticket_of V.resting s.number s.seat) result.items ≡
-        tickets_from (lock_id shared.now.table_id (made_with S.fixed shared.now.key)) 1 count }
+        tickets_with (lock_id shared.now.table_id (made_with S.fixed shared.now.key))
+        (S.items shared.now.key.state.value) 1 count }
 {
     for number in 1..count {
         let seat = deal_one(shared, &mut first, number);

@@ -15,7 +15,7 @@ impl<S: Logged> TableRule<Option<S>, View<S::Item>, About<S>> for FastRule<S> {
 
     ghost holds = { KeepsRule S.items S.fixed S.author S.is_answered };
 
-    ghost first = { first_view resting S.fixed };
+    ghost first = { first_view resting S.items S.fixed };
 }
 
 /// A store of x, of y := i or of the own flag.
