@@ -172,20 +172,16 @@ pub fn guess(slots: &[Slot], index: &Index, last: usize, place: u64) -> Option<u
     if is_there(slots, last, place) {
         return Some(last);
     }
-    let key = index.note(place, 0).key;
-    if is_there(slots, key, place) {
-        return Some(key);
-    }
-    guess_on(slots, index, place)
+    guess_by(slots, index, place)
 }
 
-// The same, by the notes after the first.
+// The same, by the notes.
 #[inline(never)]
-fn guess_on(slots: &[Slot], index: &Index, place: u64) -> Option<usize>
+fn guess_by(slots: &[Slot], index: &Index, place: u64) -> Option<usize>
     ensures { IfSome result (λ key. (x : Kept) ×
         (slice_index_or slots.now key None ≡ Some x) × (x.place ≡ place)) }
 {
-    for probe in 1..PROBES {
+    for probe in 0..PROBES {
         let key = index.note(place, probe).key;
         if is_there(slots, key, place) {
             return Some(key);
@@ -222,9 +218,9 @@ fn says_nothing(slots: &[Slot], note: Note) -> bool {
     !is_there(slots, note.key, note.place)
 }
 
-// Whether a slot keeps the entry at a place.
+/// Whether a slot keeps the entry at a place.
 #[inline(always)]
-fn is_there(slots: &[Slot], key: usize, place: u64) -> bool
+pub fn is_there(slots: &[Slot], key: usize, place: u64) -> bool
     ensures some { IsTrue result → (x : Kept) ×
         (slice_index_or slots.now key None ≡ Some x) × (x.place ≡ place) }
     ensures none { (x : Kept) → slice_index_or slots.now key None ≡ Some x → x.place ≡ place →
@@ -301,7 +297,7 @@ pub fn put(
     home: Option<u64>,
     next: &mut Vec<u8>,
     payload: &[u8],
-)
+) -> usize
     requires place { place < NOWHERE }
     requires vacant { 0 < vacant_in slots.old.items }
     requires empty { vec_len next.old ≡ 0 }
@@ -320,6 +316,7 @@ pub fn put(
     let key = vacant_slot(slots, index.take_vacant());
     note(slots, index, place, key);
     slots[key].occupy(place, prio, home, next, payload);
+    key
 }
 
 /// Vacates a slot.

@@ -1,8 +1,8 @@
 //! A journal that keeps only what can still be asked for. Its records are a history variable.
-ghost use Rattle.std.specs.Prelude.{◌≡◌, ◌≢◌, ◌+◌, ◌<◌, ◌≤◌, ◌^◌, ℕ, [], ◌∷◌, true, false, length, IsOk, OnOk, min, Some};
+ghost use Rattle.std.specs.Prelude.{◌≡◌, ◌≢◌, ◌+◌, ◌<◌, ◌≤◌, ◌^◌, ℕ, [], ◌∷◌, true, false, length, IsOk, OnOk, min, Some, None, IsTrue, ◌↔◌};
 ghost use Rattle.std.specs.Option.{option_map};
 ghost use Rattle.mq_model.specs.Descriptors.{is_place};
-ghost use Rattle.mq_model.specs.Messages.{priority};
+ghost use Rattle.mq_model.specs.Messages.{priority, priority_given};
 ghost use Rattle.mq_model.specs.Record.{Record, Past, record_at};
 ghost use Rattle.mq_ledger.specs.Seen.{HasPlace};
 ghost use Rattle.mq_laws.specs.Needed.{is_kept, ended_by, ended_last, home, home_of, GoesTo};
@@ -138,54 +138,123 @@ impl Unstored {
         }
     }
 
-    // Adds an entry that is not kept.
+    // Adds an entry that is not kept, and ends this one.
     #[inline(always)]
-    fn pass(&mut self, entry: Entry, payload: &[u8])
+    fn add_passing(&mut self, entry: &Entry, payload: &[u8], ended: Option<u64>)
         requires room { 0 < self.old.entry_room }
-        ensures records { self.new.records ≡ record { entry = entry; payload = payload.now } ∷
-            self.old.records }
+        requires ended { ended ≡ ended_by entry.now.reply }
+        ensures records { self.new.records ≡
+            record { entry = entry.now; payload = payload.now } ∷ self.old.records }
         ensures entry_room { self.old.entry_room ≤ self.new.entry_room + 1 }
         ensures byte_room { self.new.byte_room ≡ self.old.byte_room }
         ensures places { self.new.places ≡ self.old.places }
     {
-        self.past.note(&entry, payload);
-        self.ended = ended_by(entry.reply);
+        self.past.note(entry, payload);
+        self.ended = ended;
         self.len += 1;
     }
 
-    // Adds an entry that is kept, made on queue q.
+    // Adds an entry that is kept, of this priority and lost with this queue, and ends none.
     #[inline(always)]
-    fn put(&mut self, entry: Entry, payload: &[u8], q: u64)
+    fn add_kept(&mut self, entry: &Entry, payload: &[u8], prio: u32, home: Option<u64>)
         requires room { 0 < self.old.entry_room }
         requires bytes { length payload.now ≤ self.old.byte_room }
-        requires queue { GoesTo self.old.records
-            (record { entry = entry; payload = payload.now }) q }
-        ensures records { self.new.records ≡ record { entry = entry; payload = payload.now } ∷
-            self.old.records }
+        requires ended { ended_by entry.now.reply ≡ None }
+        requires prio { prio ≡ priority_given entry.now.call }
+        requires home { home ≡ home_of self.old.records
+            (record { entry = entry.now; payload = payload.now }) entry.now.reply }
+        ensures records { self.new.records ≡
+            record { entry = entry.now; payload = payload.now } ∷ self.old.records }
         ensures entry_room { self.old.entry_room ≤ self.new.entry_room + 1 }
         ensures no_bytes { payload.now ≡ [] → self.new.byte_room ≡ self.old.byte_room }
         ensures kept { HasPlace self.new.places (length self.old.records) }
         ensures keeps { (k : ℕ) → HasPlace self.old.places k → HasPlace self.new.places k }
     {
-        self.past.note(&entry, payload);
-        let home = home_of(entry.reply, self.len, q);
-        slots::put(
+        self.past.note(entry, payload);
+        self.last = slots::put(
             &mut self.slots,
             &mut self.index,
             self.len,
-            entry.call.priority(),
+            prio,
             home,
             &mut self.next,
             payload,
         );
         self.vacant -= 1;
-        self.ended = ended_by(entry.reply);
+        self.ended = None;
         self.len += 1;
+    }
+
+    // The same, once the entry that the latest one ended has left its slot. The entry itself is for the history alone: all that is
+    // kept of it comes with it, so that a call which is known where it is made is written nowhere.
+    #[inline(never)]
+    fn pass(&mut self, entry: &Entry, payload: &[u8], ended: Option<u64>)
+        requires room { 0 < self.old.entry_room }
+        requires ended { ended ≡ ended_by entry.now.reply }
+        ensures records { self.new.records ≡
+            record { entry = entry.now; payload = payload.now } ∷ self.old.records }
+        ensures entry_room { self.old.entry_room ≤ self.new.entry_room + 1 }
+        ensures byte_room { self.new.byte_room ≡ self.old.byte_room }
+        ensures keeps { (k : ℕ) → is_place k (ended_last self.old.records) ≡ false →
+            HasPlace self.old.places k → HasPlace self.new.places k }
+    {
+        self.drop_ended();
+        self.note_last(ended);
+        self.add_passing(entry, payload, ended);
+    }
+
+    #[inline(never)]
+    fn keep(&mut self, entry: &Entry, payload: &[u8], prio: u32, home: Option<u64>)
+        requires room { 0 < self.old.entry_room }
+        requires bytes { length payload.now ≤ self.old.byte_room }
+        requires ended { ended_by entry.now.reply ≡ None }
+        requires prio { prio ≡ priority_given entry.now.call }
+        requires home { home ≡ home_of self.old.records
+            (record { entry = entry.now; payload = payload.now }) entry.now.reply }
+        ensures records { self.new.records ≡
+            record { entry = entry.now; payload = payload.now } ∷ self.old.records }
+        ensures entry_room { self.old.entry_room ≤ self.new.entry_room + 1 }
+        ensures no_bytes { payload.now ≡ [] → self.new.byte_room ≡ self.old.byte_room }
+        ensures kept { HasPlace self.new.places (length self.old.records) }
+        ensures keeps { (k : ℕ) → is_place k (ended_last self.old.records) ≡ false →
+            HasPlace self.old.places k → HasPlace self.new.places k }
+    {
+        self.drop_ended();
+        self.add_kept(entry, payload, prio, home);
     }
 
     /// Makes room for that many more entries and payload bytes.
     #[inline(always)]
     pub fn reserve(&mut self, entries: usize, bytes: usize) -> Result<(), AllocError>
+        ensures records { self.new.records ≡ self.old.records }
+        ensures entry_room { self.old.entry_room ≤ self.new.entry_room }
+        ensures byte_room { self.old.byte_room ≤ self.new.byte_room }
+        ensures ok { OnOk result ((entries ≤ self.new.entry_room) × (bytes ≤ self.new.byte_room)) }
+        ensures succeeds { entries ≤ self.old.entry_room → bytes ≤ self.old.byte_room →
+            IsOk result }
+        ensures enough { bytes ≤ self.old.byte_room → self.new.byte_room ≡ self.old.byte_room }
+        ensures keeps { (k : ℕ) → HasPlace self.old.places k → HasPlace self.new.places k }
+    {
+        if self.has_room(entries, bytes) {
+            return Ok(());
+        }
+        self.make_room(entries, bytes)
+    }
+
+    // Whether there is room for that many more entries and payload bytes.
+    #[inline(always)]
+    fn has_room(&self, entries: usize, bytes: usize) -> bool
+        ensures { IsTrue result ↔
+            ((entries ≤ self.now.entry_room) × (bytes ≤ self.now.byte_room)) }
+    {
+        entries as u64 <= LIMIT - self.len
+            && entries <= self.vacant
+            && bytes <= self.next.capacity()
+    }
+
+    // Makes that room.
+    #[inline(never)]
+    fn make_room(&mut self, entries: usize, bytes: usize) -> Result<(), AllocError>
         ensures records { self.new.records ≡ self.old.records }
         ensures entry_room { self.old.entry_room ≤ self.new.entry_room }
         ensures byte_room { self.old.byte_room ≤ self.new.byte_room }
@@ -227,17 +296,28 @@ impl Unstored {
         ensures keeps { (k : ℕ) → is_place k (ended_last self.old.records) ≡ false →
             HasPlace self.old.places k → HasPlace self.new.places k }
     {
-        self.drop_ended();
         if is_kept(entry.call, entry.reply) {
-            self.put(entry, payload, q);
+            let home = home_of(entry.reply, self.len, q);
+            self.keep(&entry, payload, entry.call.priority(), home);
         } else {
-            self.note_last(ended_by(entry.reply));
-            self.pass(entry, payload);
+            self.pass(&entry, payload, ended_by(entry.reply));
         }
     }
 
     /// The priority of the message that was sent at a place, if that entry is kept.
+    #[inline(always)]
     pub fn priority(&self, place: u64) -> u32
+        ensures { HasPlace self.now.places place → result ≡ priority self.now.records place }
+    {
+        if slots::is_there(&self.slots, self.last, place) {
+            return self.slots[self.last].prio();
+        }
+        self.priority_found(place)
+    }
+
+    // The same, of an entry in another slot than the last.
+    #[inline(never)]
+    fn priority_found(&self, place: u64) -> u32
         ensures { HasPlace self.now.places place → result ≡ priority self.now.records place }
     {
         match slots::find(&self.slots, &self.index, self.last, place) {
@@ -249,6 +329,19 @@ impl Unstored {
     /// The payload of the entry at a place, if it is kept.
     #[inline(always)]
     pub fn payload(&self, place: u64) -> Option<&[u8]>
+        ensures { HasPlace self.now.places place →
+            option_map (λ p. p.now) result ≡ option_map (λ r. r.payload)
+            (record_at self.now.records place) }
+    {
+        if slots::is_there(&self.slots, self.last, place) {
+            return Some(self.slots[self.last].bytes());
+        }
+        self.payload_found(place)
+    }
+
+    // The same, of an entry in another slot than the last.
+    #[inline(never)]
+    fn payload_found(&self, place: u64) -> Option<&[u8]>
         ensures { HasPlace self.now.places place →
             option_map (λ p. p.now) result ≡ option_map (λ r. r.payload)
             (record_at self.now.records place) }

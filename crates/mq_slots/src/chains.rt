@@ -133,6 +133,18 @@ impl Slots {
         self.cells.len() - 1 - self.spare as usize
     }
 
+    /// The places of the messages, rising. Nothing is promised of them: who goes by them checks what comes of it.
+    pub fn places(&self, alloc: Global) -> Result<Vec<u64>, AllocError> {
+        let mut places = Vec::new(alloc);
+        for cell in self.cells.iter() {
+            if cell.prio < cells::HEAD {
+                places.push(cell.place)?;
+            }
+        }
+        places.sort()?;
+        Ok(places)
+    }
+
     /// There is no room for another message.
     pub fn is_full(&self) -> bool
         ensures { IsTrue result ↔ (length self.now.messages ≡ self.now.cap) }

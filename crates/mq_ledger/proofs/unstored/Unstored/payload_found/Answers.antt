@@ -2,7 +2,7 @@ use Rattle.std.proofs.Common.{◌≡◌, sym, ap, subst}
 use Rattle.mq_ledger.specs.Seen.{Seen, HasPlace}
 use Rattle.mq_ledger.specs.Keeping.{places_of}
 use Rattle.mq_ledger.proofs.Keeping.{held}
-use Rattle.mq_ledger.proofs.unstored.Unstored.payload.Goals as goal
+use Rattle.mq_ledger.proofs.unstored.Unstored.payload_found.Goals as goal
 
 -- the entry is in some slot, so it was found
 pub returns-in-None : goal.returns-in-None

@@ -1,7 +1,7 @@
 use Rattle.std.proofs.Common.{refl, sym, ap, subst, ◌∙◌}
 use Rattle.mq_ledger.specs.Seen.{Seen, HasPlace}
 use Rattle.mq_ledger.proofs.Sound.{sound-same}
-use Rattle.mq_ledger.proofs.unstored.Unstored.reserve.Goals as goal
+use Rattle.mq_ledger.proofs.unstored.Unstored.make_room.Goals as goal
 
 pub invariant_of-self : goal.invariant_of-self
 invariant_of-self c = sound-same c.self.inside _ c.self.invariant refl refl c.make_room.ensures.added.are_true c.make_room.ensures.added.count refl c.self.invariant.empty
