@@ -16,6 +16,11 @@ pub tickets_lock : {A : Type 0} (lock : LockId) (k n : ℕ) → All (λ (t : Tic
 tickets_lock {A} lock k zero = All-nil (λ (t : Ticket A). t.lock ≡ lock)
 tickets_lock {A} lock k (suc n) = All-cons (λ (t : Ticket A). t.lock ≡ lock) _ _ refl (tickets_lock lock (suc k) n)
 
+-- and have left nothing
+pub tickets_left : {A : Type 0} (lock : LockId) (k n : ℕ) → All (λ (t : Ticket A). t.left ≡ []) (tickets_from lock k n)
+tickets_left {A} lock k zero = All-nil (λ (t : Ticket A). t.left ≡ [])
+tickets_left {A} lock k (suc n) = All-cons (λ (t : Ticket A). t.left ≡ []) _ _ refl (tickets_left lock (suc k) n)
+
 map-some : {A B : Type 0} (f : A → B) (xs : List A) → map (λ x. Some (f x)) xs ≡ map (λ (y : B). Some y) (map f xs)
 map-some f [] = refl
 map-some f (x ∷ xs) = ap (λ (ys : List (Option _)). Some (f x) ∷ ys) (map-some f xs)

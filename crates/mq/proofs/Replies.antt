@@ -1,5 +1,5 @@
 -- What a call on the books leaves, and which replies it is given.
-use Rattle.std.proofs.Common.{◌≡◌, ℕ, true, false, List, ◌++◌, Option, refl, ap, rules, arith}
+use Rattle.std.proofs.Common.{◌≡◌, ℕ, true, false, List, ◌++◌, Option, refl, rules, arith}
 use Rattle.mq_model.specs.Record.{Past}
 use Rattle.mq_model.specs.Legality.{Appends, reply_to}
 use Rattle.mq_model.specs.Bounds.{has_entry}
@@ -8,9 +8,8 @@ use Rattle.mq_model.specs.declared.entries.Description.{Description}
 use Rattle.mq_model.specs.declared.entries.Call.{Call}
 use Rattle.mq_model.specs.declared.entries.Call.TheVariants.{MqOpen, MqClose, MqUnlink, MqSend, MqReceive, MqGetattr, MqSetattr, MqNotify, MqTimedSend, MqTimedReceive}
 use Rattle.mq_model.specs.declared.entries.Reply.{Reply}
-use Rattle.mq_model.specs.declared.entries.Reply.TheVariants.{Opened, Queued, Handed, Waits, Got, Collected, Withdrawn, Attrs, Notice, Done, Refused}
+use Rattle.mq_model.specs.declared.entries.Reply.TheVariants.{Refused}
 use Rattle.mq_model.specs.declared.faults.Fault.{Fault}
-use Rattle.mq_state.specs.Buffers.{given_last, GivesLast}
 use Rattle.mq_state.specs.Requests.{Brings}
 use Rattle.mq.specs.Calls.{made}
 use Rattle.mq.specs.Asked.{may_reply, is_opened, is_done, is_attributes, is_sent, is_received}
@@ -61,17 +60,3 @@ replied {old} {new} {p} {call} {given} {reply} entry refused = grind (arith, may
 -- a call that is made on request may be refused
 pub may-be-refused : (call : Call) (given : List ℕ) (room : ℕ) → Brings call given room → (f : Fault) → may_reply call (Refused f) ≡ true
 may-be-refused call given room brings f = search rules
-
--- the message that a call on the books gives is that of its record
-pub gives-last : {old new : Past} {p : ℕ} {call : Call} {given : List ℕ} (reply : Reply) → (has_entry reply ≡ true → Appends old new p call given reply) → GivesLast new reply
-gives-last (Got m a n) entry = let added = entry refl in ap given_last added.records
-gives-last (Opened d new) entry = tt
-gives-last (Queued n) entry = tt
-gives-last (Handed w) entry = tt
-gives-last Waits entry = tt
-gives-last (Collected b) entry = tt
-gives-last (Withdrawn b) entry = tt
-gives-last (Attrs s) entry = tt
-gives-last (Notice v) entry = tt
-gives-last Done entry = tt
-gives-last (Refused f) entry = tt

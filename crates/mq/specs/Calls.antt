@@ -1,5 +1,5 @@
 -- What a call of a process leaves behind. Lists of records are latest first, so that what came later stands in front.
-use Rattle.std.specs.Prelude.{ℕ, ◌≡◌, ◌≤◌, Bool, true, false, List, [], ◌∷◌, ◌++◌, length, map, Option, Some, None, Result, Ok, Err, ◌⊎◌, OnOk, IfErr, if◌then◌else◌}
+use Rattle.std.specs.Prelude.{ℕ, ◌≡◌, ◌<◌, ◌≤◌, Bool, true, false, List, [], ◌∷◌, ◌++◌, length, map, slice_get, Option, Some, None, Result, Ok, Err, ◌⊎◌, OnOk, IfErr, if◌then◌else◌}
 use Rattle.fast_mutex.specs.Items.{LockId, Ticket, Grows}
 use Rattle.fast_mutex.specs.Marks.{answer_bits}
 use Rattle.mq_model.specs.Record.{Record, Past}
@@ -58,6 +58,11 @@ bounds_of t = bounds_in t.lock.fixed
 abbrev pub IsFree : Ticket Record → Type 0
 IsFree t = open_wait t.left t.number ≡ None
 
+-- of a process with this ticket, the length of the buffer that its open wait needs stands at the index of its number
+pub record IsRoomOf (rooms : List (Option ℕ)) (t : Ticket Record) : Type 0 where
+  pub number : t.number < 33
+  pub room : slice_get rooms t.number ≡ Some (waiting_room t.left t.number)
+
 -- the process waits in this call
 pub record WaitsIn (t : Ticket Record) (waited : Call) : Type 0 where
   pub call : waiting_call t.left t.number ≡ waited
@@ -76,6 +81,10 @@ pub record Calls (old new : Ticket Record) (own : Past) : Type 0 where
   pub number : new.number ≡ old.number
   pub legal : Legal new.left
   pub grows : Grows author old.number old.left new.left own
+
+-- a process that a look has told that its wait is answered has left a journal that answers it
+abbrev pub KeepsTold : Ticket Record → Ticket Record → Type 0
+KeepsTold old new = old.told ≡ true → is_answered new.left new.number ≡ true
 
 -- the journal that a call found: it added its record to it, and its reply is that the journal is full exactly where it was
 pub record Found (old new : Ticket Record) (call : Call) (given : List ℕ) (reply : Reply) : Type 0 where

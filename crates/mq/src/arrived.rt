@@ -47,7 +47,7 @@ impl<L: Look<Guarded>> Arrived<L> {
     ghost use Rattle.mq_state.specs.Requests.{Brings};
     ghost use Rattle.mq.specs.Kinds.{IsOf, IsCall, IsWaiting, IsOver};
     ghost use Rattle.mq.specs.Blocked.{is_blocked};
-    ghost use Rattle.mq.specs.Calls.{IsFree, Calls, WaitsIn};
+    ghost use Rattle.mq.specs.Calls.{IsFree, Calls, KeepsTold, WaitsIn};
 
     /// As [`Process::make`].
     #[inline(always)]
@@ -72,10 +72,10 @@ impl<L: Look<Guarded>> Arrived<L> {
     {
         let room = buf.len();
         let (inside, mut state) = begin::<L>(self.walk, self.number);
-        let reply = A::ask(&mut state.books, self.number, call, given, buf);
-        let returned = A::of_reply(&state.books, reply);
-        let seat = depart_after(mq, inside, state, reply);
-        (process_of(seat, wait_begun(reply, room)), returned)
+        let answer = A::ask(&mut state.books, self.number, call, given, buf);
+        let returned = A::of_answer(answer);
+        let seat = depart_after(mq, inside, state, answer.reply);
+        (process_of(seat, wait_begun(answer.reply, room)), returned)
     }
 
     /// As [`Process::are_blocked`].
@@ -85,6 +85,7 @@ impl<L: Look<Guarded>> Arrived<L> {
         ensures calls { Calls self.process result.0 [] }
         ensures wait { waiting_room result.0.left result.0.number ≡
             waiting_room self.process.left self.process.number }
+        ensures told { KeepsTold self.process result.0 }
     {
         let (inside, state) = begin::<L>(self.walk, self.number);
         let blocked = all_blocked(&state.books, processes);
@@ -97,6 +98,7 @@ impl<L: Look<Guarded>> Arrived<L> {
         ensures calls { Calls self.process result [] }
         ensures wait { waiting_room result.left result.number ≡
             waiting_room self.process.left self.process.number }
+        ensures told { KeepsTold self.process result }
     {
         self.are_blocked(mq, &[]).0
     }

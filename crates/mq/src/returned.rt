@@ -4,13 +4,15 @@ ghost use Rattle.std.specs.Prelude.{true, Some, None};
 use mq_model::entries::{Call, Received, Reply, Status};
 use mq_model::faults::Fault;
 use mq_state::books::Books;
+use mq_state::collected::Answer;
 
 /// What a kind of call returns. The type is the kind.
 pub trait Returned: Drop {
     ghost use Rattle.std.specs.Prelude.{◌≡◌, ◌≤◌, true, Some, None, length};
     ghost use Rattle.mq_model.specs.Messages.{is_receive};
+    ghost use Rattle.mq_model.specs.Record.{Past};
     ghost use Rattle.mq_model.specs.Waits.{open_wait};
-    ghost use Rattle.mq_state.specs.Buffers.{filled, GivesLast};
+    ghost use Rattle.mq_state.specs.Buffers.{filled, received_by};
     ghost use Rattle.mq_state.specs.Kept.{IsMade};
     ghost use Rattle.mq_state.specs.Requests.{Brings};
     ghost use Rattle.mq.specs.Kinds.{Kind, IsKind};
@@ -19,22 +21,23 @@ pub trait Returned: Drop {
 
     /// Makes a call of this kind, by a way of its own where it is made often: what that does is known where the call is built.
     #[inline(always)]
-    fn ask(books: &mut Books, p: u32, call: Call, given: &[u8], buf: &mut [u8]) -> Reply
+    fn ask(books: &mut Books, p: u32, call: Call, given: &[u8], buf: &mut [u8]) -> Answer
         requires process { (1 ≤ p) × (p ≤ books.old.n) }
         requires no_wait { open_wait books.old.records p ≡ None }
         requires brings { Brings call given.now (length buf.old) }
-        ensures made { IsMade books.old books.new p call given.now result }
+        ensures made { IsMade books.old books.new p call given.now result.reply }
+        ensures received { result.received ≡ received_by books.old.records result.reply }
         ensures buffer { is_receive call ≡ true →
-            buf.new ≡ filled books.old.records result buf.old }
+            buf.new ≡ filled books.old.records result.reply buf.old }
     {
-        books.make(p, call, given, buf)
+        books.ask(p, call, given, buf)
     }
 
-    /// What the call with this reply returns, by the journal that it left.
-    fn of_reply(books: &Books, reply: Reply) -> Self
-        requires replies { kind.replies reply ≡ true }
-        requires last { GivesLast books.now.records reply }
-        ensures { kind.says books.now.records reply ≡ Some result };
+    /// What the call that was answered so returns.
+    fn of_answer(answer: Answer) -> Self
+        requires replies { kind.replies answer.reply ≡ true }
+        ensures { (past : Past) → answer.received ≡ received_by past answer.reply →
+            kind.says past answer.reply ≡ Some result };
 
     ghost is_kind: { IsKind kind };
 }
@@ -47,8 +50,8 @@ impl Returned for Result<u32, Fault> {
     ghost kind = { open_kind };
 
     #[inline(always)]
-    fn of_reply(_: &Books, reply: Reply) -> Result<u32, Fault> {
-        match reply {
+    fn of_answer(answer: Answer) -> Result<u32, Fault> {
+        match answer.reply {
             Reply::Opened { d, .. } => Ok(d),
             Reply::Refused(fault) => Err(fault),
             _ => unreachable!(),
@@ -66,8 +69,8 @@ impl Returned for Result<(), Fault> {
     ghost kind = { done_kind };
 
     #[inline(always)]
-    fn of_reply(_: &Books, reply: Reply) -> Result<(), Fault> {
-        match reply {
+    fn of_answer(answer: Answer) -> Result<(), Fault> {
+        match answer.reply {
             Reply::Done => Ok(()),
             Reply::Refused(fault) => Err(fault),
             _ => unreachable!(),
@@ -85,8 +88,8 @@ impl Returned for Result<Status, Fault> {
     ghost kind = { attributes_kind };
 
     #[inline(always)]
-    fn of_reply(_: &Books, reply: Reply) -> Result<Status, Fault> {
-        match reply {
+    fn of_answer(answer: Answer) -> Result<Status, Fault> {
+        match answer.reply {
             Reply::Attrs(status) => Ok(status),
             Reply::Refused(fault) => Err(fault),
             _ => unreachable!(),
@@ -104,8 +107,8 @@ impl Returned for Result<Option<u64>, Fault> {
     ghost kind = { notice_kind };
 
     #[inline(always)]
-    fn of_reply(_: &Books, reply: Reply) -> Result<Option<u64>, Fault> {
-        match reply {
+    fn of_answer(answer: Answer) -> Result<Option<u64>, Fault> {
+        match answer.reply {
             Reply::Notice(value) => Ok(value),
             Reply::Refused(fault) => Err(fault),
             _ => unreachable!(),
@@ -123,16 +126,16 @@ impl Returned for Result<bool, Fault> {
     ghost kind = { send_kind };
 
     #[inline(always)]
-    fn ask(books: &mut Books, p: u32, call: Call, given: &[u8], buf: &mut [u8]) -> Reply {
+    fn ask(books: &mut Books, p: u32, call: Call, given: &[u8], buf: &mut [u8]) -> Answer {
         match call {
-            Call::MqSend { d, prio, .. } => books.send(p, d, given, prio),
-            _ => books.make(p, call, given, buf),
+            Call::MqSend { d, prio, .. } => books.ask_send(p, d, given, prio),
+            _ => books.ask(p, call, given, buf),
         }
     }
 
     #[inline(always)]
-    fn of_reply(_: &Books, reply: Reply) -> Result<bool, Fault> {
-        match reply {
+    fn of_answer(answer: Answer) -> Result<bool, Fault> {
+        match answer.reply {
             Reply::Queued { .. } => Ok(true),
             Reply::Handed { .. } => Ok(true),
             Reply::Waits => Ok(false),
@@ -152,17 +155,17 @@ impl Returned for Result<Option<Received>, Fault> {
     ghost kind = { receive_kind };
 
     #[inline(always)]
-    fn ask(books: &mut Books, p: u32, call: Call, given: &[u8], buf: &mut [u8]) -> Reply {
+    fn ask(books: &mut Books, p: u32, call: Call, given: &[u8], buf: &mut [u8]) -> Answer {
         match call {
-            Call::MqReceive { d, .. } => books.receive(p, d, buf),
-            _ => books.make(p, call, given, buf),
+            Call::MqReceive { d, .. } => books.ask_receive(p, d, buf),
+            _ => books.ask(p, call, given, buf),
         }
     }
 
     #[inline(always)]
-    fn of_reply(books: &Books, reply: Reply) -> Result<Option<Received>, Fault> {
-        match reply {
-            Reply::Got { place, .. } => Ok(Some(books.received(place))),
+    fn of_answer(answer: Answer) -> Result<Option<Received>, Fault> {
+        match answer.reply {
+            Reply::Got { .. } => Ok(answer.received),
             Reply::Waits => Ok(None),
             Reply::Refused(fault) => Err(fault),
             _ => unreachable!(),

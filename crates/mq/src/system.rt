@@ -1,6 +1,8 @@
 //! The queues that processes share, and their making and end.
-ghost use Rattle.std.specs.Prelude.{◌≡◌, ◌≤◌, ◌<◌, [], map, vec_len, vec_capacity};
+ghost use Rattle.std.specs.Prelude.{ℕ, Some, ◌≡◌, ◌≤◌, ◌<◌, [], map, slice_get, vec_len, vec_capacity};
 ghost use Rattle.std.specs.List.{All};
+ghost use Rattle.mq_state.specs.Buffers.{waiting_room};
+ghost use Rattle.mq.specs.Calls.{IsRoomOf};
 
 use crate::guarded::Guarded;
 use crate::process::{Process, process_of, seat_of};
@@ -48,41 +50,66 @@ impl<L: Look<Guarded>> Model for Mq<L> {
 impl<L: Look<Guarded>> Mq<L> {
     ghost use Rattle.std.specs.Prelude.{◌≡◌, ◌≤◌, ◌<◌, ◌⊎◌, ◌↔◌, true, false, [], Some, None, Err, IfOk, IfErr, IsOk, vec_len};
     ghost use Rattle.std.specs.List.{All};
-    ghost use Rattle.fast_mutex.specs.Items.{Grows, tickets_from};
+    ghost use Rattle.fast_mutex.specs.Items.{Grows, tickets_from, tickets_with};
     ghost use Rattle.mq_model.specs.Legality.{Legal};
     ghost use Rattle.mq_model.specs.declared.faults.Fault.TheVariants.{Invalid, NoMemory};
     ghost use Rattle.mq.specs.Calls.{author, fixed_of, bounds_in, stored_in};
 
-    // The system over these queues of n processes, with an empty journal.
-    fn over(alloc: Global, n: u32, books: Books) -> Result<(Mq<L>, Vec<Process<L>>), Fault>
+    // The system over these queues of n processes. If memory is refused the queues come back.
+    fn over(alloc: Global, n: u32, books: Books) -> Result<(Mq<L>, Vec<Process<L>>), Books>
         requires some { 1 ≤ n }
         requires few { n ≤ 32 }
-        requires empty { books.records ≡ [] }
         requires processes { books.n ≡ n }
-        ensures faults { IfErr result (λ e. e ≡ NoMemory) }
         ensures count { IfOk result (λ r. r.0.count ≡ n) }
         ensures bounds { IfOk result (λ r. bounds_in r.0.fixed ≡ books.bounds) }
         ensures stored { IfOk result (λ r. stored_in r.0.fixed ≡ books.stored) }
-        ensures processes { IfOk result (λ r. r.1.items ≡ tickets_from r.0 1 n) }
+        ensures processes { IfOk result (λ r. r.1.items ≡ tickets_with r.0 books.records 1 n) }
+        ensures back { IfErr result (λ b. b ≡ books) }
     {
         let Ok(seats) = Vec::with_capacity(alloc, PROCESSES as usize) else {
-            return Err(Fault::NoMemory);
+            return Err(books);
         };
         let room = Mutex::new(Room { seats });
         let Ok(processes) = Vec::with_capacity(alloc, n as usize) else {
-            return Err(Fault::NoMemory);
+            return Err(books);
         };
         let stored = books.is_stored();
-        let Ok((lock, seats)) = L::new(alloc, n, Guarded::holding(books)) else {
-            return Err(Fault::NoMemory);
-        };
-        let mq = Mq {
-            lock,
-            n,
-            stored,
-            room,
-        };
-        Ok((mq, processes_of(seats, processes)))
+        let rooms = rooms_of(&books);
+        match L::new(alloc, n, Guarded::holding(books)) {
+            Ok((lock, seats)) => {
+                let mq = Mq {
+                    lock,
+                    n,
+                    stored,
+                    room,
+                };
+                Ok((mq, processes_of(seats, &rooms, processes)))
+            }
+            Err((state, _)) => Err(state.books),
+        }
+    }
+
+    /// The system that goes on from these queues, and its processes in order. Each has left their journal, and if it has an open wait
+    /// there it waits: `waiting` says so, and its next call is `collect` or `withdraw`. `Invalid` if the queues are of no process,
+    /// else `NoMemory` if an allocation was refused; then the queues come back.
+    pub fn resume(alloc: Global, books: Books) -> Result<(Mq<L>, Vec<Process<L>>), (Books, Fault)>
+        ensures count { IfOk result (λ r. r.0.count ≡ books.n) }
+        ensures bounds { IfOk result (λ r. bounds_in r.0.fixed ≡ books.bounds) }
+        ensures stored { IfOk result (λ r. stored_in r.0.fixed ≡ books.stored) }
+        ensures processes { IfOk result (λ r.
+            r.1.items ≡ tickets_with r.0 books.records 1 books.n) }
+        ensures back { IfErr result (λ e. e.0 ≡ books) }
+        ensures faults { IfErr result (λ e. (e.1 ≡ NoMemory) ⊎
+            ((e.1 ≡ Invalid) × ((books.n ≡ 0) ⊎ (32 < books.n)))) }
+    {
+        let n = books.processes();
+        if n == 0 || n > PROCESSES {
+            return Err((books, Fault::Invalid));
+        }
+        match Mq::over(alloc, n, books) {
+            Ok(system) => Ok(system),
+            Err(books) => Err((books, Fault::NoMemory)),
+        }
     }
 
     /// The queues of n processes, none yet, and the processes 1 to n in order, each of which has left the empty journal.
@@ -102,7 +129,10 @@ impl<L: Look<Guarded>> Mq<L> {
         let Ok(books) = Books::new(alloc, n) else {
             return Err(Fault::NoMemory);
         };
-        Mq::over(alloc, n, books)
+        match Mq::over(alloc, n, books) {
+            Ok(system) => Ok(system),
+            Err(_) => Err(Fault::NoMemory),
+        }
     }
 
     /// The same, with a journal that may hold so many entries and so many payload bytes, those of names and of messages. All the memory
@@ -129,7 +159,10 @@ impl<L: Look<Guarded>> Mq<L> {
         let Ok(books) = Books::bounded(alloc, n, entries, bytes) else {
             return Err(Fault::NoMemory);
         };
-        Mq::over(alloc, n, books)
+        match Mq::over(alloc, n, books) {
+            Ok(system) => Ok(system),
+            Err(_) => Err(Fault::NoMemory),
+        }
     }
 
     /// The queues of n processes whose journal is a history variable: contracts speak of it, and no byte of it is stored. What later replies
@@ -150,7 +183,10 @@ impl<L: Look<Guarded>> Mq<L> {
         let Ok(books) = Books::unstored(alloc, n) else {
             return Err(Fault::NoMemory);
         };
-        Mq::over(alloc, n, books)
+        match Mq::over(alloc, n, books) {
+            Ok(system) => Ok(system),
+            Err(_) => Err(Fault::NoMemory),
+        }
     }
 
     /// Whether the journal is stored.
@@ -201,11 +237,13 @@ impl<L: Look<Guarded>> Mq<L> {
         }
     }
 
-    // Ends the queues and gives the books, if all n processes are there.
-    fn retire(self, processes: Vec<Process<L>>) -> Result<Books, Missing<Mq<L>, Process<L>>>
+    /// Ends the system and gives the queues, from which another may go on, if all n processes are there; else everything comes back as it
+    /// was. Takes no memory, and never waits. Open waits are allowed.
+    pub fn retire(self, processes: Vec<Process<L>>) -> Result<Books, Missing<Mq<L>, Process<L>>>
         requires { All (λ p. p.lock ≡ self) processes.items }
         ensures all { (vec_len processes ≡ self.count) ↔ IsOk result }
         ensures count { IfOk result (λ books. books.n ≡ self.count) }
+        ensures bounds { IfOk result (λ books. books.bounds ≡ bounds_in self.fixed) }
         ensures stored { IfOk result (λ books. books.stored ≡ stored_in self.fixed) }
         ensures grows { IfOk result (λ books.
             All (λ p. Grows author p.number p.left books.records []) processes.items) }
@@ -240,19 +278,33 @@ impl<L: Look<Guarded>> Mq<L> {
     }
 }
 
-// The processes of these seats, in their order.
+// The room that the open wait of each process needs, that of process p at index p.
+fn rooms_of(books: &Books) -> [Option<usize>; 33]
+    ensures { (p : ℕ) → p < 33 →
+        slice_get result p ≡ Some (waiting_room books.now.records p) }
+{
+    let mut rooms = [None; 33];
+    for process in 0..33 {
+        rooms[process as usize] = books.waiting(process);
+    }
+    rooms
+}
+
+// The processes of these seats, in their order, with the room that the open wait of each needs at the index of its number.
 fn processes_of<L: Look<Guarded>>(
     seats: Vec<L::Seat>,
+    rooms: &[Option<usize>; 33],
     mut processes: Vec<Process<L>>,
 ) -> Vec<Process<L>>
     requires empty { processes.items ≡ [] }
     requires room { vec_len seats ≤ vec_capacity processes }
-    requires new { All (λ s. (L.ticket s).left ≡ []) seats.items }
+    requires waits { All (λ s. IsRoomOf rooms.now (L.ticket s)) seats.items }
     ensures items { result.items ≡ map L.ticket seats.items }
     ensures len { vec_len result ≡ vec_len seats }
 {
     'seats: for seat in seats {
-        processes.push(process_of(seat, None)).unwrap();
+        let waits = rooms[L::number(&seat) as usize];
+        processes.push(process_of(seat, waits)).unwrap();
     }
     processes
 }

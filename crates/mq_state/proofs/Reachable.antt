@@ -28,12 +28,12 @@ use Rattle.mq_model.specs.Waits.{open_wait, answered_by, names_wait}
 use Rattle.mq_model.proofs.Waiters.{admits-least}
 use Rattle.mq_model.proofs.Presence.{place-is}
 use Rattle.mq_model.proofs.Prefixes.{record_at-first, record_at-below}
-use Rattle.mq_laws.specs.Laws.{reply_at, message_given}
+use Rattle.mq_laws.specs.Laws.{reply_at}
 use Rattle.mq_laws.proofs.LegalPlaces.{legal-at}
 use Rattle.mq_laws.proofs.SentMessages.{blocked-sent}
-use Rattle.mq_state.specs.Buffers.{waiting_call, given_last}
+use Rattle.mq_state.specs.Buffers.{waiting_call}
 use Rattle.mq_state.proofs.Fitting.{answered-at}
-use Rattle.mq_laws.proofs.Needs.{present-needed, waiting-needed, handed-needed, given-needed}
+use Rattle.mq_laws.proofs.Needs.{present-needed, waiting-needed, handed-needed}
 use Rattle.mq_ledger.specs.Ledgers.{Shown, CanRead, CanReadGiven, CanReadAdmitted, IsReadable}
 
 -- the message that a reply gives
@@ -154,27 +154,6 @@ collect-readable s reads legal p b answered receives = by (open_wait s.records p
 -- of no record is anything needed
 pub none-needed : (k : ℕ) → IsNeeded [] k → ⊥
 none-needed k needed = let bad : false ≡ true = needed.kept in cc
-
--- the message that the latest entry gave can be read
-pub last-readable : (s : Shown) → IsReadable s → Legal s.records → (m : ℕ) → given_last s.records ≡ Some m → CanRead s m
-last-readable s reads legal m given = reads m (by s.records legal given)
-  where
-    got : (past : Past) (r : Record) → Legal (r ∷ past) → (reply : Reply) → r.entry.reply ≡ reply → message_given reply ≡ Some m → IsNeeded (r ∷ past) m
-    got past r legal (Got k a n) is e = let same : k ≡ m = cc in given-needed past r legal m a n (is ∙ ap (λ (i : ℕ). Got i a n) same)
-    got past r legal (Opened d new) is e = absurd (cc)
-    got past r legal (Queued n) is e = absurd (cc)
-    got past r legal (Handed w) is e = absurd (cc)
-    got past r legal Waits is e = absurd (cc)
-    got past r legal (Collected b) is e = absurd (cc)
-    got past r legal (Withdrawn b) is e = absurd (cc)
-    got past r legal (Attrs x) is e = absurd (cc)
-    got past r legal (Notice v) is e = absurd (cc)
-    got past r legal Done is e = absurd (cc)
-    got past r legal (Refused f) is e = absurd (cc)
-
-    by : (past : Past) → Legal past → given_last past ≡ Some m → IsNeeded past m
-    by [] legal e = absurd (cc)
-    by (r ∷ past) legal e = got past r legal r.entry.reply refl e
 
 -- the same records, with as much room at least, of which what is needed can be read
 pub kept-again : (j j' : Shown) (t : Tables) → IsKeptBy j t → j'.records ≡ j.records → j.entry_room ≤ j'.entry_room → j.byte_room ≤ j'.byte_room → j'.stored ≡ j.stored → IsReadable j' → IsKeptBy j' t

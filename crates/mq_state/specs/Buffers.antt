@@ -1,8 +1,7 @@
 -- What a receive and a collect put into their buffer.
-use Rattle.std.specs.Prelude.{ℕ, ◌≡◌, true, ◌≤◌, List, [], ◌∷◌, ◌++◌, drop, length, Option, Some, None, if◌then◌else◌}
+use Rattle.std.specs.Prelude.{ℕ, ◌≡◌, true, ◌≤◌, List, [], ◌++◌, drop, length, Option, Some, None, if◌then◌else◌}
 use Rattle.std.specs.Option.{option_map, option_and_then, unwrap_or}
 use Rattle.mq_model.specs.Record.{Past, record_at}
-use Rattle.mq_laws.specs.Laws.{message_given}
 use Rattle.mq_model.specs.Messages.{priority, is_receive}
 use Rattle.mq_model.specs.Waits.{open_wait, answered_by}
 use Rattle.mq_model.specs.declared.entries.Received.{Received}
@@ -35,15 +34,10 @@ Fits past _ room = Unit {0}
 abbrev pub received_at : Past → ℕ → Received
 received_at past place = record { len = length (message_at past place); prio = priority past place }
 
--- the message that the latest entry gave its receive
-abbrev pub given_last : Past → Option ℕ
-given_last [] = None
-given_last (r ∷ past) = message_given r.entry.reply
-
--- the message that a reply gives is that of the latest entry
-abbrev pub GivesLast : Past → Reply → Type 0
-GivesLast past (Got place admitted notified) = given_last past ≡ Some place
-GivesLast past _ = Unit {0}
+-- the length and the priority of the message that a reply gives
+abbrev pub received_by : Past → Reply → Option Received
+received_by past (Got place admitted notified) = Some (received_at past place)
+received_by past _ = None
 
 -- the call that waits. The collect never stands for a process that has an open wait
 abbrev pub waiting_call : Past → ℕ → Call

@@ -1,11 +1,13 @@
 -- Where and why a journal is not legal.
-use Rattle.std.specs.Prelude.{◌≡◌, ◌≢◌, ◌&&◌, Bool, true, false, nat_le, IfSome}
+use Rattle.std.specs.Prelude.{ℕ, ◌≡◌, ◌≢◌, ◌<◌, ◌&&◌, Bool, true, false, nat_le, length, IfSome}
 use Rattle.mq_model.specs.Limits.{most_processes}
 use Rattle.mq_model.specs.Record.{Record, Past, record_at, first}
 use Rattle.mq_model.specs.Legality.{reply_to, may_call, is_payload, IsFirstIllegal}
 use Rattle.mq_state.specs.declared.replay.Cause.{Cause}
 use Rattle.mq_state.specs.declared.replay.Cause.TheVariants.{Process, Turn, Payload, Reply}
 use Rattle.mq_state.specs.declared.replay.Departure.{Departure}
+use Rattle.mq_state.specs.declared.replay.Misfit.{Misfit}
+use Rattle.mq_state.specs.declared.replay.Misfit.TheVariants.{NoMemory, Illegal, Foreign}
 
 abbrev pub has_process : Record → Bool
 has_process r = nat_le 1 r.entry.process && nat_le r.entry.process most_processes
@@ -27,3 +29,9 @@ IsCause past r (Reply expected) = (has_process r ≡ true) × (is_in_turn past r
 pub record IsDeparture (past : Past) (d : Departure) : Type 0 where
   pub first_illegal : IsFirstIllegal past d.place
   pub cause : IfSome (record_at past d.place) (λ r. IsCause (first d.place past) r d.cause)
+
+-- why no queues of n processes go on from these records
+abbrev pub IsMisfit : Past → ℕ → Misfit → Type 0
+IsMisfit past n NoMemory = Unit {0}
+IsMisfit past n (Illegal d) = IsDeparture past d
+IsMisfit past n (Foreign k) = (k < length past) × IfSome (record_at past k) (λ r. n < r.entry.process)

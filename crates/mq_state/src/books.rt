@@ -4,27 +4,30 @@
 //! that the definitions give, and returns that reply. A call that replies `Refused(NoMemory)` or `Refused(JournalFull)` has no
 //! entry and changes nothing. The first comes only where a growth was refused, and never with bounds; the second only with bounds, and
 //! exactly where the call finds the journal full.
-ghost use Rattle.std.specs.Prelude.{◌≡◌, ◌≢◌, ◌<◌, ◌≤◌, IfOk, IfSome, IsSome, IsTrue, ◌↔◌, Some, None, length, [], All, true, false, ◌&&◌, is_none};
+ghost use Rattle.std.specs.Prelude.{◌≡◌, ◌≢◌, ◌<◌, ◌≤◌, IfOk, IfErr, IfSome, IsSome, IsTrue, ◌↔◌, Some, None, length, [], All, true, false, ◌&&◌, is_none};
 ghost use Rattle.mq_model.specs.Deadlines.{is_over};
 ghost use Rattle.mq_model.specs.Waits.{open_wait, wait_deadline, answered_by, is_answered};
 ghost use Rattle.mq_model.specs.Descriptors.{lowest_held};
 ghost use Rattle.mq_model.specs.Legality.{Appends, Legal, may_call};
-ghost use Rattle.mq_state.specs.Buffers.{filled, collected, collected_into, collected_by, into_by, waiting_call, waiting_room, room_of, FitsOutcome, given_last, received_at};
+ghost use Rattle.mq_state.specs.Buffers.{filled, collected, collected_into, collected_by, into_by, waiting_call, waiting_room, room_of, FitsOutcome, received_by};
 ghost use Rattle.mq_ledger.specs.Ledgers.{CanRead};
-ghost use Rattle.mq_state.specs.Kept.{IsKeptBy, IsMade, HasRoomWithin};
+ghost use Rattle.mq_state.specs.Kept.{AreThoseOf, IsKeptBy, IsMade, IsWhole, HasRoomWithin};
 ghost use Rattle.mq_state.specs.Requests.{Brings};
 ghost use Rattle.mq_state.specs.Room.{NobodyCanCall, room_left};
 ghost use Rattle.mq_model.specs.Messages.{is_send, is_receive};
+ghost use Rattle.mq_state.specs.Replays.{IsMisfit};
 
 use crate::buffers;
-use crate::collected::{Collected, received_from};
+use crate::collected::{Answer, Collected};
 use crate::prefixes::Prefix;
+use crate::replay::{Misfit, follow_all};
+use crate::rewriting::{Unwritten, rewrite};
 use crate::tables::Tables;
 use mq_ledger::history::History;
 use mq_ledger::ledger::Ledger;
 use mq_ledger::unstored::Unstored;
 use mq_model::bounds::Bounds;
-use mq_model::entries::{Attr, Call, Deadline, OpenFlags, Received, Reply, Status};
+use mq_model::entries::{Attr, Call, Deadline, OpenFlags, Reply, Status};
 use mq_model::faults::Fault;
 use mq_model::journals::Journal;
 use mq_model::names::Name;
@@ -35,6 +38,13 @@ use std::marker::Model;
 #[derive(Drop)]
 pub struct Books {
     shelf: Box<Shelf>,
+}
+
+/// No queues go on from this journal: it comes back as it was, with the cause.
+#[derive(Debug, Drop)]
+pub struct Refused {
+    pub journal: Journal,
+    pub why: Misfit,
 }
 
 /// What a `Books` has.
@@ -116,8 +126,49 @@ impl Books {
         })
     }
 
+    /// The queues of n processes after the calls of a journal, which goes on with their calls, as if they had been made here. Refused where
+    /// the journal is not legal, or has an entry of a process above n, or where memory was refused: then the journal comes back.
+    pub fn resume(alloc: Global, n: u32, journal: Journal) -> Result<Books, Refused>
+        requires { (1 ≤ n) × (n ≤ 32) }
+        ensures records { IfOk result (λ b. b.records ≡ journal.records) }
+        ensures processes { IfOk result (λ b. b.n ≡ n) }
+        ensures bounds { IfOk result (λ b. b.bounds ≡ None) }
+        ensures stored { IfOk result (λ b. b.stored ≡ true) }
+        ensures back { IfErr result (λ r. r.journal.records ≡ journal.records) }
+        ensures why { IfErr result (λ r. IsMisfit journal.records n r.why) }
+    {
+        let Ok(shelf) = empty_shelf(alloc, n) else {
+            return Err(Refused {
+                journal,
+                why: Misfit::NoMemory,
+            });
+        };
+        match restock(shelf, journal) {
+            Ok(shelf) => Ok(Books { shelf }),
+            Err(refused) => Err(refused),
+        }
+    }
+
     /// A call of process p, whichever: with its name, the bytes of its message or none, and the buffer that a receive fills. Replies as the
-    /// method of its name below. The ends of a wait are [`collect`](Books::collect) and [`withdraw`](Books::withdraw).
+    /// method of its name below, and says what a receive got. The ends of a wait are [`collect`](Books::collect) and
+    /// [`withdraw`](Books::withdraw).
+    pub fn ask(&mut self, p: u32, call: Call, given: &[u8], buf: &mut [u8]) -> Answer
+        requires process { (1 ≤ p) × (p ≤ self.old.n) }
+        requires no_wait { open_wait self.old.records p ≡ None }
+        requires brings { Brings call given.now (length buf.old) }
+        ensures made { IsMade self.old self.new p call given.now result.reply }
+        ensures received { result.received ≡ received_by self.old.records result.reply }
+        ensures buffer { is_receive call ≡ true →
+            buf.new ≡ filled self.old.records result.reply buf.old }
+        ensures refused { is_send call ≡ true → (fault : Fault) →
+            result.reply ≡ Reply.Refused fault → fault ≢ Fault.NoMemory →
+            self.new.byte_room ≡ self.old.byte_room }
+    {
+        let Shelf { journal, tables } = &mut *self.shelf;
+        tables.make(journal, p, call, given, buf)
+    }
+
+    /// The same, of which the reply alone is wanted.
     pub fn make(&mut self, p: u32, call: Call, given: &[u8], buf: &mut [u8]) -> Reply
         requires process { (1 ≤ p) × (p ≤ self.old.n) }
         requires no_wait { open_wait self.old.records p ≡ None }
@@ -127,8 +178,7 @@ impl Books {
         ensures refused { is_send call ≡ true → (fault : Fault) → result ≡ Reply.Refused fault →
             fault ≢ Fault.NoMemory → self.new.byte_room ≡ self.old.byte_room }
     {
-        let Shelf { journal, tables } = &mut *self.shelf;
-        tables.make(journal, p, call, given, buf)
+        self.ask(p, call, given, buf).reply
     }
 
     /// An open of a name (`mq_open`). Replies `Opened`, or refuses with `Exists`, `NoEntry`, `Invalid`, `TooManyOpen` or `NoSpace`.
@@ -200,6 +250,20 @@ impl Books {
     /// A send of a message to the queue of descriptor d (`mq_send`). Replies `Queued`, `Handed` or `Waits`, or refuses with
     /// `BadDescriptor`, `Invalid`, `MessageSize` or `Again`. A send that is refused takes no room for the bytes of its message.
     #[inline(always)]
+    pub fn ask_send(&mut self, p: u32, d: u32, bytes: &[u8], prio: u32) -> Answer
+        requires process { (1 ≤ p) × (p ≤ self.old.n) }
+        requires no_wait { open_wait self.old.records p ≡ None }
+        ensures made { IsMade self.old self.new p
+            (Call.MqSend d prio (length bytes.now)) bytes.now result.reply }
+        ensures received { result.received ≡ received_by self.old.records result.reply }
+        ensures refused { (fault : Fault) → result.reply ≡ Reply.Refused fault →
+            fault ≢ Fault.NoMemory → self.new.byte_room ≡ self.old.byte_room }
+    {
+        let Shelf { journal, tables } = &mut *self.shelf;
+        tables.send(journal, p, d, bytes, prio)
+    }
+
+    /// The same, of which the reply alone is wanted.
     pub fn send(&mut self, p: u32, d: u32, bytes: &[u8], prio: u32) -> Reply
         requires process { (1 ≤ p) × (p ≤ self.old.n) }
         requires no_wait { open_wait self.old.records p ≡ None }
@@ -208,21 +272,32 @@ impl Books {
         ensures refused { (fault : Fault) → result ≡ Reply.Refused fault → fault ≢ Fault.NoMemory →
             self.new.byte_room ≡ self.old.byte_room }
     {
-        let Shelf { journal, tables } = &mut *self.shelf;
-        tables.send(journal, p, d, bytes, prio)
+        self.ask_send(p, d, bytes, prio).reply
     }
 
     /// A receive from the queue of descriptor d (`mq_receive`). Replies `Got`, and then the front of the buffer holds the
     /// message, or `Waits`; or refuses with `BadDescriptor`, `MessageSize` or `Again`.
     #[inline(always)]
+    pub fn ask_receive(&mut self, p: u32, d: u32, buf: &mut [u8]) -> Answer
+        requires process { (1 ≤ p) × (p ≤ self.old.n) }
+        requires no_wait { open_wait self.old.records p ≡ None }
+        ensures made { IsMade self.old self.new p
+            (Call.MqReceive d (length buf.old)) [] result.reply }
+        ensures received { result.received ≡ received_by self.old.records result.reply }
+        ensures buffer { buf.new ≡ filled self.old.records result.reply buf.old }
+    {
+        let Shelf { journal, tables } = &mut *self.shelf;
+        tables.receive(journal, p, d, buf)
+    }
+
+    /// The same, of which the reply alone is wanted.
     pub fn receive(&mut self, p: u32, d: u32, buf: &mut [u8]) -> Reply
         requires process { (1 ≤ p) × (p ≤ self.old.n) }
         requires no_wait { open_wait self.old.records p ≡ None }
         ensures made { IsMade self.old self.new p (Call.MqReceive d (length buf.old)) [] result }
         ensures buffer { buf.new ≡ filled self.old.records result buf.old }
     {
-        let Shelf { journal, tables } = &mut *self.shelf;
-        tables.receive(journal, p, d, buf)
+        self.ask_receive(p, d, buf).reply
     }
 
     /// A send of a message to the queue of descriptor d, made at the moment `now`, which would wait until the moment `until`
@@ -380,14 +455,6 @@ impl Books {
         self.shelf.journal.len()
     }
 
-    /// The length and the priority of the message that the latest entry gave.
-    pub fn received(&self, place: u64) -> Received
-        requires { given_last self.now.records ≡ Some place }
-        ensures { result ≡ received_at self.now.records place }
-    {
-        received_from(&Prefix::whole(&self.shelf.journal), place)
-    }
-
     /// Whether the journal is stored.
     pub fn is_stored(&self) -> bool
         ensures { result ≡ self.now.stored }
@@ -403,6 +470,23 @@ impl Books {
         ensures processes { All (λ r. r.entry.process ≤ self.now.n) result.now.records }
     {
         self.shelf.journal.journal()
+    }
+
+    /// A short journal after which the queues stand as they do now, but for the numbers of places and queues; its length goes by what is
+    /// alive, not by what was called. `Answered` where a wait is answered that its process has not yet collected.
+    pub fn rewritten(&self, alloc: Global) -> Result<Journal, Unwritten>
+        requires { self.now.stored ≡ true }
+        ensures { IfOk result (λ journal. Legal journal.records) }
+    {
+        let Shelf { journal, tables } = &*self.shelf;
+        rewrite(alloc, journal.journal(), tables)
+    }
+
+    /// How many processes there are.
+    pub fn processes(&self) -> u32
+        ensures { result ≡ self.now.n }
+    {
+        self.shelf.tables.processes()
     }
 
     /// The stored journal, which is all that is left.
@@ -424,6 +508,45 @@ impl Books {
     {
         Box::into_inner(self.shelf).journal.into_history()
     }
+}
+
+// The queues of n processes that nobody called yet, without bounds.
+fn empty_shelf(alloc: Global, n: u32) -> Result<Box<Shelf>, AllocError>
+    requires { (1 ≤ n) × (n ≤ 32) }
+    ensures tables { IfOk result (λ s. AreThoseOf [] s.value.tables) }
+    ensures processes { IfOk result (λ s. s.value.tables.n ≡ n) }
+    ensures bounds { IfOk result (λ s. s.value.tables.bounds ≡ None) }
+{
+    let shelf = Shelf {
+        journal: Ledger::stored(Journal::new(alloc)),
+        tables: Tables::new(alloc, n, None)?,
+    };
+    Ok(Box::new(alloc, shelf)?)
+}
+
+// The same after the calls of a journal.
+fn restock(mut shelf: Box<Shelf>, mut journal: Journal) -> Result<Box<Shelf>, Refused>
+    requires tables { AreThoseOf [] shelf.value.tables }
+    requires bounds { shelf.value.tables.bounds ≡ None }
+    ensures whole { IfOk result (λ s. IsWhole s.value.journal s.value.tables) }
+    ensures records { IfOk result (λ s. s.value.journal.records ≡ journal.records) }
+    ensures processes { IfOk result (λ s. s.value.tables.n ≡ shelf.value.tables.n) }
+    ensures unbounded { IfOk result (λ s. s.value.tables.bounds ≡ None) }
+    ensures stored { IfOk result (λ s. s.value.journal.stored ≡ true) }
+    ensures back { IfErr result (λ r. r.journal.records ≡ journal.records) }
+    ensures why { IfErr result (λ r. IsMisfit journal.records shelf.value.tables.n r.why) }
+{
+    if let Err(why) = follow_all(&mut shelf.tables, &journal) {
+        return Err(Refused { journal, why });
+    }
+    if journal.reserve(shelf.tables.open_waits(), 0).is_err() {
+        return Err(Refused {
+            journal,
+            why: Misfit::NoMemory,
+        });
+    }
+    shelf.journal = Ledger::stored(journal);
+    Ok(shelf)
 }
 
 // An empty journal, with room for all that the bounds allow.
@@ -487,6 +610,5 @@ fn outcome(journal: &Ledger, call: Call, by: u64, buf: &mut [u8]) -> Collected
     if !call.is_receive() {
         return Collected::Sent;
     }
-    buffers::put_message(journal, by, buf);
-    Collected::Got(received_from(&Prefix::whole(journal), by))
+    Collected::Got(buffers::put_message(journal, by, buf))
 }

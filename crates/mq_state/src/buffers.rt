@@ -1,35 +1,41 @@
 //! Messages in the journal, and the buffers that they are put into.
 ghost use Rattle.std.specs.Prelude.{◌≡◌, ◌≤◌, length};
 ghost use Rattle.mq_ledger.specs.Ledgers.{CanRead, CanReadGiven};
-ghost use Rattle.mq_state.specs.Buffers.{message_at, with_front, filled, Fits};
+ghost use Rattle.mq_state.specs.Buffers.{message_at, received_at, received_by, with_front, filled, Fits};
 
+use crate::collected::received_from;
+use crate::prefixes::Prefix;
 use mq_ledger::ledger::Ledger;
-use mq_model::entries::Reply;
+use mq_model::entries::{Received, Reply};
 
-/// Puts the message that was sent at a place into the front of the buffer.
-pub fn put_message(journal: &Ledger, place: u64, buf: &mut [u8])
+/// Puts the message that was sent at a place into the front of the buffer, and gives its length and its priority.
+pub fn put_message(journal: &Ledger, place: u64, buf: &mut [u8]) -> Received
     requires readable { CanRead journal.now place }
     requires room { length (message_at journal.now.records place) ≤ length buf.old }
-    ensures { buf.new ≡ with_front (message_at journal.now.records place) buf.old }
+    ensures buffer { buf.new ≡ with_front (message_at journal.now.records place) buf.old }
+    ensures received { result ≡ received_at journal.now.records place }
 {
+    let received = received_from(&Prefix::whole(journal), place);
     if let Some(message) = journal.payload(place) {
         buf[..message.len()].copy_from_slice(message);
     }
+    received
 }
 
-/// Puts the message that a reply gives into the front of the buffer.
+/// Puts the message that a reply gives into the front of the buffer, and gives its length and its priority.
 #[inline(always)]
-pub fn fill(journal: &Ledger, reply: Reply, buf: &mut [u8])
+pub fn fill(journal: &Ledger, reply: Reply, buf: &mut [u8]) -> Option<Received>
     requires readable { CanReadGiven journal.now reply }
     requires room { Fits journal.now.records reply (length buf.old) }
-    ensures { buf.new ≡ filled journal.now.records reply buf.old }
+    ensures buffer { buf.new ≡ filled journal.now.records reply buf.old }
+    ensures received { result ≡ received_by journal.now.records reply }
 {
-    if let Reply::Got {
-        place,
-        admitted: _,
-        notified: _,
-    } = reply
-    {
-        put_message(journal, place, buf);
+    match reply {
+        Reply::Got {
+            place,
+            admitted: _,
+            notified: _,
+        } => Some(put_message(journal, place, buf)),
+        _ => None,
     }
 }

@@ -1,8 +1,10 @@
 //! What an open wait comes to.
-ghost use Rattle.std.specs.Prelude.{◌≡◌};
+ghost use Rattle.std.specs.Prelude.{◌≡◌, None};
+ghost use Rattle.mq_model.specs.declared.entries.Reply.{Reply};
 
 use crate::prefixes::Prefix;
-use mq_model::entries::Received;
+use mq_model::entries::{Received, Reply};
+use mq_model::faults::Fault;
 use mq_model::journals::Journal;
 
 /// What the open wait of a process came to: its message was admitted, or it has received one.
@@ -10,6 +12,25 @@ use mq_model::journals::Journal;
 pub enum Collected {
     Sent,
     Got(Received),
+}
+
+/// The reply to a call, and if it gives a message the length and the priority of that.
+#[derive(Clone, Copy, Debug, PartialEq, Eq)]
+pub struct Answer {
+    pub reply: Reply,
+    pub received: Option<Received>,
+}
+
+impl Answer {
+    /// The call is refused.
+    pub(crate) fn refused(fault: Fault) -> Answer
+        ensures { result ≡ record { reply = Reply.Refused fault; received = None } }
+    {
+        Answer {
+            reply: Reply::Refused(fault),
+            received: None,
+        }
+    }
 }
 
 ghost use Rattle.mq_state.specs.Buffers.{received_at};

@@ -10,5 +10,6 @@ mod notices;
 mod prefixes;
 mod queues;
 pub mod replay;
+pub mod rewriting;
 mod tables;
 pub mod trail;

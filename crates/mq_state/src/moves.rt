@@ -4,7 +4,7 @@ ghost use Rattle.std.specs.Option.{option_map};
 ghost use Rattle.mq_state.specs.Queues.{slot_of};
 ghost use Rattle.mq_state.specs.Moves.{moves_of};
 ghost use Rattle.mq_model.specs.Messages.{admits};
-ghost use Rattle.mq_ledger.specs.Ledgers.{CanReadAdmitted};
+ghost use Rattle.mq_ledger.specs.Ledgers.{CanRead, CanReadAdmitted};
 
 use crate::prefixes::Prefix;
 use mq_model::entries::{Call, Entry, Reply};
@@ -56,8 +56,17 @@ fn message(journal: &Prefix<'_>, admitted: Option<u64>) -> Option<(u32, u64)>
 {
     match admitted {
         None => None,
-        Some(place) => Some((journal.priority(place), place)),
+        Some(place) => Some(slot_of(journal, place)),
     }
+}
+
+// The same, of a send at a place. Few receives admit one: the others have no room for this code.
+#[inline(never)]
+fn slot_of(journal: &Prefix<'_>, place: u64) -> (u32, u64)
+    requires { CanRead journal.now place }
+    ensures { result ≡ slot_of journal.now.records place }
+{
+    (journal.priority(place), place)
 }
 
 /// Whether nobody may need the queue of an entry any longer: an unlink or a close was done.

@@ -67,6 +67,11 @@ impl Inbox {
         self.values.front().copied()
     }
 
+    /// The notice with so many older ones.
+    pub fn nth(&self, index: usize) -> Option<u64> {
+        self.values.get(index).copied()
+    }
+
     /// How many notices there are.
     pub fn len(&self) -> usize
         ensures { result ≡ length self.now.values }

@@ -86,6 +86,11 @@ impl Queue {
         self.waiting
     }
 
+    /// The places of the messages, rising. Nothing is promised of them.
+    pub fn message_places(&self, alloc: Global) -> Result<Vec<u64>, AllocError> {
+        self.slots.places(alloc)
+    }
+
     fn set_waiting(&mut self, bits: u64)
         ensures { self.new ≡ with_waiting bits self.old }
     {

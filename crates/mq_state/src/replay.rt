@@ -1,9 +1,10 @@
 //! Whether a journal is legal, and where and why it is not, in time nearly linear in its length: the tables of the queues say what
 //! each call replies, and note each entry.
-ghost use Rattle.std.specs.Prelude.{◌≡◌, ◌↔◌, IfOk, IfSome, None};
+ghost use Rattle.std.specs.Prelude.{◌≡◌, ◌↔◌, IfOk, IfErr, OnOk, IfSome, None, []};
 ghost use Rattle.mq_model.specs.Legality.{Legal, IsLegalNext};
 ghost use Rattle.mq_ledger.specs.Ledgers.{IsReadable};
 ghost use Rattle.mq_state.specs.Kept.{AreThoseOf};
+ghost use Rattle.mq_state.specs.Tables.{AreAtMost};
 
 use crate::prefixes::Prefix;
 use crate::tables::Tables;
@@ -35,7 +36,18 @@ pub struct Departure {
     pub cause: Cause,
 }
 
-ghost use Rattle.mq_state.specs.Replays.{IsCause, IsDeparture};
+/// Why no queues of so many processes go on from a journal.
+#[derive(Clone, Copy, Debug, PartialEq, Eq)]
+pub enum Misfit {
+    /// Memory was refused.
+    NoMemory,
+    /// The journal is not legal.
+    Illegal(Departure),
+    /// The entry at this place is of a process above the last.
+    Foreign(u64),
+}
+
+ghost use Rattle.mq_state.specs.Replays.{IsCause, IsDeparture, IsMisfit};
 
 // Why an entry may not stand after those that the tables are those of, if it may not.
 fn cause_at(past: &Prefix<'_>, tables: &Tables, entry: Entry, payload: &[u8]) -> Option<Cause>
@@ -78,4 +90,29 @@ pub fn replay(alloc: Global, journal: &Journal) -> Result<Option<Departure>, All
         tables.follow(&past, entry, payload)?;
     }
     Ok(None)
+}
+
+// Notes all entries of a journal in the tables of an empty one. They have no bounds.
+pub(crate) fn follow_all(tables: &mut Tables, journal: &Journal) -> Result<(), Misfit>
+    requires empty { AreThoseOf [] tables.old }
+    requires unbounded { tables.old.bounds ≡ None }
+    ensures tables { OnOk result (AreThoseOf journal.now.records tables.new) }
+    ensures processes { OnOk result (AreAtMost tables.old.n journal.now.records) }
+    ensures same { (tables.new.n ≡ tables.old.n) × (tables.new.bounds ≡ None) }
+    ensures misfit { IfErr result (IsMisfit journal.now.records tables.old.n) }
+{
+    for place in 0..journal.len() {
+        let past = Prefix::first(journal, place);
+        let (entry, payload) = journal.record(place);
+        if let Some(cause) = cause_at(&past, tables, entry, payload) {
+            return Err(Misfit::Illegal(Departure { place, cause }));
+        }
+        if entry.process > tables.processes() {
+            return Err(Misfit::Foreign(place));
+        }
+        if tables.follow(&past, entry, payload).is_err() {
+            return Err(Misfit::NoMemory);
+        }
+    }
+    Ok(())
 }

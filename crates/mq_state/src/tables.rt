@@ -34,15 +34,15 @@ pub struct Tables {
     alloc: Global,
     n: u32,
     bounds: Option<Bounds>,
-    owners: Vec<Owner>,
+    pub(crate) owners: Vec<Owner>,
     // how many processes have an open wait
     waits: usize,
     // the call in which each process waits, if it does
     calls: Vec<Call>,
-    queues: Vec<Queue>,
+    pub(crate) queues: Vec<Queue>,
     // the orders of queues to come, where the tables have bounds
     spares: Vec<Slots>,
-    inboxes: Vec<Inbox>,
+    pub(crate) inboxes: Vec<Inbox>,
     // at which index the queue of a place was found last, by the remainder of the place. It may be wrong
     hints: [u8; HINTS],
 }

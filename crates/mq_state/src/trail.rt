@@ -1,6 +1,6 @@
 //! A journal that grows by the call of one process after the other, as the definitions reply to it.
 ghost use Rattle.std.specs.Prelude.{◌≡◌, [], Some, None, IfOk, IsTrue, IsFalse, is_some, OnErr};
-ghost use Rattle.mq_model.specs.Legality.{reply_to};
+ghost use Rattle.mq_model.specs.Legality.{reply_to, Legal};
 ghost use Rattle.mq_state.specs.Trails.{can_call, with_call};
 ghost use Rattle.mq_model.specs.Waits.{open_wait};
 
@@ -100,6 +100,14 @@ impl Trail {
         ensures { result ≡ is_some (open_wait self.now p) }
     {
         self.tables.wait(p).is_some()
+    }
+
+    /// The journal, which is all that is left.
+    pub fn into_journal(self) -> Journal
+        ensures records { result.records ≡ self }
+        ensures legal { Legal result.records }
+    {
+        self.journal
     }
 
     /// The journal.

@@ -21,6 +21,8 @@ mod bounded;
 mod deadlines;
 mod memory;
 mod replays;
+mod resumed;
+mod shortened;
 mod unstored;
 
 // What a process asks of the queues.

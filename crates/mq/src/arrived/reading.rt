@@ -22,7 +22,7 @@ impl<L: Look<Guarded>> Arrived<L> {
     ghost use Rattle.mq_model.specs.Record.{record_at};
     ghost use Rattle.mq_state.specs.Buffers.{waiting_room};
     ghost use Rattle.mq_state.specs.Room.{NobodyCanCall, room_left};
-    ghost use Rattle.mq.specs.Calls.{Calls, bounds_of, stored_in};
+    ghost use Rattle.mq.specs.Calls.{Calls, KeepsTold, bounds_of, stored_in};
     ghost use Rattle.mq.specs.Readings.{record_of};
 
     /// Checks the stored journal from its first entry on, as [`verdict`] does. It is legal. Leaves without a call.
@@ -33,6 +33,7 @@ impl<L: Look<Guarded>> Arrived<L> {
         ensures calls { Calls self.process result.0 [] }
         ensures wait { waiting_room result.0.left result.0.number ≡
             waiting_room self.process.left self.process.number }
+        ensures told { KeepsTold self.process result.0 }
     {
         let (inside, state) = begin::<L>(self.walk, self.number);
         let checked = verdict(alloc, state.books.journal());
@@ -47,6 +48,7 @@ impl<L: Look<Guarded>> Arrived<L> {
         ensures calls { Calls self.process result.0 [] }
         ensures wait { waiting_room result.0.left result.0.number ≡
             waiting_room self.process.left self.process.number }
+        ensures told { KeepsTold self.process result.0 }
     {
         let (inside, state) = begin::<L>(self.walk, self.number);
         let entry = state.books.journal().entry(place);
@@ -68,6 +70,7 @@ impl<L: Look<Guarded>> Arrived<L> {
         ensures calls { Calls self.process result.0 [] }
         ensures wait { waiting_room result.0.left result.0.number ≡
             waiting_room self.process.left self.process.number }
+        ensures told { KeepsTold self.process result.0 }
     {
         let (inside, state) = begin::<L>(self.walk, self.number);
         let read = record_at(alloc, state.books.journal(), place);
@@ -81,6 +84,7 @@ impl<L: Look<Guarded>> Arrived<L> {
         ensures calls { Calls self.process result.0 [] }
         ensures wait { waiting_room result.0.left result.0.number ≡
             waiting_room self.process.left self.process.number }
+        ensures told { KeepsTold self.process result.0 }
     {
         let (inside, state) = begin::<L>(self.walk, self.number);
         let room = state.books.room();
@@ -94,6 +98,7 @@ impl<L: Look<Guarded>> Arrived<L> {
         ensures calls { Calls self.process result.0 [] }
         ensures wait { waiting_room result.0.left result.0.number ≡
             waiting_room self.process.left self.process.number }
+        ensures told { KeepsTold self.process result.0 }
     {
         let (inside, state) = begin::<L>(self.walk, self.number);
         let count = state.books.journal_len();
@@ -108,6 +113,7 @@ impl<L: Look<Guarded>> Arrived<L> {
         ensures calls { Calls self.process result.0 [] }
         ensures wait { waiting_room result.0.left result.0.number ≡
             waiting_room self.process.left self.process.number }
+        ensures told { KeepsTold self.process result.0 }
     {
         let (inside, state) = begin::<L>(self.walk, self.number);
         let nobody = state.books.nobody_can_call();

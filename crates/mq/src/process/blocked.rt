@@ -16,7 +16,7 @@ impl<L: Look<Guarded>> Process<L> {
     ghost use Rattle.mq_state.specs.Buffers.{waiting_room};
     ghost use Rattle.mq.specs.Blocked.{is_blocked};
     ghost use Rattle.mq_state.specs.Room.{NobodyCanCall, room_left};
-    ghost use Rattle.mq.specs.Calls.{Calls, IsFree, OneCall, ReceiveCall, WaitsIn, bounds_of};
+    ghost use Rattle.mq.specs.Calls.{Calls, KeepsTold, IsFree, OneCall, ReceiveCall, WaitsIn, bounds_of};
     ghost use Rattle.mq.specs.Says.{start_send_says, start_receive_says};
 
     /// Whether each of these processes is blocked: it has an open wait, and no entry names it. Asked once inside the lock, of the
@@ -28,6 +28,7 @@ impl<L: Look<Guarded>> Process<L> {
         ensures calls { Calls self.old self.new [] }
         ensures wait { waiting_room self.new.left self.new.number ≡
             waiting_room self.old.left self.old.number }
+        ensures told { KeepsTold self.old self.new }
     {
         in_one_stay!(self, rt, mq, |arrived| arrived.are_blocked(mq, processes))
     }
@@ -42,6 +43,7 @@ impl<L: Look<Guarded>> Process<L> {
         ensures calls { Calls self.old self.new [] }
         ensures wait { waiting_room self.new.left self.new.number ≡
             waiting_room self.old.left self.old.number }
+        ensures told { KeepsTold self.old self.new }
     {
         in_one_stay!(self, rt, mq, |arrived| arrived.nobody_can_call(mq))
     }
@@ -54,6 +56,7 @@ impl<L: Look<Guarded>> Process<L> {
         ensures calls { Calls self.old self.new [] }
         ensures wait { waiting_room self.new.left self.new.number ≡
             waiting_room self.old.left self.old.number }
+        ensures told { KeepsTold self.old self.new }
     {
         in_one_stay!(self, rt, mq, |arrived| arrived.room(mq))
     }
@@ -66,6 +69,7 @@ impl<L: Look<Guarded>> Process<L> {
         ensures calls { Calls self.old self.new [] }
         ensures wait { waiting_room self.new.left self.new.number ≡
             waiting_room self.old.left self.old.number }
+        ensures told { KeepsTold self.old self.new }
     {
         in_one_stay!(self, rt, mq, |arrived| arrived.journal_len(mq))
     }

@@ -6,7 +6,7 @@ ghost use Rattle.std.specs.Option.{option_map};
 ghost use Rattle.mq_model.specs.Owners.{waits_count, answer_in, wait_in, lowest_held_in};
 ghost use Rattle.mq_model.specs.Messages.{is_send, is_receive};
 ghost use Rattle.mq_model.specs.OwnersNoted.{noted};
-ghost use Rattle.mq_state.specs.Buffers.{filled};
+ghost use Rattle.mq_state.specs.Buffers.{filled, received_by};
 ghost use Rattle.mq_state.specs.Tables.{entry_queue, HasRoomToRegister, BringsOrder, CreatesWithin};
 ghost use Rattle.mq_model.specs.Record.{payload_bytes};
 ghost use Rattle.mq_model.specs.Bounds.{open_waits, exceeds, entries_needed, bytes_needed};
@@ -17,6 +17,7 @@ ghost use Rattle.mq_state.specs.Kept.{AreThoseOf, SaysSame, IsKeptBy, HasEntryRo
 ghost use Rattle.mq_state.specs.Requests.{Brings};
 ghost use Rattle.mq_state.specs.Room.{ends_wait};
 
+use crate::collected::Answer;
 use crate::prefixes::Prefix;
 use crate::tables::facts::by_deadline;
 use crate::tables::{Tables, queue_of, waiting};
@@ -292,14 +293,15 @@ impl Tables {
         call: Call,
         given: &[u8],
         buf: &mut [u8],
-    ) -> Reply
+    ) -> Answer
         requires may_call { MayCall journal.old self.old p }
         requires brings { Brings call given.now (length buf.old) }
         ensures called { IsCalled journal.old journal.new self.old self.new p call
-            given.now result }
+            given.now result.reply }
+        ensures received { result.received ≡ received_by journal.old.records result.reply }
         ensures buffer { is_receive call ≡ true →
-            buf.new ≡ filled journal.old.records result buf.old }
-        ensures refused { is_send call ≡ true → SparesBytes journal.old journal.new result }
+            buf.new ≡ filled journal.old.records result.reply buf.old }
+        ensures refused { is_send call ≡ true → SparesBytes journal.old journal.new result.reply }
     {
         let past = Prefix::whole(journal);
         let plain = self.plain_reply(&past, p, call, given);
@@ -308,22 +310,22 @@ impl Tables {
         let most = payload_of(call, plain, given).len();
         let kept = payload_of(call, reply, given).len();
         if let Err(fault) = self.make_room(journal, entries_needed(call), most, kept) {
-            return Reply::Refused(fault);
+            return Answer::refused(fault);
         }
         if self.make_notice_room(p, call, reply).is_err() {
-            return Reply::Refused(Fault::NoMemory);
+            return Answer::refused(Fault::NoMemory);
         }
         let Ok(fresh) = self.fresh_slots(call, reply) else {
-            return Reply::Refused(Fault::NoMemory);
+            return Answer::refused(Fault::NoMemory);
         };
-        buffers::fill(journal, reply, buf);
+        let received = buffers::fill(journal, reply, buf);
         let entry = Entry {
             process: p,
             call,
             reply,
         };
         self.record(journal, entry, given, q, fresh);
-        reply
+        Answer { reply, received }
     }
 
     // Settles a send or a receive on queue q that needs room for all the bytes that it is given: makes the room, fills the buffer where it
@@ -338,7 +340,7 @@ impl Tables {
         given: &[u8],
         buf: &mut [u8],
         q: u64,
-    ) -> Reply
+    ) -> Answer
         requires queue { q ≡ entry_queue journal.old.records p call given.now }
         requires may_call { MayCall journal.old self.old p }
         requires brings { Brings call given.now (length buf.old) }
@@ -349,31 +351,33 @@ impl Tables {
         requires registration { HasRoomToRegister self.old.queues.items self.old.inboxes.items
             p call reply }
         ensures called { IsCalled journal.old journal.new self.old self.new p call
-            given.now result }
-        ensures buffer { buf.new ≡ filled journal.old.records result buf.old }
-        ensures refused { is_send call ≡ true → SparesBytes journal.old journal.new result }
+            given.now result.reply }
+        ensures received { result.received ≡ received_by journal.old.records result.reply }
+        ensures buffer { buf.new ≡ filled journal.old.records result.reply buf.old }
+        ensures refused { is_send call ≡ true → SparesBytes journal.old journal.new result.reply }
     {
         let kept = payload_of(call, reply, given).len();
         if let Err(fault) = self.make_room(journal, 2, given.len(), kept) {
-            return Reply::Refused(fault);
+            return Answer::refused(fault);
         }
-        buffers::fill(journal, reply, buf);
+        let received = buffers::fill(journal, reply, buf);
         let entry = Entry {
             process: p,
             call,
             reply,
         };
         self.record(journal, entry, given, q, None);
-        reply
+        Answer { reply, received }
     }
 
     /// A send of a message (`mq_send`). Most are queued and notify nobody: these the compiler knows apart from the others.
     #[inline(always)]
-    pub fn send(&mut self, journal: &mut Ledger, p: u32, d: u32, bytes: &[u8], prio: u32) -> Reply
+    pub fn send(&mut self, journal: &mut Ledger, p: u32, d: u32, bytes: &[u8], prio: u32) -> Answer
         requires { MayCall journal.old self.old p }
         ensures called { IsCalled journal.old journal.new self.old self.new p
-            (Call.MqSend d prio (length bytes.now)) bytes.now result }
-        ensures refused { SparesBytes journal.old journal.new result }
+            (Call.MqSend d prio (length bytes.now)) bytes.now result.reply }
+        ensures received { result.received ≡ received_by journal.old.records result.reply }
+        ensures refused { SparesBytes journal.old journal.new result.reply }
     {
         let len = bytes.len() as u64;
         let past = Prefix::whole(journal);
@@ -391,22 +395,38 @@ impl Tables {
 
     // Between a send and `send_apart`, so that there is no place for the reply of that where it is not called.
     #[inline(always)]
-    fn other_send(&mut self, journal: &mut Ledger, p: u32, d: u32, bytes: &[u8], prio: u32) -> Reply
+    fn other_send(
+        &mut self,
+        journal: &mut Ledger,
+        p: u32,
+        d: u32,
+        bytes: &[u8],
+        prio: u32,
+    ) -> Answer
         requires { MayCall journal.old self.old p }
         ensures called { IsCalled journal.old journal.new self.old self.new p
-            (Call.MqSend d prio (length bytes.now)) bytes.now result }
-        ensures refused { SparesBytes journal.old journal.new result }
+            (Call.MqSend d prio (length bytes.now)) bytes.now result.reply }
+        ensures received { result.received ≡ received_by journal.old.records result.reply }
+        ensures refused { SparesBytes journal.old journal.new result.reply }
     {
         self.send_apart(journal, p, d, bytes, prio)
     }
 
     // Any send without a deadline: where its call is built the usual send has no place for it.
     #[inline(never)]
-    fn send_apart(&mut self, journal: &mut Ledger, p: u32, d: u32, bytes: &[u8], prio: u32) -> Reply
+    fn send_apart(
+        &mut self,
+        journal: &mut Ledger,
+        p: u32,
+        d: u32,
+        bytes: &[u8],
+        prio: u32,
+    ) -> Answer
         requires { MayCall journal.old self.old p }
         ensures called { IsCalled journal.old journal.new self.old self.new p
-            (Call.MqSend d prio (length bytes.now)) bytes.now result }
-        ensures refused { SparesBytes journal.old journal.new result }
+            (Call.MqSend d prio (length bytes.now)) bytes.now result.reply }
+        ensures received { result.received ≡ received_by journal.old.records result.reply }
+        ensures refused { SparesBytes journal.old journal.new result.reply }
     {
         let len = bytes.len() as u64;
         self.make(journal, p, Call::MqSend { d, prio, len }, bytes, &mut [])
@@ -414,11 +434,12 @@ impl Tables {
 
     /// A receive (`mq_receive`). Most get a message, admit none and notify nobody: these the compiler knows apart from the others.
     #[inline(always)]
-    pub fn receive(&mut self, journal: &mut Ledger, p: u32, d: u32, buf: &mut [u8]) -> Reply
+    pub fn receive(&mut self, journal: &mut Ledger, p: u32, d: u32, buf: &mut [u8]) -> Answer
         requires { MayCall journal.old self.old p }
         ensures called { IsCalled journal.old journal.new self.old self.new p
-            (Call.MqReceive d (length buf.old)) [] result }
-        ensures buffer { buf.new ≡ filled journal.old.records result buf.old }
+            (Call.MqReceive d (length buf.old)) [] result.reply }
+        ensures received { result.received ≡ received_by journal.old.records result.reply }
+        ensures buffer { buf.new ≡ filled journal.old.records result.reply buf.old }
     {
         let room = buf.len() as u64;
         let past = Prefix::whole(journal);
@@ -444,22 +465,24 @@ impl Tables {
 
     // Between a receive and `receive_apart`, in the same way.
     #[inline(always)]
-    fn other_receive(&mut self, journal: &mut Ledger, p: u32, d: u32, buf: &mut [u8]) -> Reply
+    fn other_receive(&mut self, journal: &mut Ledger, p: u32, d: u32, buf: &mut [u8]) -> Answer
         requires { MayCall journal.old self.old p }
         ensures called { IsCalled journal.old journal.new self.old self.new p
-            (Call.MqReceive d (length buf.old)) [] result }
-        ensures buffer { buf.new ≡ filled journal.old.records result buf.old }
+            (Call.MqReceive d (length buf.old)) [] result.reply }
+        ensures received { result.received ≡ received_by journal.old.records result.reply }
+        ensures buffer { buf.new ≡ filled journal.old.records result.reply buf.old }
     {
         self.receive_apart(journal, p, d, buf)
     }
 
     // Any receive without a deadline.
     #[inline(never)]
-    fn receive_apart(&mut self, journal: &mut Ledger, p: u32, d: u32, buf: &mut [u8]) -> Reply
+    fn receive_apart(&mut self, journal: &mut Ledger, p: u32, d: u32, buf: &mut [u8]) -> Answer
         requires { MayCall journal.old self.old p }
         ensures called { IsCalled journal.old journal.new self.old self.new p
-            (Call.MqReceive d (length buf.old)) [] result }
-        ensures buffer { buf.new ≡ filled journal.old.records result buf.old }
+            (Call.MqReceive d (length buf.old)) [] result.reply }
+        ensures received { result.received ≡ received_by journal.old.records result.reply }
+        ensures buffer { buf.new ≡ filled journal.old.records result.reply buf.old }
     {
         let room = buf.len() as u64;
         self.make(journal, p, Call::MqReceive { d, room }, &[], buf)

@@ -11,7 +11,7 @@ pub returns-in-Err-clause-called : goal.returns-in-Err-clause-called
 returns-in-Err-clause-called c =
     let plain = c.plain_reply-plain.ensures ∙ ap (λ (j : Shown). reply_to j.records c.args.p (without_deadline c.args.call) c.args.given.now) c.whole-past.ensures in
     let full = needs c.args.self.now.bounds c.args.journal.now.records c.args.p c.args.call c.args.given.now c.plain_reply-plain.result c.entries_needed.result (length c.payload_of-most.result.now) plain c.entries_needed.ensures.value (ap length c.payload_of-most.ensures.value) in
-    called-refused c.args.journal.now c.make_room.new.journal c.args.self.now c.args.p c.args.call c.args.given.now c.entries_needed.result (length c.payload_of-most.result.now) c.in-Err.fault c.make_room.result full c.make_room.ensures.full c.in-Err.is c.make_room.ensures.records c.make_room.ensures.no_less c.make_room.ensures.kept c.requires.may_call.pool c.make_room.ensures.stored
+    rw c.refused.ensures (called-refused c.args.journal.now c.make_room.new.journal c.args.self.now c.args.p c.args.call c.args.given.now c.entries_needed.result (length c.payload_of-most.result.now) c.in-Err.fault c.make_room.result full c.make_room.ensures.full c.in-Err.is c.make_room.ensures.records c.make_room.ensures.no_less c.make_room.ensures.kept c.requires.may_call.pool c.make_room.ensures.stored)
 
 pub make_room-requires-clause-within : goal.make_room-requires-clause-within
 make_room-requires-clause-within c = grind (arith, keeps-less)
@@ -19,8 +19,8 @@ make_room-requires-clause-within c = grind (arith, keeps-less)
 pub record-requires-clause-entries : goal.record-requires-clause-entries
 record-requires-clause-entries c = grind (arith, entry-room)
 
-pub fill-requires : goal.fill-requires
-fill-requires c =
+pub fill-received-requires : goal.fill-received-requires
+fill-received-requires c =
     let plain = c.plain_reply-plain.ensures ∙ ap (λ (j : Shown). reply_to j.records c.args.p (without_deadline c.args.call) c.args.given.now) c.whole-past.ensures in
     record {
       readable = reply-readable c.make_room.new.journal c.make_room.ensures.kept.readable c.make_room.ensures.kept.tables.legal c.args.p c.args.call c.args.given.now c.by_deadline-reply.result (rw c.make_room.ensures.records (c.by_deadline-reply.ensures c.args.journal.now.records c.args.p c.args.given.now plain));

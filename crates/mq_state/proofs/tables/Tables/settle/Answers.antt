@@ -14,8 +14,8 @@ returns-in-Err-clause-called c =
     let j = c.args.journal.now in
     let t = c.args.self.now in
     let n = length c.args.given.now in
-    called-refused j c.make_room.new.journal t c.args.p c.args.call c.args.given.now 2 n c.in-Err.fault c.make_room.result
-    (full-by t.bounds j.records c.args.p c.args.call c.args.given.now 2 n c.requires.entries c.requires.bytes) c.make_room.ensures.full c.in-Err.is c.make_room.ensures.records c.make_room.ensures.no_less c.make_room.ensures.kept c.requires.may_call.pool c.make_room.ensures.stored
+    rw c.refused.ensures (called-refused j c.make_room.new.journal t c.args.p c.args.call c.args.given.now 2 n c.in-Err.fault c.make_room.result
+    (full-by t.bounds j.records c.args.p c.args.call c.args.given.now 2 n c.requires.entries c.requires.bytes) c.make_room.ensures.full c.in-Err.is c.make_room.ensures.records c.make_room.ensures.no_less c.make_room.ensures.kept c.requires.may_call.pool c.make_room.ensures.stored)
 
 pub returns-in-Err-clause-refused : goal.returns-in-Err-clause-refused
 returns-in-Err-clause-refused c sends fault is other =
@@ -30,10 +30,10 @@ returns-in-Err-clause-refused c sends fault is other =
       where
         no : (c.make_room.result ≡ Ok tt) ⊎ ((c.make_room.result ≡ Err NoMemory) × (c.args.self.now.bounds ≡ None)) → c.make_room.new.journal.byte_room ≡ c.args.journal.now.byte_room
         no (inl x) = let bad : Ok tt ≡ Err c.in-Err.fault = sym x ∙ c.in-Err.is in absurd (cc)
-        no (inr x) = let one : Err NoMemory ≡ Err c.in-Err.fault = sym x.0 ∙ c.in-Err.is in let a : NoMemory ≡ c.in-Err.fault = cc in let b : Refused c.in-Err.fault ≡ Refused fault = is in let d : c.in-Err.fault ≡ fault = cc in absurd (other (sym (a ∙ d)))
+        no (inr x) = let one : Err NoMemory ≡ Err c.in-Err.fault = sym x.0 ∙ c.in-Err.is in let a : NoMemory ≡ c.in-Err.fault = cc in let b : Refused c.in-Err.fault ≡ Refused fault = rw c.refused.ensures at is in let d : c.in-Err.fault ≡ fault = cc in absurd (other (sym (a ∙ d)))
 
-pub fill-requires : goal.fill-requires
-fill-requires c =
+pub fill-received-requires : goal.fill-received-requires
+fill-received-requires c =
     record {
       readable = reply-readable c.make_room.new.journal c.make_room.ensures.kept.readable c.make_room.ensures.kept.tables.legal c.args.p c.args.call c.args.given.now c.args.reply (rw c.make_room.ensures.records c.requires.replies);
       room = grind (arith, reply-fits);

@@ -1,0 +1,13 @@
+use Rattle.std.proofs.Common.{◌≡◌, None}
+use Rattle.mq_model.specs.Record.{first}
+use Rattle.mq_state.specs.Kept.{AreThoseOf}
+use Rattle.mq_state.specs.Tables.{AreAtMost}
+use Rattle.mq_state.proofs.replay.follow_all.Given as goal
+
+abbrev pub invariant-loop-place : goal.invariant-loop-place
+invariant-loop-place l = record {
+  tables : AreThoseOf (first l.place l.journal.records) l.tables;
+  processes : AreAtMost l.tables.n (first l.place l.journal.records);
+  n : l.tables.n ≡ l.initial.tables.n;
+  unbounded : l.tables.bounds ≡ None;
+}

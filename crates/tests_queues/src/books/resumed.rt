@@ -1,0 +1,186 @@
+//! Queues that go on from a journal: in place of those that made it, from a short one in its place, and not from one that does not fit.
+ghost use Rattle.std.specs.Prelude.{◌≤◌};
+
+use super::Ask::{Entries, Open, Receive, Send};
+use super::Outcome::{Count, Replied};
+use super::replays::CALLS;
+use super::{
+    ADMITTED, BEHIND_A_RECEIVE, CREATE, CREATED, HANDED_OVER, ONE, QUEUED, Step, Trial, asked,
+    expect_steps, make_trial,
+};
+use crate::fingerprint::fingerprint;
+use crate::same::same;
+use mq_model::entries::{Call, Entry, Reply};
+use mq_model::faults::Fault;
+use mq_model::journals::Journal;
+use mq_state::books::Books;
+use mq_state::replay::{Cause, Departure, Misfit};
+use mq_state::rewriting::Unwritten;
+use std::alloc::Global;
+use std::io::Print;
+use std::process::Abort;
+use tests_refusals::say_refused;
+
+// The queues of five processes that go on from a journal. If a growth is refused, the journal comes back and is given once more.
+pub(super) fn resume<A: Abort + Print>(rt: &A, alloc: Global, journal: Journal) -> Trial {
+    let before = fingerprint(&journal);
+    let books = match Books::resume(alloc, 5, journal) {
+        Ok(books) => books,
+        Err(refused) => {
+            same(rt, refused.why, Misfit::NoMemory, "the only cause");
+            same(rt, fingerprint(&refused.journal), before, "the journal");
+            say_refused(rt, "a resumption");
+            Books::resume(alloc, 5, refused.journal)
+                .ok()
+                .expect(rt, "memory")
+        }
+    };
+    Trial { books }
+}
+
+// The same queues, in a new place.
+fn resumed<A: Abort + Print>(rt: &A, alloc: Global, trial: Trial) -> Trial {
+    if !trial.books.is_stored() {
+        return trial;
+    }
+    resume(rt, alloc, trial.books.into_journal())
+}
+
+// Takes the steps in turn. In front of each the queues go on from their journal.
+fn expect_resumed<A: Abort + Print>(rt: &A, alloc: Global, steps: &[Step]) {
+    let mut trial = make_trial(rt, alloc);
+    let mut buf = [0; 8];
+    for (number, step) in steps.iter().enumerate() {
+        trial = resumed(rt, alloc, trial);
+        let (p, ask, wanted) = *step;
+        assert_eq!(rt;
+            asked(rt, &mut trial, p, ask, &mut buf),
+            wanted,
+            "step {number}"
+        );
+    }
+}
+
+#[test]
+fn every_call_goes_on_from_every_journal(rt: HostRuntime) {
+    expect_resumed(&rt, rt.alloc(), &CALLS);
+}
+
+#[test]
+fn waits_and_notices_go_on_from_every_journal(rt: HostRuntime) {
+    expect_resumed(&rt, rt.alloc(), &HANDED_OVER);
+    expect_resumed(&rt, rt.alloc(), &BEHIND_A_RECEIVE);
+    expect_resumed(&rt, rt.alloc(), &ADMITTED);
+}
+
+static BY_PROCESS_5: [Step; 1] = [(5, Open(b"/q", CREATE, ONE), CREATED)];
+
+// Why queues of so many processes do not go on from a journal, which comes back.
+fn misfit<A: Abort + Print>(rt: &A, alloc: Global, n: u32, journal: Journal) -> Option<Misfit>
+    requires { (1 ≤ n) × (n ≤ 32) }
+{
+    let before = fingerprint(&journal);
+    let mut refused = Books::resume(alloc, n, journal).err()?;
+    if refused.why == Misfit::NoMemory {
+        say_refused(rt, "a resumption");
+        refused = Books::resume(alloc, n, refused.journal).err()?;
+    }
+    same(rt, fingerprint(&refused.journal), before, "the journal");
+    Some(refused.why)
+}
+
+#[test]
+fn a_journal_of_more_processes_comes_back(rt: HostRuntime) {
+    let mut trial = make_trial(&rt, rt.alloc());
+    expect_steps(&rt, &mut trial, &BY_PROCESS_5);
+    if trial.books.is_stored() {
+        let why = misfit(&rt, rt.alloc(), 4, trial.books.into_journal());
+        same(&rt, why, Some(Misfit::Foreign(0)), "of process 5");
+    }
+}
+
+#[test]
+fn a_journal_that_is_not_legal_comes_back(rt: HostRuntime) {
+    let mut journal = Journal::new(rt.alloc());
+    if journal.reserve(1, 0).is_err() {
+        say_refused(&rt, "a journal");
+        journal.reserve(1, 0).expect(&rt, "memory");
+    }
+    let entry = Entry {
+        process: 1,
+        call: Call::MqClose { d: 0 },
+        reply: Reply::Done,
+    };
+    journal.push(entry, &[]);
+    let refusal = Reply::Refused(Fault::BadDescriptor);
+    let departure = Departure {
+        place: 0,
+        cause: Cause::Reply(refusal),
+    };
+    let why = misfit(&rt, rt.alloc(), 1, journal);
+    same(
+        &rt,
+        why,
+        Some(Misfit::Illegal(departure)),
+        "a close of nothing",
+    );
+}
+
+// A short journal in place of that of the queues, which must be of so many entries, and the queues that go on from it.
+fn rewritten<A: Abort + Print>(rt: &A, alloc: Global, trial: Trial, entries: u64) -> Trial {
+    if !trial.books.is_stored() {
+        return trial;
+    }
+    let short = match trial.books.rewritten(alloc) {
+        Err(Unwritten::NoMemory) => {
+            say_refused(rt, "a short journal");
+            trial.books.rewritten(alloc)
+        }
+        other => other,
+    };
+    let journal = short.ok().expect(rt, "a short journal");
+    same(rt, journal.len(), entries, "the length");
+    resume(rt, alloc, journal)
+}
+
+static OPENS: [Step; 1] = [(1, Open(b"/q", CREATE, ONE), CREATED)];
+
+static SENDS: [Step; 1] = [(1, Send(0, b"message", 1), QUEUED)];
+
+fn receives(place: u64) -> [Step; 1] {
+    let got = Reply::Got {
+        place,
+        admitted: None,
+        notified: None,
+    };
+    [(1, Receive(0), Replied(got))]
+}
+
+// One queue with a message: it is created and closed, opened for the message and closed, and opened by its process.
+#[test]
+fn a_short_journal_has_what_is_alive(rt: HostRuntime) {
+    let mut trial = make_trial(&rt, rt.alloc());
+    expect_steps(&rt, &mut trial, &OPENS);
+    for round in 0..20u64 {
+        expect_steps(&rt, &mut trial, &SENDS);
+        expect_steps(&rt, &mut trial, &receives(2 * round + 1));
+    }
+    expect_steps(&rt, &mut trial, &SENDS);
+    trial = rewritten(&rt, rt.alloc(), trial, 6);
+    expect_steps(&rt, &mut trial, &receives(3));
+    trial = rewritten(&rt, rt.alloc(), trial, 3);
+    expect_steps(&rt, &mut trial, &[(1, Entries, Count(3))]);
+    expect_steps(&rt, &mut trial, &SENDS);
+    expect_steps(&rt, &mut trial, &receives(3));
+}
+
+// The wait of process 1 is answered, and not yet collected.
+#[test]
+fn an_answered_wait_is_collected_before_a_short_journal(rt: HostRuntime) {
+    let mut trial = make_trial(&rt, rt.alloc());
+    expect_steps(&rt, &mut trial, &HANDED_OVER[..6]);
+    if trial.books.is_stored() {
+        let found = trial.books.rewritten(rt.alloc()).err();
+        same(&rt, found, Some(Unwritten::Answered), "the answer");
+    }
+}

@@ -1,0 +1,192 @@
+//! Queues that go on from a short journal reply as those that it stands for, but for places: after random calls, to random calls.
+ghost use Rattle.std.specs.Prelude.{◌≤◌};
+
+use super::Ask::{
+    Answered, Close, Collect, Getattr, LowestOpen, NextNotice, Notify, Open, Receive, Send,
+    Setattr, TimedReceive, TimedSend, Unlink, Waiting, Withdraw,
+};
+use super::Outcome::{Is, Replied};
+use super::resumed::resume;
+use super::{Ask, CREATE, ONE, OPEN, Outcome, READ, TWO, Trial, WRITE, make_trial, outcome_of};
+use mq_model::entries::{Deadline, OpenFlags, Reply, Status};
+use std::alloc::Global;
+use std::io::Print;
+use std::process::Abort;
+
+// How many journals there are, how many calls make each, and how many are made after it.
+const JOURNALS: u64 = 10_000;
+
+const BEFORE: u32 = 60;
+
+const AFTER: u32 = 50;
+
+// The next number below a limit that a seed gives.
+fn next(seed: &mut u64, below: u64) -> u32 {
+    *seed = seed
+        .wrapping_mul(6_364_136_223_846_793_005)
+        .wrapping_add(1_442_695_040_888_963_407);
+    let high = *seed / 8_589_934_592;
+    u32::try_from(high.checked_rem(below).unwrap_or(0)).unwrap_or(0)
+}
+
+fn name(number: u32) -> &'static [u8] {
+    match number {
+        0 => b"/a",
+        1 => b"/b",
+        _ => b"/c",
+    }
+}
+
+fn message(number: u32) -> &'static [u8] {
+    match number {
+        0 => b"",
+        1 => b"x",
+        2 => b"yes",
+        _ => b"eight by",
+    }
+}
+
+fn moment(number: u32) -> Deadline {
+    Deadline {
+        sec: i64::from(number),
+        nsec: 0,
+    }
+}
+
+// What some process asks next. Times are 0 to 3.
+fn drawn(seed: &mut u64) -> (u32, Ask<'static>) {
+    let p = next(seed, 5).saturating_add(1);
+    let d = next(seed, 3);
+    let queue = name(next(seed, 3));
+    let bytes = message(next(seed, 4));
+    let prio = next(seed, 3);
+    let (until, now) = (moment(next(seed, 4)), moment(next(seed, 3)));
+    let value = Some(u64::from(next(seed, 100)));
+    let ask = match next(seed, 24) {
+        0..=2 => Open(queue, CREATE, ONE),
+        3 => Open(queue, CREATE, TWO),
+        4 => Open(queue, READ, None),
+        5 => Open(queue, WRITE, None),
+        6 => Open(queue, without_waits(OPEN), None),
+        7 => Close(d),
+        8 => Unlink(queue),
+        9..=11 => Send(d, bytes, prio),
+        12..=14 => Receive(d),
+        15 => TimedSend(d, bytes, prio, until, now),
+        16 => TimedReceive(d, until, now),
+        17 => Withdraw(now),
+        18 => Notify(d, value),
+        19 => Notify(d, None),
+        20 => NextNotice,
+        21 => Getattr(d),
+        22 => Setattr(d, flagged(prio == 0)),
+        _ => Collect,
+    };
+    (p, ask)
+}
+
+fn without_waits(flags: OpenFlags) -> OpenFlags {
+    OpenFlags {
+        nonblock: true,
+        ..flags
+    }
+}
+
+fn flagged(nonblock: bool) -> Status {
+    Status {
+        nonblock,
+        maxmsg: 0,
+        msgsize: 0,
+        curmsgs: 0,
+    }
+}
+
+fn unplaced(place: Option<u64>) -> Option<u64> {
+    match place {
+        None => None,
+        Some(_) => Some(0),
+    }
+}
+
+// An outcome without its places.
+fn outline(outcome: Outcome) -> Outcome {
+    let Replied(reply) = outcome else {
+        return outcome;
+    };
+    Replied(match reply {
+        Reply::Queued { notified } => Reply::Queued {
+            notified: unplaced(notified),
+        },
+        Reply::Handed { .. } => Reply::Handed { wait: 0 },
+        Reply::Got {
+            place: _,
+            admitted,
+            notified,
+        } => Reply::Got {
+            place: 0,
+            admitted: unplaced(admitted),
+            notified: unplaced(notified),
+        },
+        _ => reply,
+    })
+}
+
+// The answered waits are collected.
+fn collect_all(trial: &mut Trial) {
+    let mut buf = [0; 8];
+    for p in 1..=5 {
+        if outcome_of(trial, p, Answered, &mut buf) == Is(true) {
+            outcome_of(trial, p, Collect, &mut buf);
+        }
+    }
+}
+
+// The queues that go on from a short journal of these.
+fn shortened<A: Abort + Print>(rt: &A, alloc: Global, trial: &Trial) -> Option<Trial> {
+    if !trial.books.is_stored() {
+        return None;
+    }
+    let journal = trial.books.rewritten(alloc).ok()?;
+    Some(resume(rt, alloc, journal))
+}
+
+// The same calls on both have outcomes that differ in places alone, and leave the buffers alike.
+fn expect_alike<A: Abort + Print>(rt: &A, seed: &mut u64, one: &mut Trial, other: &mut Trial) {
+    let (mut buf, mut copy) = ([0; 8], [0; 8]);
+    for number in 0..AFTER {
+        let (p, ask) = drawn(seed);
+        let found = outline(outcome_of(other, p, ask, &mut copy));
+        let wanted = outline(outcome_of(one, p, ask, &mut buf));
+        assert_eq!(rt; found, wanted, "call {number}");
+        assert_eq!(rt; copy, buf, "the buffer after call {number}");
+        for q in 1..=5 {
+            let found = outcome_of(other, q, Waiting, &mut copy);
+            assert_eq!(rt; found, outcome_of(one, q, Waiting, &mut buf), "who waits");
+            let found = outcome_of(other, q, LowestOpen, &mut copy);
+            assert_eq!(rt;
+                found,
+                outcome_of(one, q, LowestOpen, &mut buf),
+                "descriptors"
+            );
+        }
+    }
+}
+
+#[test]
+fn ten_thousand_short_journals_stand_for_those_of_random_calls(rt: HostRuntime) {
+    let alloc = rt.alloc();
+    for number in 0..JOURNALS {
+        let mut seed = number;
+        let mut one = make_trial(&rt, alloc);
+        let mut buf = [0; 8];
+        for _ in 0..BEFORE {
+            let (p, ask) = drawn(&mut seed);
+            outcome_of(&mut one, p, ask, &mut buf);
+        }
+        collect_all(&mut one);
+        match shortened(&rt, alloc, &one) {
+            Some(mut other) => expect_alike(&rt, &mut seed, &mut one, &mut other),
+            None => assert!(&rt; false, "journal {number} has no short one"),
+        }
+    }
+}
