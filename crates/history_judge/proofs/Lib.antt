@@ -10,3 +10,4 @@ pub mod Lines
 pub mod Strangers
 pub mod OwnNumbers
 pub mod LineLengths
+pub mod Pending

@@ -2,28 +2,33 @@
 use Rattle.std.proofs.Common.{◌≡◌, ◌≤◌, ℕ, ◌+◌, List, length, Option, arith, sym, subst, Vec}
 use Rattle.std.proofs.lemmas.Option.{slice_get_past}
 use Rattle.history_judge.specs.Fronts.{Return, front_or, front_part}
-use Rattle.history_judge.specs.Verdicts.{IsAnswer, IsExplainedBy, IsImpossible, IsPossible}
+use Rattle.history_judge.specs.Verdicts.{IsAnswer, IsExplainedBy, IsImpossible, IsPossible, UsesUp}
 use Rattle.history_judge.specs.declared.line.Called.{Called}
 use Rattle.history_judge.specs.declared.judgement.Answer.{Answer}
-use Rattle.history_judge.specs.declared.judgement.Answer.TheVariants.{Possible, Impossible}
+use Rattle.history_judge.specs.declared.judgement.Answer.TheVariants.{Possible, Impossible, OutOfBudget}
 use Rattle.std.specs.declared.alloc.Global.{Global}
 
 -- behind a front part that is possible
-pub possible-before : (calls : List Called) (returns : List Return) (middle : ℕ) (a : Answer) (journal : Vec ℕ Global) → a ≡ Possible journal →
-    IsAnswer (front_part calls returns middle) a → (before : ℕ) → before + 1 ≡ middle + 1 → IsPossible (front_part calls returns before)
-possible-before calls returns middle a journal is found before next =
+pub possible-before : (budget : ℕ) (calls : List Called) (returns : List Return) (middle : ℕ) (a : Answer) (journal : Vec ℕ Global) → a ≡ Possible journal →
+    IsAnswer budget (front_part calls returns middle) a → (before : ℕ) → before + 1 ≡ middle + 1 → IsPossible (front_part calls returns before)
+possible-before budget calls returns middle a journal is found before next =
     let same : middle ≡ before = omega (arith, next) in
-    let by : IsExplainedBy (front_part calls returns middle) journal.items = subst (λ (x : Answer). IsAnswer (front_part calls returns middle) x) is found in
+    let by : IsExplainedBy (front_part calls returns middle) journal.items = subst (λ (x : Answer). IsAnswer budget (front_part calls returns middle) x) is found in
     subst (λ n. IsPossible (front_part calls returns n)) same (by.past, by.explains)
 
 -- a front part that is not
-pub impossible-part : (calls : List Called) (returns : List Return) (middle bad : ℕ) (a : Answer) → a ≡ Impossible →
-    IsAnswer (front_part calls returns middle) a → bad ≡ middle → IsImpossible (front_part calls returns bad)
-impossible-part calls returns middle bad a is found same =
-    let none : IsImpossible (front_part calls returns middle) = subst (λ (x : Answer). IsAnswer (front_part calls returns middle) x) is found in
+pub impossible-part : (budget : ℕ) (calls : List Called) (returns : List Return) (middle bad : ℕ) (a : Answer) → a ≡ Impossible →
+    IsAnswer budget (front_part calls returns middle) a → bad ≡ middle → IsImpossible (front_part calls returns bad)
+impossible-part budget calls returns middle bad a is found same =
+    let none : IsImpossible (front_part calls returns middle) = subst (λ (x : Answer). IsAnswer budget (front_part calls returns middle) x) is found in
     subst (λ n. IsImpossible (front_part calls returns n)) (sym same) none
 
 -- behind the last return the front part is the whole history
 pub impossible-whole : (calls : List Called) (returns : List Return) (n : ℕ) → length returns ≤ n → IsImpossible calls → IsImpossible (front_part calls returns n)
 impossible-whole calls returns n past none =
     subst (λ (o : Option Return). IsImpossible (front_or calls o)) (sym (slice_get_past returns n past)) none
+
+-- a front part at which the budget was used up, and which is shorter than that to be found
+pub used-up-at : (budget : ℕ) (calls : List Called) (returns : List Return) (middle : ℕ) (a : Answer) → a ≡ OutOfBudget →
+    IsAnswer budget (front_part calls returns middle) a → UsesUp budget (front_part calls returns middle)
+used-up-at budget calls returns middle a is found = subst (λ (x : Answer). IsAnswer budget (front_part calls returns middle) x) is found

@@ -20,7 +20,7 @@ use Rattle.journal_format.specs.Text.{journal_text}
 use Rattle.histories.proofs.RealTime.{linearization-agrees}
 use Rattle.history_judge.specs.Text.{message_of, written_reply}
 use Rattle.history_judge.specs.Seen.{AreSameCalls, AreSameOperations, Seen, seen}
-use Rattle.history_judge.specs.Verdicts.{AreHistoriesOf, Explains, IsAnswer, IsExplainedBy, IsImpossible}
+use Rattle.history_judge.specs.Verdicts.{AreHistoriesOf, Explains, IsAnswer, IsExplainedBy, IsImpossible, UsesUp}
 use Rattle.history_judge.specs.declared.line.Called.{Called}
 use Rattle.history_judge.specs.declared.judgement.Answer.{Answer}
 use Rattle.history_judge.specs.declared.judgement.Answer.TheVariants as answer
@@ -203,13 +203,16 @@ explained calls histories past text are found written = record {
   written = written;
 }
 
+histories-alike : (xs ys : List Called) → AreSameCalls xs ys → (histories : Histories) → AreHistoriesOf xs histories → AreHistoriesOf ys histories
+histories-alike xs ys same histories are = record {
+  count = are.count ∙ process_count-alike xs ys same;
+  each = λ index operations is. are.each index operations is ∙ own_operations-alike (index + 1) xs ys same;
+}
+
 abbrev explains-alike : (xs ys : List Called) → AreSameCalls xs ys → (past : Past) → Explains xs past → Explains ys past
 explains-alike xs ys same past e = record {
   histories = e.histories;
-  are = record {
-    count = e.are.count ∙ process_count-alike xs ys same;
-    each = λ index operations is. e.are.each index operations is ∙ own_operations-alike (index + 1) xs ys same;
-  };
+  are = histories-alike xs ys same e.histories e.are;
   linear = e.linear;
   complete = e.complete;
 }
@@ -225,7 +228,11 @@ explained-alike xs ys text same by = record {
   written = by.written;
 }
 
-pub answer-alike : (xs ys : List Called) → AreSameCalls xs ys → (a : Answer) → IsAnswer xs a → IsAnswer ys a
-answer-alike xs ys same (answer.Possible journal) is = explained-alike xs ys journal.items same is
-answer-alike xs ys same answer.Impossible is = impossible-alike xs ys same is
-answer-alike xs ys same answer.OutOfBudget is = tt
+-- what uses up the budget with these calls does so with others that are seen alike
+pub uses-up-alike : (budget : ℕ) (xs ys : List Called) → AreSameCalls xs ys → UsesUp budget xs → UsesUp budget ys
+uses-up-alike budget xs ys same u = record { histories = u.histories; are = histories-alike xs ys same u.histories u.are; takes = u.takes }
+
+pub answer-alike : (budget : ℕ) (xs ys : List Called) → AreSameCalls xs ys → (a : Answer) → IsAnswer budget xs a → IsAnswer budget ys a
+answer-alike budget xs ys same (answer.Possible journal) is = explained-alike xs ys journal.items same is
+answer-alike budget xs ys same answer.Impossible is = impossible-alike xs ys same is
+answer-alike budget xs ys same answer.OutOfBudget is = uses-up-alike budget xs ys same is

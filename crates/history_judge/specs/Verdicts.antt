@@ -1,13 +1,15 @@
 -- What it is for a history to be possible, and what a judgement says of it.
-use Rattle.std.specs.Prelude.{◌≡◌, ℕ, ◌+◌, ◌-◌, Bool, true, min, List, length, Some, Vec, slice_get}
+use Rattle.std.specs.Prelude.{◌≡◌, ℕ, ◌+◌, ◌-◌, ◌<◌, Bool, true, false, is_none, map, min, List, length, Some, Vec, slice_get}
+use Rattle.std.specs.List.{list_all}
 use Rattle.std.specs.declared.alloc.Global.{Global}
 use Rattle.mq_model.specs.Record.{Past}
 use Rattle.journal_format.specs.Text.{journal_text}
 use Rattle.histories.specs.declared.operation.Operation.{Operation}
 use Rattle.histories.specs.Histories.{Histories, is_complete}
+use Rattle.histories.specs.Judgements.{TakesAllOrders}
 use Rattle.histories.specs.Linearizations.{IsLinearization}
 use Rattle.histories.specs.RealTime.{AgreesWithRealTime, EndInOrder}
-use Rattle.history_judge.specs.Seen.{AreSameCalls, AreSameOperations}
+use Rattle.history_judge.specs.Seen.{AreSameCalls, AreSameOperations, seen_call}
 use Rattle.history_judge.specs.Processes.{operations_of, process_count}
 use Rattle.history_judge.specs.Descriptors.{no_numbers, renamed}
 use Rattle.history_judge.specs.Fronts.{AreReturnsOf, Return, front_part}
@@ -43,14 +45,24 @@ pub record IsExplainedBy (calls : List Called) (text : List ℕ) : Type 0 where
   pub real_time : EndInOrder explains.histories → AgreesWithRealTime explains.histories past
   pub written : text ≡ journal_text past
 
-abbrev pub IsAnswer : List Called → Answer → Type 0
-IsAnswer calls (answer.Possible journal) = IsExplainedBy calls journal.items
-IsAnswer calls answer.Impossible = IsImpossible calls
-IsAnswer calls answer.OutOfBudget = Unit {0}
+-- to try all orders of these calls takes so many steps, or more
+pub record UsesUp (budget : ℕ) (calls : List Called) : Type 0 where
+  pub histories : Histories
+  pub are : AreHistoriesOf calls histories
+  pub takes : TakesAllOrders budget histories
+
+abbrev pub IsAnswer : ℕ → List Called → Answer → Type 0
+IsAnswer budget calls (answer.Possible journal) = IsExplainedBy calls journal.items
+IsAnswer budget calls answer.Impossible = IsImpossible calls
+IsAnswer budget calls answer.OutOfBudget = UsesUp budget calls
+
+-- no call of these had returned when the history ended
+abbrev pub are_pending : List Called → Bool
+are_pending calls = list_all (λ c. is_none c.operation.reply) (map seen_call calls)
 
 -- the front is an impossible front part. It ends with the return of the call, and the whole history with the last return. Where it is
--- the shortest the front part before it is possible
-pub record IsImpossibleFront (calls : List Called) (call : ℕ) (front : List Called) (is_shortest : Bool) : Type 0 where
+-- the shortest the front part before it is possible, and where it may not be the budget was used up on the way, at a shorter one
+pub record IsImpossibleFront (budget : ℕ) (calls : List Called) (call : ℕ) (front : List Called) (is_shortest : Bool) : Type 0 where
   pub returns : List Return
   pub are : AreReturnsOf calls returns
   pub number : ℕ
@@ -60,8 +72,9 @@ pub record IsImpossibleFront (calls : List Called) (call : ℕ) (front : List Ca
   pub part : AreSameCalls front (front_part calls returns number)
   pub impossible : IsImpossible (front_part calls returns number)
   pub shortest : is_shortest ≡ true → (before : ℕ) → before + 1 ≡ number → IsPossible (front_part calls returns before)
+  pub unsure : is_shortest ≡ false → (before : ℕ) × (before < number) × UsesUp budget (front_part calls returns before)
 
-abbrev pub IsJudgement : List Called → Judgement → Type 0
-IsJudgement calls (Possible journal) = IsExplainedBy calls journal.items
-IsJudgement calls (Impossible call front is_shortest) = IsImpossibleFront calls call front.items is_shortest
-IsJudgement calls OutOfBudget = Unit {0}
+abbrev pub IsJudgement : ℕ → List Called → Judgement → Type 0
+IsJudgement budget calls (Possible journal) = IsExplainedBy calls journal.items
+IsJudgement budget calls (Impossible call front is_shortest) = IsImpossibleFront budget calls call front.items is_shortest
+IsJudgement budget calls OutOfBudget = UsesUp budget calls

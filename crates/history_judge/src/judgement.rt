@@ -1,9 +1,9 @@
 //! Whether a history is possible.
-ghost use Rattle.std.specs.Prelude.{◌≡◌, ◌≤◌, ◌<◌, IfOk, length, vec_len};
+ghost use Rattle.std.specs.Prelude.{◌≡◌, ◌≤◌, ◌<◌, IfOk, Ok, false, length, vec_len};
 ghost use Rattle.history_judge.specs.Seen.{AreSameCalls};
 ghost use Rattle.history_judge.specs.Fronts.{front_part};
 ghost use Rattle.history_judge.specs.Processes.{AreOfProcesses};
-ghost use Rattle.history_judge.specs.Verdicts.{AreHistoriesOf, IsAnswer, IsImpossible, IsJudgement};
+ghost use Rattle.history_judge.specs.Verdicts.{AreHistoriesOf, IsAnswer, IsImpossible, IsJudgement, are_pending};
 
 use crate::descriptors::rename;
 use crate::front::{front_of, returns_of, whole_of};
@@ -31,7 +31,8 @@ pub enum Answer {
 /// Whether these calls of processes from 1 to 32 have a legal order, within so many steps.
 pub fn find_order(alloc: Global, calls: Vec<Called>, budget: u64) -> Result<Answer, AllocError>
     requires { AreOfProcesses calls.items }
-    ensures { IfOk result (IsAnswer calls.items) }
+    ensures answer { IfOk result (IsAnswer budget calls.items) }
+    ensures returned { result ≡ Ok Answer.Impossible → are_pending calls.items ≡ false }
 {
     let histories = histories_of(alloc, calls)?;
     let hints = hints_of(alloc, &histories)?;
@@ -84,7 +85,7 @@ pub enum Judgement {
 /// Judges a history of processes from 1 to 32, each of its front parts within so many steps.
 pub fn judge_calls(alloc: Global, calls: &[Called], budget: u64) -> Result<Judgement, AllocError>
     requires { AreOfProcesses calls.now }
-    ensures { IfOk result (IsJudgement calls.now) }
+    ensures { IfOk result (IsJudgement budget calls.now) }
 {
     let whole = whole_of(alloc, calls)?;
     let answer = find_order(alloc, whole, budget)?;
@@ -99,7 +100,8 @@ pub fn judge_calls(alloc: Global, calls: &[Called], budget: u64) -> Result<Judge
 fn shortest(alloc: Global, calls: &[Called], budget: u64) -> Result<Judgement, AllocError>
     requires processes { AreOfProcesses calls.now }
     requires impossible { IsImpossible calls.now }
-    ensures { IfOk result (IsJudgement calls.now) }
+    requires returned { are_pending calls.now ≡ false }
+    ensures { IfOk result (IsJudgement budget calls.now) }
 {
     let returns = returns_of(alloc, calls)?;
     // the front part `bad` is impossible, and those before `good` are not known to be. Behind the last return it is the whole history
@@ -120,9 +122,6 @@ fn shortest(alloc: Global, calls: &[Called], budget: u64) -> Result<Judgement, A
     }
     let front = front_part(alloc, calls, &returns, bad)?;
     let at = bad.min(returns.len().saturating_sub(1));
-    if at >= returns.len() {
-        return Ok(Judgement::OutOfBudget);
-    }
     let last = returns[at];
     Ok(Judgement::Impossible {
         call: last.1,
@@ -156,7 +155,7 @@ fn judge_front(
     budget: u64,
 ) -> Result<Answer, AllocError>
     requires { AreOfProcesses calls.now }
-    ensures { IfOk result (IsAnswer (front_part calls.now returns.now.items number)) }
+    ensures { IfOk result (IsAnswer budget (front_part calls.now returns.now.items number)) }
 {
     let front = front_part(alloc, calls, returns, number)?;
     let answer = find_order(alloc, front, budget)?;

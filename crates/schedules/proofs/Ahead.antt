@@ -122,16 +122,21 @@ stands-push {S} next is_goal IsKey path levels start machine t choice level firs
       ahead = ahead-entered next is_goal (path ++ choice ∷ []) first start t done further no_goal stands.ahead.0 new nothing none;
     }
 
+first-later : {S : Type 0} (next : S → ℕ → Option S) (s : S) (from : ℕ) (first : Option ℕ) → IsFirstFrom next s from first → (c : ℕ) → first ≡ Some c → from ≤ c
+first-later next s from None is c e = let k : ⊥ = cc in absurd k
+first-later next s from (Some choice) is c e = let same : choice ≡ c = cc in rw (← same) is.0
+
 -- a choice was taken back
-pub record Leaves {S : Type 0} (next : S → ℕ → Option S) (is_goal : S → Bool) (IsKey : S → List ℕ → Type 0) (front : List ℕ) (levels : List Level) (start left : S) : Type 0 where
+pub record Leaves {S : Type 0} (next : S → ℕ → Option S) (is_goal : S → Bool) (IsKey : S → List ℕ → Type 0) (front : List ℕ) (last : ℕ) (levels : List Level) (start left : S) : Type 0 where
   pub others : List Level
   pub level : Level
   pub are : levels ≡ others ++ level ∷ []
   pub key : HasKey IsKey left level.key
+  pub later : (c : ℕ) → level.other ≡ Some c → last + 1 ≤ c
   pub back : (machine : S) → (IsSome level.other → after next front start ≡ Some machine) → Stands next is_goal IsKey front others start machine level.other
 
 pub stands-back : {S : Type 0} (next : S → ℕ → Option S) (is_goal : S → Bool) (IsKey : S → List ℕ → Type 0) (path front : List ℕ) (last : ℕ) (levels : List Level) (start machine : S) →
-    (stands : Stands next is_goal IsKey path levels start machine None) → path ≡ front ++ last ∷ [] → Leaves next is_goal IsKey front levels start stands.node
+    (stands : Stands next is_goal IsKey path levels start machine None) → path ≡ front ++ last ∷ [] → Leaves next is_goal IsKey front last levels start stands.node
 stands-back {S} next is_goal IsKey path front last levels start machine stands are =
     let runs : after next (front ++ last ∷ []) start ≡ Some stands.node = (let P : List ℕ → Type 0 = λ xs. after next xs start ≡ Some stands.node in subst P are stands.runs) in
     let known : AreLevels next IsKey (front ++ last ∷ []) levels start = (let P : List ℕ → Type 0 = λ xs. AreLevels next IsKey xs levels start in subst P are stands.known) in
@@ -142,8 +147,8 @@ stands-back {S} next is_goal IsKey path front last levels start machine stands a
     in
     let further : Covered next is_goal (front ++ (last + 1) ∷ []) start = covered-next next is_goal front last start none covered in
     let last_step : option_and_then (after next (last ∷ [])) (after next front start) ≡ Some stands.node = sym (after-append next front (last ∷ []) start) ∙ runs in
-    let goes : (o : Option S) → after next front start ≡ o → IsSome o → Leaves next is_goal IsKey front levels start stands.node =
-    λ (o : Option S). elim o as (λ o. after next front start ≡ o → IsSome o → Leaves next is_goal IsKey front levels start stands.node) [
+    let goes : (o : Option S) → after next front start ≡ o → IsSome o → Leaves next is_goal IsKey front last levels start stands.node =
+    λ (o : Option S). elim o as (λ o. after next front start ≡ o → IsSome o → Leaves next is_goal IsKey front last levels start stands.node) [
       | None ↦ (λ e h. cc)
       | Some node ↦ (λ e h.
           let level = split.here node e in
@@ -153,6 +158,7 @@ stands-back {S} next is_goal IsKey path front last levels start machine stands a
             level = split.kept;
             are = split.are;
             key = level.key stands.node step;
+            later = first-later next node (last + 1) split.kept.other level.first;
             back = λ machine at. record {
               node = node;
               runs = e;

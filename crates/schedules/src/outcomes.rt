@@ -5,6 +5,7 @@ ghost use Rattle.schedules.specs.Schedules.{after};
 ghost use Rattle.schedules.specs.Seen.{Noted, is_done};
 ghost use Rattle.schedules.specs.Told.{Told};
 ghost use Rattle.schedules.specs.Outcomes.{AreAll, AreDistinct, IsWitness, are_same, is_among, told_by};
+ghost use Rattle.schedules.specs.Work.{TakesAll};
 ghost use Rattle.schedules.specs.declared.outcomes.Level.{Level};
 
 use crate::keyed::Keyed;
@@ -160,6 +161,8 @@ pub fn collect<M: TellsAlike>(
     ensures distinct { IfOk result (λ c. AreDistinct c.found.items) }
     ensures all { IfOk result (λ c. c.complete ≡ true →
         AreAll M.next M.is_goal M.outcome (M.start machine.old) c.found.items) }
+    ensures used_up { IfOk result (λ c. c.complete ≡ false →
+        TakesAll M.next M.choices (λ depth. 1) budget (M.start machine.old)) }
     ensures start { OnOk result (M.start machine.new ≡ M.start machine.old) }
 {
     machine.keeps_alike();

@@ -1,5 +1,5 @@
 -- What a run prints of its phases is told of one order.
-use Rattle.std.proofs.Common.{◌≡◌, ℕ, zero, suc, ◌+◌, ◌≤◌, List, [], ◌∷◌, ◌++◌, length, map, Option, None, Some, replicate, ap, sym, ◌∙◌, subst, arith, append-nil, Vec}
+use Rattle.std.proofs.Common.{◌≡◌, ℕ, refl, ◌+◌, ◌≤◌, List, [], ◌∷◌, ◌++◌, length, map, Option, None, Some, replicate, ap, sym, ◌∙◌, subst, arith, append-nil, Vec}
 use Rattle.std.specs.List.{All}
 use Rattle.std.specs.Option.{option_and_then}
 use Rattle.std.specs.declared.alloc.Global.{Global}
@@ -19,7 +19,7 @@ use Rattle.script_orders.specs.Stage.{Stage, fresh, next_stage, seats_cleared, s
 use Rattle.script_orders.specs.declared.plan.Planned.{Planned}
 use Rattle.script_runner.specs.Runs.{RunsPhases, RunsWhole}
 use Rattle.script_text.specs.Script.{Whole, WrittenCall}
-use Rattle.script_laws.specs.RunLaws.{AreAmplePhases, AreFound, AreTold, AreToldBefore, IsAmple, phase_told}
+use Rattle.script_laws.specs.RunLaws.{AreAmplePhases, AreFound, AreTold, AreToldBefore, IsAmple, phase_replies, phase_told, whole_replies}
 use Rattle.script_laws.proofs.Beginning.{all-begin, count-from, in-order, none-left}
 use Rattle.script_laws.proofs.Growth.{AllLeft, AreEnds, IsEnd, all-grow, meeting, phase-grows, phases-end}
 use Rattle.script_laws.proofs.Joins.{all-left, all-right}
@@ -77,9 +77,9 @@ phase-runs from journal programs total phase phases tickets reached to runners o
 pub phases-told : (GoesOn : Stage → ℕ → Type 0) (journal : Past) (programs : List (Vec Planned Global)) (total : ℕ) (later : List (List WrittenCall)) (tickets : List (Ticket Record)) →
     All (IsOf (length programs)) journal → AreEnds journal tickets → ((from : Stage) (phase : ℕ) → Reached from journal programs total phase later tickets → GoesOn from phase) →
     (phases : List (List WrittenCall)) (phase : ℕ) (from : Stage) (before : List (Ticket Record)) (text : List ℕ) (ran : RunsPhases phases before tickets text) → AreAmplePhases phases before tickets text ran →
-    Reached from journal programs total phase (phases ++ later) before → AreToldBefore GoesOn from phase (length phases) text
+    Reached from journal programs total phase (phases ++ later) before → AreToldBefore GoesOn from phase (phase_replies phases before tickets text ran)
 phases-told GoesOn journal programs total later tickets of ends then [] phase from before text ran ample reached =
-    (ran.1, then from phase (subst (λ (ts : List (Ticket Record)). Reached from journal programs total phase later ts) (sym ran.0) reached))
+    then from phase (subst (λ (ts : List (Ticket Record)). Reached from journal programs total phase later ts) (sym ran.0) reached)
 phases-told GoesOn journal programs total later tickets of ends then (calls ∷ phases) phase from before text ran ample reached =
     let between : List (Ticket Record) = ran.1 in
     let rest : List (List WrittenCall) = phases ++ later in
@@ -114,12 +114,9 @@ phases-told GoesOn journal programs total later tickets of ends then (calls ∷ 
     in (
       runs.0,
       last,
-      ran.3,
-      ran.4,
       record { runs = runs.1; goal = still total phase past to runners through },
       said,
       phases-told GoesOn journal programs total later tickets of ends then phases (phase + 1) last between ran.4 ran.7 ample.1 on,
-      ran.8,
     )
 
 -- the processes of a script begin with its first phase
@@ -141,7 +138,7 @@ all-reached script system journal from unbounded begins =
     }
 
 -- of a run: what is printed of its phases is told of one order
-pub run-told : (script : Whole) (text : List ℕ) (journal : Past) (ran : RunsWhole script text journal) (from : Stage) → IsAmple ran → Begins script from → AreTold from 0 (length script.phases) text
+pub run-told : (script : Whole) (text : List ℕ) (journal : Past) (ran : RunsWhole script text journal) (from : Stage) → IsAmple ran → Begins script from → AreTold from 0 (whole_replies ran)
 run-told script text journal ran from ample begins =
     let tickets : List (Ticket Record) = tickets_from ran.system 1 script.processes in
     let first : Reached from journal from.programs from.phases 0 script.phases tickets = all-reached script ran.system journal from ran.unbounded begins in
@@ -152,32 +149,31 @@ run-told script text journal ran from ample begins =
 -- where every order from a first stage on was tried -----------------------------------------------------------------------
 
 -- the phases that are told were found, and some stage that goes on so is reached
-pub record FoundBefore (GoesOn : Stage → ℕ → Type 0) (first : Stage) (found : List Witnessed) (phase n : ℕ) (text : List ℕ) : Type 0 where
-  pub phases : AreFound found phase n text
+pub record FoundBefore (GoesOn : Stage → ℕ → Type 0) (first : Stage) (found : List Witnessed) (phase : ℕ) (texts : List (List ℕ)) : Type 0 where
+  pub phases : AreFound found phase texts
   pub schedule : List ℕ
   pub to : Stage
   pub leads : after next_stage schedule first ≡ Some to
-  pub goes_on : GoesOn to (phase + n)
+  pub goes_on : GoesOn to (phase + length texts)
 
-pub told-found : (GoesOn : Stage → ℕ → Type 0) (first from : Stage) (schedule : List ℕ) (found : List Witnessed) (phase n : ℕ) (text : List ℕ) →
-    AreAll next_stage stands_still told first found → after next_stage schedule first ≡ Some from → AreToldBefore GoesOn from phase n text → FoundBefore GoesOn first found phase n text
-told-found GoesOn first from schedule found phase zero text all leads are =
+pub told-found : (GoesOn : Stage → ℕ → Type 0) (first from : Stage) (schedule : List ℕ) (found : List Witnessed) (phase : ℕ) (texts : List (List ℕ)) →
+    AreAll next_stage stands_still told first found → after next_stage schedule first ≡ Some from → AreToldBefore GoesOn from phase texts → FoundBefore GoesOn first found phase texts
+told-found GoesOn first from schedule found phase [] all leads are =
     let here : phase ≡ phase + 0 = omega arith in
-    record { phases = are.0; schedule = schedule; to = from; leads = leads; goes_on = subst (λ (k : ℕ). GoesOn from k) here are.1 }
-told-found GoesOn first from schedule found phase (suc n) text all leads are =
-    let runs : after next_stage (schedule ++ are.0) first ≡ Some are.1 = then-after schedule are.0 first from are.1 leads are.4.runs in
-    let rest = told-found GoesOn first are.1 (schedule ++ are.0) found (phase + 1) n are.3 all runs are.6 in
-    let here : phase + 1 + n ≡ phase + suc n = omega arith in
+    record { phases = tt; schedule = schedule; to = from; leads = leads; goes_on = subst (λ (k : ℕ). GoesOn from k) here are }
+told-found GoesOn first from schedule found phase (text ∷ texts) all leads are =
+    let runs : after next_stage (schedule ++ are.0) first ≡ Some are.1 = then-after schedule are.0 first from are.1 leads are.2.runs in
+    let rest = told-found GoesOn first are.1 (schedule ++ are.0) found (phase + 1) texts all runs are.4 in
+    let here : phase + 1 + length texts ≡ phase + length (text ∷ texts) = omega arith in
     record {
-      phases = (
-        are.2,
-        are.3,
-        ap (λ (x : Told). is_among found x) (sym are.5) ∙ all (schedule ++ are.0) are.1 (record { runs = runs; goal = are.4.goal }),
-        rest.phases,
-        are.7,
-      );
+      phases = (ap (λ (x : Told). is_among found x) (sym are.3) ∙ all (schedule ++ are.0) are.1 (record { runs = runs; goal = are.2.goal }), rest.phases);
       schedule = rest.schedule;
       to = rest.to;
       leads = rest.leads;
       goes_on = subst (λ (k : ℕ). GoesOn rest.to k) here rest.goes_on;
     }
+
+-- there are replies of each phase
+pub replies-count : (phases : List (List WrittenCall)) (before tickets : List (Ticket Record)) (text : List ℕ) (ran : RunsPhases phases before tickets text) → length (phase_replies phases before tickets text ran) ≡ length phases
+replies-count [] before tickets text ran = refl
+replies-count (calls ∷ phases) before tickets text ran = let ih = replies-count phases ran.1 tickets ran.4 ran.7 in omega (arith, ih)

@@ -22,7 +22,7 @@ use Rattle.script_runner.specs.declared.turns.Worked.{Worked}
 use Rattle.script_text.specs.Script.{Whole, WrittenCall}
 use Rattle.script_text.specs.declared.reply.Completion.{Completion}
 use Rattle.script_laws.specs.RunLaws.{AreFound}
-use Rattle.script_laws.specs.StandLaws.{AreAmpleEnds, ComesToStand, IsAmpleEnd, IsAmpleStop, Stands, stand_told}
+use Rattle.script_laws.specs.StandLaws.{AreAmpleEnds, ComesToStand, IsAmpleEnd, IsAmpleStop, Stands, replies_before, stand_told}
 use Rattle.script_laws.proofs.Course.{Move}
 use Rattle.script_laws.proofs.Growth.{AllGrown, AllLeft, AreEnds, IsEnd, by-calls, all-grow, calls-grow, end-then, meeting, phase-ends}
 use Rattle.script_laws.proofs.Halting.{one-halts, waits-by}
@@ -150,7 +150,7 @@ last-stands journal programs total last later before lines after stand of ample 
     )
 
 -- a run that comes to a stand is told of one order
-pub stand-told : (script : Whole) (lines : List ℕ) (old new : Option (List ℕ)) (from : Stage) (stop : StopsInDeadlock script lines old new) → IsAmpleStop stop → Begins script from → ComesToStand from 0 (length stop.stops.first) stop.stops.replies lines
+pub stand-told : (script : Whole) (lines : List ℕ) (old new : Option (List ℕ)) (from : Stage) (stop : StopsInDeadlock script lines old new) → IsAmpleStop stop → Begins script from → ComesToStand from 0 (replies_before stop) lines
 stand-told script lines old new from stop ample begins =
     let s = stop.stops in
     let tickets : List (Ticket Record) = tickets_from stop.system 1 script.processes in
@@ -167,11 +167,11 @@ stand-told script lines old new from stop ample begins =
     s.first 0 from tickets s.replies s.ran ample.0 first
 
 -- and found where every order was tried
-pub stand-found : (from : Stage) (found : List Witnessed) (n : ℕ) (replies lines : List ℕ) → AreAll next_stage stands_still told from found → ComesToStand from 0 n replies lines → AreFound found 0 n replies × (is_among found (stand_told n lines) ≡ true)
-stand-found from found n replies lines all comes =
-    let f = told-found (Stands lines) from from [] found 0 n replies all refl comes in
+pub stand-found : (from : Stage) (found : List Witnessed) (n : ℕ) (texts : List (List ℕ)) (lines : List ℕ) → length texts ≡ n → AreAll next_stage stands_still told from found → ComesToStand from 0 texts lines → AreFound found 0 texts × (is_among found (stand_told n lines) ≡ true)
+stand-found from found n texts lines count all comes =
+    let f = told-found (Stands lines) from from [] found 0 texts all refl comes in
     let stands = f.goes_on in
-    let same : 0 + n ≡ n = omega arith in
+    let same : 0 + length texts ≡ n = omega (arith, count) in
     let runs = then-after f.schedule stands.0 from f.to stands.1 f.leads stands.2.runs in (
       f.phases,
       ap (λ (k : ℕ). is_among found (stand_told k lines)) (sym same) ∙ (ap (λ (x : Told). is_among found x) (sym stands.3) ∙ all (f.schedule ++ stands.0) stands.1 (record { runs = runs; goal = stands.2.goal })),

@@ -1,5 +1,5 @@
 -- What a run of a script and the orders of its calls have to do with each other.
-use Rattle.std.specs.Prelude.{◌≡◌, ◌≢◌, ℕ, ◌+◌, zero, suc, true, false, List, [], ◌∷◌, ◌++◌}
+use Rattle.std.specs.Prelude.{◌≡◌, ◌≢◌, ℕ, ◌+◌, true, false, List, [], ◌∷◌}
 use Rattle.std.specs.List.{All}
 use Rattle.fast_mutex.specs.Items.{Ticket, tickets_from}
 use Rattle.mq_model.specs.Record.{Past, Record}
@@ -38,26 +38,30 @@ IsAmple {script} {replies} ran = AreAmplePhases script.phases (tickets_from ran.
 abbrev pub phase_told : ℕ → List ℕ → Told
 phase_told phase text = record { stage = phase; stuck = false; text = text }
 
--- in one order of the calls from this stage on, n phases end one after the other with these replies; the first of them has this number.
+-- the replies of each phase that was run, which make up the text
+abbrev pub phase_replies : (phases : List (List WrittenCall)) (before after : List (Ticket Record)) (text : List ℕ) → RunsPhases phases before after text → List (List ℕ)
+phase_replies [] before after text ran = []
+phase_replies (calls ∷ phases) before after text ran = ran.3 ∷ phase_replies phases ran.1 after ran.4 ran.7
+
+-- the replies of each phase of a script that was run whole
+abbrev pub whole_replies : {script : Whole} {replies : List ℕ} {journal : Past} → RunsWhole script replies journal → List (List ℕ)
+whole_replies {script} {replies} ran = phase_replies script.phases (tickets_from ran.system 1 script.processes) ran.processes replies ran.ran
+
+-- in one order of the calls from this stage on, phases end one after the other, each with its replies; the first of them has this number.
 -- GoesOn then holds of the stage that they lead to and of the number of the next phase
-abbrev pub AreToldBefore : (Stage → ℕ → Type 0) → Stage → ℕ → ℕ → List ℕ → Type 0
-AreToldBefore GoesOn from phase zero replies = (replies ≡ []) × GoesOn from phase
-AreToldBefore GoesOn from phase (suc n) replies =
-    (schedule : List ℕ) × (to : Stage) × (text : List ℕ) × (rest : List ℕ)
+abbrev pub AreToldBefore : (Stage → ℕ → Type 0) → Stage → ℕ → List (List ℕ) → Type 0
+AreToldBefore GoesOn from phase [] = GoesOn from phase
+AreToldBefore GoesOn from phase (text ∷ texts) =
+    (schedule : List ℕ) × (to : Stage)
     × LeadsToGoal next_stage stands_still from schedule to
     × (told to ≡ phase_told phase text)
-    × AreToldBefore GoesOn to (phase + 1) n rest
-    × (replies ≡ text ++ rest)
+    × AreToldBefore GoesOn to (phase + 1) texts
 
--- n phases end so, and nothing is said of what comes then
-abbrev pub AreTold : Stage → ℕ → ℕ → List ℕ → Type 0
-AreTold from phase n replies = AreToldBefore (λ to next. Unit {0}) from phase n replies
+-- phases end so, and nothing is said of what comes then
+abbrev pub AreTold : Stage → ℕ → List (List ℕ) → Type 0
+AreTold from phase texts = AreToldBefore (λ to next. Unit {0}) from phase texts
 
--- these are the replies of n phases, each of which is among what was found
-abbrev pub AreFound : List Witnessed → ℕ → ℕ → List ℕ → Type 0
-AreFound found phase zero replies = replies ≡ []
-AreFound found phase (suc n) replies =
-    (text : List ℕ) × (rest : List ℕ)
-    × (is_among found (phase_told phase text) ≡ true)
-    × AreFound found (phase + 1) n rest
-    × (replies ≡ text ++ rest)
+-- the replies of each phase are among what was found
+abbrev pub AreFound : List Witnessed → ℕ → List (List ℕ) → Type 0
+AreFound found phase [] = Unit {0}
+AreFound found phase (text ∷ texts) = (is_among found (phase_told phase text) ≡ true) × AreFound found (phase + 1) texts

@@ -12,7 +12,7 @@ use Rattle.script_runner.specs.Stops.{StopsInDeadlock}
 use Rattle.script_runner.specs.declared.turns.Worked.{Worked}
 use Rattle.script_text.specs.Script.{Whole, WrittenCall}
 use Rattle.script_text.specs.declared.reply.Completion.{Completion}
-use Rattle.script_laws.specs.RunLaws.{AreAmplePhases, AreToldBefore, HadMemory}
+use Rattle.script_laws.specs.RunLaws.{AreAmplePhases, AreToldBefore, HadMemory, phase_replies}
 
 -- no call that the process made was refused for want of memory; where it waits for ever, none of those before that wait
 abbrev pub IsAmpleEnd : (blocked : Option ℕ) (calls : List WrittenCall) (completions : List Completion) (old new : Ticket Record) → EndsIn blocked calls completions old new → Type 0
@@ -48,7 +48,12 @@ abbrev pub Stands : List ℕ → Stage → ℕ → Type 0
 Stands lines from phase =
     (schedule : List ℕ) × (to : Stage) × LeadsToGoal next_stage stands_still from schedule to × (told to ≡ stand_told phase lines)
 
--- in one order of the calls from this stage on, n phases end one after the other with these replies, and then the next one comes to a
+-- in one order of the calls from this stage on, phases end one after the other, each with its replies, and then the next one comes to a
 -- stand in the calls of these lines; the first of them has this number
-abbrev pub ComesToStand : Stage → ℕ → ℕ → List ℕ → List ℕ → Type 0
-ComesToStand from phase n replies lines = AreToldBefore (Stands lines) from phase n replies
+abbrev pub ComesToStand : Stage → ℕ → List (List ℕ) → List ℕ → Type 0
+ComesToStand from phase texts lines = AreToldBefore (Stands lines) from phase texts
+
+-- the replies of each phase of a run that ended before the one that came to a stand
+abbrev pub replies_before : {script : Whole} {lines : List ℕ} {old new : Option (List ℕ)} → StopsInDeadlock script lines old new → List (List ℕ)
+replies_before {script} stop =
+    phase_replies stop.stops.first (tickets_from stop.system 1 script.processes) stop.stops.between stop.stops.replies stop.stops.ran

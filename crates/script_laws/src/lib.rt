@@ -10,15 +10,15 @@ ghost use Rattle.script_orders.specs.Orders.{Begins};
 ghost use Rattle.script_orders.specs.Stage.{Stage, next_stage, stands_still, told};
 ghost use Rattle.script_runner.specs.Runs.{RunsWhole};
 ghost use Rattle.script_runner.specs.Stops.{StopsInDeadlock};
-ghost use Rattle.script_laws.specs.RunLaws.{AreFound, AreTold, IsAmple};
-ghost use Rattle.script_laws.specs.StandLaws.{ComesToStand, IsAmpleStop, stand_told};
+ghost use Rattle.script_laws.specs.RunLaws.{AreFound, AreTold, IsAmple, whole_replies};
+ghost use Rattle.script_laws.specs.StandLaws.{ComesToStand, IsAmpleStop, replies_before, stand_told};
 
-/// What a run prints is what is told, phase after phase, in one order of the calls, from where the processes of the script begin. No call
+/// What a run prints of each phase is what is told of that phase in one order of the calls, from where the processes of the script begin. No call
 /// of the run may have been refused for want of memory.
 pub fn prints_outcomes()
     ensures { (script : Whole) (replies : List ℕ) (journal : Past) (from : Stage)
         (ran : RunsWhole script replies journal) → IsAmple ran → Begins script from →
-        AreTold from 0 (length script.phases) replies }
+        AreTold from 0 (whole_replies ran) }
 {}
 
 /// Where every order of the calls was tried, what a run prints of each phase is among what was found.
@@ -26,7 +26,7 @@ pub fn prints_what_is_found()
     ensures { (script : Whole) (replies : List ℕ) (journal : Past) (from : Stage)
         (found : List Witnessed) (ran : RunsWhole script replies journal) → IsAmple ran →
         Begins script from → AreAll next_stage stands_still told from found →
-        AreFound found 0 (length script.phases) replies }
+        AreFound found 0 (whole_replies ran) }
 {}
 
 /// Where a run came to a stand, so does one order of the calls, from where the processes of the script begin: what the run prints of
@@ -35,7 +35,7 @@ pub fn prints_what_is_found()
 pub fn tells_deadlocks()
     ensures { (script : Whole) (lines : List ℕ) (old new : Option (List ℕ)) (from : Stage)
         (stop : StopsInDeadlock script lines old new) → IsAmpleStop stop → Begins script from →
-        ComesToStand from 0 (length stop.stops.first) stop.stops.replies lines }
+        ComesToStand from 0 (replies_before stop) lines }
 {}
 
 /// Where every order of the calls was tried, what a run prints of each phase before its stand is among what was found, and so is the
@@ -44,6 +44,6 @@ pub fn finds_deadlocks()
     ensures { (script : Whole) (lines : List ℕ) (old new : Option (List ℕ)) (from : Stage)
         (found : List Witnessed) (stop : StopsInDeadlock script lines old new) → IsAmpleStop stop →
         Begins script from → AreAll next_stage stands_still told from found →
-        AreFound found 0 (length stop.stops.first) stop.stops.replies
+        AreFound found 0 (replies_before stop)
         × (is_among found (stand_told (length stop.stops.first) lines) ≡ true) }
 {}

@@ -1,12 +1,13 @@
 //! Every order in which the calls of a script can come.
-ghost use Rattle.std.specs.Prelude.{◌≡◌, ◌≤◌, ◌+◌, ℕ, List, IfOk, OnOk, None, Some, true};
+ghost use Rattle.std.specs.Prelude.{◌≡◌, ◌≤◌, ◌+◌, ℕ, List, IfOk, OnOk, None, Some, false, true};
 ghost use Rattle.std.specs.List.{All};
 ghost use Rattle.mq_model.specs.Waits.{open_wait};
 ghost use Rattle.schedules.specs.Schedules.{after};
 ghost use Rattle.schedules.specs.Outcomes.{AreAll, AreDistinct, IsWitness};
+ghost use Rattle.schedules.specs.Work.{TakesAll};
 ghost use Rattle.script_text.specs.Script.{Whole, said_script};
 ghost use Rattle.script_orders.specs.Orders.{AreLegal, Begins, HasMade};
-ghost use Rattle.script_orders.specs.Stage.{Stage, first_stage, next_stage, stands_still, told, turn_of};
+ghost use Rattle.script_orders.specs.Stage.{Stage, choice_count, first_stage, next_stage, stands_still, told, turn_of};
 
 use crate::plan::programs_of;
 use crate::play::Play;
@@ -32,6 +33,8 @@ pub fn outcomes_of(alloc: Global, play: &mut Play, budget: u64) -> Result<Collec
     ensures distinct { IfOk result (λ c. AreDistinct c.found.items) }
     ensures all { IfOk result (λ c. c.complete ≡ true →
         AreAll next_stage stands_still told (first_stage play.old) c.found.items) }
+    ensures used_up { IfOk result (λ c. c.complete ≡ false →
+        TakesAll next_stage choice_count (λ depth. 1) budget (first_stage play.old)) }
     ensures legal { AreLegal (first_stage play.old) }
     ensures start { OnOk result (first_stage play.new ≡ first_stage play.old) }
 {

@@ -3,8 +3,9 @@ use Rattle.std.proofs.lemmas.Grind.{common_steps}
 use Rattle.std.proofs.lemmas.Option.{slice_get_read}
 use Rattle.history_judge.specs.Fronts.{Return, front_part}
 use Rattle.history_judge.specs.Verdicts.{IsImpossible}
-use Rattle.history_judge.proofs.Narrowing.{impossible-part, impossible-whole, possible-before}
+use Rattle.history_judge.proofs.Narrowing.{impossible-part, impossible-whole, possible-before, used-up-at}
 use Rattle.history_judge.proofs.judgement.shortest.Goals.{in-Impossible, in-Possible, in-OutOfBudget}
+use Rattle.history_judge.proofs.Pending.{has-return}
 use Rattle.history_judge.proofs.judgement.shortest.Goals as goal
 
 pub loop-good-init : goal.loop-good-init
@@ -15,6 +16,7 @@ loop-good-init c =
       within = search rules;
       impossible = impossible-whole c.args.calls.now c.in_ok-returns.returns.items c.len-bad.result all c.requires.impossible;
       shortest = λ t before next. absurd (omega (arith, next));
+      unsure = λ f. absurd (cc);
     }
 
 pub loop-good-preserved-after-answer : goal.loop-good-preserved-after-answer
@@ -25,20 +27,23 @@ loop-good-preserved-after-answer c =
       | in-Impossible w ↦ record {
         order = omega (arith, w.good-is, w.bad-is, was.order);
         within = omega (arith, w.bad-is, was.order, was.within);
-        impossible = impossible-part calls returns middle c.match-answer.bad c.in_ok-answer.answer w.in-Impossible.is c.in_ok-answer.ensures w.bad-is;
+        impossible = impossible-part c.args.budget calls returns middle c.match-answer.bad c.in_ok-answer.answer w.in-Impossible.is c.in_ok-answer.ensures w.bad-is;
         shortest = λ t before next. was.shortest (sym w.is_shortest-is ∙ t) before (next ∙ w.good-is);
+        unsure = λ f. let old = was.unsure (sym w.is_shortest-is ∙ f) in let below = old.1 in (old.0, omega (arith, below, w.good-is), old.2);
       }
       | in-Possible w ↦ record {
         order = omega (arith, w.good-is, w.bad-is, was.order);
         within = omega (arith, w.bad-is, was.within);
         impossible = subst (λ n. IsImpossible (front_part calls returns n)) (sym w.bad-is) was.impossible;
-        shortest = λ t before next. possible-before calls returns middle c.in_ok-answer.answer _ w.in-Possible.is c.in_ok-answer.ensures before (next ∙ w.good-is);
+        shortest = λ t before next. possible-before c.args.budget calls returns middle c.in_ok-answer.answer _ w.in-Possible.is c.in_ok-answer.ensures before (next ∙ w.good-is);
+        unsure = λ f. let old = was.unsure (sym w.is_shortest-is ∙ f) in let below = old.1 in (old.0, omega (arith, below, was.order, w.good-is), old.2);
       }
       | in-OutOfBudget w ↦ record {
         order = omega (arith, w.good-is, w.bad-is, was.order);
         within = omega (arith, w.bad-is, was.within);
         impossible = subst (λ n. IsImpossible (front_part calls returns n)) (sym w.bad-is) was.impossible;
         shortest = λ t before next. absurd (let e : false ≡ true = sym w.is_shortest-is ∙ t in let no : ⊥ = cc in no);
+        unsure = λ f. (middle, omega (arith, w.good-is), used-up-at c.args.budget calls returns middle c.in_ok-answer.answer w.in-OutOfBudget.is c.in_ok-answer.ensures);
       }
     ]
 
@@ -50,20 +55,23 @@ loop-good-preserved c =
       | in-Impossible w ↦ record {
         order = omega (arith, w.good-is, w.bad-is, was.order);
         within = omega (arith, w.bad-is, was.order, was.within);
-        impossible = impossible-part calls returns middle c.match-answer.bad c.in_ok-answer.answer w.in-Impossible.is c.in_ok-answer.ensures w.bad-is;
+        impossible = impossible-part c.args.budget calls returns middle c.match-answer.bad c.in_ok-answer.answer w.in-Impossible.is c.in_ok-answer.ensures w.bad-is;
         shortest = λ t before next. was.shortest (sym w.is_shortest-is ∙ t) before (next ∙ w.good-is);
+        unsure = λ f. let old = was.unsure (sym w.is_shortest-is ∙ f) in let below = old.1 in (old.0, omega (arith, below, w.good-is), old.2);
       }
       | in-Possible w ↦ record {
         order = omega (arith, w.good-is, w.bad-is, was.order);
         within = omega (arith, w.bad-is, was.within);
         impossible = subst (λ n. IsImpossible (front_part calls returns n)) (sym w.bad-is) was.impossible;
-        shortest = λ t before next. possible-before calls returns middle c.in_ok-answer.answer _ w.in-Possible.is c.in_ok-answer.ensures before (next ∙ w.good-is);
+        shortest = λ t before next. possible-before c.args.budget calls returns middle c.in_ok-answer.answer _ w.in-Possible.is c.in_ok-answer.ensures before (next ∙ w.good-is);
+        unsure = λ f. let old = was.unsure (sym w.is_shortest-is ∙ f) in let below = old.1 in (old.0, omega (arith, below, was.order, w.good-is), old.2);
       }
       | in-OutOfBudget w ↦ record {
         order = omega (arith, w.good-is, w.bad-is, was.order);
         within = omega (arith, w.bad-is, was.within);
         impossible = subst (λ n. IsImpossible (front_part calls returns n)) (sym w.bad-is) was.impossible;
         shortest = λ t before next. absurd (let e : false ≡ true = sym w.is_shortest-is ∙ t in let no : ⊥ = cc in no);
+        unsure = λ f. (middle, omega (arith, w.good-is), used-up-at c.args.budget calls returns middle c.in_ok-answer.answer w.in-OutOfBudget.is c.in_ok-answer.ensures);
       }
     ]
 
@@ -71,7 +79,8 @@ pub returns : goal.returns
 returns c =
     let was = c.loop-good.invariant in let returns = c.in_ok-returns.returns.items in let last : Return = c.index-last.result.now in
     let same : c.min-at.result ≡ min c.loop-good.bad (length returns - 1) = grind (arith, common_steps) in
-    let within : c.min-at.result < length returns = grind (arith, common_steps) in
+    let some = has-return c.args.calls.now returns c.in_ok-returns.ensures c.requires.returned in
+    let within : c.min-at.result < length returns = omega (arith, some, same) in
     record {
       returns = returns;
       are = c.in_ok-returns.ensures;
@@ -81,5 +90,13 @@ returns c =
       of = refl;
       part = c.in_ok-front.ensures;
       impossible = was.impossible;
+      unsure = λ f. let old = was.unsure f in let below = old.1 in (old.0, omega (arith, below, was.order), old.2);
       shortest = λ t before next. was.shortest t before (let e : before + 1 ≡ c.loop-good.good = omega (arith, next, was.order) in e);
     }
+
+pub index-last-requires : goal.index-last-requires
+index-last-requires c =
+    let returns = c.in_ok-returns.returns.items in
+    let some = has-return c.args.calls.now returns c.in_ok-returns.ensures c.requires.returned in
+    let same : c.min-at.result ≡ min c.loop-good.bad (length returns - 1) = grind (arith, common_steps) in
+    omega (arith, some, same)

@@ -1,5 +1,5 @@
 use Rattle.std.proofs.lemmas.List.{nil_from_length}
-use Rattle.std.proofs.Common.{arith, ◌≡◌, Some, IsSome, ℕ, false, List, [], ◌∷◌, ◌++◌, ◌∙◌, ap, is_some, refl, subst, sym, true}
+use Rattle.std.proofs.Common.{arith, ◌≡◌, ◌+◌, Some, None, IsSome, ℕ, false, List, [], ◌∷◌, ◌++◌, ◌∙◌, ap, is_some, refl, subst, sym, true}
 use Rattle.schedules.specs.Schedules.{IsReached, after, HasNoGoal}
 use Rattle.schedules.specs.Likeness.{HasKey}
 use Rattle.schedules.specs.Seen.{is_done}
@@ -8,6 +8,7 @@ use Rattle.schedules.proofs.Covering.{after-push, front_runs}
 use Rattle.schedules.proofs.Collecting.{all-found, is_new_goal, new-alike, new-fewer, noted-is_old}
 use Rattle.schedules.proofs.Alike.{AreDone, done-fewer, done-leads, done-more}
 use Rattle.schedules.proofs.Ahead.{IsLevel, Leaves, Stands, stands-back, stands-fewer, stands-first, stands-push, step-goes}
+use Rattle.schedules.proofs.Working.{HasSpent, spends-entered, spends-first, spends-left, spends-within}
 use Rattle.schedules.proofs.outcomes.collect.Goals as goal
 use Rattle.schedules.proofs.outcomes.collect.Goals.{in-Some+in_ok-_went-in-Some+in_ok-push-in-Some+in_ok-note-in-Some+in_ok-key-in-Some+in_ok-push-in-Some-2, in-None+in-Some-pop+in_ok-next-in-None+then-is_some+in_ok-run_again-in-None, in-None+in-Some-pop+in_ok-next-in-None+else-is_some}
 
@@ -31,6 +32,7 @@ loop-init g c =
       start = same;
       distinct = c.in_ok-note.ensures.distinct;
       witnessed = (rw same at c.in_ok-note.ensures.witnessed);
+      spent = λ node at_node. rw c.new-path.ensures.items (spends-first next g.M.Machine.choices (λ depth. 1) c.args.budget start node first);
     }
 
 pub note-requires-in-Some-clause-runs : goal.note-requires-in-Some-clause-runs
@@ -73,6 +75,7 @@ loop-preserved g c =
     let levels = c.loop.levels.items in
     let now = c.loop.machine in
     let seen = c.loop.seen in
+    let each : ℕ → ℕ = λ depth. 1 in
     let found = c.loop.found.items in
     let is_new = is_new_goal is_goal outcome found in
     elim c.match-next.branch [
@@ -111,10 +114,18 @@ loop-preserved g c =
             start = same;
             distinct = w.in_ok-note-in-Some.ensures.distinct;
             witnessed = (rw same at w.in_ok-note-in-Some.ensures.witnessed);
+            spent = λ node at_node.
+                let now_there : HasSpent next g.M.Machine.choices each c.args.budget c.loop.counter 0 path start now (Some choice) = (rw w.in-Some.is at c.loop.invariant.spent now runs) in
+                let after_choice = after-push next path choice start now t runs step in
+                let there : after next (path ++ choice ∷ []) start ≡ Some node = (rw w.in_ok-push-in-Some.ensures.items at at_node) in
+                let e : t ≡ node = cc in
+                rw w.in_ok-push-in-Some.ensures.items
+                (subst (λ (x : g.row.M.Denot). HasSpent next g.M.Machine.choices each c.args.budget (c.loop.counter + 1) 0 (path ++ choice ∷ []) start x w.first_at-next.result) e
+                (spends-entered next g.M.Machine.choices each c.args.budget c.loop.counter 0 path choice start now t w.first_at-next.result runs step (omega arith) now_there));
           }
       | in-None+in-Some-pop+in_ok-next-in-None+then-is_some+in_ok-run_again-in-None w ↦
           let stands = (rw w.in-None.is at c.loop.invariant.stands) in
-          let back : Leaves next is_new IsKey w.pop.new.self.items levels start stands.node = stands-back next is_new IsKey path w.pop.new.self.items w.in-Some-pop._taken levels start now stands w.in-Some-pop.ensures.items in
+          let back : Leaves next is_new IsKey w.pop.new.self.items w.in-Some-pop._taken levels start stands.node = stands-back next is_new IsKey path w.pop.new.self.items w.in-Some-pop._taken levels start now stands w.in-Some-pop.ensures.items in
           let last = w.in_ok-next-in-None.ensures back.others back.level back.are in
           let runs : after next w.pop.new.self.items start ≡ Some w.run_again.new.machine = (rw (w.deref-then-is_some.ensures.value, c.loop.invariant.start) at w.in_ok-run_again-in-None.ensures.runs) in
           rw (w.path-is, w.levels-is, w.machine-is, w.found-is, w.seen-is, w.next-is)
@@ -127,10 +138,15 @@ loop-preserved g c =
             start = w.in_ok-run_again-in-None.ensures.start ∙ c.loop.invariant.start;
             distinct = c.loop.invariant.distinct;
             witnessed = c.loop.invariant.witnessed;
+            spent = λ node at_node.
+                rw last.0
+                (spends-left next g.M.Machine.choices each g.met.M.Machine.no_others c.args.budget c.loop.counter 0 0 0 path w.pop.new.self.items w.in-Some-pop._taken start stands.node node None back.level.other
+                w.in-Some-pop.ensures.items stands.runs at_node (omega arith) (omega arith) (omega arith) back.later
+                (rw w.in-None.is at c.loop.invariant.spent stands.node stands.runs));
           }
       | in-None+in-Some-pop+in_ok-next-in-None+else-is_some w ↦
           let stands = (rw w.in-None.is at c.loop.invariant.stands) in
-          let back : Leaves next is_new IsKey w.pop.new.self.items levels start stands.node = stands-back next is_new IsKey path w.pop.new.self.items w.in-Some-pop._taken levels start now stands w.in-Some-pop.ensures.items in
+          let back : Leaves next is_new IsKey w.pop.new.self.items w.in-Some-pop._taken levels start stands.node = stands-back next is_new IsKey path w.pop.new.self.items w.in-Some-pop._taken levels start now stands w.in-Some-pop.ensures.items in
           let last = w.in_ok-next-in-None.ensures back.others back.level back.are in
           let none : is_some back.level.other ≡ false = rw (← last.0) cc in
           let machine : IsSome back.level.other → after next w.pop.new.self.items start ≡ Some now = λ some. let k : true ≡ false = sym some ∙ none in cc in
@@ -144,5 +160,16 @@ loop-preserved g c =
             start = c.loop.invariant.start;
             distinct = c.loop.invariant.distinct;
             witnessed = c.loop.invariant.witnessed;
+            spent = λ node at_node.
+                rw last.0
+                (spends-left next g.M.Machine.choices each g.met.M.Machine.no_others c.args.budget c.loop.counter 0 0 0 path w.pop.new.self.items w.in-Some-pop._taken start stands.node node None back.level.other
+                w.in-Some-pop.ensures.items stands.runs at_node (omega arith) (omega arith) (omega arith) back.later
+                (rw w.in-None.is at c.loop.invariant.spent stands.node stands.runs));
           }
     ]
+
+pub returns-clause-used_up : goal.returns-clause-used_up
+returns-clause-used_up g c used =
+    let stands = c.loop.invariant.stands in
+    spends-within g.M.Machine.next g.M.Machine.choices (λ depth. 1) g.met.M.Machine.no_others c.args.budget c.loop.counter 0 c.loop.path.items (g.M.Machine.start c.args.machine.now) stands.node c.loop.next
+    stands.runs (c.loop.invariant.spent stands.node stands.runs) (omega arith)

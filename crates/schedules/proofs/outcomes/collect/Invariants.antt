@@ -1,12 +1,14 @@
-use Rattle.std.proofs.Common.{◌≡◌, All}
+use Rattle.std.proofs.Common.{◌≡◌, All, Some}
+use Rattle.schedules.specs.Schedules.{after}
 use Rattle.schedules.specs.Outcomes.{AreDistinct, IsWitness}
 use Rattle.schedules.proofs.Ahead.{Stands}
 use Rattle.schedules.proofs.Alike.{AreDone}
 use Rattle.schedules.proofs.Collecting.{is_new_goal}
+use Rattle.schedules.proofs.Working.{HasSpent}
 use Rattle.schedules.proofs.outcomes.collect.Given as goal
 
 -- where the search stands, what is told of each goal behind it was found, and so was what is told of each goal ahead of a state with a
--- key that was noted
+-- key that was noted. So many steps were made for it
 abbrev pub invariant-loop : goal.invariant-loop
 invariant-loop g l = record {
   stands :
@@ -18,4 +20,7 @@ invariant-loop g l = record {
   start : g.M.Machine.start l.machine ≡ g.M.Machine.start l.fn.machine;
   distinct : AreDistinct l.found.items;
   witnessed : All (IsWitness g.M.Machine.next g.M.Machine.is_goal g.M.Telling.outcome (g.M.Machine.start l.fn.machine)) l.found.items;
+  spent :
+      (node : g.row.M.Denot) → after g.M.Machine.next l.path.items (g.M.Machine.start l.fn.machine) ≡ Some node →
+      HasSpent g.M.Machine.next g.M.Machine.choices (λ depth. 1) l.fn.budget l.counter 0 l.path.items (g.M.Machine.start l.fn.machine) node l.next;
 }
