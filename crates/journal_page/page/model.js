@@ -1,0 +1,343 @@
+// What a journal says: its entries, and the state of the queues after each of them.
+"use strict";
+
+const SENDS = new Set(["send", "tsend"]);
+const RECEIVES = new Set(["recv", "trecv"]);
+const FIRST_BYTES = 24;
+
+// The entry that a line of a journal has. The payload stays as it is written.
+function entryOf(line) {
+  const words = line.split(" ");
+  const arrow = words.indexOf("->", 3);
+  const quoted = words[arrow - 1].startsWith('"') && arrow > 3;
+  return {
+    place: Number(words[0]),
+    process: Number(words[1]),
+    call: words[2],
+    given: words.slice(3, quoted ? arrow - 1 : arrow),
+    payload: quoted ? words[arrow - 1].slice(1, -1) : "",
+    reply: words[arrow + 1],
+    got: words.slice(arrow + 2),
+    line,
+  };
+}
+
+function entriesOf(text) {
+  return text.split("\n").filter((line) => line !== "").map(entryOf);
+}
+
+// The number that follows a word of a reply, as in "admitted 7".
+function named(entry, word) {
+  const at = entry.got.indexOf(word);
+  return at < 0 ? null : Number(entry.got[at + 1]);
+}
+
+// The message that an entry takes: the place of its send.
+function taken(entry) {
+  if (entry.reply === "got") return Number(entry.got[0]);
+  return entry.reply === "handed" ? entry.place : null;
+}
+
+// The wait that an entry ends.
+function endedWait(entry) {
+  if (entry.reply === "handed" || entry.reply === "withdrawn") return Number(entry.got[0]);
+  return named(entry, "admitted");
+}
+
+function isError(entry) {
+  return /^[A-Z]/.test(entry.reply);
+}
+
+// What a message brings to a list of messages.
+function messageOf(entry) {
+  return {
+    place: entry.place,
+    process: entry.process,
+    priority: Number(entry.given[1]),
+    length: Number(entry.given[2]),
+    text: firstBytes(entry.payload),
+  };
+}
+
+// The first bytes of a payload, as they are written.
+function firstBytes(payload) {
+  const bytes = payload.match(/%[0-9A-F]{2}|[^%]/g) || [];
+  return bytes.slice(0, FIRST_BYTES).join("");
+}
+
+function emptyState() {
+  return { entries: 0, queues: new Map(), processes: new Map() };
+}
+
+// The state that `mqlog state --json` has written.
+function stateOf(json) {
+  const state = emptyState();
+  state.entries = json.entries;
+  for (const it of json.queues) state.queues.set(it.queue, { ...it });
+  for (const it of json.processes) {
+    const held = new Map(it.descriptors.map((h) => [h.descriptor, h]));
+    state.processes.set(it.process, { ...it, held });
+  }
+  return state;
+}
+
+function copyOf(state) {
+  const queues = new Map();
+  for (const [q, it] of state.queues) {
+    const lists = { messages: [...it.messages], senders: [...it.senders] };
+    queues.set(q, { ...it, ...lists, receivers: [...it.receivers] });
+  }
+  const processes = new Map();
+  for (const [p, it] of state.processes) {
+    processes.set(p, { ...it, held: new Map(it.held), notices: [...it.notices] });
+  }
+  return { entries: state.entries, queues, processes };
+}
+
+function processOf(state, p) {
+  if (!state.processes.has(p)) {
+    state.processes.set(p, { process: p, held: new Map(), wait: null, answered: null, notices: [] });
+  }
+  return state.processes.get(p);
+}
+
+function boundQueue(state, name) {
+  for (const it of state.queues.values()) {
+    if (it.named && it.name === name) return it;
+  }
+  return null;
+}
+
+function withoutPlace(list, place) {
+  return list.filter((it) => it.place !== place);
+}
+
+// Adds a message where it will be received: by priority, then by the place of its send.
+function addMessage(queue, message) {
+  const first = (it) => it.priority > message.priority ||
+    (it.priority === message.priority && it.place < message.place);
+  const at = queue.messages.findIndex((it) => !first(it));
+  queue.messages.splice(at < 0 ? queue.messages.length : at, 0, message);
+}
+
+// Lets queues go that have no name and that nobody holds.
+function forget(state) {
+  const held = new Set();
+  for (const it of state.processes.values()) {
+    for (const h of it.held.values()) held.add(h.queue);
+  }
+  for (const [q, it] of state.queues) {
+    if (!it.named && !held.has(q)) state.queues.delete(q);
+  }
+}
+
+function followOpen(state, entry, process) {
+  const d = Number(entry.got[0]);
+  let queue = boundQueue(state, entry.payload);
+  if (entry.got[1] === "created") {
+    const at = entry.given.indexOf("limits");
+    const [maxmsg, msgsize] = at < 0 ? ["10", "8192"] : entry.given.slice(at + 1);
+    queue = {
+      queue: entry.place, name: entry.payload, named: true, maxmsg, msgsize,
+      messages: [], senders: [], receivers: [], registration: null,
+    };
+    state.queues.set(entry.place, queue);
+  }
+  const flags = entry.given[0];
+  process.held.set(d, {
+    descriptor: d, queue: queue ? queue.queue : 0, access: flags[0], nonblock: flags.includes("n"),
+  });
+}
+
+function followClose(state, entry, process) {
+  const d = Number(entry.given[0]);
+  process.held.delete(d);
+  for (const it of state.queues.values()) {
+    const n = it.registration;
+    if (n && n.process === entry.process && n.descriptor === d) it.registration = null;
+  }
+  forget(state);
+}
+
+function followUnlink(state, entry) {
+  const queue = boundQueue(state, entry.payload);
+  if (queue) queue.named = false;
+  forget(state);
+}
+
+function followNotify(entry, queue) {
+  const value = entry.given[1];
+  if (value !== "-") {
+    const descriptor = Number(entry.given[0]);
+    queue.registration = { place: entry.place, process: entry.process, descriptor, value };
+  } else if (queue.registration && queue.registration.process === entry.process) {
+    queue.registration = null;
+  }
+}
+
+// The registration that a reply notified becomes a notice of its process.
+function followNotice(state, entry, queue) {
+  const place = named(entry, "notified");
+  if (place === null || !queue.registration || queue.registration.place !== place) return;
+  processOf(state, queue.registration.process).notices.push(queue.registration.value);
+  queue.registration = null;
+}
+
+function answer(state, place, by) {
+  for (const it of state.processes.values()) {
+    if (it.wait === place) it.answered = by;
+  }
+}
+
+function followMessages(state, entry, queue) {
+  const message = taken(entry);
+  if (message !== null) queue.messages = withoutPlace(queue.messages, message);
+  const wait = endedWait(entry);
+  if (wait === null) return;
+  const sender = queue.senders.find((it) => it.place === wait);
+  if (sender && entry.reply === "got") addMessage(queue, sender);
+  queue.senders = withoutPlace(queue.senders, wait);
+  queue.receivers = withoutPlace(queue.receivers, wait);
+  if (entry.reply !== "withdrawn") answer(state, wait, entry.place);
+}
+
+function followWait(entry, process, queue) {
+  process.wait = entry.place;
+  if (!queue) return;
+  if (SENDS.has(entry.call)) queue.senders.push(messageOf(entry));
+  else queue.receivers.push({ place: entry.place, process: entry.process });
+}
+
+// The queue that an entry is made on, by the state before it.
+function queueOf(state, entry) {
+  const process = state.processes.get(entry.process);
+  if (!process) return null;
+  if (entry.call === "withdraw" || entry.call === "collect") {
+    for (const it of state.queues.values()) {
+      const waits = [...it.senders, ...it.receivers];
+      if (waits.some((w) => w.place === process.wait)) return it;
+    }
+    return null;
+  }
+  const h = process.held.get(Number(entry.given[0]));
+  return entry.call === "open" || !h ? null : state.queues.get(h.queue) || null;
+}
+
+// Goes on from the state before an entry to the one after it.
+function follow(state, entry) {
+  const queue = queueOf(state, entry);
+  const process = processOf(state, entry.process);
+  process.wait = null;
+  process.answered = null;
+  state.entries += 1;
+  if (entry.reply === "fd") followOpen(state, entry, process);
+  else if (entry.reply === "waits") followWait(entry, process, queue);
+  else if (entry.reply === "attr") followAttributes(entry, process);
+  else if (entry.reply === "notice") followGiven(entry, process);
+  else if (entry.reply === "ok") followDone(state, entry, process, queue);
+  else if (queue) {
+    followMessages(state, entry, queue);
+    if (entry.reply === "queued") addMessage(queue, messageOf(entry));
+    followNotice(state, entry, queue);
+  }
+}
+
+function followDone(state, entry, process, queue) {
+  if (entry.call === "close") followClose(state, entry, process);
+  else if (entry.call === "unlink") followUnlink(state, entry);
+  else if (entry.call === "notify" && queue) followNotify(entry, queue);
+}
+
+function followAttributes(entry, process) {
+  const d = Number(entry.given[0]);
+  const h = process.held.get(d);
+  if (entry.call === "setattr" && h) process.held.set(d, { ...h, nonblock: entry.given[1] === "1" });
+}
+
+function followGiven(entry, process) {
+  if (entry.got[0] !== "none") process.notices.shift();
+}
+
+// The states of a journal: a copy is kept each so many entries, and the others are computed.
+class States {
+  constructor(entries, before) {
+    this.entries = entries;
+    this.apart = Math.max(50, Math.ceil(entries.length / 2000));
+    this.kept = [];
+    const state = before ? stateOf(before) : emptyState();
+    if (!before && entries.length > 0) state.entries = entries[0].place;
+    // The queue of each entry, and the names of all queues.
+    this.queues = [];
+    this.names = new Map();
+    for (let k = 0; k <= entries.length; k += 1) {
+      if (k % this.apart === 0) this.kept.push(copyOf(state));
+      if (k < entries.length) this.note(state, entries[k]);
+    }
+  }
+
+  note(state, entry) {
+    const before = queueOf(state, entry);
+    follow(state, entry);
+    const held = state.processes.get(entry.process).held;
+    const opened = entry.reply === "fd" ? held.get(Number(entry.got[0])) : null;
+    const queue = opened ? state.queues.get(opened.queue) : before;
+    if (queue) this.names.set(queue.queue, queue.name);
+    this.queues.push(queue ? queue.queue : null);
+  }
+
+  // The state before the k-th entry of the page.
+  at(k) {
+    const nearest = Math.floor(k / this.apart);
+    const state = copyOf(this.kept[nearest]);
+    for (let i = nearest * this.apart; i < k; i += 1) follow(state, this.entries[i]);
+    return state;
+  }
+}
+
+function quoted(text) {
+  return `"${text.replace(/["\\]/g, "\\$&")}"`;
+}
+
+function messageJson(it) {
+  return `"priority":${it.priority},"length":${it.length},"text":${quoted(it.text)}}`;
+}
+
+function registrationJson(n) {
+  if (!n) return "null";
+  return `{"place":${n.place},"process":${n.process},"descriptor":${n.descriptor},` +
+    `"value":${n.value}}`;
+}
+
+function queueJson(it) {
+  const messages = it.messages.map((m) => `{"place":${m.place},${messageJson(m)}`);
+  const senders = it.senders
+    .map((m) => `{"place":${m.place},"process":${m.process},${messageJson(m)}`);
+  const receivers = it.receivers.map((w) => `{"place":${w.place},"process":${w.process}}`);
+  return `{"queue":${it.queue},"name":${quoted(it.name)},"named":${it.named},` +
+    `"maxmsg":${it.maxmsg},"msgsize":${it.msgsize},"messages":[${messages}],` +
+    `"senders":[${senders}],"receivers":[${receivers}],` +
+    `"registration":${registrationJson(it.registration)}}`;
+}
+
+function processJson(it) {
+  const held = [...it.held.values()].sort((a, b) => a.descriptor - b.descriptor);
+  const descriptors = held.map((h) => `{"descriptor":${h.descriptor},"queue":${h.queue},` +
+    `"access":"${h.access}","nonblock":${h.nonblock}}`);
+  return `{"process":${it.process},"descriptors":[${descriptors}],"wait":${it.wait},` +
+    `"answered":${it.answered},"notices":[${it.notices}]}`;
+}
+
+// A state as `mqlog state --json` writes it.
+function stateJson(state) {
+  const queues = [...state.queues.values()].sort((a, b) => a.queue - b.queue).map(queueJson);
+  const processes = [...state.processes.values()]
+    .sort((a, b) => a.process - b.process).map(processJson);
+  return `{"entries":${state.entries},"queues":[${queues}],"processes":[${processes}]}\n`;
+}
+
+if (typeof module !== "undefined") {
+  module.exports = {
+    SENDS, RECEIVES, States, copyOf, emptyState, endedWait, entriesOf, entryOf, follow, isError,
+    named, queueOf, stateJson, taken,
+  };
+}

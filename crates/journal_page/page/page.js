@@ -1,0 +1,171 @@
+// The page: what is chosen, what is shown, and what keys and buttons do.
+"use strict";
+
+class Page {
+  constructor(text) {
+    const entries = entriesOf(text);
+    this.journal = { entries, links: new Links(entries), states: new States(entries, null) };
+    this.timeline = new Timeline(document.querySelector("canvas"), this.journal);
+    this.shows = (entry, i) => this.passes(entry, i);
+    this.timeline.shows = this.shows;
+    this.fillFilters();
+    this.listen();
+    const { start } = this.journal.links;
+    const last = start + entries.length - 1;
+    const title = entries.length === 0 ? "The journal is empty" : `Entries ${start} to ${last}`;
+    document.querySelector("#title").textContent = title;
+    this.choose(0);
+  }
+
+  input(name) {
+    return document.querySelector(`#${name}`);
+  }
+
+  fillFilters() {
+    const { entries, states } = this.journal;
+    const fill = (name, values) => {
+      this.input(name).append(new Option("all", ""));
+      for (const [value, text] of values) this.input(name).append(new Option(text, value));
+    };
+    const numbers = [...new Set(entries.map((it) => it.process))].sort((a, b) => a - b);
+    fill("process", numbers.map((it) => [it, it]));
+    fill("queue", [...states.names].map(([q, name]) => [q, `${q} ${name}`]));
+    fill("call", [...new Set(entries.map((it) => it.call))].sort().map((it) => [it, it]));
+  }
+
+  // Whether the filters let an entry through.
+  passes(entry, i) {
+    const { process, queue, call, errors, find } = this.filters;
+    return (process === "" || entry.process === Number(process)) &&
+      (queue === "" || this.journal.states.queues[i] === Number(queue)) &&
+      (call === "" || entry.call === call) && (!errors || isError(entry)) &&
+      (find === "" || entry.line.includes(find));
+  }
+
+  get filters() {
+    if (!this.read) {
+      const [process, queue, call] = ["process", "queue", "call"].map((it) => this.input(it).value);
+      const find = this.input("find").value;
+      this.read = { process, queue, call, errors: this.input("errors").checked, find };
+    }
+    return this.read;
+  }
+
+  // The next entry from here, forward or back, that the filters and a test let through.
+  next(step, test = () => true) {
+    const { entries } = this.journal;
+    for (let i = this.timeline.chosen + step; i >= 0 && i < entries.length; i += step) {
+      if (this.passes(entries[i], i) && test(entries[i])) return i;
+    }
+    return this.timeline.chosen;
+  }
+
+  choose(i) {
+    const { entries, states } = this.journal;
+    if (entries.length === 0) {
+      this.timeline.draw();
+      return;
+    }
+    this.timeline.chosen = i;
+    const before = states.at(i);
+    const after = copyOf(before);
+    follow(after, entries[i]);
+    const message = messageAt(this.journal, i);
+    this.timeline.story = new Set(message === null ? [] : [message - this.journal.links.start]);
+    this.input("entry").replaceChildren(...entryPanel(this, i, before, after));
+    this.input("state").replaceChildren(element("h2", "State"), stateTable(before, after));
+    this.timeline.reveal(i);
+    this.draw();
+  }
+
+  draw() {
+    if (this.waiting) return;
+    this.waiting = true;
+    requestAnimationFrame(() => {
+      this.waiting = false;
+      this.timeline.draw();
+      const note = "Too many entries are shown for arrows: zoom in.";
+      this.input("note").textContent = this.timeline.tooMany ? note : "";
+    });
+  }
+
+  listen() {
+    const filters = ["process", "queue", "call", "errors", "find"];
+    filters.forEach((it) => this.input(it).addEventListener("input", () => {
+      this.read = null;
+      this.draw();
+    }));
+    const middle = () => this.timeline.x(this.timeline.chosen);
+    const buttons = {
+      back: () => this.choose(this.next(-1)), on: () => this.choose(this.next(1)),
+      in: () => this.zoom(1.5, middle()), out: () => this.zoom(1 / 1.5, middle()),
+      theme: () => this.turnTheme(),
+    };
+    for (const [name, act] of Object.entries(buttons)) this.input(name).addEventListener("click", act);
+    document.addEventListener("keydown", (event) => this.key(event, buttons));
+    window.addEventListener("resize", () => this.draw());
+    this.listenToPointer(this.timeline.canvas);
+    const dark = window.matchMedia("(prefers-color-scheme: dark)").matches;
+    document.documentElement.dataset.theme = dark ? "dark" : "light";
+  }
+
+  turnTheme() {
+    const { dataset } = document.documentElement;
+    dataset.theme = dataset.theme === "dark" ? "light" : "dark";
+    this.draw();
+  }
+
+  zoom(factor, x) {
+    this.timeline.zoom(factor, x);
+    this.draw();
+  }
+
+  listenToPointer(canvas) {
+    let held = null;
+    canvas.addEventListener("pointerdown", (event) => {
+      held = { x: event.offsetX, moved: false };
+      canvas.setPointerCapture(event.pointerId);
+    });
+    canvas.addEventListener("pointermove", (event) => {
+      if (!held) return;
+      const by = held.x - event.offsetX;
+      if (!held.moved && Math.abs(by) < 4) return;
+      held = { x: event.offsetX, moved: true };
+      this.timeline.pan(by);
+      this.draw();
+    });
+    canvas.addEventListener("pointerup", (event) => {
+      if (held && !held.moved) this.choose(this.timeline.entryAt(event.offsetX));
+      held = null;
+    });
+    canvas.addEventListener("wheel", (event) => {
+      event.preventDefault();
+      if (event.shiftKey || Math.abs(event.deltaX) > Math.abs(event.deltaY)) {
+        this.timeline.pan(event.deltaX || event.deltaY);
+        this.draw();
+      } else this.zoom(event.deltaY < 0 ? 1.25 : 0.8, event.offsetX);
+    }, { passive: false });
+  }
+
+  key(event, buttons) {
+    const typing = ["INPUT", "SELECT"].includes(event.target.tagName);
+    if (event.key === "Escape") event.target.blur();
+    if (event.key === "Enter" && event.target.id === "find") this.choose(this.next(1));
+    if (typing || event.ctrlKey || event.metaKey || event.altKey) return;
+    const { entries } = this.journal;
+    const chosen = entries[this.timeline.chosen];
+    const same = (it) => !event.shiftKey || it.process === chosen.process;
+    const acts = {
+      ArrowLeft: () => this.choose(this.next(-1, same)),
+      ArrowRight: () => this.choose(this.next(1, same)),
+      Home: () => this.choose(0), End: () => this.choose(entries.length - 1),
+      e: () => this.choose(this.next(1, isError)), n: () => this.choose(this.next(1)),
+      "+": buttons.in, "-": buttons.out, "/": () => this.input("find").focus(),
+    };
+    if (!acts[event.key]) return;
+    event.preventDefault();
+    if (chosen) acts[event.key]();
+  }
+}
+
+new Page(document.querySelector("#journal").textContent);

@@ -1,0 +1,9 @@
+//! Pages of journals: what a browser shows, in one file.
+#![tactic(auto)]
+
+mod page;
+mod template;
+mod view;
+
+pub use template::{HEAD, TAIL};
+pub use view::{Unviewed, Viewed, view_journal};

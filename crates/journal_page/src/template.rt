@@ -1,0 +1,1297 @@
+//! The template of a page, which `tools/template` writes.
+
+/// What stands before the lines of a journal.
+pub static HEAD: &str = r###"<!DOCTYPE html>
+<html lang="en">
+<head>
+<meta charset="utf-8">
+<meta name="viewport" content="width=device-width, initial-scale=1">
+<meta http-equiv="Content-Security-Policy" content="default-src 'none'; style-src 'unsafe-inline';
+ script-src 'unsafe-inline'">
+<title>A journal of message queues</title>
+<style>
+:root {
+  color-scheme: light;
+  --back: #fdfdfb; --panel: #f1f1ec; --text: #1c1c1c; --faint: #6a6a6a; --line: #d4d4ce;
+  --chosen: #cfe3f7; --wait: #f3c667; --message: #7a8793; --story: #7c2fb0; --cross: #b3231a;
+  --ring: #8a5a00; --up: #1d5f9e; --down: #1b7a3d; --diamond: #7c2fb0; --new: #dff0d8;
+  --gone: #f6d9d5;
+}
+:root[data-theme="dark"] {
+  color-scheme: dark;
+  --back: #16181b; --panel: #212429; --text: #e8e8e4; --faint: #a0a4aa; --line: #3a3f46;
+  --chosen: #2b4157; --wait: #7a5a14; --message: #8f9ba7; --story: #cf9bf2; --cross: #ff8478;
+  --ring: #f0c060; --up: #7cbcf5; --down: #7ad79b; --diamond: #cf9bf2; --new: #23402a;
+  --gone: #522a26;
+}
+* { box-sizing: border-box; }
+body {
+  margin: 0; height: 100vh; display: flex; flex-direction: column;
+  background: var(--back); color: var(--text); font: 14px/1.45 sans-serif;
+}
+header { display: flex; flex-wrap: wrap; gap: 6px 12px; align-items: center; padding: 6px 10px;
+  background: var(--panel); border-bottom: 1px solid var(--line); }
+header strong { margin-right: 6px; }
+button, select, input { font: inherit; color: inherit; background: var(--back);
+  border: 1px solid var(--line); border-radius: 3px; padding: 1px 6px; }
+button:focus-visible, select:focus-visible, input:focus-visible, canvas:focus-visible {
+  outline: 2px solid var(--up); outline-offset: 1px; }
+#picture { max-height: 46vh; overflow-y: auto; border-bottom: 1px solid var(--line); flex: none; }
+canvas { display: block; width: 100%; cursor: crosshair; }
+#legend, #note { color: var(--faint); padding: 2px 10px; }
+main { display: grid; grid-template-columns: 1fr 1fr; gap: 0 18px; padding: 8px 12px;
+  overflow: auto; flex: 1; align-content: start; }
+h2 { font-size: 15px; margin: 6px 0 4px; }
+code, .line { font-family: monospace; overflow-wrap: anywhere; }
+.line { background: var(--panel); padding: 4px 8px; border-left: 4px solid var(--up); }
+.line.error { border-left-color: var(--cross); }
+table { border-collapse: collapse; width: 100%; table-layout: fixed; }
+th { text-align: left; font-weight: normal; color: var(--faint); }
+td { vertical-align: top; font-family: monospace; font-size: 13px; padding: 0 6px;
+  white-space: pre-wrap; overflow-wrap: anywhere; border-left: 1px solid var(--line); }
+td.gone { background: var(--gone); }
+td.new { background: var(--new); }
+ol, ul { margin: 2px 0 8px; padding-left: 22px; }
+ul { list-style: none; padding-left: 0; }
+a { color: var(--up); cursor: pointer; text-decoration: underline; }
+.grave { font-weight: bold; color: var(--cross); }
+@media (max-width: 900px) { main { grid-template-columns: 1fr; } }
+</style>
+</head>
+<body>
+<header>
+<strong id="title"></strong>
+<span><button id="back" title="the entry before (left)">&#9664;</button>
+<button id="on" title="the next entry (right)">&#9654;</button></span>
+<span><button id="out" title="show more (-)">&minus;</button>
+<button id="in" title="show less (+)">+</button></span>
+<label>process <select id="process"></select></label>
+<label>queue <select id="queue"></select></label>
+<label>call <select id="call"></select></label>
+<label><input type="checkbox" id="errors"> errors alone</label>
+<label>find <input id="find" size="14" placeholder="text of a line"></label>
+<button id="theme">dark or light</button>
+</header>
+<div id="picture"><canvas tabindex="0" aria-label="the calls of each process, in order"></canvas></div>
+<div id="legend">&#9650; send &nbsp; &#9660; receive &nbsp; &#9711; waits, and the striped bar until it
+is served &nbsp; &#10007; error &nbsp; &#9670; notify or notice &nbsp; &#9686; collect or withdraw
+&nbsp; &#9632; other &nbsp; | &nbsp; left and right: step, with Shift in the same process; + and -:
+zoom; drag: move; /: find; n: next found; e: next error</div>
+<div id="note"></div>
+<main><section id="entry"></section><section id="state"></section></main>
+<pre id="journal" hidden>
+"###;
+
+/// What stands behind them.
+pub static TAIL: &str = r###"</pre>
+<script>
+"use strict";
+
+// What a journal says: its entries, and the state of the queues after each of them.
+const SENDS = new Set(["send", "tsend"]);
+const RECEIVES = new Set(["recv", "trecv"]);
+const FIRST_BYTES = 24;
+
+// The entry that a line of a journal has. The payload stays as it is written.
+function entryOf(line) {
+  const words = line.split(" ");
+  const arrow = words.indexOf("->", 3);
+  const quoted = words[arrow - 1].startsWith('"') && arrow > 3;
+  return {
+    place: Number(words[0]),
+    process: Number(words[1]),
+    call: words[2],
+    given: words.slice(3, quoted ? arrow - 1 : arrow),
+    payload: quoted ? words[arrow - 1].slice(1, -1) : "",
+    reply: words[arrow + 1],
+    got: words.slice(arrow + 2),
+    line,
+  };
+}
+
+function entriesOf(text) {
+  return text.split("\n").filter((line) => line !== "").map(entryOf);
+}
+
+// The number that follows a word of a reply, as in "admitted 7".
+function named(entry, word) {
+  const at = entry.got.indexOf(word);
+  return at < 0 ? null : Number(entry.got[at + 1]);
+}
+
+// The message that an entry takes: the place of its send.
+function taken(entry) {
+  if (entry.reply === "got") return Number(entry.got[0]);
+  return entry.reply === "handed" ? entry.place : null;
+}
+
+// The wait that an entry ends.
+function endedWait(entry) {
+  if (entry.reply === "handed" || entry.reply === "withdrawn") return Number(entry.got[0]);
+  return named(entry, "admitted");
+}
+
+function isError(entry) {
+  return /^[A-Z]/.test(entry.reply);
+}
+
+// What a message brings to a list of messages.
+function messageOf(entry) {
+  return {
+    place: entry.place,
+    process: entry.process,
+    priority: Number(entry.given[1]),
+    length: Number(entry.given[2]),
+    text: firstBytes(entry.payload),
+  };
+}
+
+// The first bytes of a payload, as they are written.
+function firstBytes(payload) {
+  const bytes = payload.match(/%[0-9A-F]{2}|[^%]/g) || [];
+  return bytes.slice(0, FIRST_BYTES).join("");
+}
+
+function emptyState() {
+  return { entries: 0, queues: new Map(), processes: new Map() };
+}
+
+// The state that `mqlog state --json` has written.
+function stateOf(json) {
+  const state = emptyState();
+  state.entries = json.entries;
+  for (const it of json.queues) state.queues.set(it.queue, { ...it });
+  for (const it of json.processes) {
+    const held = new Map(it.descriptors.map((h) => [h.descriptor, h]));
+    state.processes.set(it.process, { ...it, held });
+  }
+  return state;
+}
+
+function copyOf(state) {
+  const queues = new Map();
+  for (const [q, it] of state.queues) {
+    const lists = { messages: [...it.messages], senders: [...it.senders] };
+    queues.set(q, { ...it, ...lists, receivers: [...it.receivers] });
+  }
+  const processes = new Map();
+  for (const [p, it] of state.processes) {
+    processes.set(p, { ...it, held: new Map(it.held), notices: [...it.notices] });
+  }
+  return { entries: state.entries, queues, processes };
+}
+
+function processOf(state, p) {
+  if (!state.processes.has(p)) {
+    state.processes.set(p, { process: p, held: new Map(), wait: null, answered: null, notices: [] });
+  }
+  return state.processes.get(p);
+}
+
+function boundQueue(state, name) {
+  for (const it of state.queues.values()) {
+    if (it.named && it.name === name) return it;
+  }
+  return null;
+}
+
+function withoutPlace(list, place) {
+  return list.filter((it) => it.place !== place);
+}
+
+// Adds a message where it will be received: by priority, then by the place of its send.
+function addMessage(queue, message) {
+  const first = (it) => it.priority > message.priority ||
+    (it.priority === message.priority && it.place < message.place);
+  const at = queue.messages.findIndex((it) => !first(it));
+  queue.messages.splice(at < 0 ? queue.messages.length : at, 0, message);
+}
+
+// Lets queues go that have no name and that nobody holds.
+function forget(state) {
+  const held = new Set();
+  for (const it of state.processes.values()) {
+    for (const h of it.held.values()) held.add(h.queue);
+  }
+  for (const [q, it] of state.queues) {
+    if (!it.named && !held.has(q)) state.queues.delete(q);
+  }
+}
+
+function followOpen(state, entry, process) {
+  const d = Number(entry.got[0]);
+  let queue = boundQueue(state, entry.payload);
+  if (entry.got[1] === "created") {
+    const at = entry.given.indexOf("limits");
+    const [maxmsg, msgsize] = at < 0 ? ["10", "8192"] : entry.given.slice(at + 1);
+    queue = {
+      queue: entry.place, name: entry.payload, named: true, maxmsg, msgsize,
+      messages: [], senders: [], receivers: [], registration: null,
+    };
+    state.queues.set(entry.place, queue);
+  }
+  const flags = entry.given[0];
+  process.held.set(d, {
+    descriptor: d, queue: queue ? queue.queue : 0, access: flags[0], nonblock: flags.includes("n"),
+  });
+}
+
+function followClose(state, entry, process) {
+  const d = Number(entry.given[0]);
+  process.held.delete(d);
+  for (const it of state.queues.values()) {
+    const n = it.registration;
+    if (n && n.process === entry.process && n.descriptor === d) it.registration = null;
+  }
+  forget(state);
+}
+
+function followUnlink(state, entry) {
+  const queue = boundQueue(state, entry.payload);
+  if (queue) queue.named = false;
+  forget(state);
+}
+
+function followNotify(entry, queue) {
+  const value = entry.given[1];
+  if (value !== "-") {
+    const descriptor = Number(entry.given[0]);
+    queue.registration = { place: entry.place, process: entry.process, descriptor, value };
+  } else if (queue.registration && queue.registration.process === entry.process) {
+    queue.registration = null;
+  }
+}
+
+// The registration that a reply notified becomes a notice of its process.
+function followNotice(state, entry, queue) {
+  const place = named(entry, "notified");
+  if (place === null || !queue.registration || queue.registration.place !== place) return;
+  processOf(state, queue.registration.process).notices.push(queue.registration.value);
+  queue.registration = null;
+}
+
+function answer(state, place, by) {
+  for (const it of state.processes.values()) {
+    if (it.wait === place) it.answered = by;
+  }
+}
+
+function followMessages(state, entry, queue) {
+  const message = taken(entry);
+  if (message !== null) queue.messages = withoutPlace(queue.messages, message);
+  const wait = endedWait(entry);
+  if (wait === null) return;
+  const sender = queue.senders.find((it) => it.place === wait);
+  if (sender && entry.reply === "got") addMessage(queue, sender);
+  queue.senders = withoutPlace(queue.senders, wait);
+  queue.receivers = withoutPlace(queue.receivers, wait);
+  if (entry.reply !== "withdrawn") answer(state, wait, entry.place);
+}
+
+function followWait(entry, process, queue) {
+  process.wait = entry.place;
+  if (!queue) return;
+  if (SENDS.has(entry.call)) queue.senders.push(messageOf(entry));
+  else queue.receivers.push({ place: entry.place, process: entry.process });
+}
+
+// The queue that an entry is made on, by the state before it.
+function queueOf(state, entry) {
+  const process = state.processes.get(entry.process);
+  if (!process) return null;
+  if (entry.call === "withdraw" || entry.call === "collect") {
+    for (const it of state.queues.values()) {
+      const waits = [...it.senders, ...it.receivers];
+      if (waits.some((w) => w.place === process.wait)) return it;
+    }
+    return null;
+  }
+  const h = process.held.get(Number(entry.given[0]));
+  return entry.call === "open" || !h ? null : state.queues.get(h.queue) || null;
+}
+
+// Goes on from the state before an entry to the one after it.
+function follow(state, entry) {
+  const queue = queueOf(state, entry);
+  const process = processOf(state, entry.process);
+  process.wait = null;
+  process.answered = null;
+  state.entries += 1;
+  if (entry.reply === "fd") followOpen(state, entry, process);
+  else if (entry.reply === "waits") followWait(entry, process, queue);
+  else if (entry.reply === "attr") followAttributes(entry, process);
+  else if (entry.reply === "notice") followGiven(entry, process);
+  else if (entry.reply === "ok") followDone(state, entry, process, queue);
+  else if (queue) {
+    followMessages(state, entry, queue);
+    if (entry.reply === "queued") addMessage(queue, messageOf(entry));
+    followNotice(state, entry, queue);
+  }
+}
+
+function followDone(state, entry, process, queue) {
+  if (entry.call === "close") followClose(state, entry, process);
+  else if (entry.call === "unlink") followUnlink(state, entry);
+  else if (entry.call === "notify" && queue) followNotify(entry, queue);
+}
+
+function followAttributes(entry, process) {
+  const d = Number(entry.given[0]);
+  const h = process.held.get(d);
+  if (entry.call === "setattr" && h) process.held.set(d, { ...h, nonblock: entry.given[1] === "1" });
+}
+
+function followGiven(entry, process) {
+  if (entry.got[0] !== "none") process.notices.shift();
+}
+
+// The states of a journal: a copy is kept each so many entries, and the others are computed.
+class States {
+  constructor(entries, before) {
+    this.entries = entries;
+    this.apart = Math.max(50, Math.ceil(entries.length / 2000));
+    this.kept = [];
+    const state = before ? stateOf(before) : emptyState();
+    if (!before && entries.length > 0) state.entries = entries[0].place;
+    // The queue of each entry, and the names of all queues.
+    this.queues = [];
+    this.names = new Map();
+    for (let k = 0; k <= entries.length; k += 1) {
+      if (k % this.apart === 0) this.kept.push(copyOf(state));
+      if (k < entries.length) this.note(state, entries[k]);
+    }
+  }
+
+  note(state, entry) {
+    const before = queueOf(state, entry);
+    follow(state, entry);
+    const held = state.processes.get(entry.process).held;
+    const opened = entry.reply === "fd" ? held.get(Number(entry.got[0])) : null;
+    const queue = opened ? state.queues.get(opened.queue) : before;
+    if (queue) this.names.set(queue.queue, queue.name);
+    this.queues.push(queue ? queue.queue : null);
+  }
+
+  // The state before the k-th entry of the page.
+  at(k) {
+    const nearest = Math.floor(k / this.apart);
+    const state = copyOf(this.kept[nearest]);
+    for (let i = nearest * this.apart; i < k; i += 1) follow(state, this.entries[i]);
+    return state;
+  }
+}
+
+function quoted(text) {
+  return `"${text.replace(/["\\]/g, "\\$&")}"`;
+}
+
+function messageJson(it) {
+  return `"priority":${it.priority},"length":${it.length},"text":${quoted(it.text)}}`;
+}
+
+function registrationJson(n) {
+  if (!n) return "null";
+  return `{"place":${n.place},"process":${n.process},"descriptor":${n.descriptor},` +
+    `"value":${n.value}}`;
+}
+
+function queueJson(it) {
+  const messages = it.messages.map((m) => `{"place":${m.place},${messageJson(m)}`);
+  const senders = it.senders
+    .map((m) => `{"place":${m.place},"process":${m.process},${messageJson(m)}`);
+  const receivers = it.receivers.map((w) => `{"place":${w.place},"process":${w.process}}`);
+  return `{"queue":${it.queue},"name":${quoted(it.name)},"named":${it.named},` +
+    `"maxmsg":${it.maxmsg},"msgsize":${it.msgsize},"messages":[${messages}],` +
+    `"senders":[${senders}],"receivers":[${receivers}],` +
+    `"registration":${registrationJson(it.registration)}}`;
+}
+
+function processJson(it) {
+  const held = [...it.held.values()].sort((a, b) => a.descriptor - b.descriptor);
+  const descriptors = held.map((h) => `{"descriptor":${h.descriptor},"queue":${h.queue},` +
+    `"access":"${h.access}","nonblock":${h.nonblock}}`);
+  return `{"process":${it.process},"descriptors":[${descriptors}],"wait":${it.wait},` +
+    `"answered":${it.answered},"notices":[${it.notices}]}`;
+}
+
+// A state as `mqlog state --json` writes it.
+function stateJson(state) {
+  const queues = [...state.queues.values()].sort((a, b) => a.queue - b.queue).map(queueJson);
+  const processes = [...state.processes.values()]
+    .sort((a, b) => a.process - b.process).map(processJson);
+  return `{"entries":${state.entries},"queues":[${queues}],"processes":[${processes}]}\n`;
+}
+
+if (typeof module !== "undefined") {
+  module.exports = {
+    SENDS, RECEIVES, States, copyOf, emptyState, endedWait, entriesOf, entryOf, follow, isError,
+    named, queueOf, stateJson, taken,
+  };
+}
+
+// What became of a message or a registration, and why a process waits.
+// The links between entries: where a message was taken, and where a wait ended.
+class Links {
+  constructor(entries) {
+    this.start = entries.length > 0 ? entries[0].place : 0;
+    this.takenAt = new Map();
+    this.endedAt = new Map();
+    this.collectedAt = new Map();
+    this.notifiedAt = new Map();
+    entries.forEach((it, i) => this.note(it, i));
+  }
+
+  note(entry, i) {
+    const message = taken(entry);
+    if (message !== null) this.takenAt.set(message, i);
+    const wait = endedWait(entry);
+    if (wait !== null) this.endedAt.set(wait, i);
+    if (entry.reply === "collected") this.collectedAt.set(Number(entry.got[0]), i);
+    const place = named(entry, "notified");
+    if (place !== null) this.notifiedAt.set(place, i);
+  }
+}
+
+function isSent(entry) {
+  return SENDS.has(entry.call) && ["queued", "handed", "waits"].includes(entry.reply);
+}
+
+// The send whose message an entry has to do with.
+function messageAt(journal, i) {
+  const entry = journal.entries[i];
+  if (isSent(entry)) return entry.place;
+  const message = taken(entry);
+  if (message !== null) return message;
+  if (entry.reply !== "collected") return null;
+  const by = journal.entries[Number(entry.got[0]) - journal.links.start];
+  return by && by.reply === "handed" ? by.place : null;
+}
+
+function queueName(queue) {
+  if (!queue) return "a queue from before the window";
+  const name = queue.name === "" ? "without a name" : queue.name;
+  return `queue ${queue.queue} (${name}${queue.named ? "" : ", unlinked"})`;
+}
+
+// Where a message went, step by step: texts with the places that they speak of.
+function messageStory(journal, place) {
+  const { entries, links, states } = journal;
+  const i = place - links.start;
+  const sent = entries[i];
+  if (!sent) return [{ text: `Message ${place} was sent before the window.` }];
+  const queue = queueOf(states.at(i), sent);
+  const size = `priority ${sent.given[1]}, ${sent.given[2]} bytes`;
+  const steps = [{ text: `Process ${sent.process} sent it to ${queueName(queue)}: ${size}.`, i }];
+  if (sent.reply === "waits") steps.push(...admissionStory(journal, place));
+  const end = links.takenAt.get(place);
+  if (end === undefined) {
+    const left = links.endedAt.has(place) || sent.reply !== "waits";
+    if (left && !isWithdrawn(journal, place)) {
+      steps.push({ text: "Nobody received it by the end of the journal." });
+    }
+    return steps;
+  }
+  steps.push(...overtakingStory(journal, place, end, queue), receiptStep(journal, end));
+  return steps;
+}
+
+function isWithdrawn(journal, place) {
+  const end = journal.links.endedAt.get(place);
+  return end !== undefined && journal.entries[end].reply === "withdrawn";
+}
+
+function admissionStory(journal, place) {
+  const steps = [{ text: "The queue was full, so the send waited." }];
+  const end = journal.links.endedAt.get(place);
+  if (end === undefined) steps.push({ text: "It still waits at the end of the journal." });
+  else if (isWithdrawn(journal, place)) {
+    steps.push({ text: "Its deadline passed: the message was never in the queue.", i: end });
+  } else steps.push({ text: "A receive made room, and it was admitted.", i: end });
+  return steps;
+}
+
+function receiptStep(journal, end) {
+  const entry = journal.entries[end];
+  if (entry.reply === "got") {
+    return { text: `Process ${entry.process} received it.`, i: end };
+  }
+  const waiting = journal.entries[Number(entry.got[0]) - journal.links.start];
+  const who = waiting ? `process ${waiting.process}` : "a process";
+  return { text: `It was handed to ${who}, which waited for a message.`, i: end };
+}
+
+// What was received from the queue before this message, though it was sent later or has a lower
+// priority.
+function overtakingStory(journal, place, end, queue) {
+  const { entries, links, states } = journal;
+  const start = place - links.start;
+  const priority = (m) => (entries[m - links.start] ? Number(entries[m - links.start].given[1]) : 0);
+  const found = [];
+  for (let k = start + 1; k < end; k += 1) {
+    const on = queue && states.queues[k] === queue.queue;
+    if (on && taken(entries[k]) !== null) found.push(k);
+  }
+  const later = found.filter((k) => taken(entries[k]) > place);
+  const lower = found.filter((k) => priority(taken(entries[k])) < priority(place));
+  return [...countStep("Sent later and received earlier", later),
+    ...countStep("Of a lower priority and received earlier", lower)];
+}
+
+function countStep(what, found) {
+  if (found.length === 0) return [];
+  const count = `${found.length} ${found.length === 1 ? "message" : "messages"}`;
+  return [{ text: `${what}: ${count}, the first by`, i: found[0] }];
+}
+
+// What became of a registration.
+function registrationStory(journal, i) {
+  const { entries, links } = journal;
+  const made = entries[i];
+  const steps = [{ text: `Process ${made.process} registered with value ${made.given[1]}.`, i }];
+  const end = links.notifiedAt.get(made.place);
+  if (end === undefined) return [...steps, ...lostStory(journal, i)];
+  steps.push({ text: "A message came to the empty queue and ended it: a notice.", i: end });
+  for (let k = end + 1; k < entries.length; k += 1) {
+    const it = entries[k];
+    if (it.process === made.process && it.reply === "notice" && it.got[0] === made.given[1]) {
+      return [...steps, { text: "The process took the notice.", i: k }];
+    }
+  }
+  return [...steps, { text: "The process never asked for the notice." }];
+}
+
+// Where a registration ended without a notice, if it did, and what it missed.
+function lostStory(journal, i) {
+  const { entries, states } = journal;
+  const made = entries[i];
+  const queue = queueOf(states.at(i), made);
+  const steps = [];
+  let handed = false;
+  const state = states.at(i + 1);
+  const there = queue ? queue.messages.length : 0;
+  if (there > 0) {
+    const text = `The queue had ${there} ${there === 1 ? "message" : "messages"} then: a notice ` +
+      "comes only with a message to an empty queue.";
+    steps.push({ text, i });
+  }
+  for (let k = i + 1; k < entries.length && queue; k += 1) {
+    const on = queueOf(state, entries[k]);
+    const same = on && on.queue === queue.queue;
+    if (same && entries[k].reply === "handed" && !handed) {
+      handed = true;
+      const text = "A message came, but a receive waited: it was handed over, without a notice.";
+      steps.push({ text, i: k });
+    }
+    follow(state, entries[k]);
+    const now = state.queues.get(queue.queue);
+    if (!now || !now.registration || now.registration.place !== made.place) {
+      const text = `It ended without a notice: ${entries[k].call} of process ` +
+        `${entries[k].process}.`;
+      return [...steps, { text, i: k }];
+    }
+  }
+  return [...steps, { text: "It still stands at the end of the journal." }];
+}
+
+// The queue on which a process waits, and with which kind of call.
+function waitOf(state, p) {
+  const process = state.processes.get(p);
+  if (!process || process.wait === null) return null;
+  for (const queue of state.queues.values()) {
+    const sends = queue.senders.some((it) => it.place === process.wait);
+    if (sends || queue.receivers.some((it) => it.place === process.wait)) {
+      return { queue, sends, place: process.wait };
+    }
+  }
+  return { queue: null, sends: false, place: process.wait };
+}
+
+// The processes that could answer a wait: those that may receive from the queue, or send to it.
+function couldAnswer(state, wait, p) {
+  const access = wait.sends ? "r" : "w";
+  const found = [];
+  for (const it of state.processes.values()) {
+    const held = [...it.held.values()];
+    const can = held.some((h) => wait.queue && h.queue === wait.queue.queue &&
+      (h.access === "b" || h.access === access));
+    if (can && it.process !== p) found.push(it.process);
+  }
+  return found.sort((a, b) => a - b);
+}
+
+// The processes that wait for ever unless somebody else comes: none that could answer them runs, and
+// no deadline ends their wait.
+function stuckProcesses(journal, state) {
+  const stuck = new Set();
+  for (const it of state.processes.values()) {
+    const wait = waitOf(state, it.process);
+    const call = wait && journal.entries[wait.place - journal.links.start];
+    const timed = !call || call.call.startsWith("t");
+    if (wait && wait.queue && it.answered === null && !timed) stuck.add(it.process);
+  }
+  let size = -1;
+  while (size !== stuck.size) {
+    size = stuck.size;
+    for (const p of [...stuck]) {
+      if (couldAnswer(state, waitOf(state, p), p).some((q) => !stuck.has(q))) stuck.delete(p);
+    }
+  }
+  return stuck;
+}
+
+// Why a process waits: the queue, who could answer, and why each of those does not.
+function waitStory(journal, state, p, k) {
+  const stuck = stuckProcesses(journal, state);
+  const steps = [];
+  const seen = new Set();
+  const tell = (q, depth) => {
+    seen.add(q);
+    const wait = waitOf(state, q);
+    steps.push({ depth, text: waitText(journal, state, q, wait), i: lastOf(journal, q, k) });
+    if (!wait || !wait.queue) return;
+    for (const other of couldAnswer(state, wait, q)) {
+      if (seen.has(other)) {
+        const text = `Process ${other} could answer: it was told of above.`;
+        steps.push({ depth: depth + 1, text });
+      } else tell(other, depth + 1);
+    }
+  };
+  tell(p, 0);
+  if (stuck.has(p)) {
+    const text = "Deadlock: nobody who could answer runs. Only a process that opens the queue " +
+      "anew can end this.";
+    steps.push({ depth: 0, text, grave: true });
+  }
+  return steps;
+}
+
+function waitText(journal, state, p, wait) {
+  const process = state.processes.get(p);
+  if (!wait) return `Process ${p} does not wait: it may call. Its last call was`;
+  if (process.answered !== null) {
+    return `Process ${p} was answered by entry ${process.answered}, and has not gone on yet.`;
+  }
+  const what = wait.sends ? "room in" : "a message in";
+  const who = couldAnswer(state, wait, p);
+  const could = wait.sends ? "could receive from it" : "could send to it";
+  const list = who.length === 0 ? "No other process" : `Of the others, ${who.join(", ")}`;
+  return `Process ${p} waits for ${what} ${queueName(wait.queue)} since entry ${wait.place}. ` +
+    `${list} ${could}.`;
+}
+
+// The last entry of a process before the k-th.
+function lastOf(journal, p, k) {
+  for (let i = Math.min(k, journal.entries.length) - 1; i >= 0; i -= 1) {
+    if (journal.entries[i].process === p) return i;
+  }
+  return undefined;
+}
+
+// The picture: time from left to right, a lane for each process.
+const LANE = 34;
+const TOP = 22;
+const LEFT = 64;
+
+// The shape of a mark, by what the entry does: readable without its colour.
+function shapeOf(entry) {
+  if (isError(entry)) return "cross";
+  if (entry.reply === "waits") return "ring";
+  if (SENDS.has(entry.call)) return "up";
+  if (RECEIVES.has(entry.call)) return "down";
+  if (entry.call === "notify" || entry.call === "notice") return "diamond";
+  if (entry.call === "collect" || entry.call === "withdraw") return "half";
+  return "square";
+}
+
+const SHAPES = {
+  cross: (c, x, y) => {
+    c.moveTo(x - 5, y - 5);
+    c.lineTo(x + 5, y + 5);
+    c.moveTo(x + 5, y - 5);
+    c.lineTo(x - 5, y + 5);
+  },
+  ring: (c, x, y) => c.arc(x, y, 5, 0, 7),
+  up: (c, x, y) => polygon(c, [[x, y - 6], [x + 6, y + 5], [x - 6, y + 5]]),
+  down: (c, x, y) => polygon(c, [[x, y + 6], [x + 6, y - 5], [x - 6, y - 5]]),
+  diamond: (c, x, y) => polygon(c, [[x, y - 7], [x + 6, y], [x, y + 7], [x - 6, y]]),
+  half: (c, x, y) => c.arc(x, y, 5, Math.PI / 2, -Math.PI / 2),
+  square: (c, x, y) => c.rect(x - 4, y - 4, 8, 8),
+};
+
+function polygon(c, points) {
+  points.forEach(([x, y], i) => (i === 0 ? c.moveTo(x, y) : c.lineTo(x, y)));
+  c.closePath();
+}
+
+// The first of some rising numbers that is at least n, as an index.
+function firstFrom(numbers, n) {
+  let low = 0;
+  let high = numbers.length;
+  while (low < high) {
+    const middle = (low + high) >> 1;
+    if (numbers[middle] < n) low = middle + 1;
+    else high = middle;
+  }
+  return low;
+}
+
+class Timeline {
+  constructor(canvas, journal) {
+    this.canvas = canvas;
+    this.journal = journal;
+    this.from = 0;
+    this.scale = 20;
+    this.chosen = 0;
+    this.shows = () => true;
+    this.lanes = new Map();
+    const { entries, links } = journal;
+    const processes = [...new Set(entries.map((it) => it.process))].sort((a, b) => a - b);
+    processes.forEach((p, i) => this.lanes.set(p, i));
+    this.laneOf = Uint16Array.from(entries, (it) => this.lanes.get(it.process));
+    this.errors = Uint8Array.from(entries, isError);
+    this.waits = processes.map(() => ({ from: [], to: [] }));
+    entries.forEach((it, i) => {
+      if (it.reply !== "waits") return;
+      const lane = this.waits[this.lanes.get(it.process)];
+      const end = links.endedAt.get(it.place);
+      lane.from.push(i);
+      lane.to.push(end === undefined ? entries.length : end);
+    });
+  }
+
+  get width() {
+    return this.canvas.clientWidth - LEFT;
+  }
+
+  x(i) {
+    return LEFT + (i - this.from + 0.5) * this.scale;
+  }
+
+  y(process) {
+    return TOP + (this.lanes.get(process) + 0.5) * LANE;
+  }
+
+  // The entry at a point of the canvas, or the nearest there is.
+  entryAt(x) {
+    const i = Math.floor((x - LEFT) / this.scale + this.from);
+    return Math.max(0, Math.min(this.journal.entries.length - 1, i));
+  }
+
+  // Whether an entry lies within what is seen.
+  sees(i) {
+    return i >= this.from && i < this.from + this.width / this.scale;
+  }
+
+  bound() {
+    const fits = this.width / Math.max(1, this.journal.entries.length);
+    this.scale = Math.max(Math.min(fits, 20), Math.min(120, this.scale));
+    const last = this.journal.entries.length - this.width / this.scale;
+    this.from = Math.max(0, Math.min(last, this.from));
+  }
+
+  zoom(factor, x) {
+    const at = (x - LEFT) / this.scale + this.from;
+    this.scale *= factor;
+    this.bound();
+    this.from = at - (x - LEFT) / this.scale;
+    this.bound();
+  }
+
+  pan(pixels) {
+    this.from += pixels / this.scale;
+    this.bound();
+  }
+
+  reveal(i) {
+    if (!this.sees(i)) this.from = i - this.width / this.scale / 2;
+    this.bound();
+  }
+
+  draw() {
+    const ratio = window.devicePixelRatio || 1;
+    const height = TOP + this.lanes.size * LANE + 6;
+    this.canvas.style.height = `${height}px`;
+    this.canvas.width = this.canvas.clientWidth * ratio;
+    this.canvas.height = height * ratio;
+    const c = this.canvas.getContext("2d");
+    c.scale(ratio, ratio);
+    c.font = "12px sans-serif";
+    this.colours = coloursOf(this.canvas);
+    this.bound();
+    const first = Math.max(0, Math.floor(this.from));
+    const last = Math.ceil(this.from + this.width / this.scale);
+    const range = [first, Math.min(this.journal.entries.length, last + 1)];
+    this.drawLanes(c, height);
+    c.save();
+    c.beginPath();
+    c.rect(LEFT, 0, this.width, height);
+    c.clip();
+    this.drawTicks(c, range, height);
+    this.drawChosen(c, height);
+    this.drawWaits(c, range);
+    this.drawMessages(c, range);
+    this.drawMarks(c, range);
+    c.restore();
+  }
+
+  drawLanes(c, height) {
+    for (const [p, lane] of this.lanes) {
+      const y = TOP + (lane + 0.5) * LANE;
+      c.fillStyle = this.colours.text;
+      c.fillText(`process ${p}`, 2, y + 4);
+      c.fillStyle = this.colours.line;
+      c.fillRect(LEFT, y, this.width, 1);
+    }
+    c.fillRect(LEFT - 1, 0, 1, height);
+  }
+
+  drawTicks(c, [first, last], height) {
+    const steps = [1, 2, 5, 10, 20, 50, 100, 200, 500, 1000, 2000, 5000, 10000, 50000, 100000];
+    const step = steps.find((it) => it * this.scale >= 60) || 500000;
+    for (let i = first - (first % step); i < last; i += step) {
+      c.fillStyle = this.colours.line;
+      c.fillRect(this.x(i), 14, 1, height);
+      c.fillStyle = this.colours.faint;
+      c.fillText(String(i + this.journal.links.start), this.x(i) + 3, 12);
+    }
+  }
+
+  drawChosen(c, height) {
+    c.fillStyle = this.colours.chosen;
+    const width = Math.max(3, this.scale);
+    c.fillRect(this.x(this.chosen) - width / 2, 0, width, height);
+  }
+
+  // A wait is a bar of stripes from its call to its end.
+  drawWaits(c, [first, last]) {
+    this.waits.forEach(({ from, to }, lane) => {
+      const y = TOP + (lane + 0.5) * LANE;
+      let drawn = -1;
+      for (let w = firstFrom(to, first); w < from.length && from[w] < last; w += 1) {
+        const [left, right] = [Math.max(LEFT, this.x(from[w])), this.x(to[w])];
+        if (right <= drawn) continue;
+        drawn = Math.ceil(right);
+        c.fillStyle = this.colours.wait;
+        c.fillRect(left, y - 6, Math.max(1, right - left), 13);
+        this.stripe(c, left, Math.min(right, LEFT + this.width), y);
+      }
+    });
+  }
+
+  stripe(c, left, right, y) {
+    if (right - left < 12) return;
+    c.strokeStyle = this.colours.text;
+    c.lineWidth = 0.5;
+    c.beginPath();
+    for (let x = left + 8; x < right; x += 8) {
+      c.moveTo(x, y - 6);
+      c.lineTo(x - 6, y + 7);
+    }
+    c.stroke();
+  }
+
+  // A message is an arrow from its send to the receive that takes it. Where too many are seen, none
+  // is drawn.
+  drawMessages(c, [first, last]) {
+    this.tooMany = last - first > 4000;
+    if (this.tooMany) return;
+    const { entries, links } = this.journal;
+    c.lineWidth = 1.5;
+    for (let i = first; i < last; i += 1) {
+      const message = taken(entries[i]);
+      if (message !== null) this.drawArrow(c, i, message - links.start);
+      const end = links.takenAt.get(entries[i].place);
+      if (end !== undefined && end >= last) this.drawArrow(c, end, i);
+    }
+  }
+
+  drawArrow(c, i, sent) {
+    const { entries, links } = this.journal;
+    let receiver = entries[i];
+    if (receiver.reply === "handed") receiver = entries[Number(receiver.got[0]) - links.start];
+    const sender = entries[sent];
+    if (!receiver || !sender || !this.shows(sender, sent) || !this.shows(entries[i], i)) return;
+    const [x1, y1, x2, y2] = [this.x(sent), this.y(sender.process), this.x(i), this.y(receiver.process)];
+    const story = this.story && this.story.has(sent);
+    c.strokeStyle = story ? this.colours.story : this.colours.message;
+    c.lineWidth = story ? 3 : 1.5;
+    c.beginPath();
+    c.moveTo(x1, y1);
+    if (y1 === y2) c.quadraticCurveTo((x1 + x2) / 2, y1 - LANE, x2, y2);
+    else c.lineTo(x2, y2);
+    c.stroke();
+    this.drawTip(c, x1, y1 === y2 ? y1 - LANE : y1, x2, y2);
+  }
+
+  drawTip(c, x1, y1, x2, y2) {
+    const angle = Math.atan2(y2 - y1, x2 - x1);
+    c.beginPath();
+    for (const turn of [2.7, 0, -2.7]) {
+      const length = turn === 0 ? 7 : 12;
+      const back = turn === 0 ? Math.PI : Math.PI + (turn > 0 ? 0.35 : -0.35);
+      c.lineTo(x2 + length * Math.cos(angle + back), y2 + length * Math.sin(angle + back));
+    }
+    c.stroke();
+  }
+
+  drawMarks(c, [first, last]) {
+    const { entries } = this.journal;
+    const drawn = new Float64Array(2 * this.lanes.size).fill(-9);
+    for (let i = first; i < last; i += 1) {
+      const x = this.x(i);
+      const key = 2 * this.laneOf[i] + this.errors[i];
+      if (this.scale < 2 && x - drawn[key] < 2) continue;
+      if (!this.shows(entries[i], i)) continue;
+      drawn[key] = x;
+      this.drawMark(c, entries[i], x, i === this.chosen);
+    }
+  }
+
+  drawMark(c, entry, x, chosen) {
+    const shape = shapeOf(entry);
+    const colour = this.colours[shape] || this.colours.text;
+    const y = this.y(entry.process);
+    c.fillStyle = colour;
+    c.strokeStyle = colour;
+    c.lineWidth = 2;
+    if (this.scale < 2) {
+      c.fillRect(x, y - 5, 1, 10);
+      return;
+    }
+    c.beginPath();
+    SHAPES[shape](c, x, y);
+    if (shape === "ring" || shape === "cross") c.stroke();
+    else c.fill();
+    if (this.scale >= 60 || chosen) this.drawLabel(c, entry, x, y);
+  }
+
+  drawLabel(c, entry, x, y) {
+    c.fillStyle = this.colours.text;
+    const word = isError(entry) || entry.reply === "waits" ? ` ${entry.reply}` : "";
+    c.fillText(`${entry.call}${word}`, x - 8, y - 9);
+  }
+}
+
+function coloursOf(element) {
+  const style = getComputedStyle(element);
+  const names = ["text", "faint", "line", "chosen", "wait", "message", "story", "cross", "ring",
+    "up", "down", "diamond"];
+  return Object.fromEntries(names.map((it) => [it, style.getPropertyValue(`--${it}`).trim()]));
+}
+
+// What is told of an entry: its line, the state before and after, and its stories.
+const CALLS = {
+  open: "opens a queue", close: "closes a descriptor", unlink: "unlinks a name",
+  send: "sends", tsend: "sends until a deadline", recv: "receives",
+  trecv: "receives until a deadline", getattr: "asks for attributes",
+  setattr: "sets the nonblocking flag", notify: "registers, or removes its registration",
+  notice: "asks for its oldest notice", collect: "collects what ended its wait",
+  withdraw: "withdraws its wait, whose deadline has passed",
+};
+
+// The rows of a state: each has a key, by which it is found again, and a text.
+function rowsOf(state) {
+  const rows = [];
+  const add = (key, text) => rows.push({ key, text });
+  for (const it of [...state.queues.values()].sort((a, b) => a.queue - b.queue)) {
+    const limits = `${it.messages.length} of ${it.maxmsg} messages, of ${it.msgsize} bytes at most`;
+    add(`q${it.queue}`, `${queueName(it)}: ${limits}`);
+    it.messages.forEach((m, i) => add(`q${it.queue}m${m.place}`, `  ${messageText(m, i)}`));
+    for (const w of it.senders) {
+      const text = `  process ${w.process} waits to send since ${w.place}: priority ${w.priority}`;
+      add(`q${it.queue}s${w.place}`, text);
+    }
+    for (const w of it.receivers) {
+      add(`q${it.queue}r${w.place}`, `  process ${w.process} waits to receive since ${w.place}`);
+    }
+    const n = it.registration;
+    if (n) add(`q${it.queue}n`, `  process ${n.process} is registered since ${n.place}: ${n.value}`);
+  }
+  for (const it of [...state.processes.values()].sort((a, b) => a.process - b.process)) {
+    rows.push(...processRows(it));
+  }
+  return rows;
+}
+
+function messageText(m, i) {
+  const text = m.text === "" ? "" : ` "${m.text}"`;
+  return `${i === 0 ? "next" : "then"}: message ${m.place}, priority ${m.priority}, ` +
+    `${m.length} bytes${text}`;
+}
+
+function processRows(it) {
+  const p = it.process;
+  const answered = it.answered === null ? "" : `, answered by ${it.answered}`;
+  const waits = it.wait === null ? "" : `: waits since ${it.wait}${answered}`;
+  const rows = [{ key: `p${p}`, text: `process ${p}${waits}` }];
+  for (const h of [...it.held.values()].sort((a, b) => a.descriptor - b.descriptor)) {
+    const access = { r: "read", w: "write", b: "read and write" }[h.access];
+    const text = `  descriptor ${h.descriptor}: queue ${h.queue}, ${access}` +
+      `${h.nonblock ? ", nonblocking" : ""}`;
+    rows.push({ key: `p${p}d${h.descriptor}`, text });
+  }
+  it.notices.forEach((v, i) => rows.push({ key: `p${p}v${i}`, text: `  notice ${v}` }));
+  return rows;
+}
+
+// The rows of two states side by side: each key once, in an order that both keep where they can.
+function sideBySide(before, after) {
+  const old = new Map(before.map((it) => [it.key, it.text]));
+  const now = new Map(after.map((it) => [it.key, it.text]));
+  const rows = [];
+  const done = new Set();
+  const push = (key) => {
+    if (!done.has(key)) rows.push([old.get(key), now.get(key)]);
+    done.add(key);
+  };
+  let k = 0;
+  for (const { key } of before) {
+    for (; now.has(key) && k < after.length && after[k].key !== key; k += 1) push(after[k].key);
+    push(key);
+  }
+  for (; k < after.length; k += 1) push(after[k].key);
+  return rows;
+}
+
+function element(name, text, properties = {}) {
+  const made = document.createElement(name);
+  made.textContent = text;
+  return Object.assign(made, properties);
+}
+
+function cell(text, other, mark, className) {
+  if (text === undefined) return element("td", "");
+  if (text === other) return element("td", `  ${text}`);
+  return element("td", `${mark} ${text}`, { className });
+}
+
+function stateTable(before, after) {
+  const table = document.createElement("table");
+  const head = table.insertRow();
+  head.append(element("th", "before: \u2212 is gone or was other"), element("th", "after: + is new"));
+  for (const [old, now] of sideBySide(rowsOf(before), rowsOf(after))) {
+    const row = table.insertRow();
+    row.append(cell(old, now, "\u2212", "gone"), cell(now, old, "+", "new"));
+  }
+  return table;
+}
+
+function storyList(page, title, steps) {
+  const list = document.createElement("ul");
+  for (const it of steps) {
+    const line = element("li", it.text, { className: it.grave ? "grave" : "" });
+    line.style.paddingLeft = `${(it.depth || 0) * 18}px`;
+    if (it.i !== undefined) {
+      const link = element("a", ` entry ${page.journal.entries[it.i].place}`);
+      link.addEventListener("click", () => page.choose(it.i));
+      line.append(link);
+    }
+    list.append(line);
+  }
+  return [element("h2", title), list];
+}
+
+// The stories of an entry, and the sends that the picture marks for them.
+function storiesOf(page, i, after) {
+  const { journal } = page;
+  const entry = journal.entries[i];
+  const parts = [];
+  const message = messageAt(journal, i);
+  if (message !== null) {
+    parts.push(...storyList(page, `Where did message ${message} go?`, messageStory(journal, message)));
+  }
+  if (entry.call === "notify" && entry.reply === "ok" && entry.given[1] !== "-") {
+    const title = "What became of this registration?";
+    parts.push(...storyList(page, title, registrationStory(journal, i)));
+  }
+  for (const it of [...after.processes.values()].sort((a, b) => a.process - b.process)) {
+    if (it.wait === null) continue;
+    const title = `Why is process ${it.process} waiting?`;
+    parts.push(...storyList(page, title, waitStory(journal, after, it.process, i + 1)));
+  }
+  return parts;
+}
+
+function entryPanel(page, i, before, after) {
+  const entry = page.journal.entries[i];
+  const queue = queueOf(before, entry);
+  const on = queue ? ` on ${queueName(queue)}` : "";
+  const line = element("div", entry.line, { className: `line${isError(entry) ? " error" : ""}` });
+  const text = `Process ${entry.process} ${CALLS[entry.call] || entry.call}${on}.`;
+  return [element("h2", `Entry ${entry.place}`), line, element("p", text),
+    ...storiesOf(page, i, after)];
+}
+
+// The page: what is chosen, what is shown, and what keys and buttons do.
+class Page {
+  constructor(text) {
+    const entries = entriesOf(text);
+    this.journal = { entries, links: new Links(entries), states: new States(entries, null) };
+    this.timeline = new Timeline(document.querySelector("canvas"), this.journal);
+    this.shows = (entry, i) => this.passes(entry, i);
+    this.timeline.shows = this.shows;
+    this.fillFilters();
+    this.listen();
+    const { start } = this.journal.links;
+    const last = start + entries.length - 1;
+    const title = entries.length === 0 ? "The journal is empty" : `Entries ${start} to ${last}`;
+    document.querySelector("#title").textContent = title;
+    this.choose(0);
+  }
+
+  input(name) {
+    return document.querySelector(`#${name}`);
+  }
+
+  fillFilters() {
+    const { entries, states } = this.journal;
+    const fill = (name, values) => {
+      this.input(name).append(new Option("all", ""));
+      for (const [value, text] of values) this.input(name).append(new Option(text, value));
+    };
+    const numbers = [...new Set(entries.map((it) => it.process))].sort((a, b) => a - b);
+    fill("process", numbers.map((it) => [it, it]));
+    fill("queue", [...states.names].map(([q, name]) => [q, `${q} ${name}`]));
+    fill("call", [...new Set(entries.map((it) => it.call))].sort().map((it) => [it, it]));
+  }
+
+  // Whether the filters let an entry through.
+  passes(entry, i) {
+    const { process, queue, call, errors, find } = this.filters;
+    return (process === "" || entry.process === Number(process)) &&
+      (queue === "" || this.journal.states.queues[i] === Number(queue)) &&
+      (call === "" || entry.call === call) && (!errors || isError(entry)) &&
+      (find === "" || entry.line.includes(find));
+  }
+
+  get filters() {
+    if (!this.read) {
+      const [process, queue, call] = ["process", "queue", "call"].map((it) => this.input(it).value);
+      const find = this.input("find").value;
+      this.read = { process, queue, call, errors: this.input("errors").checked, find };
+    }
+    return this.read;
+  }
+
+  // The next entry from here, forward or back, that the filters and a test let through.
+  next(step, test = () => true) {
+    const { entries } = this.journal;
+    for (let i = this.timeline.chosen + step; i >= 0 && i < entries.length; i += step) {
+      if (this.passes(entries[i], i) && test(entries[i])) return i;
+    }
+    return this.timeline.chosen;
+  }
+
+  choose(i) {
+    const { entries, states } = this.journal;
+    if (entries.length === 0) {
+      this.timeline.draw();
+      return;
+    }
+    this.timeline.chosen = i;
+    const before = states.at(i);
+    const after = copyOf(before);
+    follow(after, entries[i]);
+    const message = messageAt(this.journal, i);
+    this.timeline.story = new Set(message === null ? [] : [message - this.journal.links.start]);
+    this.input("entry").replaceChildren(...entryPanel(this, i, before, after));
+    this.input("state").replaceChildren(element("h2", "State"), stateTable(before, after));
+    this.timeline.reveal(i);
+    this.draw();
+  }
+
+  draw() {
+    if (this.waiting) return;
+    this.waiting = true;
+    requestAnimationFrame(() => {
+      this.waiting = false;
+      this.timeline.draw();
+      const note = "Too many entries are shown for arrows: zoom in.";
+      this.input("note").textContent = this.timeline.tooMany ? note : "";
+    });
+  }
+
+  listen() {
+    const filters = ["process", "queue", "call", "errors", "find"];
+    filters.forEach((it) => this.input(it).addEventListener("input", () => {
+      this.read = null;
+      this.draw();
+    }));
+    const middle = () => this.timeline.x(this.timeline.chosen);
+    const buttons = {
+      back: () => this.choose(this.next(-1)), on: () => this.choose(this.next(1)),
+      in: () => this.zoom(1.5, middle()), out: () => this.zoom(1 / 1.5, middle()),
+      theme: () => this.turnTheme(),
+    };
+    for (const [name, act] of Object.entries(buttons)) this.input(name).addEventListener("click", act);
+    document.addEventListener("keydown", (event) => this.key(event, buttons));
+    window.addEventListener("resize", () => this.draw());
+    this.listenToPointer(this.timeline.canvas);
+    const dark = window.matchMedia("(prefers-color-scheme: dark)").matches;
+    document.documentElement.dataset.theme = dark ? "dark" : "light";
+  }
+
+  turnTheme() {
+    const { dataset } = document.documentElement;
+    dataset.theme = dataset.theme === "dark" ? "light" : "dark";
+    this.draw();
+  }
+
+  zoom(factor, x) {
+    this.timeline.zoom(factor, x);
+    this.draw();
+  }
+
+  listenToPointer(canvas) {
+    let held = null;
+    canvas.addEventListener("pointerdown", (event) => {
+      held = { x: event.offsetX, moved: false };
+      canvas.setPointerCapture(event.pointerId);
+    });
+    canvas.addEventListener("pointermove", (event) => {
+      if (!held) return;
+      const by = held.x - event.offsetX;
+      if (!held.moved && Math.abs(by) < 4) return;
+      held = { x: event.offsetX, moved: true };
+      this.timeline.pan(by);
+      this.draw();
+    });
+    canvas.addEventListener("pointerup", (event) => {
+      if (held && !held.moved) this.choose(this.timeline.entryAt(event.offsetX));
+      held = null;
+    });
+    canvas.addEventListener("wheel", (event) => {
+      event.preventDefault();
+      if (event.shiftKey || Math.abs(event.deltaX) > Math.abs(event.deltaY)) {
+        this.timeline.pan(event.deltaX || event.deltaY);
+        this.draw();
+      } else this.zoom(event.deltaY < 0 ? 1.25 : 0.8, event.offsetX);
+    }, { passive: false });
+  }
+
+  key(event, buttons) {
+    const typing = ["INPUT", "SELECT"].includes(event.target.tagName);
+    if (event.key === "Escape") event.target.blur();
+    if (event.key === "Enter" && event.target.id === "find") this.choose(this.next(1));
+    if (typing || event.ctrlKey || event.metaKey || event.altKey) return;
+    const { entries } = this.journal;
+    const chosen = entries[this.timeline.chosen];
+    const same = (it) => !event.shiftKey || it.process === chosen.process;
+    const acts = {
+      ArrowLeft: () => this.choose(this.next(-1, same)),
+      ArrowRight: () => this.choose(this.next(1, same)),
+      Home: () => this.choose(0), End: () => this.choose(entries.length - 1),
+      e: () => this.choose(this.next(1, isError)), n: () => this.choose(this.next(1)),
+      "+": buttons.in, "-": buttons.out, "/": () => this.input("find").focus(),
+    };
+    if (!acts[event.key]) return;
+    event.preventDefault();
+    if (chosen) acts[event.key]();
+  }
+}
+
+new Page(document.querySelector("#journal").textContent);
+</script>
+</body>
+</html>
+"###;

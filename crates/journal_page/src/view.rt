@@ -1,0 +1,106 @@
+//! A journal, from its bytes to a page of it.
+ghost use Rattle.std.specs.Prelude.{◌≡◌, ◌≤◌, ◌+◌, ℕ, List, IsErrOf, Ok, Some, length, take};
+ghost use Rattle.journal_format.specs.JournalFault.{IsAtFault};
+ghost use Rattle.journal_format.specs.Lines.{ReadsUpTo};
+ghost use Rattle.journal_format.specs.declared.fault.JournalFault.{JournalFault};
+ghost use Rattle.journal_format.specs.declared.fault.JournalFault.TheVariants.{BadLine};
+ghost use Rattle.journal_page.specs.View.{IsTooLong, Views, ViewsInPart, count_viewed, first_viewed};
+ghost use Rattle.journal_page.specs.declared.view.Unviewed.TheVariants.{Output, Unread};
+ghost use Rattle.journal_page.specs.declared.view.Viewed.TheVariants.{TooLong, Written};
+
+use crate::page::page_of;
+use journal_format::fault::JournalFault;
+use journal_format::input::read_input;
+use journal_format::lines::MOST_BYTES;
+use mq_model::journals::Journal;
+use std::alloc::Global;
+use std::io::{Read, Write};
+use text_io::output::write_all;
+
+/// The most entries of a page.
+const MOST_VIEWED: u64 = 1_000_000;
+
+/// The most bytes of a page.
+const MOST_PAGE: usize = 25_000_000;
+
+/// Whether a page was written.
+#[derive(Clone, Copy, Debug, PartialEq, Eq)]
+pub enum Viewed {
+    /// It was.
+    Written,
+    /// It would have too many entries or too many bytes, and nothing was written.
+    TooLong,
+}
+
+/// Why no page was written.
+#[derive(Clone, Copy, Debug, PartialEq, Eq)]
+pub enum Unviewed {
+    /// The journal was not read.
+    Unread(JournalFault),
+    /// A write failed.
+    Output,
+}
+
+// The first place from `from` up to and with `to`, and how many entries there are.
+fn cut(from: u64, to: u64, journal: &Journal) -> (u64, u64)
+    ensures first { result.0 ≡ first_viewed from to (length journal.now.records) }
+    ensures count { result.1 ≡ count_viewed from to (length journal.now.records) }
+    ensures inside { result.0 + result.1 ≤ length journal.now.records }
+{
+    let len = journal.len();
+    let end = if to < len { to + 1 } else { len };
+    let first = from.min(end);
+    (first, end - first)
+}
+
+/// Reads a journal line by line, which need not be legal, and writes a page of its entries at the
+/// places from `from` up to and with `to`, by a template of these two parts.
+/// `JournalFault::BadLine`: a line is not that of an entry, or is too long for one, and this is the
+/// first one; no read was made after those that brought it. `JournalFault::Input`: a read failed.
+/// `Unviewed::Output`: a write failed, and of the page a front part is written that lacks a byte or
+/// more. Of the others nothing is written.
+pub fn view_journal<R: Read, W: Write>(
+    alloc: Global,
+    input: &mut R,
+    output: &mut W,
+    from: u64,
+    to: u64,
+    head: &[u8],
+    tail: &[u8],
+) -> Result<Viewed, Unviewed>
+    ensures done { (all : List ℕ) → R.remaining input.old ≡ Some all → result ≡ Ok Written →
+        Views (take (MOST_BYTES + 1) all) from to head.now tail.now (W.contents output.old)
+        (W.contents output.new) }
+    ensures too_long { (all : List ℕ) → R.remaining input.old ≡ Some all → result ≡ Ok TooLong →
+        IsTooLong (take (MOST_BYTES + 1) all) from to head.now tail.now }
+    ensures not_written { result ≡ Ok TooLong → W.contents output.new ≡ W.contents output.old }
+    ensures bad_line { (all : List ℕ) (line : ℕ) → R.remaining input.old ≡ Some all →
+        IsErrOf result (Unread (BadLine line)) → IsAtFault line (take (MOST_BYTES + 1) all) }
+    ensures soon { (line : ℕ) → IsErrOf result (Unread (BadLine line)) →
+        ReadsUpTo line (R.remaining input.old) (R.remaining input.new) }
+    ensures output { (all : List ℕ) → R.remaining input.old ≡ Some all →
+        IsErrOf result Output → ViewsInPart (take (MOST_BYTES + 1) all) from to head.now tail.now
+        (W.contents output.old) (W.contents output.new) }
+    ensures unread { (fault : JournalFault) → IsErrOf result (Unread fault) →
+        W.contents output.new ≡ W.contents output.old }
+{
+    let journal = match read_input(alloc, input) {
+        Ok(journal) => journal,
+        Err(fault) => return Err(Unviewed::Unread(fault)),
+    };
+    let (first, count) = cut(from, to, &journal);
+    if count > MOST_VIEWED {
+        return Ok(Viewed::TooLong);
+    }
+    let page = match page_of(alloc, &journal, first, count, head, tail) {
+        Ok(page) => page,
+        Err(_) => return Err(Unviewed::Unread(JournalFault::NoMemory)),
+    };
+    if page.len() > MOST_PAGE {
+        return Ok(Viewed::TooLong);
+    }
+    match write_all(output, page.as_slice()) {
+        Ok(()) => Ok(Viewed::Written),
+        Err(_) => Err(Unviewed::Output),
+    }
+}
