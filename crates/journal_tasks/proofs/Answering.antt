@@ -1,19 +1,21 @@
 -- What was found of a script, from where its processes begin.
-use Rattle.std.proofs.Common.{◌≡◌, ◌∙◌, ℕ, true, Option, ap, subst}
+use Rattle.std.proofs.Common.{◌≡◌, ◌∙◌, ℕ, true, false, Option, ap, subst}
 use Rattle.std.specs.List.{All}
 use Rattle.schedules.specs.Outcomes.{AreAll, AreDistinct, IsWitness}
+use Rattle.schedules.specs.Work.{TakesAll}
 use Rattle.schedules.specs.declared.outcomes.Collected.{Collected}
 use Rattle.script_orders.specs.Orders.{AreLegal}
-use Rattle.script_orders.specs.Stage.{Stage, first_stage, next_stage, stands_still, told}
+use Rattle.script_orders.specs.Stage.{Stage, choice_count, first_stage, next_stage, stands_still, told}
 use Rattle.journal_tasks.specs.EveryOrder.{AreFound, answer_text}
 
-pub found-from : (play : Stage) (collected : Collected) → first_stage play ≡ play →
+pub found-from : (budget : ℕ) (play : Stage) (collected : Collected) → first_stage play ≡ play →
     All (IsWitness next_stage stands_still told (first_stage play)) collected.found.items → AreDistinct collected.found.items →
     (collected.complete ≡ true → AreAll next_stage stands_still told (first_stage play) collected.found.items) →
-    AreLegal (first_stage play) → AreFound play collected
-found-from play collected first witnessed distinct all legal =
-    let P : Stage → Type 0 = λ s. AreFound s collected in
-    let here : AreFound (first_stage play) collected = record { witnessed = witnessed; distinct = distinct; all = all; legal = legal } in
+    (collected.complete ≡ false → TakesAll next_stage choice_count (λ depth. 1) budget (first_stage play)) →
+    AreLegal (first_stage play) → AreFound budget play collected
+found-from budget play collected first witnessed distinct all used_up legal =
+    let P : Stage → Type 0 = λ s. AreFound budget s collected in
+    let here : AreFound budget (first_stage play) collected = record { witnessed = witnessed; distinct = distinct; all = all; used_up = used_up; legal = legal } in
     subst P first here
 
 pub text-from : (journal : Option ℕ) (budget phases count : ℕ) (play later : Stage) (collected : Collected) →

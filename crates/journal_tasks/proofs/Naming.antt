@@ -1,5 +1,5 @@
 -- The line that a fault names.
-use Rattle.std.proofs.Common.{◌≡◌, ℕ, ap, sym}
+use Rattle.std.proofs.Common.{◌≡◌, ℕ, ap}
 use Rattle.journal_format.specs.declared.fault.JournalFault.{JournalFault}
 use Rattle.journal_format.specs.declared.fault.JournalFault.TheVariants as journal
 use Rattle.journal_tasks.specs.LogFault.{of_journal_fault}

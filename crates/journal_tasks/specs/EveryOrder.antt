@@ -1,5 +1,5 @@
 -- What is written of all orders of the calls of a script.
-use Rattle.std.specs.Prelude.{◌≡◌, ℕ, zero, suc, Bool, true, List, [], Option, None, Some, if◌then◌else◌, length, slice_get}
+use Rattle.std.specs.Prelude.{◌≡◌, ℕ, zero, suc, Bool, true, false, List, [], Option, None, Some, if◌then◌else◌, length, slice_get}
 use Rattle.std.specs.List.{All, list_any}
 use Rattle.std.specs.Option.{option_map, unwrap_or}
 use Rattle.std.specs.Io.KnownBytes as known
@@ -8,11 +8,12 @@ use Rattle.script_text.specs.Script.{Whole}
 use Rattle.journal_format.specs.Text.{journal_text}
 use Rattle.schedules.specs.Schedules.{after}
 use Rattle.schedules.specs.Outcomes.{AreAll, AreDistinct, IsWitness}
+use Rattle.schedules.specs.Work.{TakesAll}
 use Rattle.schedules.specs.declared.outcomes.Collected.{Collected}
 use Rattle.schedules.specs.declared.outcomes.Witnessed.{Witnessed}
 use Rattle.script_orders.specs.Orders.{AreLegal, Begins}
 use Rattle.script_orders.specs.Report.{report_text}
-use Rattle.script_orders.specs.Stage.{Stage, next_stage, stands_still, told}
+use Rattle.script_orders.specs.Stage.{Stage, choice_count, next_stage, stands_still, told}
 use Rattle.journal_tasks.specs.declared.every_order.Ending.{Ending}
 use Rattle.journal_tasks.specs.declared.every_order.Ending.TheVariants.{Well, NoSuch, Deadlock, OutOfBudget}
 use Rattle.journal_tasks.specs.declared.every_order.Trial.{Trial}
@@ -25,11 +26,12 @@ ending_status Deadlock = 5
 ending_status OutOfBudget = 6
 
 -- what was found from a stage on: each has a schedule that leads to it, no two tell the same, and where all was tried there is nothing else.
--- The journal after each schedule is legal
-pub record AreFound (from : Stage) (collected : Collected) : Type 0 where
+-- Where not all was tried, that takes so many steps, or more. The journal after each schedule is legal
+pub record AreFound (budget : ℕ) (from : Stage) (collected : Collected) : Type 0 where
   pub witnessed : All (IsWitness next_stage stands_still told from) collected.found.items
   pub distinct : AreDistinct collected.found.items
   pub all : collected.complete ≡ true → AreAll next_stage stands_still told from collected.found.items
+  pub used_up : collected.complete ≡ false → TakesAll next_stage choice_count (λ depth. 1) budget from
   pub legal : AreLegal from
 
 -- the one of this number, from 1
@@ -73,7 +75,7 @@ pub record Answers (script : Whole) (trial : Trial) (ending : Ending) (old new :
   pub from : Stage
   pub begins : Begins script from
   pub collected : Collected
-  pub found : AreFound from collected
+  pub found : AreFound trial.budget from collected
   pub ends : ending ≡ answer_ending trial.journal collected
   pub written : known.Appends old new (answer_text trial.journal trial.budget (length script.phases) from collected)
 
@@ -82,5 +84,5 @@ pub record AnswersInPart (script : Whole) (trial : Trial) (old new : Option (Lis
   pub from : Stage
   pub begins : Begins script from
   pub collected : Collected
-  pub found : AreFound from collected
+  pub found : AreFound trial.budget from collected
   pub written : AppendsTooLittle old new (answer_text trial.journal trial.budget (length script.phases) from collected)

@@ -1,5 +1,5 @@
 -- What is written of a script that is run for its history.
-use Rattle.std.specs.Prelude.{◌≡◌, ℕ, zero, suc, ◌+◌, false, List, [], ◌∷◌, ◌++◌, map, take, Option, None, Some}
+use Rattle.std.specs.Prelude.{◌≡◌, ℕ, zero, suc, ◌+◌, ◌≤◌, ◌==◌, ◌⊎◌, Bool, true, false, nat_lt, if◌then◌else◌, length, List, [], ◌∷◌, ◌++◌, map, take, slice_get, Option, None, Some}
 use Rattle.std.specs.Io.KnownBytes as known
 use Rattle.text_io.specs.Output.{AppendsTooLittle}
 use Rattle.mq_model.specs.Record.{Past}
@@ -15,7 +15,9 @@ use Rattle.script_orders.specs.declared.plan.Step.{Step}
 use Rattle.script_orders.specs.declared.plan.Step.TheVariants.{Call as ACall, Refusal, Exit}
 use Rattle.script_runner.specs.Notes.{RunsServed}
 use Rattle.script_runner.specs.declared.noted.Noted.{Noted}
-use Rattle.history_judge.specs.Text.{history_text}
+use Rattle.history_judge.specs.Text.{history_text, message_of, written_reply}
+use Rattle.script_text.specs.Replies.{message_received}
+use Rattle.script_text.specs.declared.reply.Completion.{Completion}
 use Rattle.history_judge.specs.declared.line.Called.{Called}
 
 -- what a call of a script came to, as the reply of a journal that has the words of a history
@@ -27,66 +29,105 @@ reply_said (Attrs status) = Some (reply.Attrs status)
 reply_said (Notice value) = Some (reply.Notice value)
 reply_said (Refused fault) = Some (reply.Refused fault)
 
--- of a call of a history: its process, the call, and the name or the message that it was given
+-- what a call came to, as a history has it: no reply, where it had not returned
+abbrev pub reply_came : Option Completion → Option Reply
+reply_came None = None
+reply_came (Some completion) = reply_said completion.outcome
+
+abbrev pub message_came : Option Completion → List ℕ
+message_came None = []
+message_came (Some completion) = message_received completion.outcome completion.buffer.items
+
+-- what was noted of a process, in the order of its calls
+abbrev pub completions_of : ℕ → List Noted → List Completion
+completions_of p [] = []
+completions_of p (one ∷ noted) = if one.process == p then one.completion ∷ completions_of p noted else completions_of p noted
+
+-- of a call of a history: its process, the call, the name or the message that it was given, what it came to, and whether it began before
+-- it ended
 pub record Asked : Type 0 where
   pub process : ℕ
   pub call : Call
   pub given : List ℕ
+  pub reply : Option Reply
+  pub message : List ℕ
+  pub in_order : Bool
 
 abbrev pub asked : Called → Asked
-asked c = record { process = c.process; call = c.operation.call; given = c.operation.given.items }
+asked c = record {
+  process = c.process;
+  call = c.operation.call;
+  given = c.operation.given.items;
+  reply = written_reply c.operation.outcome;
+  message = message_of c.operation.outcome;
+  in_order = nat_lt c.operation.begin c.operation.end;
+}
+
+abbrev pub call_by : ℕ → Call → List ℕ → Option Completion → Asked
+call_by p call given came =
+    record { process = p; call = call; given = given; reply = reply_came came; message = message_came came; in_order = true }
 
 abbrev pub close_by : ℕ → ℕ → Asked
-close_by p d = record { process = p; call = MqClose d; given = [] }
+close_by p d = record { process = p; call = MqClose d; given = []; reply = Some reply.Done; message = []; in_order = true }
 
--- process p makes these calls by a line: its own; none on what is no name; and by an exit a close of each of some descriptors
-abbrev pub Makes : ℕ → List ℕ → Step → List Asked → Type 0
-Makes p given (ACall call) calls = calls ≡ record { process = p; call = call; given = given } ∷ []
-Makes p given (Refusal fault) calls = calls ≡ []
-Makes p given Exit calls = (held : List ℕ) × (calls ≡ map (close_by p) held)
+-- process p makes these calls by a line that came to this: its own; none on what is no name; and by an exit a close of each of some
+-- descriptors
+abbrev pub Makes : ℕ → List ℕ → Step → Option Completion → List Asked → Type 0
+Makes p given (ACall call) came calls = calls ≡ call_by p call given came ∷ []
+Makes p given (Refusal fault) came calls = calls ≡ []
+Makes p given Exit came calls = (held : List ℕ) × (calls ≡ map (close_by p) held)
 
--- it makes them by these lines, one after the other
-abbrev pub MakesAll : ℕ → List Plan → List Asked → Type 0
-MakesAll p [] calls = calls ≡ []
-MakesAll p (plan ∷ plans) calls =
+-- it makes them by these lines, one after the other: the first came to came 0, the next one to came 1, and so on
+abbrev pub MakesAll : ℕ → (ℕ → Option Completion) → List Plan → List Asked → Type 0
+MakesAll p came [] calls = calls ≡ []
+MakesAll p came (plan ∷ plans) calls =
     (first : List Asked) × (rest : List Asked)
-    × Makes p plan.given plan.step first
-    × MakesAll p plans rest
+    × Makes p plan.given plan.step (came 0) first
+    × MakesAll p (λ k. came (suc k)) plans rest
     × (calls ≡ first ++ rest)
 
--- it makes them by its first lines, of a program
-pub record MakesFront (p : ℕ) (program : List Plan) (calls : List Asked) : Type 0 where
+-- it makes them by its first lines, of a program, which came to what was noted: all that returned, and one more at most, which had not
+pub record MakesFront (p : ℕ) (program : List Plan) (completions : List Completion) (calls : List Asked) : Type 0 where
   pub count : ℕ
-  pub makes : MakesAll p (take count program) calls
+  pub makes : MakesAll p (slice_get completions) (take count program) calls
+  pub all : (length program ≤ count) ⊎ (length completions ≤ count)
+  pub one : count ≤ length completions + 1
 
 -- the calls of the first n processes by the first lines of each: those of process 1, then those of process 2, and so on
-abbrev pub MakeFronts : List (List WrittenCall) → ℕ → List Asked → Type 0
-MakeFronts phases zero calls = calls ≡ []
-MakeFronts phases (suc n) calls =
+abbrev pub MakeFronts : List (List WrittenCall) → List Noted → ℕ → List Asked → Type 0
+MakeFronts phases noted zero calls = calls ≡ []
+MakeFronts phases noted (suc n) calls =
     (before : List Asked) × (own : List Asked)
-    × MakeFronts phases n before
-    × MakesFront (n + 1) (program_of 0 phases (n + 1)) own
+    × MakeFronts phases noted n before
+    × MakesFront (n + 1) (program_of 0 phases (n + 1)) (completions_of (n + 1) noted) own
     × (calls ≡ before ++ own)
 
--- the calls are those of a script, as far as each process began them
-pub record AreOfScript (script : Whole) (calls : List Called) : Type 0 where
-  pub fronts : MakeFronts script.phases script.processes (map asked calls)
+-- the calls are those of a script, as far as each process began them, and came to what was noted
+pub record AreOfScript (script : Whole) (noted : List Noted) (calls : List Called) : Type 0 where
+  pub fronts : MakeFronts script.phases noted script.processes (map asked calls)
 
--- known bytes have grown by the text of a history of the calls of a script
-pub record WritesHistory (script : Whole) (old new : Option (List ℕ)) : Type 0 where
+-- known bytes have grown by the text of a history of the calls of a script, which came to what was noted
+pub record WritesHistory (script : Whole) (noted : List Noted) (old new : Option (List ℕ)) : Type 0 where
   pub calls : List Called
-  pub are : AreOfScript script calls
+  pub are : AreOfScript script noted calls
   pub written : known.Appends old new (history_text calls)
 
--- known bytes have grown by a front part of the text of a history, which lacks a byte or more
-pub record IsHistoryInPart (old new : Option (List ℕ)) : Type 0 where
+-- known bytes have grown by the text of a history of the calls of a script
+pub record WritesSome (script : Whole) (old new : Option (List ℕ)) : Type 0 where
+  pub noted : List Noted
+  pub written : WritesHistory script noted old new
+
+-- known bytes have grown by a front part of the text of a history of the calls of a script, which lacks a byte or more
+pub record IsHistoryInPart (script : Whole) (old new : Option (List ℕ)) : Type 0 where
+  pub noted : List Noted
   pub calls : List Called
+  pub are : AreOfScript script noted calls
   pub written : AppendsTooLittle old new (history_text calls)
 
 -- the script was run whole, no call was refused memory, and known bytes have grown by the text of a
--- history of its calls
+-- history of its calls, with what each came to
 pub record RecordsHistory (script : Whole) (old new : Option (List ℕ)) : Type 0 where
   pub journal : Past
   pub noted : List Noted
   pub ran : RunsServed script noted journal
-  pub written : WritesHistory script old new
+  pub written : WritesHistory script noted old new

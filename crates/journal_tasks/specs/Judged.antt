@@ -9,23 +9,24 @@ use Rattle.history_judge.specs.Verdicts.{IsJudgement}
 use Rattle.history_judge.specs.declared.line.Called.{Called}
 use Rattle.history_judge.specs.declared.judgement.Judgement.{Judgement}
 
--- the bytes are the text of a history, whose calls are of processes from 1 to 32 and have numbers that fit, and this is a judgement of it
-pub record IsJudged (bytes : List ℕ) (calls : List Called) (judgement : Judgement) : Type 0 where
+-- the bytes are the text of a history, whose calls are of processes from 1 to 32 and have numbers that fit, and this is a judgement
+-- of it within so many steps
+pub record IsJudged (budget : ℕ) (bytes : List ℕ) (calls : List Called) (judgement : Judgement) : Type 0 where
   pub text : bytes ≡ history_text calls
   pub fits : AllFit calls
-  pub judges : IsJudgement calls judgement
+  pub judges : IsJudgement budget calls judgement
 
 -- the status is that of a judgement of the bytes; known bytes have grown by its text
-pub record JudgesHistory (bytes : List ℕ) (with_journal : Bool) (status : ℕ) (old new : Option (List ℕ)) : Type 0 where
+pub record JudgesHistory (budget : ℕ) (bytes : List ℕ) (with_journal : Bool) (status : ℕ) (old new : Option (List ℕ)) : Type 0 where
   pub calls : List Called
   pub judgement : Judgement
-  pub judged : IsJudged bytes calls judgement
+  pub judged : IsJudged budget bytes calls judgement
   pub says : status ≡ status_of judgement
   pub written : known.Appends old new (judgement_text calls with_journal judgement)
 
 -- of the text of a judgement of the bytes a front part was written that lacks a byte or more
-pub record StopsInJudgement (bytes : List ℕ) (with_journal : Bool) (old new : Option (List ℕ)) : Type 0 where
+pub record StopsInJudgement (budget : ℕ) (bytes : List ℕ) (with_journal : Bool) (old new : Option (List ℕ)) : Type 0 where
   pub calls : List Called
   pub judgement : Judgement
-  pub judged : IsJudged bytes calls judgement
+  pub judged : IsJudged budget bytes calls judgement
   pub written : AppendsTooLittle old new (judgement_text calls with_journal judgement)

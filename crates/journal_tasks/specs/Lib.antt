@@ -1,3 +1,4 @@
+pub mod Compact
 pub mod EveryOrder
 pub mod Histories
 pub mod LogFault

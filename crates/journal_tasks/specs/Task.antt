@@ -3,7 +3,7 @@ use Rattle.std.specs.Prelude.{◌-◌, ◌^◌, ◌&&◌, Bool, true, false, Lis
 use Rattle.std.specs.Str.{bytes_eq}
 use Rattle.text_io.specs.Words.{◌>>=◌, Word, number_written}
 use Rattle.journal_tasks.specs.declared.task.Task.{Task}
-use Rattle.journal_tasks.specs.declared.task.Task.TheVariants.{Run, History, Check, Draw, Judge, Orders, Help}
+use Rattle.journal_tasks.specs.declared.task.Task.TheVariants.{Run, History, Check, Compact, Draw, View, Judge, Orders, Help}
 use Rattle.journal_tasks.specs.declared.every_order.Trial.{Trial}
 use Rattle.journal_tasks.specs.declared.judge.Question.{Question}
 use Rattle.journal_tasks.specs.declared.window.Window.{Window}
@@ -43,7 +43,7 @@ window_from_and_to name place other second =
     if bytes_eq name (codes "--from") && bytes_eq other (codes "--to") then window_between place second
     else (if bytes_eq name (codes "--to") && bytes_eq other (codes "--from") then window_between second place else None)
 
--- the part of a journal that the options of draw ask for
+-- the part of a journal that the options of draw and view ask for
 abbrev pub window_written : List Word → Option Window
 window_written (name ∷ place ∷ []) = window_from_or_to name place
 window_written (name ∷ place ∷ other ∷ second ∷ []) = window_from_and_to name place other second
@@ -99,7 +99,7 @@ trial_written words = None
 -- the task of a name alone
 abbrev pub task_named : Word → Option Task
 task_named word =
-    if bytes_eq word (codes "run") then Some Run else (if bytes_eq word (codes "history") then Some History else (if bytes_eq word (codes "check") then Some Check else (if bytes_eq word (codes "draw") then Some (Draw all_places) else (if bytes_eq word (codes "judge") then Some (Judge plain_question) else (if bytes_eq word (codes "orders") then Some (Orders plain_trial) else (if bytes_eq word (codes "--help") then Some Help else None))))))
+    if bytes_eq word (codes "run") then Some Run else (if bytes_eq word (codes "history") then Some History else (if bytes_eq word (codes "check") then Some Check else (if bytes_eq word (codes "compact") then Some Compact else (if bytes_eq word (codes "draw") then Some (Draw all_places) else (if bytes_eq word (codes "view") then Some (View all_places) else (if bytes_eq word (codes "judge") then Some (Judge plain_question) else (if bytes_eq word (codes "orders") then Some (Orders plain_trial) else (if bytes_eq word (codes "--help") then Some Help else None))))))))
 
 -- the task of a name with these options
 abbrev pub task_after : Word → List Word → Option Task
@@ -107,13 +107,16 @@ task_after word [] = task_named word
 task_after word (option ∷ options) = if bytes_eq word (codes "draw") then (do
   window ← window_written (option ∷ options)
   Some (Draw window))
+    else (if bytes_eq word (codes "view") then (do
+      window ← window_written (option ∷ options)
+      Some (View window))
     else (if bytes_eq word (codes "judge") then (do
       question ← question_written (option ∷ options)
       Some (Judge question))
     else (if bytes_eq word (codes "orders") then (do
       trial ← trial_written (option ∷ options)
       Some (Orders trial))
-    else None))
+    else None)))
 
 -- the task of the words after the program's name
 abbrev pub task_written : List Word → Option Task

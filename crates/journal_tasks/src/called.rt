@@ -1,10 +1,11 @@
 //! The calls of a script as those of a history.
-ghost use Rattle.std.specs.Prelude.{◌≡◌, ◌++◌, ◌∷◌, [], IfOk, List, OnOk, map};
+ghost use Rattle.std.specs.Prelude.{◌≡◌, ◌++◌, ◌∷◌, [], IfOk, List, OnOk, map, nat_lt, slice_get, true};
 ghost use Rattle.history_judge.specs.Text.{message_of, written_reply};
 ghost use Rattle.script_orders.specs.Plans.{plan_of};
 ghost use Rattle.script_text.specs.Replies.{message_received};
 ghost use Rattle.script_text.specs.Script.{said_script};
-ghost use Rattle.journal_tasks.specs.Histories.{AreOfScript, Asked, Makes, MakesFront, asked, close_by, reply_said};
+ghost use Rattle.journal_tasks.specs.Histories.{AreOfScript, Asked, Makes, MakesFront, asked, close_by, completions_of, message_came, reply_came, reply_said};
+ghost use Rattle.std.specs.Option.{option_map};
 
 use crate::moments::Moments;
 use histories::operation::{Operation, Outcome};
@@ -24,7 +25,8 @@ pub fn calls_of(
     noted: &[Noted],
     moments: &Moments,
 ) -> Result<Vec<Called>, AllocError>
-    ensures { IfOk result (λ calls. AreOfScript (said_script script.now) calls.items) }
+    ensures { IfOk result (λ calls.
+        AreOfScript (said_script script.now) noted.now calls.items) }
 {
     let programs = programs_of(alloc, script)?;
     let mut calls: Vec<Called> = Vec::new(alloc);
@@ -44,28 +46,31 @@ fn push_program(
     noted: &[Noted],
     moments: &Moments,
 ) -> Result<(), AllocError>
-    ensures { OnOk result ((own : List Asked) × MakesFront process (map plan_of program.now) own ×
+    ensures { OnOk result ((own : List Asked) ×
+        MakesFront process (map plan_of program.now) (completions_of process noted.now) own ×
         (map asked calls.new.items ≡ map asked calls.old.items ++ own)) }
 {
     let mut held: Vec<u32> = Vec::new(alloc);
     for index in 0..program.len() {
         let planned = &program[index];
-        let Some(begin) = moments.begin(planned.line) else {
-            return Ok(());
-        };
-        let span = Span {
-            process,
-            begin,
-            end: moments.end(planned.line),
-        };
         let came = completion_of(noted, process, index);
+        let begin = moments.begin(planned.line);
+        if came.is_none() && begin.is_none() {
+            return Ok(());
+        }
+        let span = span_of(process, begin.unwrap_or(0), moments.end(planned.line));
         push_line(alloc, calls, &mut held, span, planned, came)?;
+        if came.is_none() {
+            return Ok(());
+        }
     }
     Ok(())
 }
 
 // What the call of this process with this index came to, if it returned.
-fn completion_of(noted: &[Noted], process: u32, index: usize) -> Option<&Completion> {
+fn completion_of(noted: &[Noted], process: u32, index: usize) -> Option<&Completion>
+    ensures { option_map (λ c. c.now) result ≡ slice_get (completions_of process noted.now) index }
+{
     let mut left = index;
     for one in noted {
         if one.process == process {
@@ -86,6 +91,19 @@ struct Span {
     end: u64,
 }
 
+// The moments of a call. It begins before it ends: the clock sees to that, and here it is certain.
+fn span_of(process: u32, begin: u64, end: u64) -> Span
+    ensures process { result.process ≡ process }
+    ensures in_order { nat_lt result.begin result.end ≡ true }
+{
+    let begin = begin.min(u64::MAX - 1);
+    Span {
+        process,
+        begin,
+        end: end.max(begin + 1),
+    }
+}
+
 // Adds the calls of a line, with the descriptors that its process holds.
 fn push_line(
     alloc: Global,
@@ -95,8 +113,9 @@ fn push_line(
     planned: &Planned,
     came: Option<&Completion>,
 ) -> Result<(), AllocError>
+    requires { nat_lt span.begin span.end ≡ true }
     ensures { OnOk result ((own : List Asked) ×
-        Makes span.process planned.now.given.items planned.now.step own ×
+        Makes span.process planned.now.given.items planned.now.step (option_map (λ c. c.now) came.entry) own ×
         (map asked calls.new.items ≡ map asked calls.old.items ++ own)) }
 {
     match planned.step {
@@ -130,6 +149,7 @@ fn push_closes(
     held: &[u32],
     span: Span,
 ) -> Result<(), AllocError>
+    requires { nat_lt span.begin span.end ≡ true }
     ensures { OnOk result (map asked calls.new.items ≡
         map asked calls.old.items ++ map (close_by span.process) held.now) }
 {
@@ -141,7 +161,14 @@ fn push_closes(
 }
 
 fn called(span: Span, call: Call, given: Vec<u8>, outcome: Outcome) -> Called
-    ensures { asked result ≡ record { process = span.process; call = call; given = given.items } }
+    ensures { asked result ≡ record {
+      process = span.process;
+      call = call;
+      given = given.items;
+      reply = written_reply outcome;
+      message = message_of outcome;
+      in_order = nat_lt span.begin span.end;
+    } }
 {
     Called {
         process: span.process,
@@ -165,7 +192,12 @@ fn hold(held: &mut Vec<u32>, call: Call, outcome: &Outcome) -> Result<(), AllocE
     Ok(())
 }
 
-fn outcome_or_pending(alloc: Global, came: Option<&Completion>) -> Result<Outcome, AllocError> {
+fn outcome_or_pending(alloc: Global, came: Option<&Completion>) -> Result<Outcome, AllocError>
+    ensures reply { IfOk result (λ outcome. written_reply outcome ≡
+        reply_came (option_map (λ c. c.now) came.entry)) }
+    ensures message { IfOk result (λ outcome. message_of outcome ≡
+        message_came (option_map (λ c. c.now) came.entry)) }
+{
     match came {
         Some(completion) => outcome_of(alloc, completion),
         None => Ok(Outcome::Pending),

@@ -3,7 +3,7 @@ ghost use Rattle.std.specs.Prelude.{◌≡◌, ◌≤◌, ◌⊎◌, ◌+◌, �
 ghost use Rattle.std.specs.declared.alloc.Global.{Global};
 ghost use Rattle.script_runner.specs.RunFault.{IsLate, StopsAt};
 ghost use Rattle.script_text.specs.Script.{Whole, said_script, script_written};
-ghost use Rattle.journal_tasks.specs.Histories.{IsHistoryInPart, RecordsHistory, WritesHistory};
+ghost use Rattle.journal_tasks.specs.Histories.{IsHistoryInPart, RecordsHistory, WritesHistory, WritesSome};
 ghost use Rattle.script_runner.specs.declared.fault.RunFault.TheVariants.{BadCall, Deadlock, Input, NoMemory, Output};
 
 use crate::called::calls_of;
@@ -46,12 +46,13 @@ where
         IsErrOf result (BadCall line) → script_written (take (MOST_BYTES + 1) all) ≡ Err line }
     ensures input { IsErrOf result Input → W.contents output.new ≡ W.contents output.old }
     ensures no_memory { IsErrOf result NoMemory → W.contents output.new ≡ W.contents output.old }
-    ensures output { IsErrOf result Output →
-        IsHistoryInPart (W.contents output.old) (W.contents output.new) }
+    ensures output { (all : List ℕ) (script : Whole) → R.remaining input.old ≡ Some all →
+        script_written (take (MOST_BYTES + 1) all) ≡ Ok script → IsErrOf result Output →
+        IsHistoryInPart script (W.contents output.old) (W.contents output.new) }
     ensures stuck { (all : List ℕ) (script : Whole) (lines : Vec ℕ Global) →
         R.remaining input.old ≡ Some all →
         script_written (take (MOST_BYTES + 1) all) ≡ Ok script → IsErrOf result (Deadlock lines) →
-        WritesHistory script (W.contents output.old) (W.contents output.new) }
+        WritesSome script (W.contents output.old) (W.contents output.new) }
     ensures done { (all : List ℕ) (script : Whole) → R.remaining input.old ≡ Some all →
         script_written (take (MOST_BYTES + 1) all) ≡ Ok script →
         OnOk result (RecordsHistory script (W.contents output.old) (W.contents output.new)) }
@@ -87,10 +88,10 @@ where
     requires { (1 ≤ script.now.processes) × (script.now.processes ≤ 32) }
     ensures fault { IfErr result IsLate }
     ensures no_memory { IsErrOf result NoMemory → W.contents output.new ≡ W.contents output.old }
-    ensures output { IsErrOf result Output →
-        IsHistoryInPart (W.contents output.old) (W.contents output.new) }
+    ensures output { IsErrOf result Output → IsHistoryInPart (said_script script.now)
+        (W.contents output.old) (W.contents output.new) }
     ensures stuck { (lines : Vec ℕ Global) → IsErrOf result (Deadlock lines) →
-        WritesHistory (said_script script.now) (W.contents output.old) (W.contents output.new) }
+        WritesSome (said_script script.now) (W.contents output.old) (W.contents output.new) }
     ensures done { OnOk result (RecordsHistory (said_script script.now) (W.contents output.old)
         (W.contents output.new)) }
 {
@@ -117,10 +118,10 @@ fn write_calls<W: Write>(
 ) -> Result<(), RunFault>
     ensures fault { IfErr result (λ fault. (fault ≡ NoMemory) ⊎ (fault ≡ Output)) }
     ensures no_memory { IsErrOf result NoMemory → W.contents output.new ≡ W.contents output.old }
-    ensures output { IsErrOf result Output →
-        IsHistoryInPart (W.contents output.old) (W.contents output.new) }
-    ensures done { OnOk result (WritesHistory (said_script script.now) (W.contents output.old)
-        (W.contents output.new)) }
+    ensures output { IsErrOf result Output → IsHistoryInPart (said_script script.now)
+        (W.contents output.old) (W.contents output.new) }
+    ensures done { OnOk result (WritesHistory (said_script script.now) noted.now
+        (W.contents output.old) (W.contents output.new)) }
 {
     let calls = calls_of(alloc, script, noted, moments)?;
     let text = write_history(alloc, &calls)?;

@@ -42,8 +42,8 @@ pub fn judge_history<R: Read, W: Write>(
     question: Question,
 ) -> Result<u8, LogFault>
     ensures done { (all : List ℕ) → R.remaining input.old ≡ Some all →
-        IfOk result (λ status. JudgesHistory (take (MOST_BYTES + 1) all) question.journal status
-        (W.contents output.old) (W.contents output.new)) }
+        IfOk result (λ status. JudgesHistory question.budget (take (MOST_BYTES + 1) all)
+        question.journal status (W.contents output.old) (W.contents output.new)) }
     ensures bad_line { (all : List ℕ) (line : ℕ) → R.remaining input.old ≡ Some all →
         IsErrOf result (BadLine line) → IsAtFault line (take (MOST_BYTES + 1) all) }
     ensures soon { (line : ℕ) → IsErrOf result (BadLine line) →
@@ -53,8 +53,8 @@ pub fn judge_history<R: Read, W: Write>(
     ensures unwritten { (line : ℕ) → IsErrOf result (BadLine line) →
         W.contents output.new ≡ W.contents output.old }
     ensures output { (all : List ℕ) → R.remaining input.old ≡ Some all →
-        IsErrOf result Output → StopsInJudgement (take (MOST_BYTES + 1) all) question.journal
-        (W.contents output.old) (W.contents output.new) }
+        IsErrOf result Output → StopsInJudgement question.budget (take (MOST_BYTES + 1) all)
+        question.journal (W.contents output.old) (W.contents output.new) }
 {
     let calls = read_input(alloc, input)?;
     let judgement = judge_calls(alloc, &calls, question.budget)?;

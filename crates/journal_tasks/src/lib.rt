@@ -1,8 +1,9 @@
-//! Journals and histories as text: of scripts that are run, checked, drawn, and judged.
+//! Journals and histories as text: of scripts that are run, checked, shown, and judged.
 #![tactic(auto)]
 
 mod called;
 mod check;
+mod compact;
 mod counts;
 mod draw;
 mod every_order;
@@ -16,6 +17,7 @@ mod verdict;
 mod window;
 
 pub use check::check_journal;
+pub use compact::{NoShort, compact_journal};
 pub use counts::Counts;
 pub use draw::draw_journal;
 pub use every_order::{Ending, REPORT, Trial, try_orders};

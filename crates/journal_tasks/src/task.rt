@@ -16,8 +16,12 @@ pub enum Task {
     History,
     /// Checks a journal.
     Check,
+    /// Writes a short journal in place of a long one.
+    Compact,
     /// Writes a picture of a journal.
     Draw(Window),
+    /// Writes a page of a journal.
+    View(Window),
     /// Judges a concurrent history.
     Judge(Question),
     /// Tries every order of the calls of a script.
@@ -33,8 +37,12 @@ usage: mqlog TASK
   history
          runs the script on the standard input, and writes the history of its calls, also of one that can't go on (status 5)
   check  checks the journal on the standard input: writes that it is legal, or its first entry that is not (status 1)
+  compact
+         writes a short journal that leaves the state of the journal on the standard input (status 1 if there is none)
   draw   writes a picture (SVG) of the journal on the standard input, of at most 2000 entries:
          draw --from K begins with the entry at place K, draw --to L ends with that at place L, both in either order do both
+  view   writes a page (HTML) of the journal on the standard input, which a browser shows and steps through, of at most 1000000
+         entries and 25000000 bytes (status 1 if there are more): --from K and --to L as for draw
   judge  judges the concurrent history on the standard input: writes that it is possible, or its front part that is not (status 1),
          or that the budget was used up (status 5): judge --journal also writes a journal that explains it, judge --budget N
          takes at most N steps, both in either order do both
@@ -62,6 +70,8 @@ fn task_after(word: &[u8], options: &[String]) -> Option<Task>
         task_named(word)
     } else if word == b"draw".as_slice() {
         Some(Task::Draw(window_of(options)?))
+    } else if word == b"view".as_slice() {
+        Some(Task::View(window_of(options)?))
     } else if word == b"judge".as_slice() {
         Some(Task::Judge(question_of(options)?))
     } else if word == b"orders".as_slice() {
@@ -81,8 +91,12 @@ fn task_named(word: &[u8]) -> Option<Task>
         Some(Task::History)
     } else if word == b"check".as_slice() {
         Some(Task::Check)
+    } else if word == b"compact".as_slice() {
+        Some(Task::Compact)
     } else if word == b"draw".as_slice() {
         Some(Task::Draw(WHOLE))
+    } else if word == b"view".as_slice() {
+        Some(Task::View(WHOLE))
     } else if word == b"judge".as_slice() {
         Some(Task::Judge(PLAIN))
     } else if word == b"orders".as_slice() {

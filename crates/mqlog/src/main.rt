@@ -5,9 +5,10 @@
 mod tests;
 
 use fast_mutex::FastMutex;
+use journal_page::{HEAD, TAIL, Unviewed, Viewed, view_journal};
 use journal_tasks::{
-    Ending, LogFault, Question, Task, Trial, USAGE, Window, check_journal, draw_journal,
-    judge_history, record_history, record_script, task_of, try_orders,
+    Ending, LogFault, Question, Task, Trial, USAGE, Window, check_journal, compact_journal,
+    draw_journal, judge_history, record_history, record_script, task_of, try_orders,
 };
 use mq::Guarded;
 use script_runner::{Plain, RunFault};
@@ -25,7 +26,9 @@ fn main(rt: HostRuntime) -> ExitCode {
         Ok(Some(Task::Run)) => run(&rt, rt.alloc()),
         Ok(Some(Task::History)) => history(&rt, rt.alloc()),
         Ok(Some(Task::Check)) => check(&rt, rt.alloc()),
+        Ok(Some(Task::Compact)) => compact(&rt, rt.alloc()),
         Ok(Some(Task::Draw(window))) => draw(&rt, rt.alloc(), window),
+        Ok(Some(Task::View(window))) => view(&rt, rt.alloc(), window),
         Ok(Some(Task::Judge(question))) => judge(&rt, rt.alloc(), question),
         Ok(Some(Task::Orders(trial))) => orders(&rt, rt.alloc(), trial),
         Ok(Some(Task::Help)) => help(&rt),
@@ -70,11 +73,38 @@ fn check(rt: &(impl Print + Eprint + Input), alloc: Global) -> ExitCode {
     }
 }
 
+fn compact(rt: &(impl Print + Eprint + Input), alloc: Global) -> ExitCode {
+    let (mut input, mut output) = (rt.reader(), io::writer(rt));
+    match compact_journal(alloc, &mut input, &mut output) {
+        Ok(None) => ExitCode::SUCCESS,
+        Ok(Some(why)) => {
+            let _ = eprintln!(rt; "{why}");
+            ExitCode::from(1)
+        }
+        Err(fault) => failed(rt, fault),
+    }
+}
+
 fn draw(rt: &(impl Print + Eprint + Input), alloc: Global, window: Window) -> ExitCode {
     let (mut input, mut output) = (rt.reader(), io::writer(rt));
     match draw_journal(alloc, &mut input, &mut output, window) {
         Ok(()) => ExitCode::SUCCESS,
         Err(fault) => failed(rt, fault),
+    }
+}
+
+fn view(rt: &(impl Print + Eprint + Input), alloc: Global, window: Window) -> ExitCode {
+    let (mut input, mut output) = (rt.reader(), io::writer(rt));
+    let (head, tail) = (HEAD.as_bytes(), TAIL.as_bytes());
+    let (from, to) = (window.from, window.to);
+    match view_journal(alloc, &mut input, &mut output, from, to, head, tail) {
+        Ok(Viewed::Written) => ExitCode::SUCCESS,
+        Ok(Viewed::TooLong) => {
+            let _ = eprintln!(rt; "too long for a page: cut a window by --from K and --to L");
+            ExitCode::from(1)
+        }
+        Err(Unviewed::Unread(fault)) => failed(rt, LogFault::from(fault)),
+        Err(Unviewed::Output) => failed(rt, LogFault::Output),
     }
 }
 

@@ -426,6 +426,7 @@ fn one_word_is_a_task(rt: HostRuntime) -> Result<(), Fail> {
         ("check", Some(Task::Check)),
         ("--help", Some(Task::Help)),
         ("draw", Some(Task::Draw(WHOLE))),
+        ("view", Some(Task::View(WHOLE))),
         ("draws", None),
         ("", None),
     ] {
@@ -475,12 +476,13 @@ fn words_of(alloc: Global, task: &str, options: &[&str]) -> Result<Vec<String>, 
 }
 
 #[test]
-fn draw_has_options_and_the_others_have_none(rt: HostRuntime) -> Result<(), Fail> {
+fn draw_and_view_have_options_and_check_has_none(rt: HostRuntime) -> Result<(), Fail> {
     for (options, window) in OPTIONS {
-        for task in ["draw", "check"] {
+        for task in ["draw", "view", "check"] {
             let words = words_of(rt.alloc(), task, options)?;
             let wanted = match window {
                 Some(window) if task == "draw" => Some(Task::Draw(window)),
+                Some(window) if task == "view" => Some(Task::View(window)),
                 _ => None,
             };
             assert_eq!(rt; task_of(words.as_slice()), wanted);

@@ -4,7 +4,7 @@ use Rattle.std.proofs.lemmas.List.{get_or-map}
 use Rattle.script_text.specs.Script.{said_phases}
 use Rattle.script_orders.specs.Plans.{Plan, plan_of, program_of}
 use Rattle.script_orders.specs.declared.plan.Planned.{Planned}
-use Rattle.journal_tasks.specs.Histories.{MakesFront, asked}
+use Rattle.journal_tasks.specs.Histories.{MakesFront, asked, completions_of}
 use Rattle.journal_tasks.proofs.Historic.{fronts-one_more, programs-at}
 use Rattle.journal_tasks.proofs.called.calls_of.Goals as goal
 
@@ -22,5 +22,5 @@ loop-index-preserved c =
     ∙ sym (get_or-map shown programs i program [] within)
     ∙ ap (λ (all : List (List Plan)). get_or all i []) c.in_ok-programs.ensures.programs
     ∙ programs-at phases n i [] low in
-    let front : MakesFront (i + 1) (program_of 0 phases (i + 1)) now.0 = subst (λ plans. MakesFront (i + 1) plans now.0) at now.1 in
-    fronts-one_more phases i (map asked c.loop-index.calls.items) now.0 (map asked c.push_program.new.calls.items) c.loop-index.invariant front now.2
+    let front : MakesFront (i + 1) (program_of 0 phases (i + 1)) (completions_of (i + 1) c.args.noted.now) now.0 = subst (λ plans. MakesFront (i + 1) plans (completions_of (i + 1) c.args.noted.now) now.0) at now.1 in
+    fronts-one_more phases c.args.noted.now i (map asked c.loop-index.calls.items) now.0 (map asked c.push_program.new.calls.items) c.loop-index.invariant front now.2

@@ -19,7 +19,7 @@ returns-in_err-write_all-clause-output g c = λ failed.
       from = play;
       begins = begins;
       collected = collected;
-      found = found-from play collected begins.first ensured.witnessed ensured.distinct ensured.all ensured.legal;
+      found = found-from c.args.trial.budget play collected begins.first ensured.witnessed ensured.distinct ensured.all ensured.used_up ensured.legal;
       written = rw text at c.in_err-write_all.ensures.failed;
     }
 
@@ -37,7 +37,7 @@ returns-clause-done g c =
       from = play;
       begins = begins;
       collected = collected;
-      found = found-from play collected begins.first ensured.witnessed ensured.distinct ensured.all ensured.legal;
+      found = found-from c.args.trial.budget play collected begins.first ensured.witnessed ensured.distinct ensured.all ensured.used_up ensured.legal;
       ends = c.answer_ending.ensures;
       written = rw text at c.in_ok-write_all.ensures.whole;
     }

@@ -27,7 +27,7 @@ returns-in_err-write_all-clause-output g c = λ all known failed.
       judged = record {
         text = c.in_ok-calls.ensures.found all known;
         fits = c.in_ok-calls.ensures.fits;
-        judges = subst (λ (cs : List Called). IsJudgement cs judgement) c.deref.ensures.value c.in_ok-judgement.ensures;
+        judges = subst (λ (cs : List Called). IsJudgement c.args.question.budget cs judgement) c.deref.ensures.value c.in_ok-judgement.ensures;
       };
       written = rw said at c.in_err-write_all.ensures.failed;
     }
