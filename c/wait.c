@@ -357,6 +357,20 @@ static bool await_answer(yak_process *process, const waiting *it, int64_t nanos)
     return yak_answered(process) != YAK_WAITS;
 }
 
+uint32_t yak_await_answered(yak_process *process, int64_t nanos)
+{
+    const int64_t most = (int64_t)YAK_LONGEST_NAP_ * MILLISECOND;
+    yak_moment until = yak_monotonic_now();
+    const waiting it = {.call = "a call", .until = &until};
+    nanos = nanos < 0 ? 0 : nanos < most ? nanos : most;
+    until.nsec += nanos;
+    until.sec += until.nsec / SECOND;
+    until.nsec %= SECOND;
+    if (yak_answered(process) == YAK_WAITS)
+        await_answer(process, &it, nanos);
+    return yak_answered(process);
+}
+
 /* Waits until the open wait is answered, or its deadline has passed, and ends it. If it is too
  * early for that, the wait has another deadline, or none. */
 static uint32_t await_end(yak_process *process, const waiting *it)

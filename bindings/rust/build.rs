@@ -1,34 +1,84 @@
-//! Links the proved library: `lib/libyakyrombe.a` of the repository, or the one in the folder that `YAKYROMBE_LIB` names.
+//! Links the proved library, `libyakyrombe.a`. It is looked for, in this order, in the folder that
+//! `YAKYROMBE_LIB` names, in the folder that pkg-config names, and in the folder of the crate:
+//! its own `lib`, or that of the repository or archive that has the crate as `bindings/rust`.
 
 use std::env;
 use std::path::{Path, PathBuf};
-use std::process::exit;
+use std::process::{exit, Command};
 
 const FOLDER: &str = "YAKYROMBE_LIB";
 const LIBRARY: &str = "libyakyrombe.a";
 
 fn main() {
-    println!("cargo:rerun-if-env-changed={FOLDER}");
-    let folder = folder();
-    let library = folder.join(LIBRARY);
-    println!("cargo:rerun-if-changed={}", library.display());
-    if !library.is_file() {
-        eprintln!(
-            "{} is not there: run tools/c_library at the top of the repository, which builds it, or name in {FOLDER} the folder that has it",
-            library.display()
-        );
-        exit(1);
+    for variable in
+        [FOLDER, "PKG_CONFIG", "PKG_CONFIG_PATH", "PKG_CONFIG_LIBDIR", "PKG_CONFIG_ALLOW_CROSS"]
+    {
+        println!("cargo:rerun-if-env-changed={variable}");
     }
-    println!("cargo:rustc-link-search=native={}", folder.display());
-    println!("cargo:rustc-link-lib=static=yakyrombe");
-}
-
-fn folder() -> PathBuf {
-    match env::var_os(FOLDER) {
-        Some(named) => PathBuf::from(named),
-        None => {
-            let crate_folder = Path::new(env!("CARGO_MANIFEST_DIR"));
-            crate_folder.ancestors().nth(2).unwrap_or(crate_folder).join("lib")
+    match find() {
+        Ok(folder) => {
+            println!("cargo:rerun-if-changed={}", folder.join(LIBRARY).display());
+            println!("cargo:rustc-link-search=native={}", folder.display());
+            println!("cargo:rustc-link-lib=static=yakyrombe");
+        }
+        Err(why) => {
+            eprintln!("{why}");
+            exit(1);
         }
     }
+}
+
+/// The folder that has the library, or what to do if none has.
+fn find() -> Result<PathBuf, String> {
+    if let Some(named) = env::var_os(FOLDER) {
+        return has_library(PathBuf::from(&named)).ok_or_else(|| {
+            format!(
+                "{FOLDER} names {}, which has no {LIBRARY}: name the folder that has it",
+                Path::new(&named).display()
+            )
+        });
+    }
+    let own = own_folders();
+    if let Some(found) = by_pkg_config().into_iter().chain(own.clone()).find_map(has_library) {
+        return Ok(found);
+    }
+    let [lib, above] = own.map(|it| it.display().to_string());
+    Err(format!(
+        "{LIBRARY} is not there. One of these helps:\n\
+         - unpack a release of Yakyrombe, or build it by tools/c_library at the top of its \
+         repository, and name its folder lib: \
+         {FOLDER}=/path/to/lib cargo build\n\
+         - install it (make install), so that `pkg-config --modversion yakyrombe` says {}\n\
+         - put it into {lib} or {above}",
+        env!("CARGO_PKG_VERSION")
+    ))
+}
+
+/// The folder, by its whole path, if the library is there.
+fn has_library(folder: PathBuf) -> Option<PathBuf> {
+    let is_there = folder.join(LIBRARY).is_file();
+    is_there.then(|| folder.canonicalize().unwrap_or(folder))
+}
+
+fn own_folders() -> [PathBuf; 2] {
+    let own = PathBuf::from(
+        env::var_os("CARGO_MANIFEST_DIR").expect("cargo names the folder of the crate"),
+    );
+    let above = own.ancestors().nth(2).unwrap_or(&own).join("lib");
+    [own.join("lib"), above]
+}
+
+/// The folder of an installed library of this version. pkg-config speaks of the machine that
+/// builds.
+fn by_pkg_config() -> Option<PathBuf> {
+    if env::var_os("HOST") != env::var_os("TARGET")
+        && env::var_os("PKG_CONFIG_ALLOW_CROSS").is_none()
+    {
+        return None;
+    }
+    let program = env::var_os("PKG_CONFIG").unwrap_or_else(|| "pkg-config".into());
+    let wanted = concat!("yakyrombe = ", env!("CARGO_PKG_VERSION"));
+    let told = Command::new(program).args(["--variable=libdir", wanted]).output().ok()?;
+    let folder = String::from_utf8(told.stdout).ok()?;
+    (told.status.success() && !folder.trim().is_empty()).then(|| PathBuf::from(folder.trim()))
 }

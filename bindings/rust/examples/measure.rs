@@ -6,25 +6,35 @@ use std::process::exit;
 use std::sync::Barrier;
 use std::thread;
 use std::time::Instant;
-use yakyrombe::{Descriptor, Error, OpenOptions, Process, System};
+use yakyrombe::{Error, OpenOptions, Process, System};
 
 const MESSAGE: &[u8; 16] = b"sixteen bytes ..";
 const QUEUE: OpenOptions = OpenOptions::read_write().create().limits(10, 16);
 
-/// How the processes are made.
+/// How many processes are made, with a stored journal or without.
 type Make = fn(usize) -> Result<Vec<Process>, Error>;
+
+fn stored(count: usize) -> Result<Vec<Process>, Error> {
+    Ok(System::builder().processes(count).journal(true).build()?.1)
+}
+
+fn unstored(count: usize) -> Result<Vec<Process>, Error> {
+    Ok(System::builder().processes(count).build()?.1)
+}
 
 fn main() -> Result<(), Error> {
     let words: Vec<String> = env::args().skip(1).collect();
     let words: Vec<&str> = words.iter().map(String::as_str).collect();
     let (make, workload): (Make, _) = match words.split_first() {
-        Some((&"unstored", workload)) => (System::new, workload),
-        _ => (System::with_journal, &words[..]),
+        Some((&"unstored", workload)) => (unstored, workload),
+        _ => (stored, &words[..]),
     };
     let number = |word: &str| word.parse::<u32>().ok().filter(|&number| number > 0);
     let nanoseconds = match *workload {
         ["pair", rounds] => number(rounds).map(|rounds| pair(make, rounds)),
-        ["crowd", members, rounds] => number(members).zip(number(rounds)).map(|(members, rounds)| crowd(make, members, rounds)),
+        ["crowd", members, rounds] => number(members)
+            .zip(number(rounds))
+            .map(|(members, rounds)| crowd(make, members, rounds)),
         _ => None,
     };
     let Some(nanoseconds) = nanoseconds else {
@@ -36,13 +46,14 @@ fn main() -> Result<(), Error> {
 }
 
 fn pair(make: Make, rounds: u32) -> Result<f64, Error> {
-    let (mut process, queue) = opened(make(1)?.remove(0))?;
+    let process = make(1)?.remove(0);
+    let queue = process.open("/q", QUEUE)?;
     let start = Instant::now();
     for _ in 0..rounds {
-        process.send(queue, MESSAGE, 0)?;
-        process.receive(queue, &mut [0; 16])?;
+        queue.send(MESSAGE, 0)?;
+        queue.receive(&mut [0; 16])?;
     }
-    Ok(start.elapsed().as_nanos() as f64 / 2.0 / f64::from(rounds))
+    Ok(start.elapsed().as_secs_f64() * 1e9 / 2.0 / f64::from(rounds))
 }
 
 fn crowd(make: Make, members: u32, rounds: u32) -> Result<f64, Error> {
@@ -50,28 +61,27 @@ fn crowd(make: Make, members: u32, rounds: u32) -> Result<f64, Error> {
     let barrier = Barrier::new(members as usize + 1);
     let mut start = Instant::now();
     thread::scope(|scope| {
-        let members: Vec<_> = processes.into_iter().map(|process| scope.spawn(|| take_part(process, rounds, &barrier))).collect();
+        let barrier = &barrier;
+        let members: Vec<_> = processes
+            .into_iter()
+            .map(|process| scope.spawn(move || take_part(&process, rounds, barrier)))
+            .collect();
         barrier.wait();
         start = Instant::now();
         members.into_iter().try_for_each(|member| member.join().expect("no member panics"))
     })?;
-    Ok(start.elapsed().as_nanos() as f64 / f64::from(members) / f64::from(rounds))
-}
-
-fn opened(mut process: Process) -> Result<(Process, Descriptor), Error> {
-    let queue = process.open("/q", QUEUE)?;
-    Ok((process, queue))
+    Ok(start.elapsed().as_secs_f64() * 1e9 / f64::from(members) / f64::from(rounds))
 }
 
 // Those with even numbers receive, the others send.
-fn take_part(process: Process, rounds: u32, barrier: &Barrier) -> Result<(), Error> {
-    let (mut process, queue) = opened(process)?;
+fn take_part(process: &Process, rounds: u32, barrier: &Barrier) -> Result<(), Error> {
+    let queue = process.open("/q", QUEUE)?;
     barrier.wait();
     for _ in 0..rounds {
         if process.number() % 2 == 0 {
-            process.receive(queue, &mut [0; 16])?;
+            queue.receive(&mut [0; 16])?;
         } else {
-            process.send(queue, MESSAGE, 0)?;
+            queue.send(MESSAGE, 0)?;
         }
     }
     Ok(())

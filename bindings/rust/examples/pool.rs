@@ -1,7 +1,7 @@
 //! A pool of workers, and a control message that overtakes the jobs which are still in the queue.
 
 use std::thread;
-use yakyrombe::{Descriptor, Error, OpenOptions, Process, System};
+use yakyrombe::{Error, OpenOptions, Process, Queue, System};
 
 const QUEUE: OpenOptions = OpenOptions::read_write().create().limits(64, 16);
 const JOB: u32 = 1;
@@ -10,36 +10,37 @@ const WORKERS: usize = 4;
 const JOBS: usize = 40;
 
 fn main() -> Result<(), Error> {
-    let mut processes = System::new(1 + WORKERS)?;
-    let mut control = processes.remove(0);
-    let queue = control.open("/pool", QUEUE)?;
+    let (_, mut workers) = System::builder().processes(1 + WORKERS).build()?;
+    let control = workers.remove(0);
+    let pool = control.open("/pool", QUEUE)?;
     for job in 0..JOBS {
-        control.send(queue, job.to_string().as_bytes(), JOB)?;
+        pool.send(job.to_string().as_bytes(), JOB)?;
     }
     // The pool is told to stop before it has begun: the jobs stay where they are.
-    stop(&mut control, queue)?;
-
-    let done = thread::scope(|scope| {
-        let workers: Vec<_> = processes.into_iter().map(|process| scope.spawn(|| work(process))).collect();
-        workers.into_iter().map(|worker| worker.join().expect("no worker panics")).sum::<Result<usize, Error>>()
-    })?;
-    println!("{done} jobs were done, {} are left", control.getattr(queue)?.curmsgs);
-    Ok(())
-}
-
-// One control message for each worker, ahead of all jobs.
-fn stop(control: &mut Process, queue: Descriptor) -> Result<(), Error> {
     for _ in 0..WORKERS {
-        control.send(queue, b"stop", CONTROL)?;
+        pool.send(b"stop", CONTROL)?;
     }
+
+    let workers = workers
+        .into_iter()
+        .map(|process| Queue::open(process, "/pool", QUEUE))
+        .collect::<Result<Vec<_>, _>>()?;
+    let threads: Vec<_> =
+        workers.into_iter().map(|jobs| thread::spawn(move || work(&jobs))).collect();
+    let done: usize = threads
+        .into_iter()
+        .map(|thread| thread.join().expect("no worker panics"))
+        .sum::<Result<_, _>>()?;
+    println!("{done} jobs were done, {} are left", pool.attr()?.curmsgs);
     Ok(())
 }
 
-fn work(mut process: Process) -> Result<usize, Error> {
-    let queue = process.open("/pool", QUEUE)?;
-    let mut buf = [0; 16];
+fn work(jobs: &Queue<Process>) -> Result<usize, Error> {
     let mut done = 0;
-    while process.receive(queue, &mut buf)?.priority == JOB {
+    for job in jobs {
+        if job?.priority == CONTROL {
+            break;
+        }
         done += 1;
     }
     Ok(done)

@@ -4,16 +4,16 @@ use std::time::Duration;
 use yakyrombe::{Error, OpenOptions, System};
 
 fn main() -> Result<(), Error> {
-    let mut process = System::bounded(1, 100, 1000)?.remove(0);
+    let (_, [process]) = System::builder().bounded(100, 1000).build_array()?;
     let queue = process.open("/answers", OpenOptions::read_write().create().limits(1, 32))?;
     let mut buf = [0; 32];
-    match process.receive_timeout(queue, &mut buf, Duration::from_millis(20)) {
+    match queue.receive_until(&mut buf, Duration::from_millis(20)) {
         Err(Error::TimedOut) => println!("nothing came in 20 milliseconds"),
         other => println!("{other:?}"),
     }
-    process.send(queue, b"here", 0)?;
-    println!("a second message: {:?}", process.try_send(queue, b"too much", 0));
-    println!("the first: {:?}", process.try_receive(queue, &mut buf));
-    println!("none: {:?}", process.try_receive(queue, &mut buf));
+    queue.send(b"here", 0)?;
+    println!("a second message: {:?}", queue.try_send(b"too much", 0));
+    println!("the first: {:?}", queue.try_receive(&mut buf));
+    println!("none: {:?}", queue.try_receive(&mut buf));
     Ok(())
 }

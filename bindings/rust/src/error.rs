@@ -1,27 +1,39 @@
-//! Why calls are refused.
+//! Why calls fail.
 
 use crate::raw::{answer, errno_of};
 use std::fmt;
 use std::io;
 
-/// Why a call was refused. It prints as the name that POSIX gives the error; `NOMEMORY`,
-/// `JOURNALFULL` and `UNSTORED` are the library's own.
-#[derive(Clone, Copy, Debug, PartialEq, Eq, Hash)]
+/// Why a call failed. It prints as the name that POSIX gives the error; `NOMEMORY`, `JOURNALFULL`,
+/// `UNSTORED`, `WAITING` and `NOTWAITING` are the library's own.
+///
+/// ```
+/// use std::io;
+/// use yakyrombe::Error;
+///
+/// assert_eq!(Error::NoEntry.to_string(), "ENOENT");
+/// let error = io::Error::from(Error::TimedOut);
+/// assert_eq!(error.kind(), io::ErrorKind::TimedOut);
+/// assert_eq!(Error::try_from(error).unwrap(), Error::TimedOut);
+/// ```
+#[derive(Clone, Copy, Debug, PartialEq, Eq, PartialOrd, Ord, Hash)]
 #[repr(u32)]
+#[non_exhaustive]
 pub enum Error {
-    /// `EAGAIN`: the call would wait, and its descriptor is nonblocking, or it is a `try_` call.
+    /// `EAGAIN`: the call would wait, and its queue is nonblocking, or it is a `try_` call.
     Again = 1,
-    /// `EBADF`: the process does not hold the descriptor, or not with the access that the call needs.
+    /// `EBADF`: the queue is not open for what the call does.
     BadDescriptor = 2,
-    /// `EBUSY`: a registration stands on the queue already.
+    /// `EBUSY`: a process is registered on the queue already.
     Busy = 3,
     /// `EEXIST`: the name is bound, and the open asks for a new queue.
     Exists = 4,
-    /// `EINVAL`: a priority, limits, a name's form, a removal or a number of processes that the call does not allow.
+    /// `EINVAL`: a priority, limits, a name's form, a removal or a number of processes that the
+    /// call does not allow.
     Invalid = 5,
-    /// `EMFILE`: the process holds 16 descriptors.
+    /// `EMFILE`: the process has 16 queues open.
     TooManyOpen = 6,
-    /// `EMSGSIZE`: a message longer than those of the queue, or a buffer shorter.
+    /// `EMSGSIZE`: the message is longer than those of the queue may be, or the buffer is shorter.
     MessageSize = 7,
     /// `ENAMETOOLONG`: a name with more than 255 bytes after its slash.
     NameTooLong = 8,
@@ -31,18 +43,45 @@ pub enum Error {
     NoSpace = 10,
     /// `NOMEMORY`: memory for the call was refused. Nothing has changed.
     NoMemory = 11,
-    /// `ETIMEDOUT`: the time of the call was over.
+    /// `ETIMEDOUT`: the deadline of the call has passed.
     TimedOut = 12,
-    /// `JOURNALFULL`: the journal has bounds, and no room for what the call needs. Nothing has changed.
+    /// `JOURNALFULL`: the journal has bounds, and no room for what the call needs. Nothing has
+    /// changed.
     JournalFull = 13,
+    /// `WAITING`: the process has an open wait, and makes no other call on queues until it is
+    /// collected or cancelled.
+    Waiting = answer::WAITING,
+    /// `NOTWAITING`: this queue has no open wait of the kind that the call collects.
+    NotWaiting = answer::NOT_WAITING,
     /// `UNSTORED`: the call reads the journal, and that of the system is not stored
-    /// ([`System::with_journal`](crate::System::with_journal) stores one).
+    /// ([`Builder::journal`](crate::Builder::journal) stores it).
     Unstored = answer::UNSTORED,
 }
 
 impl Error {
+    /// All errors, those of POSIX first.
+    const ALL: [Error; 16] = [
+        Error::Again,
+        Error::BadDescriptor,
+        Error::Busy,
+        Error::Exists,
+        Error::Invalid,
+        Error::TooManyOpen,
+        Error::MessageSize,
+        Error::NameTooLong,
+        Error::NoEntry,
+        Error::NoSpace,
+        Error::NoMemory,
+        Error::TimedOut,
+        Error::JournalFull,
+        Error::Waiting,
+        Error::NotWaiting,
+        Error::Unstored,
+    ];
+
     /// The name that POSIX gives the error, as `EAGAIN`.
-    pub fn name(self) -> &'static str {
+    #[must_use]
+    pub const fn name(self) -> &'static str {
         match self {
             Error::Again => "EAGAIN",
             Error::BadDescriptor => "EBADF",
@@ -57,35 +96,26 @@ impl Error {
             Error::NoMemory => "NOMEMORY",
             Error::TimedOut => "ETIMEDOUT",
             Error::JournalFull => "JOURNALFULL",
+            Error::Waiting => "WAITING",
+            Error::NotWaiting => "NOTWAITING",
             Error::Unstored => "UNSTORED",
         }
     }
 
-    /// The number of the error in `errno.h` of this system: of `NoMemory` that of `ENOMEM`, of
-    /// `JournalFull` that of `ENOSPC`, of `Unstored` that of `ENOTSUP`.
+    /// The number of the error in `errno.h` of this system: for `NoMemory` that of `ENOMEM`, for
+    /// `JournalFull` that of `ENOSPC`, for `Waiting` that of `EBUSY`, for `NotWaiting` that of
+    /// `EINVAL`, for `Unstored` that of `ENOTSUP`.
+    #[must_use]
     pub fn errno(self) -> i32 {
         errno_of(self as u32)
     }
 
     /// The error whose number the library returned.
     pub(crate) fn of_answer(number: u32) -> Option<Error> {
-        const ALL: [Error; 14] = [
-            Error::Again,
-            Error::BadDescriptor,
-            Error::Busy,
-            Error::Exists,
-            Error::Invalid,
-            Error::TooManyOpen,
-            Error::MessageSize,
-            Error::NameTooLong,
-            Error::NoEntry,
-            Error::NoSpace,
-            Error::NoMemory,
-            Error::TimedOut,
-            Error::JournalFull,
-            Error::Unstored,
-        ];
-        ALL.into_iter().find(|&error| error as u32 == number)
+        match number {
+            answer::SHORT => Some(Error::MessageSize),
+            _ => Error::ALL.into_iter().find(|&error| error as u32 == number),
+        }
     }
 }
 
@@ -100,5 +130,78 @@ impl std::error::Error for Error {}
 impl From<Error> for io::Error {
     fn from(error: Error) -> io::Error {
         io::Error::from_raw_os_error(error.errno())
+    }
+}
+
+impl TryFrom<&io::Error> for Error {
+    type Error = ();
+
+    /// The error of the same number. Of several with one number it is that of POSIX.
+    fn try_from(error: &io::Error) -> Result<Error, ()> {
+        let number = error.raw_os_error().ok_or(())?;
+        Error::ALL.into_iter().find(|it| it.errno() == number).ok_or(())
+    }
+}
+
+impl TryFrom<io::Error> for Error {
+    type Error = io::Error;
+
+    /// The error of the same number, or what was given if no call fails with that.
+    fn try_from(error: io::Error) -> Result<Error, io::Error> {
+        Error::try_from(&error).map_err(|()| error)
+    }
+}
+
+/// A call that takes its process, failed, and gives it back.
+///
+/// `?` makes an [`Error`] of it, and then the process is dropped.
+///
+/// ```
+/// use yakyrombe::{Error, OpenOptions, Queue, System};
+///
+/// # fn main() -> Result<(), Error> {
+/// let (_, [process]) = System::builder().build_array()?;
+/// let failed = Queue::open(process, "/missing", OpenOptions::read()).unwrap_err();
+/// assert_eq!(failed.error(), Error::NoEntry);
+/// let queue = Queue::open(failed.into_holder(), "/made", OpenOptions::read().create())?;
+/// # drop(queue);
+/// # Ok(())
+/// # }
+/// ```
+#[derive(Clone, Copy, Debug, PartialEq, Eq, PartialOrd, Ord, Hash)]
+pub struct Refused<P> {
+    pub(crate) holder: P,
+    pub(crate) error: Error,
+}
+
+impl<P> Refused<P> {
+    /// Why the call failed.
+    #[must_use]
+    pub fn error(&self) -> Error {
+        self.error
+    }
+
+    /// What the call was given to hold its process.
+    #[must_use]
+    pub fn into_holder(self) -> P {
+        self.holder
+    }
+}
+
+impl<P> fmt::Display for Refused<P> {
+    fn fmt(&self, to: &mut fmt::Formatter<'_>) -> fmt::Result {
+        self.error.fmt(to)
+    }
+}
+
+impl<P: fmt::Debug> std::error::Error for Refused<P> {
+    fn source(&self) -> Option<&(dyn std::error::Error + 'static)> {
+        Some(&self.error)
+    }
+}
+
+impl<P> From<Refused<P>> for Error {
+    fn from(refused: Refused<P>) -> Error {
+        refused.error
     }
 }

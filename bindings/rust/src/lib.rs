@@ -1,87 +1,181 @@
 //! POSIX message queues inside one program, over a library whose every call is proved.
 //!
-//! A [`System`] is 1 to 32 processes that share queues. A [`Process`] is a value: it goes to another thread by a move, and the compiler
-//! sees to it that one thread at a time calls it. A message has a priority; who receives gets the oldest of the highest.
+//! A [`System`] has 1 to 32 processes that share queues. A [`Process`] is a value: it goes to
+//! another thread by a move, and one thread at a time calls by it. A [`Queue`] is a queue that a
+//! process has open. A message has a priority; a receive gets the oldest of the highest.
 //!
 //! ```
 //! use yakyrombe::{OpenOptions, System};
 //!
 //! # fn main() -> Result<(), yakyrombe::Error> {
-//! let mut process = System::new(1)?.remove(0);
-//! let orders = process.open("/orders", OpenOptions::read_write().create().limits(10, 64))?;
-//! process.send(orders, b"sweep the floor", 1)?;
-//! process.send(orders, b"put out the fire", 9)?;
+//! let (_, [process]) = System::builder().build_array()?;
+//! let orders =
+//!     process.open("/orders", OpenOptions::read_write().create().limits(10, 64))?;
+//! orders.send(b"sweep the floor", 1)?;
+//! orders.send(b"put out the fire", 9)?;
 //!
 //! let mut buf = [0; 64];
-//! let received = process.receive(orders, &mut buf)?;
+//! let received = orders.receive(&mut buf)?;
 //! assert_eq!(&buf[..received.len], b"put out the fire");
 //! assert_eq!(received.priority, 9);
 //! # Ok(())
 //! # }
 //! ```
 //!
-//! A call that waits for another thread sleeps until that wakes it:
+//! # Threads
+//!
+//! Each thread has a process of its own. A pool of workers is some threads that receive from one
+//! queue. A call that waits sleeps until a call of another thread answers it.
 //!
 //! ```
 //! use std::thread;
-//! use std::time::Duration;
-//! use yakyrombe::{Error, OpenOptions, System};
+//! use yakyrombe::{Error, OpenOptions, Process, System};
+//!
+//! const JOBS: OpenOptions = OpenOptions::read_write().create().limits(64, 16);
+//!
+//! fn work(process: Process) -> Result<usize, Error> {
+//!     let jobs = process.open("/jobs", JOBS)?;
+//!     let mut done = 0;
+//!     for job in &jobs {
+//!         if job?.is_empty() {
+//!             break;
+//!         }
+//!         done += 1;
+//!     }
+//!     Ok(done)
+//! }
 //!
 //! # fn main() -> Result<(), Error> {
-//! let mut processes = System::new(2)?;
-//! let (mut here, mut there) = (processes.remove(0), processes.remove(0));
-//! let options = OpenOptions::read_write().create().limits(1, 16);
-//! let queue = here.open("/late", options)?;
-//!
-//! let mut buf = [0; 16];
-//! assert_eq!(here.receive_timeout(queue, &mut buf, Duration::from_millis(5)), Err(Error::TimedOut));
-//! thread::scope(|scope| {
-//!     scope.spawn(move || {
-//!         let queue = there.open("/late", options)?;
-//!         there.send(queue, b"here I am", 0)
-//!     });
-//!     here.receive(queue, &mut buf)
-//! })?;
-//! assert!(buf.starts_with(b"here I am"));
+//! let (_, mut processes) = System::builder().processes(4).build()?;
+//! let first = processes.remove(0);
+//! let jobs = first.open("/jobs", JOBS)?;
+//! let workers: Vec<_> =
+//!     processes.into_iter().map(|process| thread::spawn(|| work(process))).collect();
+//! for job in 0..100 {
+//!     jobs.send(format!("job {job}").as_bytes(), 1)?;
+//! }
+//! // An empty job of a lower priority for each worker: they are received last.
+//! for _ in &workers {
+//!     jobs.send(b"", 0)?;
+//! }
+//! let done: usize =
+//!     workers.into_iter().map(|worker| worker.join().unwrap()).sum::<Result<_, _>>()?;
+//! assert_eq!(done, 100);
 //! # Ok(())
 //! # }
 //! ```
 //!
-//! The *journal* lists all calls with their replies. [`System::new`] does not store it, so a
-//! program may run for ever in the same memory. [`System::with_journal`] does, for a program that
-//! reads it, and [`System::bounded`] in memory that is all taken at once:
+//! # Time
+//!
+//! [`send_until`](Queue::send_until) and [`receive_until`](Queue::receive_until) take a
+//! [`Duration`](std::time::Duration), an [`Instant`](std::time::Instant) or another [`Deadline`].
+//! Durations are measured by the clock of the system. That is real time unless
+//! [`Builder::clock`] names another [`Clock`]. With a [`VirtualClock`] the same calls run a
+//! simulation in one thread: a call that would wait moves the clock to its deadline. Here three
+//! tasks report every 10, 20 and 50 milliseconds:
+//!
+//! ```
+//! use std::time::Duration;
+//! use yakyrombe::{Clock, Deadline, Error, OpenOptions, System, VirtualClock};
+//!
+//! # fn main() -> Result<(), Error> {
+//! let clock = VirtualClock::new();
+//! let (_, [one, two, three, monitor]) =
+//!     System::builder().clock(clock.clone()).build_array()?;
+//! let options = OpenOptions::read_write().create().limits(4, 16);
+//! let reports = monitor.open("/reports", options)?;
+//! let millis = Duration::from_millis;
+//! // The queue of each task, its name, its period, and when it runs next.
+//! let mut tasks = [
+//!     (one.open("/reports", options)?, "sensor", millis(10), millis(10)),
+//!     (two.open("/reports", options)?, "control", millis(20), millis(20)),
+//!     (three.open("/reports", options)?, "logger", millis(50), millis(50)),
+//! ];
+//! let mut count = 0;
+//! while clock.now() < millis(100) {
+//!     let next = tasks.iter().map(|task| task.3).min().unwrap();
+//!     // Nothing comes until a task runs again, so then it is that moment.
+//!     while reports.receive_vec_until(Deadline::Moment(next)) != Err(Error::TimedOut) {
+//!         count += 1;
+//!     }
+//!     for (queue, name, period, next) in &mut tasks {
+//!         if *next == clock.now() {
+//!             queue.send(name.as_bytes(), 0)?;
+//!             *next += *period;
+//!         }
+//!     }
+//! }
+//! assert_eq!(count + reports.try_iter().count(), 10 + 5 + 2);
+//! # Ok(())
+//! # }
+//! ```
+//!
+//! # Without blocking
+//!
+//! [`try_send`](Queue::try_send) and [`try_receive`](Queue::try_receive) fail if they would wait.
+//! [`start_send`](Queue::start_send) and [`start_receive`](Queue::start_receive) leave an open
+//! wait that is collected later ([waits in two parts](Queue#waits-in-two-parts)).
+//!
+//! With the feature `futures`, `Queue` also has `send_async`, `receive_async` and
+//! `receive_vec_async`. They stand over [`std::future`] alone, so any executor runs them: the one
+//! in the documentation of `ReceiveFuture` has ten lines.
+//!
+//! # The journal
+//!
+//! The *journal* lists all calls with their replies. By default it is not stored, so a program may
+//! run for ever in the same memory. [`Builder::journal`] stores it, for a program that reads it,
+//! and [`Builder::bounded`] does so in memory that is all taken at once:
 //!
 //! ```
 //! use yakyrombe::{Error, OpenOptions, System};
 //!
 //! # fn main() -> Result<(), Error> {
-//! let mut process = System::with_journal(1)?.remove(0);
-//! process.open("/orders", OpenOptions::read().create())?;
+//! let (_, [process]) = System::builder().journal(true).build_array()?;
+//! let orders = process.open("/orders", OpenOptions::read().create())?;
 //! assert_eq!(process.journal()?.as_str(), "0 1 open rc \"/orders\" -> fd 0 created\n");
 //!
-//! let mut other = System::new(1)?.remove(0);
+//! let (_, [other]) = System::builder().build_array()?;
 //! assert_eq!(other.journal(), Err(Error::Unstored));
+//! # drop(orders);
 //! # Ok(())
 //! # }
 //! ```
 //!
 //! # Errors
 //!
-//! Any call may also be refused with [`NoMemory`](Error::NoMemory) in a system without bounds and with [`JournalFull`](Error::JournalFull)
-//! in one with bounds. Such a call has changed nothing, and has no entry in the journal; all others have.
+//! Any call may also fail with [`NoMemory`](Error::NoMemory) in a system without bounds and with
+//! [`JournalFull`](Error::JournalFull) in one with bounds. Such a call has changed nothing, and has
+//! no entry in the journal. Nor has one that fails with [`Waiting`](Error::Waiting). Every other
+//! call has an entry.
 //!
 //! # What to keep in mind
 //!
-//! - A wait that nobody answers lasts for ever, as that of a channel does.
+//! - A wait without a deadline that no other call answers lasts for ever, as that of a channel
+//!   does.
 //! - The library takes its memory from C's `malloc`.
 //! - No call may be made from a signal handler, or in a forked child of a program with threads.
+#![deny(missing_docs)]
 
 mod error;
+#[cfg(feature = "futures")]
+mod futures;
+mod holder;
+mod iter;
 mod options;
 mod process;
+mod queue;
 #[allow(missing_docs)]
 mod raw;
+mod system;
+mod time;
 
-pub use error::Error;
-pub use options::{Attr, Descriptor, Journal, OpenOptions, Received, Room};
-pub use process::{Process, System, MOST_PROCESSES};
+pub use error::{Error, Refused};
+#[cfg(feature = "futures")]
+pub use futures::{ReceiveFuture, SendFuture};
+pub use holder::Holder;
+pub use iter::{Iter, TryIter};
+pub use options::{Attr, Journal, Message, OpenOptions, Received, Room};
+pub use process::Process;
+pub use queue::Queue;
+pub use system::{Builder, System, MOST_PROCESSES};
+pub use time::{Clock, Deadline, Monotonic, VirtualClock};

@@ -2,16 +2,19 @@
 
 use crate::raw::{Attributes, Opening};
 use std::fmt;
+use std::ops::Deref;
 
 /// What an open asks for: the access, whether it may create the queue, and the limits of a new one.
+///
+/// The default is [`read_write`](OpenOptions::read_write).
 ///
 /// ```
 /// use yakyrombe::OpenOptions;
 ///
-/// let jobs = OpenOptions::read_write().create().limits(8, 64);
-/// # let _ = jobs;
+/// const JOBS: OpenOptions = OpenOptions::read_write().create().limits(8, 64);
+/// # assert_ne!(JOBS, OpenOptions::default());
 /// ```
-#[derive(Clone, Copy, Debug)]
+#[derive(Clone, Copy, Debug, PartialEq, Eq, Hash)]
 #[must_use]
 pub struct OpenOptions(pub(crate) Opening);
 
@@ -36,65 +39,119 @@ impl OpenOptions {
         OpenOptions::with(2)
     }
 
-    /// A queue that is not there is created (`O_CREAT`), for 10 messages of 8,192 bytes unless there are [`limits`](OpenOptions::limits).
+    /// If the queue does not exist it is created (`O_CREAT`), for 10 messages of 8,192 bytes unless
+    /// there are [`limits`](OpenOptions::limits).
     pub const fn create(mut self) -> OpenOptions {
         self.0.create = true;
         self
     }
 
-    /// A queue that is there already is refused with [`Exists`](crate::Error::Exists) (`O_EXCL`), where the open may create one.
+    /// If the queue exists the open fails with [`Exists`](crate::Error::Exists) (`O_EXCL`). This
+    /// counts beside [`create`](OpenOptions::create) alone.
     pub const fn exclusive(mut self) -> OpenOptions {
         self.0.exclusive = true;
         self
     }
 
-    /// A send or a receive that would wait is refused with [`Again`](crate::Error::Again) (`O_NONBLOCK`).
+    /// A send or a receive that would wait fails with [`Again`](crate::Error::Again)
+    /// (`O_NONBLOCK`).
     pub const fn nonblocking(mut self) -> OpenOptions {
         self.0.nonblock = true;
         self
     }
 
-    /// A new queue is for so many messages (1 to 4,096) of at most so many bytes (1 to 65,536).
-    pub const fn limits(mut self, messages: i64, bytes: i64) -> OpenOptions {
-        self.0.maxmsg = messages;
-        self.0.msgsize = bytes;
+    /// A new queue holds at most this number of messages (1 to 4,096), each of at most this number
+    /// of bytes (1 to 65,536).
+    pub const fn limits(mut self, messages: usize, bytes: usize) -> OpenOptions {
+        self.0.maxmsg = saturated(messages);
+        self.0.msgsize = saturated(bytes);
         self.0.limited = true;
         self
     }
 }
 
-/// A descriptor of the process that opened it. For another process it is a number like any other.
-#[derive(Clone, Copy, Debug, PartialEq, Eq, Hash)]
-pub struct Descriptor(pub(crate) u32);
-
-impl Descriptor {
-    /// Its number, 0 to 15: the lowest that was free.
-    pub const fn number(self) -> u32 {
-        self.0
+/// The number, or one that no queue allows.
+// The cast is exact: the number is small.
+#[allow(clippy::cast_possible_truncation, clippy::cast_possible_wrap)]
+const fn saturated(number: usize) -> i64 {
+    const MOST: usize = 1 << 20;
+    if number < MOST {
+        number as i64
+    } else {
+        MOST as i64
     }
 }
 
-/// What is known of a queue, and the flag of the descriptor by which it was asked.
-#[derive(Clone, Copy, Debug, PartialEq, Eq)]
+impl Default for OpenOptions {
+    fn default() -> OpenOptions {
+        OpenOptions::read_write()
+    }
+}
+
+/// What is known of a queue, and the flag of the handle by which it was asked.
+///
+/// ```
+/// use yakyrombe::{OpenOptions, System};
+///
+/// # fn main() -> Result<(), yakyrombe::Error> {
+/// let (_, [process]) = System::builder().build_array()?;
+/// let queue = process.open("/q", OpenOptions::write().create().limits(8, 64))?;
+/// queue.send(b"one", 0)?;
+/// let attr = queue.attr()?;
+/// assert_eq!(
+///     (attr.maxmsg, attr.msgsize, attr.curmsgs, attr.nonblocking),
+///     (8, 64, 1, false)
+/// );
+/// # Ok(())
+/// # }
+/// ```
+///
+/// Only the library makes one, so that it may have more fields later:
+///
+/// ```compile_fail,E0639
+/// use yakyrombe::Attr;
+/// let attr = Attr { maxmsg: 1, msgsize: 8, curmsgs: 0, nonblocking: false };
+/// ```
+#[derive(Clone, Copy, Debug, Default, PartialEq, Eq, PartialOrd, Ord, Hash)]
+#[non_exhaustive]
 pub struct Attr {
     /// How many messages the queue holds at the most.
-    pub maxmsg: i64,
+    pub maxmsg: usize,
     /// How many bytes a message has at the most.
-    pub msgsize: i64,
+    pub msgsize: usize,
     /// How many messages are present.
-    pub curmsgs: i64,
-    /// Whether a call on the descriptor is refused where it would wait.
+    pub curmsgs: usize,
+    /// Whether a call by the handle fails if it would wait.
     pub nonblocking: bool,
 }
 
 impl Attr {
     pub(crate) fn of(found: &Attributes) -> Attr {
-        Attr { maxmsg: found.maxmsg, msgsize: found.msgsize, curmsgs: found.curmsgs, nonblocking: found.nonblock }
+        let size = |number: i64| usize::try_from(number).unwrap_or(0);
+        Attr {
+            maxmsg: size(found.maxmsg),
+            msgsize: size(found.msgsize),
+            curmsgs: size(found.curmsgs),
+            nonblocking: found.nonblock,
+        }
     }
 }
 
-/// A message that was received: it lies in the front of the buffer.
-#[derive(Clone, Copy, Debug, PartialEq, Eq)]
+/// A message that was received: it is at the start of the buffer.
+///
+/// ```
+/// use yakyrombe::{OpenOptions, Received, System};
+///
+/// # fn main() -> Result<(), yakyrombe::Error> {
+/// let (_, [process]) = System::builder().build_array()?;
+/// let queue = process.open("/q", OpenOptions::read_write().create().limits(8, 64))?;
+/// queue.send(b"one", 5)?;
+/// let mut buf = [0; 64];
+/// assert_eq!(queue.receive(&mut buf)?, Received { len: 3, priority: 5 });
+/// # Ok(())
+/// # }
+/// ```
+#[derive(Clone, Copy, Debug, Default, PartialEq, Eq, PartialOrd, Ord, Hash)]
 pub struct Received {
     /// How many bytes of the buffer it has.
     pub len: usize,
@@ -102,21 +159,91 @@ pub struct Received {
     pub priority: u32,
 }
 
+/// A message that was received, with bytes of its own. Messages are ordered by priority first.
+///
+/// ```
+/// use yakyrombe::{Message, OpenOptions, System};
+///
+/// # fn main() -> Result<(), yakyrombe::Error> {
+/// let (_, [process]) = System::builder().build_array()?;
+/// let queue = process.open("/q", OpenOptions::read_write().create().limits(8, 64))?;
+/// queue.send(b"one", 5)?;
+/// let message: Message = queue.receive_vec()?;
+/// assert_eq!((&*message, message.priority), (&b"one"[..], 5));
+/// # Ok(())
+/// # }
+/// ```
+#[derive(Clone, Debug, Default, PartialEq, Eq, PartialOrd, Ord, Hash)]
+pub struct Message {
+    /// Its priority, 0 to 32,767.
+    pub priority: u32,
+    /// Its bytes.
+    pub bytes: Vec<u8>,
+}
+
+impl Deref for Message {
+    type Target = [u8];
+
+    fn deref(&self) -> &[u8] {
+        &self.bytes
+    }
+}
+
+impl AsRef<[u8]> for Message {
+    fn as_ref(&self) -> &[u8] {
+        &self.bytes
+    }
+}
+
+impl From<Message> for Vec<u8> {
+    fn from(message: Message) -> Vec<u8> {
+        message.bytes
+    }
+}
+
 /// For how much more a journal has room; without bounds both are `u64::MAX`.
-#[derive(Clone, Copy, Debug, PartialEq, Eq)]
+///
+/// ```
+/// use yakyrombe::System;
+///
+/// # fn main() -> Result<(), yakyrombe::Error> {
+/// let (_, [process]) = System::builder().bounded(100, 1_000).build_array()?;
+/// assert_eq!(process.room().entries, 100);
+/// # Ok(())
+/// # }
+/// ```
+#[derive(Clone, Copy, Debug, Default, PartialEq, Eq, PartialOrd, Ord, Hash)]
+#[non_exhaustive]
 pub struct Room {
-    /// Entries, beside those that end the waits that are open. A send or a receive needs two, since it may wait; any other call one.
+    /// Entries, beside those that end the waits that are open. A send or a receive needs two,
+    /// since it may wait; any other call one.
     pub entries: u64,
     /// Bytes of names and messages.
     pub bytes: u64,
 }
 
 /// The journal of a system as text, a line an entry, the oldest first.
-#[derive(Clone, Debug, PartialEq, Eq)]
+///
+/// ```
+/// use yakyrombe::{OpenOptions, System};
+///
+/// # fn main() -> Result<(), yakyrombe::Error> {
+/// let (_, [process]) = System::builder().journal(true).build_array()?;
+/// let queue = process.open("/q", OpenOptions::write().create())?;
+/// queue.close()?;
+/// assert_eq!(
+///     process.journal()?.lines().collect::<Vec<_>>(),
+///     ["0 1 open wc \"/q\" -> fd 0 created", "1 1 close 0 -> ok"]
+/// );
+/// # Ok(())
+/// # }
+/// ```
+#[derive(Clone, Debug, Default, PartialEq, Eq, PartialOrd, Ord, Hash)]
 pub struct Journal(pub(crate) String);
 
 impl Journal {
     /// The text, which `mqlog check` and `mqlog draw` read.
+    #[must_use]
     pub fn as_str(&self) -> &str {
         &self.0
     }
@@ -124,6 +251,18 @@ impl Journal {
     /// The lines of the entries, as `0 1 open bc "/q" -> fd 0 created`.
     pub fn lines(&self) -> std::str::Lines<'_> {
         self.0.lines()
+    }
+}
+
+impl AsRef<str> for Journal {
+    fn as_ref(&self) -> &str {
+        &self.0
+    }
+}
+
+impl From<Journal> for String {
+    fn from(journal: Journal) -> String {
+        journal.0
     }
 }
 

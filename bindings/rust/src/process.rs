@@ -1,256 +1,212 @@
 //! Processes and their calls.
 
 use crate::error::Error;
-use crate::options::{Attr, Descriptor, Journal, OpenOptions, Received, Room};
-use crate::raw::{answer, Attributes, Handle, Message, Moment, RoomLeft, Storage};
+use crate::options::{Journal, OpenOptions, Room};
+use crate::queue::Queue;
+use crate::raw::{answer, Handle, Message, Moment, RoomLeft};
+use crate::system::System;
+use crate::time::Limit;
+use std::cell::Cell;
 use std::fmt;
 use std::time::Duration;
 
-/// How many processes a system has at the most.
-pub const MOST_PROCESSES: usize = 32;
-
-/// The way to make systems of processes.
-#[derive(Debug)]
-pub enum System {}
-
-impl System {
-    /// The processes of a new system, 1 to 32, which share queues. Its journal is not stored:
-    /// memory is taken only while more messages, or longer ones, are present than before, when a
-    /// queue is opened, and for notices that are due. So it may run for ever, and
-    /// [`check`](Process::check), [`entry`](Process::entry) and [`journal`](Process::journal) fail
-    /// with [`Unstored`](Error::Unstored).
-    ///
-    /// # Errors
-    /// [`Invalid`](Error::Invalid) if there are not 1 to 32, [`NoMemory`](Error::NoMemory).
-    #[allow(clippy::new_ret_no_self)]
-    pub fn new(processes: usize) -> Result<Vec<Process>, Error> {
-        System::make(processes, Storage::Nothing)
-    }
-
-    /// The same, with a journal that is stored and can be read. It grows with each call: an entry
-    /// takes 64 to 120 bytes, and the name or message.
-    ///
-    /// # Errors
-    /// As of [`new`](System::new).
-    pub fn with_journal(processes: usize) -> Result<Vec<Process>, Error> {
-        System::make(processes, Storage::All)
-    }
-
-    /// The same, with a stored journal of at most so many entries and bytes of names and messages.
-    /// All memory that the calls of the system need is taken here. A call that finds the journal
-    /// full is refused with [`JournalFull`](Error::JournalFull), and a call that waits then waits
-    /// for ever: wait with a timeout, or ask for the [`room`](Process::room) first.
-    ///
-    /// # Errors
-    /// As of [`new`](System::new).
-    pub fn bounded(processes: usize, entries: u64, bytes: u64) -> Result<Vec<Process>, Error> {
-        System::make(processes, Storage::Bounded { entries, bytes })
-    }
-
-    fn make(processes: usize, storage: Storage) -> Result<Vec<Process>, Error> {
-        if processes > MOST_PROCESSES {
-            return Err(Error::Invalid);
-        }
-        match Handle::of_system(processes, storage) {
-            Ok(handles) => Ok(handles.into_iter().map(|handle| Process { handle }).collect()),
-            Err(answer) => Err(refusal(answer)),
-        }
-    }
-}
-
-/// One process of a system: what owns descriptors, and makes calls one after the other.
+/// One process of a system: what opens queues, and makes calls one after the other.
 ///
 /// It goes from thread to thread by moves, and no two threads have it at once:
 ///
+/// ```
+/// use std::thread;
+/// use yakyrombe::{Error, OpenOptions, System};
+///
+/// # fn main() -> Result<(), Error> {
+/// let (_, [here, there]) = System::builder().build_array()?;
+/// let options = OpenOptions::read_write().create().limits(1, 8);
+/// let queue = here.open("/q", options)?;
+/// let sender = thread::spawn(move || there.open("/q", options)?.send(b"moved", 0));
+/// assert_eq!(&*queue.receive_vec()?, b"moved");
+/// sender.join().unwrap()
+/// # }
+/// ```
+///
+/// It is no value to be copied, and two threads do not share it:
+///
 /// ```compile_fail,E0599
-/// let mut processes = yakyrombe::System::new(1).unwrap();
-/// let process = processes.pop().unwrap();
+/// let (_, [process]) = yakyrombe::System::builder().build_array().unwrap();
 /// let twin = process.clone();
 /// ```
 ///
-/// A process that is dropped closes its descriptors first, unless its journal has no room for that.
-pub struct Process {
+/// ```compile_fail,E0277
+/// let (_, [process]) = yakyrombe::System::builder().build_array().unwrap();
+/// std::thread::scope(|scope| {
+///     scope.spawn(|| process.unlink("/q"));
+/// });
+/// ```
+///
+/// [`exit`](Process::exit) is not called while a queue that borrows the process is in use:
+///
+/// ```compile_fail,E0502
+/// use yakyrombe::{OpenOptions, System};
+/// let (_, [mut process]) = System::builder().build_array().unwrap();
+/// let queue = process.open("/q", OpenOptions::write().create()).unwrap();
+/// process.exit().unwrap();
+/// queue.send(b"late", 0).unwrap();
+/// ```
+///
+/// If a process is dropped it closes its queues first, unless its journal has no room for that.
+pub struct Process(Box<Inner>);
+
+/// It is in a box of its own, so that a process is moved by its pointer alone, and no two share a
+/// cache line.
+#[repr(align(128))]
+struct Inner {
     handle: Handle,
+    system: System,
+    wait: Cell<Option<OpenWait>>,
+    /// The descriptors, as bits, that are to be closed as soon as the open wait has ended.
+    unclosed: Cell<u32>,
+}
+
+/// An open wait of a process.
+#[derive(Clone, Copy)]
+pub(crate) struct OpenWait {
+    /// The descriptor by which it was begun.
+    pub d: u32,
+    pub is_send: bool,
+    /// The length of its buffer.
+    pub len: usize,
+    /// Its deadline, if it has one.
+    pub limit: Option<Limit>,
+}
+
+impl OpenWait {
+    /// The deadline that the library has of it: then it can be withdrawn.
+    pub fn until(&self) -> Moment {
+        self.limit.unwrap_or(Limit::NONE).until
+    }
 }
 
 impl Process {
+    pub(crate) fn new(handle: Handle, system: System) -> Process {
+        Process(Box::new(Inner { handle, system, wait: Cell::new(None), unclosed: Cell::new(0) }))
+    }
+
+    #[inline]
+    pub(crate) fn handle(&self) -> &Handle {
+        &self.0.handle
+    }
+
     /// Its number, from 1, by which the journal names it.
+    #[must_use]
     pub fn number(&self) -> u32 {
-        self.handle.number()
+        self.handle().number()
     }
 
-    /// Opens a queue by its name, a slash and 1 to 255 bytes without a slash or 0 (`mq_open`).
-    ///
-    /// # Errors
-    /// [`Exists`](Error::Exists), [`NoEntry`](Error::NoEntry), [`Invalid`](Error::Invalid) of a name or of limits,
-    /// [`NameTooLong`](Error::NameTooLong), [`TooManyOpen`](Error::TooManyOpen), [`NoSpace`](Error::NoSpace).
-    pub fn open(&mut self, name: impl AsRef<[u8]>, options: OpenOptions) -> Result<Descriptor, Error> {
-        let mut d = 0;
-        done(self.handle.open(name.as_ref(), &options.0, &mut d))?;
-        Ok(Descriptor(d))
+    /// The system that it is of.
+    #[must_use]
+    pub fn system(&self) -> &System {
+        &self.0.system
     }
 
-    /// Closes a descriptor (`mq_close`).
+    /// Opens a queue by its name, a slash and 1 to 255 bytes without a slash or 0 (`mq_open`). The
+    /// queue borrows the process; [`Queue::open`] gives one that owns it.
     ///
     /// # Errors
-    /// [`BadDescriptor`](Error::BadDescriptor).
-    pub fn close(&mut self, queue: Descriptor) -> Result<(), Error> {
-        done(self.handle.close(queue.0))
+    /// [`Exists`](Error::Exists), [`NoEntry`](Error::NoEntry), [`Invalid`](Error::Invalid) of a
+    /// name or of limits, [`NameTooLong`](Error::NameTooLong),
+    /// [`TooManyOpen`](Error::TooManyOpen), [`NoSpace`](Error::NoSpace);
+    /// [`Waiting`](Error::Waiting).
+    pub fn open(
+        &self,
+        name: impl AsRef<[u8]>,
+        options: OpenOptions,
+    ) -> Result<Queue<&Process>, Error> {
+        Ok(Queue::open(self, name, options)?)
     }
 
     /// Takes the name off a queue, which lasts until nobody has it open (`mq_unlink`).
     ///
     /// # Errors
-    /// [`NoEntry`](Error::NoEntry), [`Invalid`](Error::Invalid), [`NameTooLong`](Error::NameTooLong).
-    pub fn unlink(&mut self, name: impl AsRef<[u8]>) -> Result<(), Error> {
-        done(self.handle.unlink(name.as_ref()))
+    /// [`NoEntry`](Error::NoEntry), [`Invalid`](Error::Invalid),
+    /// [`NameTooLong`](Error::NameTooLong); [`Waiting`](Error::Waiting).
+    pub fn unlink(&self, name: impl AsRef<[u8]>) -> Result<(), Error> {
+        done(self.handle().unlink(name.as_ref()))
     }
 
-    /// Sends a message, and waits while the queue is full (`mq_send`).
+    /// Takes the oldest notice that came to this process ([`Queue::notify`]).
     ///
     /// # Errors
-    /// [`BadDescriptor`](Error::BadDescriptor); [`Invalid`](Error::Invalid) of a priority above 32,767;
-    /// [`MessageSize`](Error::MessageSize); [`Again`](Error::Again) by a descriptor that is nonblocking.
-    #[inline]
-    pub fn send(&mut self, queue: Descriptor, message: &[u8], priority: u32) -> Result<(), Error> {
-        done(self.handle.send(queue.0, message, priority))
-    }
-
-    /// Receives the oldest message of the highest priority into the front of the buffer, and waits while there is none (`mq_receive`).
-    ///
-    /// # Errors
-    /// [`BadDescriptor`](Error::BadDescriptor); [`MessageSize`](Error::MessageSize) of a buffer shorter than the queue's messages may be;
-    /// [`Again`](Error::Again) by a descriptor that is nonblocking.
-    #[inline]
-    pub fn receive(&mut self, queue: Descriptor, buf: &mut [u8]) -> Result<Received, Error> {
-        let mut message = Message::default();
-        received(self.handle.receive(queue.0, buf, &mut message), &message)
-    }
-
-    /// As [`send`](Process::send), and waits no longer than that (`mq_timedsend`).
-    ///
-    /// # Errors
-    /// As of `send`, and [`TimedOut`](Error::TimedOut).
-    pub fn send_timeout(&mut self, queue: Descriptor, message: &[u8], priority: u32, timeout: Duration) -> Result<(), Error> {
-        done(self.handle.send_until(queue.0, message, priority, Moment::after(timeout)))
-    }
-
-    /// As [`receive`](Process::receive), and waits no longer than that (`mq_timedreceive`).
-    ///
-    /// # Errors
-    /// As of `receive`, and [`TimedOut`](Error::TimedOut).
-    pub fn receive_timeout(&mut self, queue: Descriptor, buf: &mut [u8], timeout: Duration) -> Result<Received, Error> {
-        let mut message = Message::default();
-        let answer = self.handle.receive_until(queue.0, buf, &mut message, Moment::after(timeout));
-        received(answer, &message)
-    }
-
-    /// As [`send`](Process::send), and never waits for others, whatever the flag of the descriptor. It is a call whose deadline has passed,
-    /// so the journal has it as one, with `ETIMEDOUT` where it would wait.
-    ///
-    /// # Errors
-    /// As of `send`, and [`Again`](Error::Again) where it would wait.
-    pub fn try_send(&mut self, queue: Descriptor, message: &[u8], priority: u32) -> Result<(), Error> {
-        done(self.handle.try_send(queue.0, message, priority)).map_err(would_wait)
-    }
-
-    /// As [`receive`](Process::receive), and never waits for others, in the way of [`try_send`](Process::try_send).
-    ///
-    /// # Errors
-    /// As of `receive`, and [`Again`](Error::Again) where it would wait.
-    pub fn try_receive(&mut self, queue: Descriptor, buf: &mut [u8]) -> Result<Received, Error> {
-        let mut message = Message::default();
-        received(self.handle.try_receive(queue.0, buf, &mut message), &message).map_err(would_wait)
-    }
-
-    /// The attributes of a queue (`mq_getattr`).
-    ///
-    /// # Errors
-    /// [`BadDescriptor`](Error::BadDescriptor).
-    pub fn getattr(&mut self, queue: Descriptor) -> Result<Attr, Error> {
-        let mut found = Attributes::default();
-        done(self.handle.getattr(queue.0, &mut found))?;
-        Ok(Attr::of(&found))
-    }
-
-    /// Sets whether calls on the descriptor are refused where they would wait, and gives the attributes from before (`mq_setattr`).
-    ///
-    /// # Errors
-    /// [`BadDescriptor`](Error::BadDescriptor).
-    pub fn setattr(&mut self, queue: Descriptor, nonblocking: bool) -> Result<Attr, Error> {
-        let mut before = Attributes::default();
-        done(self.handle.setattr(queue.0, nonblocking, &mut before))?;
-        Ok(Attr::of(&before))
-    }
-
-    /// Registers for a notice, a number, of the next message that comes to the queue while it is empty and nobody waits for one; with
-    /// `None` ends the registration of this process (`mq_notify`).
-    ///
-    /// # Errors
-    /// [`BadDescriptor`](Error::BadDescriptor); [`Busy`](Error::Busy) where a registration stands; [`Invalid`](Error::Invalid) where there
-    /// is none of this process to end.
-    pub fn notify(&mut self, queue: Descriptor, notice: Option<u64>) -> Result<(), Error> {
-        done(self.handle.notify(queue.0, notice))
-    }
-
-    /// Takes the oldest notice that came to this process.
-    ///
-    /// # Errors
-    /// None of its own.
-    pub fn next_notice(&mut self) -> Result<Option<u64>, Error> {
+    /// [`Waiting`](Error::Waiting).
+    pub fn next_notice(&self) -> Result<Option<u64>, Error> {
         let mut value = 0;
-        match self.handle.next_notice(&mut value) {
+        match self.handle().next_notice(&mut value) {
             answer::NO_NOTICE => Ok(None),
             answer => done(answer).map(|()| Some(value)),
         }
     }
 
-    /// Closes all descriptors of the process, the lowest first.
+    /// Closes all queues of the process, the lowest descriptor first. There are such if a `Queue`
+    /// was forgotten ([`std::mem::forget`]), or if its close was refused.
     ///
     /// # Errors
-    /// [`JournalFull`](Error::JournalFull) where the journal has no room for a close: those before it are made.
+    /// [`JournalFull`](Error::JournalFull) if the journal has no room for a close: those before it
+    /// are made. [`Waiting`](Error::Waiting).
     pub fn exit(&mut self) -> Result<(), Error> {
-        done(self.handle.exit())
+        done(self.handle().exit())
+    }
+
+    /// Whether the process has an open wait, which one of its queues has started.
+    #[must_use]
+    pub fn is_waiting(&self) -> bool {
+        self.0.wait.get().is_some()
+    }
+
+    /// Whether the open wait is answered, by one load: then a collect of the queue that started it
+    /// ends it.
+    #[inline]
+    #[must_use]
+    pub fn is_answered(&self) -> bool {
+        self.handle().is_answered()
     }
 
     /// For how much more the journal has room: without end, if it has no bounds.
-    pub fn room(&mut self) -> Room {
+    #[must_use]
+    pub fn room(&self) -> Room {
         let mut left = RoomLeft::default();
-        self.handle.room(&mut left);
+        self.handle().room(&mut left);
         Room { entries: left.entries, bytes: left.bytes }
     }
 
     /// Whether no process of the system can make a call any more, now or later: then it stays so.
-    pub fn nobody_can_call(&mut self) -> bool {
-        self.handle.nobody_can_call() == answer::DONE
+    /// An open wait that was started can be cancelled, so while there is one this is false.
+    #[must_use]
+    pub fn nobody_can_call(&self) -> bool {
+        self.handle().nobody_can_call() == answer::DONE
     }
 
     /// Checks the whole stored journal, which is proved to be legal at all times.
     ///
     /// # Errors
     /// [`Unstored`](Error::Unstored).
-    pub fn check(&mut self) -> Result<(), Error> {
-        done(self.handle.check())
+    pub fn check(&self) -> Result<(), Error> {
+        done(self.handle().check())
     }
 
-    /// The line of the entry of the stored journal at a place, from 0, or `None` where the journal
-    /// has none there.
+    /// The line of the entry of the stored journal at a place, from 0, or `None` if the journal is
+    /// shorter.
     ///
     /// # Errors
-    /// [`Unstored`](Error::Unstored); [`NoMemory`](Error::NoMemory), also of a system with bounds.
-    pub fn entry(&mut self, place: u64) -> Result<Option<String>, Error> {
+    /// [`Unstored`](Error::Unstored); [`NoMemory`](Error::NoMemory), also in a system with bounds.
+    pub fn entry(&self, place: u64) -> Result<Option<String>, Error> {
         let mut line = Vec::new();
-        match self.push_entry(place, &mut line)? {
-            true => Ok(Some(text_of(line))),
-            false => Ok(None),
-        }
+        let is_there = self.push_entry(place, &mut line)?;
+        Ok(is_there.then(|| text_of(line)))
     }
 
     /// The stored journal as text, up to the last entry that is there when it comes to it.
     ///
     /// # Errors
     /// As of [`entry`](Process::entry).
-    pub fn journal(&mut self) -> Result<Journal, Error> {
+    pub fn journal(&self) -> Result<Journal, Error> {
         let mut text = Vec::new();
         let mut place = 0;
         while self.push_entry(place, &mut text)? {
@@ -259,14 +215,14 @@ impl Process {
         Ok(Journal(text_of(text)))
     }
 
-    /// Puts the line of an entry behind the text, or is false where there is none.
-    fn push_entry(&mut self, place: u64, text: &mut Vec<u8>) -> Result<bool, Error> {
+    /// Appends the line of an entry to the text, or is false if there is none.
+    fn push_entry(&self, place: u64, text: &mut Vec<u8>) -> Result<bool, Error> {
         let front = text.len();
         let mut len = 64;
         loop {
             text.try_reserve(len).map_err(|_| Error::NoMemory)?;
             text.resize(front + len, 0);
-            let answer = self.handle.entry(place, &mut text[front..], &mut len);
+            let answer = self.handle().entry(place, &mut text[front..], &mut len);
             text.truncate(front + len);
             match answer {
                 answer::SHORT => {}
@@ -280,10 +236,139 @@ impl Process {
     }
 }
 
+/// Waits in two parts.
+impl Process {
+    /// The open wait that was begun by a descriptor.
+    pub(crate) fn wait_of(&self, d: u32) -> Option<OpenWait> {
+        self.0.wait.get().filter(|wait| wait.d == d)
+    }
+
+    /// Starts a send or a receive, and notes the open wait if there is one now.
+    pub(crate) fn start(
+        &self,
+        wait: OpenWait,
+        call: impl FnOnce(&Handle, Moment, Moment) -> u32,
+    ) -> u32 {
+        let now = self.0.system.moment_now(wait.limit.is_some_and(|limit| limit.is_real));
+        let answer = call(self.handle(), wait.until(), now);
+        if answer == answer::WAITS {
+            self.0.wait.set(Some(wait));
+        }
+        self.wake_answered();
+        answer
+    }
+
+    /// Ends the open wait if it is answered, or if its deadline has passed: what it came to.
+    pub(crate) fn try_end(
+        &self,
+        wait: &OpenWait,
+        buf: &mut [u8],
+        message: &mut Message,
+    ) -> Option<u32> {
+        let answer = if self.handle().is_answered() {
+            self.handle().collect(buf, message)
+        } else {
+            let limit = wait.limit?;
+            let now = self.0.system.moment_now(limit.is_real);
+            if !limit.has_passed(now) {
+                return None;
+            }
+            self.handle().end_wait(buf, message, now)
+        };
+        // It is still open only if the clock of the program has made another of it.
+        let is_open = answer == answer::WAITS || answer == answer::EARLY;
+        (!is_open).then(|| self.ended(answer))
+    }
+
+    /// Ends the open wait: if it is not answered it is withdrawn, and this returns `TIMED_OUT`.
+    pub(crate) fn withdraw(&self, wait: &OpenWait, buf: &mut [u8], message: &mut Message) -> u32 {
+        self.ended(self.handle().end_wait(buf, message, wait.until()))
+    }
+
+    /// Waits until the open wait is answered, or its deadline has passed by the clock of the
+    /// program, and ends it. Meanwhile no other call ends it, as the clock could make one.
+    pub(crate) fn await_end(&self, wait: &OpenWait, buf: &mut [u8], message: &mut Message) -> u32 {
+        const FIRST: Duration = Duration::from_millis(10);
+        const LONGEST: Duration = Duration::from_millis(80);
+        let mut nap = FIRST;
+        let mut taken = Taken { from: &self.0.wait, wait: self.0.wait.take() };
+        loop {
+            if let Some(answer) = self.try_end(wait, buf, message) {
+                taken.wait = None;
+                return answer;
+            }
+            if !self.skips_to(wait.until()) {
+                self.handle().await_answered(nap);
+                nap = LONGEST.min(2 * nap);
+            }
+        }
+    }
+
+    fn skips_to(&self, until: Moment) -> bool {
+        self.0.system.shared.clock.as_ref().is_some_and(|clock| clock.skip_to(until.time()))
+    }
+
+    /// Notes that the open wait has ended, unless the answer is that the buffer is too short for
+    /// its end.
+    fn ended(&self, answer: u32) -> u32 {
+        if answer != answer::SHORT {
+            self.0.wait.set(None);
+            let unclosed = self.0.unclosed.take();
+            for d in (0..u32::BITS).filter(|d| unclosed & 1 << d != 0) {
+                // If it is refused the queue stays open until the process exits.
+                let _ = self.close(d);
+            }
+        }
+        answer
+    }
+
+    /// Closes a descriptor, now or as soon as the open wait has ended.
+    pub(crate) fn close(&self, d: u32) -> Result<(), Error> {
+        match self.handle().close(d) {
+            answer::WAITING => {
+                self.0.unclosed.set(self.0.unclosed.get() | 1 << d);
+                Ok(())
+            }
+            answer => done(answer),
+        }
+    }
+
+    /// Wakes the futures whose waits the last call has answered.
+    // Without futures there is nothing to do.
+    #[cfg_attr(not(feature = "futures"), allow(clippy::unused_self))]
+    #[inline]
+    pub(crate) fn wake_answered(&self) {
+        #[cfg(feature = "futures")]
+        {
+            let others = self.handle().answered_others();
+            if others != 0 {
+                self.0.system.shared.wakers.wake(others);
+            }
+        }
+    }
+}
+
+/// An open wait that is put back at the end, unless it has ended.
+struct Taken<'p> {
+    from: &'p Cell<Option<OpenWait>>,
+    wait: Option<OpenWait>,
+}
+
+impl Drop for Taken<'_> {
+    fn drop(&mut self) {
+        self.from.set(self.wait);
+    }
+}
+
 impl Drop for Process {
     fn drop(&mut self) {
-        // Refused is it only where the journal, or memory for it, has an end: then the descriptors stay held.
-        self.handle.exit();
+        // There is an open wait only if its queue was forgotten.
+        if let Some(wait) = self.0.wait.get() {
+            self.withdraw(&wait, &mut vec![0; wait.len], &mut Message::default());
+        }
+        // It is refused only if the journal, or memory for it, has an end: then the queues stay
+        // open.
+        self.handle().exit();
     }
 }
 
@@ -297,21 +382,8 @@ fn text_of(line: Vec<u8>) -> String {
     String::from_utf8(line).expect("the text of a journal is ASCII")
 }
 
-fn would_wait(error: Error) -> Error {
-    match error {
-        Error::TimedOut => Error::Again,
-        other => other,
-    }
-}
-
 #[inline]
-fn received(answer: u32, message: &Message) -> Result<Received, Error> {
-    done(answer)?;
-    Ok(Received { len: message.len, priority: message.prio })
-}
-
-#[inline]
-fn done(answer: u32) -> Result<(), Error> {
+pub(crate) fn done(answer: u32) -> Result<(), Error> {
     if answer == answer::DONE {
         Ok(())
     } else {
@@ -320,6 +392,6 @@ fn done(answer: u32) -> Result<(), Error> {
 }
 
 #[cold]
-fn refusal(answer: u32) -> Error {
+pub(crate) fn refusal(answer: u32) -> Error {
     Error::of_answer(answer).unwrap_or_else(|| unreachable!("the library returned {answer}"))
 }

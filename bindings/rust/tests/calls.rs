@@ -1,199 +1,264 @@
-//! Each call with each of its refusals.
+//! Each call with each of its errors.
 
 use std::time::Duration;
 use yakyrombe::Error::{self, *};
-use yakyrombe::{Attr, Descriptor, OpenOptions, Process, Received, Room, System};
+use yakyrombe::{OpenOptions, Process, Queue, Received, Room, System};
 
 const BOTH: OpenOptions = OpenOptions::read_write();
 const NEW: OpenOptions = BOTH.create().limits(2, 4);
 const SOON: Duration = Duration::from_millis(5);
 
 fn alone() -> Process {
-    System::new(1).unwrap().remove(0)
+    let (_, [process]) = System::builder().build_array().unwrap();
+    process
 }
 
-fn two() -> (Process, Process) {
-    let mut processes = System::new(2).unwrap();
-    (processes.remove(0), processes.remove(0))
+fn with_queue(options: OpenOptions) -> Queue<Process> {
+    Queue::open(alone(), "/q", options).unwrap()
 }
 
-fn with_queue(options: OpenOptions) -> (Process, Descriptor) {
-    let mut process = alone();
-    let queue = process.open("/q", options).unwrap();
-    (process, queue)
+/// Maximum, message size, present messages, flag.
+fn attr(queue: &Queue<Process>) -> (usize, usize, usize, bool) {
+    let told = queue.attr().unwrap();
+    (told.maxmsg, told.msgsize, told.curmsgs, told.nonblocking)
 }
 
 #[test]
 fn a_system_has_1_to_32_processes() {
-    assert_eq!(System::new(0).err(), Some(Invalid));
-    assert_eq!(System::new(33).err(), Some(Invalid));
-    assert_eq!(System::with_journal(0).err(), Some(Invalid));
-    assert_eq!(System::with_journal(33).err(), Some(Invalid));
-    assert_eq!(System::bounded(0, 1, 1).err(), Some(Invalid));
-    assert_eq!(System::new(usize::MAX).err(), Some(Invalid));
-    assert_eq!(System::bounded(1, u64::MAX, 0).err(), Some(NoMemory));
-    let numbers: Vec<u32> = System::new(32).unwrap().iter().map(Process::number).collect();
-    assert_eq!(numbers, (1..=32).collect::<Vec<u32>>());
+    for count in [0, 33, usize::MAX] {
+        assert_eq!(System::builder().processes(count).build().err(), Some(Invalid));
+        assert_eq!(System::builder().processes(count).journal(true).build().err(), Some(Invalid));
+        assert_eq!(System::builder().processes(count).bounded(1, 1).build().err(), Some(Invalid));
+    }
+    assert_eq!(System::builder().build_array::<0>().err(), Some(Invalid));
+    assert_eq!(System::builder().build_array::<33>().err(), Some(Invalid));
+    assert_eq!(System::builder().bounded(u64::MAX, 0).build().err(), Some(NoMemory));
+    assert_eq!(System::builder().build().unwrap().1.len(), 1);
+    let (system, processes) =
+        System::builder().processes(yakyrombe::MOST_PROCESSES).build().unwrap();
+    assert_eq!(system.process_count(), 32);
+    assert_eq!(
+        processes.iter().map(Process::number).collect::<Vec<u32>>(),
+        (1..=32).collect::<Vec<u32>>()
+    );
 }
 
 #[test]
-fn open_refuses_names_and_limits() {
-    let mut process = alone();
+fn the_last_word_on_the_journal_counts() {
+    let is_stored = |builder: yakyrombe::Builder| {
+        let (system, [process]) = builder.build_array().unwrap();
+        assert_eq!(process.check().is_ok(), system.is_journal_stored());
+        (system.is_journal_stored(), process.room().entries)
+    };
+    assert_eq!(is_stored(System::builder()), (false, u64::MAX));
+    assert_eq!(is_stored(System::builder().journal(true)), (true, u64::MAX));
+    assert_eq!(is_stored(System::builder().bounded(7, 7)), (true, 7));
+    assert_eq!(is_stored(System::builder().bounded(7, 7).journal(true)), (true, u64::MAX));
+    assert_eq!(is_stored(System::builder().bounded(7, 7).journal(false)), (false, u64::MAX));
+    assert_eq!(is_stored(System::builder().journal(false).bounded(7, 7)), (true, 7));
+}
+
+#[test]
+fn open_fails_for_names_and_limits() {
+    let process = alone();
+    let number = |opened: Result<Queue<&Process>, Error>| opened.map(|queue| queue.descriptor());
     let longest = format!("/{}", "a".repeat(255));
     let longer = format!("/{}", "a".repeat(256));
     for name in ["q", "/", "", "/a/b", "/a\0"] {
-        assert_eq!(process.open(name, NEW), Err(Invalid), "{name:?}");
+        assert_eq!(number(process.open(name, NEW)), Err(Invalid), "{name:?}");
     }
-    for (messages, bytes) in [(0, 8), (4097, 8), (1, 0), (1, 65537), (-1, 8), (i64::MIN, i64::MAX)] {
-        assert_eq!(process.open("/q", BOTH.create().limits(messages, bytes)), Err(Invalid));
+    for (messages, bytes) in
+        [(0, 8), (4097, 8), (1, 0), (1, 65537), (usize::MAX, 8), (8, usize::MAX), (1 << 32, 8)]
+    {
+        assert_eq!(number(process.open("/q", BOTH.create().limits(messages, bytes))), Err(Invalid));
     }
-    assert_eq!(process.open("/q", BOTH), Err(NoEntry));
-    assert_eq!(process.open(&longer, NEW), Err(NameTooLong));
-    assert_eq!(process.open(&longest, NEW).map(Descriptor::number), Ok(0));
-    assert_eq!(process.open("/q", BOTH.create()).map(Descriptor::number), Ok(1));
-    assert_eq!(process.open("/q", NEW.exclusive()), Err(Exists));
-    assert_eq!(process.open(b"/\xff", NEW.exclusive()).map(Descriptor::number), Ok(2));
+    assert_eq!(number(process.open("/q", BOTH)), Err(NoEntry));
+    assert_eq!(number(process.open(&longer, NEW)), Err(NameTooLong));
+    let _first = process.open(&longest, NEW).unwrap();
+    let _second = process.open("/q", BOTH.create()).unwrap();
+    assert_eq!(number(process.open("/q", NEW.exclusive())), Err(Exists));
+    assert_eq!(number(process.open(b"/\xff", NEW.exclusive())), Ok(2));
+    assert_eq!(number(process.open("/largest", BOTH.create().limits(4096, 65536))), Ok(2));
 }
 
 #[test]
 fn a_process_holds_16_descriptors() {
-    let (mut process, first) = with_queue(NEW);
-    for number in 1..16 {
-        assert_eq!(process.open("/q", BOTH).map(Descriptor::number), Ok(number));
-    }
-    assert_eq!(process.open("/q", BOTH), Err(TooManyOpen));
-    assert_eq!(process.close(first), Ok(()));
-    assert_eq!(process.close(first), Err(BadDescriptor));
-    assert_eq!(process.open("/q", BOTH), Ok(first));
-    assert_eq!(process.exit(), Ok(()));
-    assert_eq!(process.getattr(first), Err(BadDescriptor));
+    let process = alone();
+    let mut queues: Vec<_> = (0..16).map(|_| process.open("/q", NEW).unwrap()).collect();
+    assert_eq!(
+        queues.iter().map(Queue::descriptor).collect::<Vec<_>>(),
+        (0..16).collect::<Vec<_>>()
+    );
+    assert_eq!(process.open("/q", BOTH).err(), Some(TooManyOpen));
+    queues.remove(3).close().unwrap();
+    assert_eq!(process.open("/q", BOTH).unwrap().descriptor(), 3);
 }
 
 #[test]
 fn there_are_64_queues() {
-    let mut process = alone();
+    let process = alone();
     for number in 0..64 {
-        let queue = process.open(format!("/n{number}"), NEW).unwrap();
-        process.close(queue).unwrap();
+        process.open(format!("/n{number}"), NEW).unwrap();
     }
-    assert_eq!(process.open("/n64", NEW), Err(NoSpace));
+    assert_eq!(process.open("/n64", NEW).err(), Some(NoSpace));
     assert_eq!(process.unlink("/n0"), Ok(()));
     assert!(process.open("/n64", NEW).is_ok());
 }
 
 #[test]
 fn unlink_takes_the_name_and_not_the_queue() {
-    let (mut process, queue) = with_queue(NEW);
+    let queue = with_queue(NEW);
+    let process = queue.process();
     assert_eq!(process.unlink("q"), Err(Invalid));
     assert_eq!(process.unlink(format!("/{}", "a".repeat(256))), Err(NameTooLong));
     assert_eq!(process.unlink("/q"), Ok(()));
     assert_eq!(process.unlink("/q"), Err(NoEntry));
-    assert_eq!(process.open("/q", BOTH), Err(NoEntry));
-    assert_eq!(process.send(queue, b"a", 0), Ok(()));
+    assert_eq!(process.open("/q", BOTH).err(), Some(NoEntry));
+    assert_eq!(queue.send(b"a", 0), Ok(()));
 }
 
 #[test]
-fn send_and_receive_refuse() {
-    let (mut process, both) = with_queue(NEW);
-    let reader = process.open("/q", OpenOptions::read()).unwrap();
-    let writer = process.open("/q", OpenOptions::write().nonblocking()).unwrap();
-    let gone = process.open("/q", BOTH).unwrap();
-    process.close(gone).unwrap();
+fn send_and_receive_fail() {
+    let both = with_queue(NEW);
+    let reader = both.process().open("/q", OpenOptions::read()).unwrap();
+    let writer = both.process().open("/q", OpenOptions::write().nonblocking()).unwrap();
     let mut buf = [0xee; 6];
 
-    assert_eq!(process.send(gone, b"a", 0), Err(BadDescriptor));
-    assert_eq!(process.send(reader, b"a", 0), Err(BadDescriptor));
-    assert_eq!(process.send(both, b"a", 32768), Err(Invalid));
-    assert_eq!(process.send(both, b"abcde", 0), Err(MessageSize));
-    assert_eq!(process.receive(gone, &mut buf), Err(BadDescriptor));
-    assert_eq!(process.receive(writer, &mut buf), Err(BadDescriptor));
-    assert_eq!(process.receive(both, &mut buf[..3]), Err(MessageSize));
-    assert_eq!(process.receive(both, &mut []), Err(MessageSize));
-    assert_eq!(process.receive_timeout(both, &mut buf, SOON), Err(TimedOut));
-    assert_eq!(process.try_receive(both, &mut buf), Err(Again));
+    assert_eq!(reader.send(b"a", 0), Err(BadDescriptor));
+    assert_eq!(reader.try_send(b"a", 0), Err(BadDescriptor));
+    assert_eq!(reader.send_until(b"a", 0, SOON), Err(BadDescriptor));
+    assert_eq!(both.send(b"a", 32768), Err(Invalid));
+    assert_eq!(both.send(b"abcde", 0), Err(MessageSize));
+    assert_eq!(writer.receive(&mut buf), Err(BadDescriptor));
+    assert_eq!(writer.receive_vec(), Err(BadDescriptor));
+    assert_eq!(both.receive(&mut buf[..3]), Err(MessageSize));
+    assert_eq!(both.receive(&mut []), Err(MessageSize));
+    assert_eq!(both.receive_until(&mut buf, SOON), Err(TimedOut));
+    assert_eq!(both.receive_vec_until(SOON), Err(TimedOut));
+    assert_eq!(both.try_receive(&mut buf), Err(Again));
+    assert_eq!(both.try_receive_vec(), Err(Again));
     assert_eq!(buf, [0xee; 6]);
 
-    assert_eq!(process.send(both, b"low", 0), Ok(()));
-    assert_eq!(process.try_send(both, b"", 32767), Ok(()));
-    assert_eq!(process.try_send(both, b"c", 0), Err(Again));
-    assert_eq!(process.try_send(writer, b"c", 0), Err(Again));
-    assert_eq!(process.send(writer, b"c", 0), Err(Again));
-    assert_eq!(process.send_timeout(writer, b"c", 0, SOON), Err(Again));
-    assert_eq!(process.send_timeout(both, b"c", 0, SOON), Err(TimedOut));
-    assert_eq!(process.receive(reader, &mut buf), Ok(Received { len: 0, priority: 32767 }));
-    assert_eq!(process.receive_timeout(reader, &mut buf, SOON), Ok(Received { len: 3, priority: 0 }));
+    assert_eq!(both.send(b"low", 0), Ok(()));
+    assert_eq!(both.try_send(b"", 32767), Ok(()));
+    assert_eq!(both.try_send(b"c", 0), Err(Again));
+    assert_eq!(writer.try_send(b"c", 0), Err(Again));
+    assert_eq!(writer.send(b"c", 0), Err(Again));
+    assert_eq!(writer.send_until(b"c", 0, SOON), Err(Again));
+    assert_eq!(both.send_until(b"c", 0, SOON), Err(TimedOut));
+    assert_eq!(reader.receive(&mut buf), Ok(Received { len: 0, priority: 32767 }));
+    assert_eq!(reader.receive_until(&mut buf, SOON), Ok(Received { len: 3, priority: 0 }));
     assert_eq!(&buf, b"low\xee\xee\xee");
 }
 
 #[test]
-fn a_timeout_may_be_longer_than_any_time() {
-    let (mut process, queue) = with_queue(NEW);
-    process.send_timeout(queue, b"a", 1, Duration::MAX).unwrap();
+fn a_deadline_may_be_later_than_any_time() {
+    let queue = with_queue(NEW);
+    queue.send_until(b"a", 1, Duration::MAX).unwrap();
     let mut buf = [0; 4];
-    assert_eq!(process.receive_timeout(queue, &mut buf, Duration::MAX), Ok(Received { len: 1, priority: 1 }));
+    assert_eq!(queue.receive_until(&mut buf, Duration::MAX), Ok(Received { len: 1, priority: 1 }));
+}
+
+#[test]
+fn a_received_vector_has_the_message_alone() {
+    let queue = with_queue(NEW);
+    for message in [b"abcd".as_slice(), b"", b"ab"] {
+        queue.send(message, 3).unwrap();
+        let received = queue.receive_vec().unwrap();
+        assert_eq!((&*received, received.priority), (message, 3));
+        queue.send(message, 3).unwrap();
+        assert_eq!(queue.try_receive_vec().as_deref(), Ok(message));
+        queue.send(message, 3).unwrap();
+        assert_eq!(queue.receive_vec_until(SOON).as_deref(), Ok(message));
+    }
+}
+
+#[test]
+fn messages_are_iterated_over() {
+    let queue = with_queue(NEW);
+    queue.send(b"low", 1).unwrap();
+    queue.send(b"high", 2).unwrap();
+    let messages: Vec<Vec<u8>> = queue.try_iter().map(|message| message.unwrap().into()).collect();
+    assert_eq!(messages, [b"high".to_vec(), b"low".to_vec()]);
+    assert_eq!(queue.try_iter().next(), None);
+
+    queue.send(b"one", 0).unwrap();
+    assert_eq!(queue.iter().next().unwrap().as_deref(), Ok(b"one".as_slice()));
+    queue.send(b"two", 0).unwrap();
+    assert_eq!((&queue).into_iter().next().unwrap().as_deref(), Ok(b"two".as_slice()));
+
+    queue.set_nonblocking(true).unwrap();
+    let mut iter = queue.iter();
+    assert_eq!(iter.next(), Some(Err(Again)));
+    assert_eq!(iter.next(), None);
+    let writer = queue.process().open("/q", OpenOptions::write()).unwrap();
+    let mut iter = writer.try_iter();
+    assert_eq!(iter.next(), Some(Err(BadDescriptor)));
+    assert_eq!(iter.next(), None);
 }
 
 #[test]
 fn the_flag_of_a_descriptor_is_set_and_told() {
-    let (mut process, queue) = with_queue(NEW.nonblocking());
-    process.send(queue, b"abcd", 0).unwrap();
-    let told = Attr { maxmsg: 2, msgsize: 4, curmsgs: 1, nonblocking: true };
-    assert_eq!(process.getattr(queue), Ok(told));
-    assert_eq!(process.setattr(queue, false), Ok(told));
-    assert_eq!(process.getattr(queue), Ok(Attr { nonblocking: false, ..told }));
-    process.close(queue).unwrap();
-    assert_eq!(process.getattr(queue), Err(BadDescriptor));
-    assert_eq!(process.setattr(queue, true), Err(BadDescriptor));
-    let by_default = process.open("/new", BOTH.create()).unwrap();
-    assert_eq!(process.getattr(by_default), Ok(Attr { maxmsg: 10, msgsize: 8192, curmsgs: 0, nonblocking: false }));
+    let queue = with_queue(NEW.nonblocking());
+    queue.send(b"abcd", 0).unwrap();
+    assert_eq!(attr(&queue), (2, 4, 1, true));
+    let before = queue.set_nonblocking(false).unwrap();
+    assert_eq!((before.curmsgs, before.nonblocking), (1, true));
+    assert_eq!(attr(&queue), (2, 4, 1, false));
+    let by_default = Queue::open(alone(), "/new", BOTH.create()).unwrap();
+    assert_eq!(attr(&by_default), (10, 8192, 0, false));
 }
 
 #[test]
-fn a_notice_comes_once_and_to_who_registered() {
-    let (mut first, mut second) = two();
+fn a_notice_comes_once_and_to_the_process_that_registered() {
+    let (_, [first, second]) = System::builder().build_array().unwrap();
     let queue = first.open("/q", NEW).unwrap();
     let same = second.open("/q", BOTH).unwrap();
-    assert_eq!(first.notify(queue, None), Err(Invalid));
-    assert_eq!(first.notify(queue, Some(u64::MAX)), Ok(()));
-    assert_eq!(first.notify(queue, Some(1)), Err(Busy));
-    assert_eq!(second.notify(same, Some(2)), Err(Busy));
-    assert_eq!(second.notify(same, None), Err(Invalid));
+    assert_eq!(queue.unnotify(), Err(Invalid));
+    assert_eq!(queue.notify(u64::MAX), Ok(()));
+    assert_eq!(queue.notify(1), Err(Busy));
+    assert_eq!(same.notify(2), Err(Busy));
+    assert_eq!(same.unnotify(), Err(Invalid));
     assert_eq!(first.next_notice(), Ok(None));
-    second.send(same, b"a", 0).unwrap();
-    second.send(same, b"b", 0).unwrap();
+    same.send(b"a", 0).unwrap();
+    same.send(b"b", 0).unwrap();
     assert_eq!(second.next_notice(), Ok(None));
     assert_eq!(first.next_notice(), Ok(Some(u64::MAX)));
     assert_eq!(first.next_notice(), Ok(None));
-    assert_eq!(first.notify(queue, Some(0)), Ok(()));
-    assert_eq!(first.notify(queue, None), Ok(()));
-    first.close(queue).unwrap();
-    assert_eq!(first.notify(queue, Some(3)), Err(BadDescriptor));
+    assert_eq!(queue.notify(0), Ok(()));
+    assert_eq!(queue.unnotify(), Ok(()));
 }
 
 #[test]
 fn a_full_journal_refuses_each_call_and_changes_nothing() {
-    let mut process = System::bounded(1, 3, 16).unwrap().remove(0);
-    assert_eq!(process.room(), Room { entries: 3, bytes: 16 });
+    let (_, [mut process]) = System::builder().bounded(3, 16).build_array().unwrap();
+    assert_eq!((process.room().entries, process.room().bytes), (3, 16));
     let queue = process.open("/q", NEW).unwrap();
-    process.notify(queue, Some(1)).unwrap();
+    queue.notify(1).unwrap();
     assert!(!process.nobody_can_call());
-    assert_eq!(process.send(queue, b"a", 0), Err(JournalFull), "it may wait, and needs room for two entries");
-    assert!(process.getattr(queue).is_ok());
+    assert_eq!(
+        queue.send(b"a", 0),
+        Err(JournalFull),
+        "it may wait, and needs room for two entries"
+    );
+    assert!(queue.attr().is_ok());
     let mut buf = [0; 4];
-    let full: [(&str, Result<(), Error>); 13] = [
+    let full: [(&str, Result<(), Error>); 15] = [
         ("open", process.open("/r", NEW).map(drop)),
-        ("close", process.close(queue)),
         ("unlink", process.unlink("/q")),
-        ("send", process.send(queue, b"a", 0)),
-        ("try_send", process.try_send(queue, b"a", 0)),
-        ("receive", process.receive(queue, &mut buf).map(drop)),
-        ("receive_timeout", process.receive_timeout(queue, &mut buf, SOON).map(drop)),
-        ("try_receive", process.try_receive(queue, &mut buf).map(drop)),
-        ("getattr", process.getattr(queue).map(drop)),
-        ("setattr", process.setattr(queue, true).map(drop)),
-        ("notify", process.notify(queue, None)),
+        ("send", queue.send(b"a", 0)),
+        ("send_until", queue.send_until(b"a", 0, SOON)),
+        ("try_send", queue.try_send(b"a", 0)),
+        ("receive", queue.receive(&mut buf).map(drop)),
+        ("receive_until", queue.receive_until(&mut buf, SOON).map(drop)),
+        ("try_receive", queue.try_receive(&mut buf).map(drop)),
+        ("receive_vec", queue.receive_vec().map(drop)),
+        ("attr", queue.attr().map(drop)),
+        ("set_nonblocking", queue.set_nonblocking(true).map(drop)),
+        ("notify", queue.notify(2)),
+        ("unnotify", queue.unnotify()),
         ("next_notice", process.next_notice().map(drop)),
-        ("exit", process.exit()),
+        ("close", queue.close().map(drop).map_err(Error::from)),
     ];
     for (call, result) in full {
         assert_eq!(result, Err(JournalFull), "{call}");
@@ -202,69 +267,26 @@ fn a_full_journal_refuses_each_call_and_changes_nothing() {
     assert!(process.nobody_can_call());
     assert_eq!(process.journal().unwrap().lines().count(), 3);
     assert_eq!(process.check(), Ok(()));
+    assert_eq!(process.exit(), Err(JournalFull));
 }
 
 #[test]
 fn without_bounds_there_is_room_without_end() {
-    let endless = Room { entries: u64::MAX, bytes: u64::MAX };
-    assert_eq!(alone().room(), endless);
-    assert_eq!(System::with_journal(1).unwrap()[0].room(), endless);
+    let endless = |room: Room| (room.entries, room.bytes) == (u64::MAX, u64::MAX);
+    assert!(endless(alone().room()));
+    let (_, [process]) = System::builder().journal(true).build_array().unwrap();
+    assert!(endless(process.room()));
 }
 
 #[test]
-fn what_reads_a_journal_that_is_not_stored_is_refused() {
-    let (mut process, queue) = with_queue(NEW);
-    process.send(queue, b"a", 0).unwrap();
+fn what_reads_a_journal_that_is_not_stored_fails() {
+    let queue = with_queue(NEW);
+    queue.send(b"a", 0).unwrap();
+    let process = queue.process();
     assert_eq!(process.check(), Err(Unstored));
     assert_eq!(process.entry(0), Err(Unstored));
     assert_eq!(process.entry(u64::MAX), Err(Unstored));
     assert_eq!(process.journal(), Err(Unstored));
     assert!(!process.nobody_can_call());
-    assert_eq!(process.receive(queue, &mut [0; 4]), Ok(Received { len: 1, priority: 0 }));
-}
-
-#[test]
-fn a_dropped_process_closes_its_descriptors() {
-    let mut processes = System::with_journal(2).unwrap();
-    let (mut first, mut second) = (processes.remove(0), processes.remove(0));
-    let queue = first.open("/q", NEW).unwrap();
-    first.open("/r", NEW).unwrap();
-    first.notify(queue, Some(1)).unwrap();
-    let same = second.open("/q", BOTH).unwrap();
-    drop(first);
-    assert_eq!(second.notify(same, Some(2)), Ok(()));
-    let journal = second.journal().unwrap();
-    let closes: Vec<&str> = journal.lines().filter(|line| line.contains(" 1 close")).collect();
-    assert_eq!(closes, ["4 1 close 0 -> ok", "5 1 close 1 -> ok"]);
-}
-
-#[test]
-fn errors_have_the_names_and_numbers_of_posix() {
-    let all = [
-        (Again, "EAGAIN"),
-        (BadDescriptor, "EBADF"),
-        (Busy, "EBUSY"),
-        (Exists, "EEXIST"),
-        (Invalid, "EINVAL"),
-        (TooManyOpen, "EMFILE"),
-        (MessageSize, "EMSGSIZE"),
-        (NameTooLong, "ENAMETOOLONG"),
-        (NoEntry, "ENOENT"),
-        (NoSpace, "ENOSPC"),
-        (NoMemory, "NOMEMORY"),
-        (TimedOut, "ETIMEDOUT"),
-        (JournalFull, "JOURNALFULL"),
-        (Unstored, "UNSTORED"),
-    ];
-    for (error, name) in all {
-        assert_eq!(error.to_string(), name);
-        assert_eq!(std::io::Error::from(error).raw_os_error(), Some(error.errno()));
-    }
-    let kind = |error: Error| std::io::Error::from(error).kind();
-    assert_eq!(kind(Again), std::io::ErrorKind::WouldBlock);
-    assert_eq!(kind(Exists), std::io::ErrorKind::AlreadyExists);
-    assert_eq!(kind(Invalid), std::io::ErrorKind::InvalidInput);
-    assert_eq!(kind(NoEntry), std::io::ErrorKind::NotFound);
-    assert_eq!(kind(NoMemory), std::io::ErrorKind::OutOfMemory);
-    assert_eq!(kind(TimedOut), std::io::ErrorKind::TimedOut);
+    assert_eq!(queue.receive(&mut [0; 4]), Ok(Received { len: 1, priority: 0 }));
 }

@@ -6,7 +6,7 @@
 use std::fs::read_to_string;
 use std::sync::Barrier;
 use std::thread;
-use yakyrombe::{Descriptor, Error, OpenOptions, Process, System};
+use yakyrombe::{Error, OpenOptions, Process, Queue, System};
 
 const THREADS: usize = 8;
 const FIRST_CALLS: u64 = 100_000;
@@ -15,7 +15,7 @@ const CALLS_A_FAULT: u64 = 1_000;
 /// How many calls lie between two queues of a thread's own.
 const BETWEEN_OWN: u64 = 64;
 const MSGSIZE: usize = 32;
-const QUEUE: OpenOptions = OpenOptions::read_write().create().limits(10, MSGSIZE as i64);
+const QUEUE: OpenOptions = OpenOptions::read_write().create().limits(10, MSGSIZE);
 
 fn number_at(words: &str, place: usize) -> u64 {
     words.split_whitespace().nth(place).unwrap().parse().unwrap()
@@ -41,44 +41,45 @@ impl Taken {
     }
 
     fn is_flat_until(&self, after: &Taken, calls: u64) -> bool {
-        self.resident.abs_diff(after.resident) <= MOST_BYTES && (after.faults - self.faults) * CALLS_A_FAULT < calls
+        self.resident.abs_diff(after.resident) <= MOST_BYTES
+            && (after.faults - self.faults) * CALLS_A_FAULT < calls
     }
 }
 
 /// Opens a queue, takes a notice of it, and loses a message with it.
-fn use_own_queue(process: &mut Process) -> Result<(), Error> {
+fn use_own_queue(process: &Process) -> Result<(), Error> {
     let name = format!("/own-{}", process.number());
     let own = process.open(&name, QUEUE.exclusive())?;
-    process.notify(own, Some(7))?;
-    process.send(own, b"first", 1)?;
-    process.send(own, b"second", 2)?;
+    own.notify(7)?;
+    own.send(b"first", 1)?;
+    own.send(b"second", 2)?;
     assert_eq!(process.next_notice()?, Some(7));
-    assert_eq!(process.receive(own, &mut [0; MSGSIZE])?.len, 6);
-    process.unlink(&name)?;
-    process.close(own)
+    assert_eq!(own.receive_vec()?.len(), 6);
+    process.unlink(&name)
 }
 
 /// Half of the processes send, and half receive.
-fn pass(process: &mut Process, queue: Descriptor, calls: u64) -> Result<(), Error> {
-    for i in 0..calls {
-        if process.number() % 2 == 0 {
-            process.send(queue, &[0; MSGSIZE][..i as usize % (MSGSIZE + 1)], i as u32 % 3)?;
+fn pass(queue: &Queue<&Process>, calls: u64) -> Result<(), Error> {
+    let lengths = (0..=MSGSIZE).cycle();
+    for ((i, len), priority) in (0..calls).zip(lengths).zip([0, 1, 2].into_iter().cycle()) {
+        if queue.process().number() % 2 == 0 {
+            queue.send(&[0; MSGSIZE][..len], priority)?;
         } else {
-            process.receive(queue, &mut [0; MSGSIZE])?;
+            queue.receive(&mut [0; MSGSIZE])?;
         }
         if i % BETWEEN_OWN == 0 {
-            use_own_queue(process)?;
+            use_own_queue(queue.process())?;
         }
     }
     Ok(())
 }
 
-fn take_part(mut process: Process, barrier: &Barrier, later_calls: u64) {
+fn take_part(process: &Process, barrier: &Barrier, later_calls: u64) {
     let queue = process.open("/flat", QUEUE).unwrap();
-    pass(&mut process, queue, FIRST_CALLS / THREADS as u64).unwrap();
+    pass(&queue, FIRST_CALLS / THREADS as u64).unwrap();
     barrier.wait();
     barrier.wait();
-    pass(&mut process, queue, later_calls / THREADS as u64).unwrap();
+    pass(&queue, later_calls / THREADS as u64).unwrap();
     barrier.wait();
 }
 
@@ -87,7 +88,10 @@ fn taken(processes: Vec<Process>, later_calls: u64) -> (Taken, Taken) {
     let barrier = Barrier::new(THREADS + 1);
     thread::scope(|scope| {
         for process in processes {
-            scope.spawn(|| take_part(process, &barrier, later_calls));
+            scope.spawn(|| {
+                let process = process;
+                take_part(&process, &barrier, later_calls);
+            });
         }
         barrier.wait();
         let before = Taken::now();
@@ -97,9 +101,13 @@ fn taken(processes: Vec<Process>, later_calls: u64) -> (Taken, Taken) {
     })
 }
 
+fn processes(is_stored: bool) -> Vec<Process> {
+    System::builder().processes(THREADS).journal(is_stored).build().unwrap().1
+}
+
 fn stays_flat(calls: u64) {
     let later_calls = calls - FIRST_CALLS;
-    let (before, after) = taken(System::new(THREADS).unwrap(), later_calls);
+    let (before, after) = taken(processes(false), later_calls);
     println!("{later_calls} calls: from {before:?} to {after:?}");
     assert!(before.is_flat_until(&after, later_calls), "{before:?}, {after:?}");
 }
@@ -108,7 +116,7 @@ fn stays_flat(calls: u64) {
 #[test]
 fn memory_is_flat_without_a_journal_and_grows_with_one() {
     stays_flat(1_000_000);
-    let (before, after) = taken(System::with_journal(THREADS).unwrap(), 100_000);
+    let (before, after) = taken(processes(true), 100_000);
     assert!(!before.is_flat_until(&after, 100_000), "{before:?}, {after:?}");
 }
 

@@ -3,38 +3,38 @@
 use std::sync::mpsc;
 use std::thread;
 use std::time::{Duration, Instant};
-use yakyrombe::{Descriptor, Error, OpenOptions, Process, Received, System};
+use yakyrombe::{Error, OpenOptions, Process, Queue, Received, System};
 
 const OPTIONS: OpenOptions = OpenOptions::read_write().create().limits(10, 8);
 
-fn send_all(mut process: Process, rounds: u32) -> (Process, u64) {
-    let queue = process.open("/all", OPTIONS).unwrap();
+fn send_all(process: Process, rounds: u32) -> (Process, u64) {
+    let queue = Queue::open(process, "/all", OPTIONS).unwrap();
     let mut sum = 0;
     for i in 0..rounds {
         let mut message = [0; 8];
-        message[..4].copy_from_slice(&process.number().to_le_bytes());
+        message[..4].copy_from_slice(&queue.process().number().to_le_bytes());
         message[4..].copy_from_slice(&i.to_le_bytes());
-        process.send(queue, &message, 3).unwrap();
+        queue.send(&message, 3).unwrap();
         sum += u64::from(i);
     }
-    (process, sum)
+    (queue.close().unwrap(), sum)
 }
 
 // Of one sender and one priority, a receiver is given the messages in their order.
-fn receive_all(mut process: Process, rounds: u32) -> (Process, u64) {
-    let queue = process.open("/all", OPTIONS).unwrap();
+fn receive_all(process: Process, rounds: u32) -> (Process, u64) {
+    let queue = Queue::open(process, "/all", OPTIONS).unwrap();
     let mut next = [0; 33];
     let mut sum = 0;
     for _ in 0..rounds {
         let mut message = [0; 8];
-        assert_eq!(process.receive(queue, &mut message), Ok(Received { len: 8, priority: 3 }));
+        assert_eq!(queue.receive(&mut message), Ok(Received { len: 8, priority: 3 }));
         let sender = u32::from_le_bytes(message[..4].try_into().unwrap()) as usize;
         let number = u32::from_le_bytes(message[4..].try_into().unwrap());
         assert!(number >= next[sender]);
         next[sender] = number + 1;
         sum += u64::from(number);
     }
-    (process, sum)
+    (queue.close().unwrap(), sum)
 }
 
 // Half of the processes send and half receive; at the end each message was received once.
@@ -47,16 +47,24 @@ fn pass_messages(processes: Vec<Process>, rounds: u32) -> Process {
             thread::spawn(move || part(process, rounds))
         })
         .collect();
-    let mut ended: Vec<(Process, u64)> = members.into_iter().map(|member| member.join().unwrap()).collect();
-    let sum_of = |odd: u32| ended.iter().filter(|(process, _)| process.number() % 2 == odd).map(|(_, sum)| sum).sum::<u64>();
+    let mut ended: Vec<(Process, u64)> =
+        members.into_iter().map(|member| member.join().unwrap()).collect();
+    let sum_of = |odd: u32| {
+        ended
+            .iter()
+            .filter(|(process, _)| process.number() % 2 == odd)
+            .map(|(_, sum)| sum)
+            .sum::<u64>()
+    };
     assert_eq!(sum_of(1), sum_of(0));
     assert_eq!(sum_of(1), count as u64 / 2 * u64::from(rounds) * u64::from(rounds - 1) / 2);
     ended.remove(0).0
 }
 
 fn pass_messages_with_and_without_a_journal(count: usize, rounds: u32) {
-    pass_messages(System::new(count).unwrap(), rounds);
-    let mut last = pass_messages(System::with_journal(count).unwrap(), rounds);
+    pass_messages(System::builder().processes(count).build().unwrap().1, rounds);
+    let last =
+        pass_messages(System::builder().processes(count).journal(true).build().unwrap().1, rounds);
     assert_eq!(last.check(), Ok(()));
 }
 
@@ -75,49 +83,42 @@ fn thirty_two_threads_pass_messages() {
     pass_messages_with_and_without_a_journal(32, 100);
 }
 
-fn pair_of(mut processes: Vec<Process>) -> (Process, Process) {
-    (processes.remove(0), processes.remove(0))
+fn two() -> [Process; 2] {
+    System::builder().build_array().unwrap().1
 }
 
-fn two() -> (Process, Process) {
-    pair_of(System::new(2).unwrap())
-}
-
-fn two_with_journal() -> (Process, Process) {
-    pair_of(System::with_journal(2).unwrap())
+fn two_with_journal() -> [Process; 2] {
+    System::builder().journal(true).build_array().unwrap().1
 }
 
 #[test]
 fn a_receive_that_waits_is_answered_by_another_thread() {
-    let (mut here, mut there) = two_with_journal();
+    let [here, there] = two_with_journal();
     let queue = here.open("/late", OPTIONS).unwrap();
     let waiter = thread::spawn(move || {
         let queue = there.open("/late", OPTIONS).unwrap();
         let mut buf = [0; 8];
-        let received = there.receive(queue, &mut buf);
+        let received = queue.receive(&mut buf);
         (received, buf)
     });
     thread::sleep(Duration::from_millis(50));
     here.unlink("/late").unwrap();
-    here.send(queue, b"late", 9).unwrap();
+    queue.send(b"late", 9).unwrap();
     assert_eq!(waiter.join().unwrap(), (Ok(Received { len: 4, priority: 9 }), *b"late\0\0\0\0"));
     assert!(here.journal().unwrap().lines().any(|line| line.contains("-> handed")));
 }
 
 #[test]
 fn a_send_that_waits_is_admitted_by_another_thread() {
-    let (mut here, mut there) = two_with_journal();
+    let [here, there] = two_with_journal();
     let options = OPTIONS.limits(1, 8);
     let queue = here.open("/full", options).unwrap();
-    here.send(queue, b"first", 0).unwrap();
-    let waiter = thread::spawn(move || {
-        let queue = there.open("/full", options).unwrap();
-        there.send(queue, b"second", 0)
-    });
+    queue.send(b"first", 0).unwrap();
+    let waiter = thread::spawn(move || there.open("/full", options).unwrap().send(b"second", 0));
     thread::sleep(Duration::from_millis(50));
     let mut buf = [0; 8];
     for message in [b"first".as_slice(), b"second"] {
-        let received = here.receive(queue, &mut buf).unwrap();
+        let received = queue.receive(&mut buf).unwrap();
         assert_eq!(&buf[..received.len], message);
     }
     assert_eq!(waiter.join().unwrap(), Ok(()));
@@ -125,73 +126,45 @@ fn a_send_that_waits_is_admitted_by_another_thread() {
 }
 
 #[test]
-fn a_timeout_ends_a_wait_and_leaves_the_process_free() {
-    let (mut here, _there) = two();
+fn a_deadline_ends_a_wait_and_leaves_the_process_free() {
+    let [here, _there] = two();
     let queue = here.open("/q", OPTIONS.limits(1, 8)).unwrap();
     let mut buf = [0; 8];
     let timeout = Duration::from_millis(30);
     let start = Instant::now();
-    assert_eq!(here.receive_timeout(queue, &mut buf, timeout), Err(Error::TimedOut));
+    assert_eq!(queue.receive_until(&mut buf, timeout), Err(Error::TimedOut));
     assert!(start.elapsed() >= timeout);
-    here.send(queue, b"a", 0).unwrap();
-    assert_eq!(here.send_timeout(queue, b"b", 0, timeout), Err(Error::TimedOut));
+    queue.send(b"a", 0).unwrap();
+    assert_eq!(queue.send_until(b"b", 0, timeout), Err(Error::TimedOut));
     assert!(start.elapsed() >= 2 * timeout);
-    assert_eq!(here.receive(queue, &mut buf), Ok(Received { len: 1, priority: 0 }));
-    assert_eq!(here.try_receive(queue, &mut buf), Err(Error::Again));
+    assert_eq!(queue.receive(&mut buf), Ok(Received { len: 1, priority: 0 }));
+    assert_eq!(queue.try_receive(&mut buf), Err(Error::Again));
 }
 
 #[test]
-fn a_wait_with_a_timeout_is_answered_before_it_is_over() {
-    let (mut here, mut there) = two();
+fn a_wait_with_a_deadline_is_answered_before_that() {
+    let [here, there] = two();
     let queue = here.open("/q", OPTIONS).unwrap();
     let waiter = thread::spawn(move || {
-        let queue = there.open("/q", OPTIONS).unwrap();
-        there.receive_timeout(queue, &mut [0; 8], Duration::from_secs(60))
+        there.open("/q", OPTIONS).unwrap().receive_until(&mut [0; 8], Duration::from_secs(60))
     });
     thread::sleep(Duration::from_millis(30));
-    here.send(queue, b"in time", 1).unwrap();
+    queue.send(b"in time", 1).unwrap();
     assert_eq!(waiter.join().unwrap(), Ok(Received { len: 7, priority: 1 }));
 }
 
 #[test]
-fn a_panic_in_a_thread_closes_what_its_process_holds_and_the_others_go_on() {
-    let mut processes = System::with_journal(3).unwrap();
-    let (mut here, mut there, unlucky) = (processes.remove(0), processes.remove(0), processes.remove(0));
-    let queue = here.open("/q", OPTIONS).unwrap();
-    let ended = thread::spawn(move || {
-        let mut process = unlucky;
-        let queue = process.open("/q", OPTIONS).unwrap();
-        process.open("/own", OPTIONS).unwrap();
-        process.notify(queue, Some(1)).unwrap();
-        panic!("on purpose");
-    })
-    .join();
-    assert!(ended.is_err());
-    let same = there.open("/q", OPTIONS).unwrap();
-    here.notify(queue, Some(2)).unwrap();
-    there.send(same, b"still", 0).unwrap();
-    assert_eq!(here.next_notice(), Ok(Some(2)));
-    assert_eq!(here.receive(queue, &mut [0; 8]), Ok(Received { len: 5, priority: 0 }));
-    let journal = here.journal().unwrap();
-    assert_eq!(journal.lines().filter(|line| line.contains(" 3 close ")).count(), 2);
-    assert_eq!(here.check(), Ok(()));
-}
-
-#[test]
-fn a_process_goes_from_thread_to_thread_with_what_it_holds() {
-    let (mut here, there) = two();
+fn a_process_goes_from_thread_to_thread_with_what_it_has_open() {
+    let [here, there] = two();
     let queue = here.open("/q", OPTIONS).unwrap();
     let (give, take) = mpsc::channel();
     let last = thread::spawn(move || {
-        let (mut process, queue): (Process, Descriptor) = take.recv().unwrap();
-        process.send(queue, b"moved", 0)
+        let queue: Queue<Process> = take.recv().unwrap();
+        queue.send(b"moved", 0)
     });
-    let first = thread::spawn(move || {
-        let mut process = there;
-        let queue = process.open("/q", OPTIONS).unwrap();
-        give.send((process, queue)).unwrap();
-    });
+    let first =
+        thread::spawn(move || give.send(Queue::open(there, "/q", OPTIONS).unwrap()).unwrap());
     first.join().unwrap();
     assert_eq!(last.join().unwrap(), Ok(()));
-    assert_eq!(here.receive(queue, &mut [0; 8]), Ok(Received { len: 5, priority: 0 }));
+    assert_eq!(queue.receive(&mut [0; 8]), Ok(Received { len: 5, priority: 0 }));
 }

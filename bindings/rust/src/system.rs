@@ -1,0 +1,222 @@
+//! Systems, and how they are made.
+
+use crate::error::Error;
+use crate::process::{refusal, Process};
+use crate::raw::{Handle, Moment, Storage};
+use crate::time::{moment_now, Clock, OwnClock};
+use std::fmt;
+use std::hash::{Hash, Hasher};
+use std::sync::Arc;
+use std::time::Duration;
+
+/// How many processes a system has at the most.
+pub const MOST_PROCESSES: usize = 32;
+
+/// A system of processes that share queues. Queues of two systems have nothing to do with each
+/// other, whatever their names are.
+///
+/// This value says which system it is, and what clock it has; calls are made by its processes. A
+/// clone is of the same system. The memory of a system is freed with its last process.
+///
+/// ```
+/// use yakyrombe::System;
+///
+/// # fn main() -> Result<(), yakyrombe::Error> {
+/// let (system, processes) = System::builder().processes(3).build()?;
+/// assert_eq!(system.process_count(), 3);
+/// assert!(processes.iter().all(|process| process.system() == &system));
+/// let (other, _) = System::builder().build()?;
+/// assert_ne!(system, other);
+/// # Ok(())
+/// # }
+/// ```
+#[derive(Clone)]
+pub struct System {
+    pub(crate) shared: Arc<Shared>,
+}
+
+/// What the processes of a system share outside of the library.
+pub(crate) struct Shared {
+    count: usize,
+    is_stored: bool,
+    pub(crate) clock: OwnClock,
+    #[cfg(feature = "futures")]
+    pub(crate) wakers: crate::futures::Wakers,
+}
+
+impl System {
+    /// Begins to make a system. Without more it has one process, no stored journal, and real time.
+    pub fn builder() -> Builder {
+        Builder::default()
+    }
+
+    /// How many processes it was made with.
+    #[must_use]
+    pub fn process_count(&self) -> usize {
+        self.shared.count
+    }
+
+    /// Whether its journal is stored, with bounds or without.
+    #[must_use]
+    pub fn is_journal_stored(&self) -> bool {
+        self.shared.is_stored
+    }
+
+    /// The moment now by its clock ([`Builder::clock`]), for
+    /// [`Deadline::Moment`](crate::Deadline::Moment).
+    #[must_use]
+    pub fn now(&self) -> Duration {
+        match &self.shared.clock {
+            Some(clock) => clock.now(),
+            None => Moment::now().time(),
+        }
+    }
+
+    pub(crate) fn moment_now(&self, is_real: bool) -> Moment {
+        moment_now(&self.shared.clock, is_real)
+    }
+}
+
+/// Two values are equal if they are of the same system.
+impl PartialEq for System {
+    fn eq(&self, other: &System) -> bool {
+        Arc::ptr_eq(&self.shared, &other.shared)
+    }
+}
+
+impl Eq for System {}
+
+impl Hash for System {
+    fn hash<H: Hasher>(&self, state: &mut H) {
+        Arc::as_ptr(&self.shared).cast::<()>().hash(state);
+    }
+}
+
+impl fmt::Debug for System {
+    fn fmt(&self, to: &mut fmt::Formatter<'_>) -> fmt::Result {
+        to.debug_struct("System")
+            .field("process_count", &self.process_count())
+            .field("is_journal_stored", &self.is_journal_stored())
+            .finish_non_exhaustive()
+    }
+}
+
+/// How a system is to be made.
+///
+/// ```
+/// use yakyrombe::{Error, System, VirtualClock};
+///
+/// # fn main() -> Result<(), Error> {
+/// // For ever in the same memory:
+/// let (_, processes) = System::builder().processes(8).build()?;
+/// assert_eq!(processes[0].check(), Err(Error::Unstored));
+/// // With a journal that can be read, in virtual time:
+/// let (_, [one, two]) =
+///     System::builder().journal(true).clock(VirtualClock::new()).build_array()?;
+/// assert_eq!(one.check(), Ok(()));
+/// # drop(two);
+/// # Ok(())
+/// # }
+/// ```
+#[must_use]
+pub struct Builder {
+    processes: usize,
+    storage: Storage,
+    clock: OwnClock,
+}
+
+impl Default for Builder {
+    fn default() -> Builder {
+        Builder { processes: 1, storage: Storage::default(), clock: None }
+    }
+}
+
+impl Builder {
+    /// The number of processes, 1 to 32; the default is 1.
+    pub fn processes(mut self, count: usize) -> Builder {
+        self.processes = count;
+        self
+    }
+
+    /// With a journal that is stored and can be read, or without, as is the default. A stored one
+    /// grows with each call: an entry takes 64 to 120 bytes, and the name or message. Without it
+    /// memory is taken only while more messages, or longer ones, are present than before, when a
+    /// queue is opened, and for notices that are due; so the system may run for ever.
+    ///
+    /// This replaces an earlier [`bounded`](Builder::bounded).
+    pub fn journal(mut self, is_stored: bool) -> Builder {
+        self.storage = if is_stored { Storage::All } else { Storage::Nothing };
+        self
+    }
+
+    /// With a stored journal that has at most this number of entries, and of bytes of names and
+    /// messages. All memory that the calls of the system need is taken when it is built. A call
+    /// that finds the journal full fails with [`JournalFull`](Error::JournalFull), and a call
+    /// that waits then waits for ever: wait with a deadline, or ask for the
+    /// [`room`](Process::room) first.
+    ///
+    /// This replaces an earlier [`journal`](Builder::journal).
+    pub fn bounded(mut self, entries: u64, bytes: u64) -> Builder {
+        self.storage = Storage::Bounded { entries, bytes };
+        self
+    }
+
+    /// With a clock of the program. Deadlines of its calls are measured by it; those that are an
+    /// [`Instant`](std::time::Instant) are of real time.
+    pub fn clock(mut self, clock: impl Clock + 'static) -> Builder {
+        self.clock = Some(Box::new(clock));
+        self
+    }
+
+    /// Makes the system, and gives it and its processes, process 1 first.
+    ///
+    /// # Errors
+    /// [`Invalid`](Error::Invalid) if there are not 1 to 32 processes;
+    /// [`NoMemory`](Error::NoMemory).
+    pub fn build(self) -> Result<(System, Vec<Process>), Error> {
+        if self.processes > MOST_PROCESSES {
+            return Err(Error::Invalid);
+        }
+        let handles = Handle::of_system(self.processes, self.storage).map_err(refusal)?;
+        let shared = Shared {
+            count: self.processes,
+            is_stored: self.storage != Storage::Nothing,
+            clock: self.clock,
+            #[cfg(feature = "futures")]
+            wakers: crate::futures::Wakers::default(),
+        };
+        let system = System { shared: Arc::new(shared) };
+        let processes =
+            handles.into_iter().map(|handle| Process::new(handle, system.clone())).collect();
+        Ok((system, processes))
+    }
+
+    /// As [`build`](Builder::build), with as many processes as the array has.
+    ///
+    /// ```
+    /// # fn main() -> Result<(), yakyrombe::Error> {
+    /// let (system, [first, second]) = yakyrombe::System::builder().build_array()?;
+    /// assert_eq!((first.number(), second.number()), (1, 2));
+    /// # drop(system);
+    /// # Ok(())
+    /// # }
+    /// ```
+    ///
+    /// # Errors
+    /// As of `build`.
+    pub fn build_array<const N: usize>(self) -> Result<(System, [Process; N]), Error> {
+        let (system, processes) = self.processes(N).build()?;
+        // There are as many as were asked for.
+        let processes = processes.try_into().map_err(|_| Error::Invalid)?;
+        Ok((system, processes))
+    }
+}
+
+impl fmt::Debug for Builder {
+    fn fmt(&self, to: &mut fmt::Formatter<'_>) -> fmt::Result {
+        to.debug_struct("Builder")
+            .field("processes", &self.processes)
+            .field("storage", &self.storage)
+            .finish_non_exhaustive()
+    }
+}

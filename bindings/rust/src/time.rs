@@ -1,0 +1,241 @@
+//! Clocks and deadlines.
+
+use crate::raw::Moment;
+use std::fmt;
+use std::sync::{Arc, Mutex, PoisonError};
+use std::time::{Duration, Instant};
+
+/// A clock of the program, by which the calls of a system measure time
+/// ([`Builder::clock`](crate::Builder::clock)).
+///
+/// A moment is the time since some origin. The clock should not go back. This one counts in steps
+/// of its own, and another thread moves it:
+///
+/// ```
+/// use std::sync::atomic::{AtomicU64, Ordering};
+/// use std::time::Duration;
+/// use yakyrombe::{Clock, System};
+///
+/// #[derive(Default)]
+/// struct Steps(AtomicU64);
+///
+/// impl Clock for Steps {
+///     fn now(&self) -> Duration {
+///         Duration::from_millis(self.0.load(Ordering::Relaxed))
+///     }
+/// }
+///
+/// # fn main() -> Result<(), yakyrombe::Error> {
+/// let (system, processes) =
+///     System::builder().processes(2).clock(Steps::default()).build()?;
+/// assert_eq!(system.now(), Duration::ZERO);
+/// # drop(processes);
+/// # Ok(())
+/// # }
+/// ```
+///
+/// A simulation in one thread takes a [`VirtualClock`].
+pub trait Clock: Send + Sync {
+    /// The moment now.
+    fn now(&self) -> Duration;
+
+    /// A call of this thread waits, and its deadline is still to come. In a simulation in one
+    /// thread nobody can end the wait before, so a clock of virtual time moves on to the
+    /// deadline, and returns true. Any other clock returns false, as this does: then the thread
+    /// sleeps until its call is answered, and asks for the moment again at least every 80
+    /// milliseconds.
+    fn skip_to(&self, deadline: Duration) -> bool {
+        let _ = deadline;
+        false
+    }
+}
+
+impl<C: Clock + ?Sized> Clock for Arc<C> {
+    fn now(&self) -> Duration {
+        (**self).now()
+    }
+
+    fn skip_to(&self, deadline: Duration) -> bool {
+        (**self).skip_to(deadline)
+    }
+}
+
+/// The clock of a system whose builder names no other: it is never set. On Linux it is that of
+/// [`Instant`].
+///
+/// ```
+/// use yakyrombe::{Clock, Monotonic};
+///
+/// let before = Monotonic.now();
+/// assert!(Monotonic.now() >= before);
+/// ```
+#[derive(Clone, Copy, Debug, Default, PartialEq, Eq, PartialOrd, Ord, Hash)]
+pub struct Monotonic;
+
+impl Clock for Monotonic {
+    fn now(&self) -> Duration {
+        Moment::now().time()
+    }
+}
+
+/// Virtual time, for a simulation in one thread. It moves only if it is told to, and if a call
+/// with a deadline waits: then it jumps to the deadline, and the call fails with
+/// [`TimedOut`](crate::Error::TimedOut) without any sleep. A call without a deadline still waits
+/// for another thread.
+///
+/// A clone shows the same time. If threads wait for each other it is of no use, since the first
+/// wait moves the time of all: they take a [`Clock`] of the program, which another thread moves.
+///
+/// ```
+/// use std::time::{Duration, Instant};
+/// use yakyrombe::{Clock, Error, OpenOptions, System, VirtualClock};
+///
+/// # fn main() -> Result<(), Error> {
+/// let clock = VirtualClock::new();
+/// let (_, [process]) = System::builder().clock(clock.clone()).build_array()?;
+/// let queue = process.open("/q", OpenOptions::read().create())?;
+///
+/// let begin = Instant::now();
+/// let hour = Duration::from_secs(3600);
+/// assert_eq!(queue.receive_until(&mut [0; 8192], hour), Err(Error::TimedOut));
+/// assert_eq!(clock.now(), hour);
+/// clock.advance(hour);
+/// assert_eq!(clock.now(), 2 * hour);
+/// assert!(begin.elapsed() < hour);
+/// # Ok(())
+/// # }
+/// ```
+#[derive(Clone, Default)]
+pub struct VirtualClock(Arc<Mutex<Duration>>);
+
+impl VirtualClock {
+    /// A clock that begins at its origin.
+    #[must_use]
+    pub fn new() -> VirtualClock {
+        VirtualClock::default()
+    }
+
+    /// Moves on by so much.
+    pub fn advance(&self, time: Duration) {
+        self.change(|now| now.saturating_add(time));
+    }
+
+    /// Moves on to a moment, unless that is past.
+    pub fn advance_to(&self, moment: Duration) {
+        self.change(|now| now.max(moment));
+    }
+
+    fn change(&self, change: impl FnOnce(Duration) -> Duration) -> Duration {
+        // Nothing panics while it is locked.
+        let mut now = self.0.lock().unwrap_or_else(PoisonError::into_inner);
+        *now = change(*now);
+        *now
+    }
+}
+
+impl Clock for VirtualClock {
+    fn now(&self) -> Duration {
+        self.change(|now| now)
+    }
+
+    fn skip_to(&self, deadline: Duration) -> bool {
+        self.advance_to(deadline);
+        true
+    }
+}
+
+impl fmt::Debug for VirtualClock {
+    fn fmt(&self, to: &mut fmt::Formatter<'_>) -> fmt::Result {
+        to.debug_tuple("VirtualClock").field(&self.now()).finish()
+    }
+}
+
+/// Until when a call waits. A [`Duration`] and an [`Instant`] become one by themselves.
+///
+/// ```
+/// use std::time::{Duration, Instant};
+/// use yakyrombe::{Deadline, Error, OpenOptions, System};
+///
+/// # fn main() -> Result<(), Error> {
+/// let (system, [process]) = System::builder().build_array()?;
+/// let queue = process.open("/q", OpenOptions::read().create().limits(1, 8))?;
+/// let soon = Duration::from_millis(2);
+/// let mut buf = [0; 8];
+/// assert_eq!(queue.receive_until(&mut buf, soon), Err(Error::TimedOut));
+/// assert_eq!(queue.receive_until(&mut buf, Instant::now() + soon), Err(Error::TimedOut));
+/// let moment = Deadline::Moment(system.now() + soon);
+/// assert_eq!(queue.receive_until(&mut buf, moment), Err(Error::TimedOut));
+/// # Ok(())
+/// # }
+/// ```
+#[derive(Clone, Copy, Debug, PartialEq, Eq, PartialOrd, Ord, Hash)]
+#[non_exhaustive]
+pub enum Deadline {
+    /// So long after the call begins, by the clock of the system.
+    After(Duration),
+    /// At that moment of the clock of the system ([`System::now`](crate::System::now)).
+    Moment(Duration),
+    /// At that moment of real time, whatever the clock of the system is.
+    Instant(Instant),
+}
+
+impl From<Duration> for Deadline {
+    fn from(time: Duration) -> Deadline {
+        Deadline::After(time)
+    }
+}
+
+impl From<Instant> for Deadline {
+    fn from(moment: Instant) -> Deadline {
+        Deadline::Instant(moment)
+    }
+}
+
+/// When a wait ends at the latest, and by which clock.
+#[derive(Clone, Copy, Debug)]
+pub(crate) struct Limit {
+    pub until: Moment,
+    /// Whether the deadline is of real time, also if the system has a clock of the program.
+    pub is_real: bool,
+}
+
+/// The clock of a system: null for the one that is never set, which the library reads itself.
+pub(crate) type OwnClock = Option<Box<dyn Clock>>;
+
+/// The moment now, by the clock of a system or by real time.
+pub(crate) fn moment_now(own: &OwnClock, is_real: bool) -> Moment {
+    match own {
+        Some(clock) if !is_real => Moment::since_origin(clock.now()),
+        _ => Moment::now(),
+    }
+}
+
+impl Limit {
+    /// No deadline: the wait can be cancelled, and does not end by itself.
+    pub const NONE: Limit = Limit { until: Moment::LAST, is_real: true };
+
+    pub fn of(deadline: Deadline, own: &OwnClock) -> Limit {
+        match deadline {
+            Deadline::Moment(moment) => {
+                Limit { until: Moment::since_origin(moment), is_real: false }
+            }
+            Deadline::After(time) => {
+                Limit { until: after(moment_now(own, false), time), is_real: false }
+            }
+            Deadline::Instant(instant) => {
+                let left = instant.saturating_duration_since(Instant::now());
+                Limit { until: after(Moment::now(), left), is_real: true }
+            }
+        }
+    }
+
+    /// Whether the deadline has passed at a moment of its clock.
+    pub fn has_passed(&self, now: Moment) -> bool {
+        self.until <= now
+    }
+}
+
+/// The moment so much later, or the last one that there is.
+fn after(moment: Moment, time: Duration) -> Moment {
+    Moment::since_origin(moment.time().saturating_add(time))
+}
