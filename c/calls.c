@@ -1,11 +1,13 @@
 /* The calls of POSIX's <mqueue.h>, as exported symbols. */
 #define _GNU_SOURCE
-#include "the_program.h"
+#include "log.h"
 
 #include <errno.h>
 #include <fcntl.h>
 #include <stdarg.h>
 #include <string.h>
+#include <sys/syscall.h>
+#include <unistd.h>
 
 /* As the system's <mqueue.h> has them; its declarations say that pointers are not null, which the
  * compiler would believe here. */
@@ -47,26 +49,68 @@ static int result(uint32_t answer)
     return answer == YAK_DONE ? 0 : fails(yak_errno(answer));
 }
 
-/* Keeps what the program was given under a number. */
-static void keep(uint32_t d, const char *name, size_t len, const yak_opening *opening,
-                 bool nonblock)
+/* Whether the program can read the word at an address, or write it. The kernel looks, by a call
+ * that fails or asks for the signal mask, and so changes nothing else. */
+static bool is_good_word(uintptr_t at, bool is_written)
 {
-    descriptor *it = &the_program.descriptors[d];
-    it->queue = 0;
-    for (uint32_t other = 0; other < DESCRIPTORS; ++other) {
-        const descriptor *held = &the_program.descriptors[other];
-        if (held->made != 0 && held->is_bound && held->len == len &&
-            memcmp(held->name, name, len) == 0)
-            it->queue = held->queue;
+    void *const word = (void *)(at & ~(uintptr_t)7);
+    const int error = errno;
+    const long failed = is_written ? syscall(SYS_rt_sigprocmask, SIG_BLOCK, 0, word, 8)
+                                   : syscall(SYS_rt_sigprocmask, -1, word, 0, 8);
+    const bool is_good = failed == 0 || errno != EFAULT;
+    errno = error;
+    return is_good;
+}
+
+/* The same for attributes, which two pages have at the most. */
+static bool is_good(const struct mq_attr *attr, bool is_written)
+{
+    const uintptr_t first = (uintptr_t)attr, last = first + sizeof *attr - 1;
+    return is_good_word(first, is_written) && is_good_word(last, is_written);
+}
+
+/* A home with room for another description; PROCESSES if there is none. */
+static unsigned roomy_home(void)
+{
+    for (unsigned round = 0; round < 2; ++round) {
+        for (uint32_t d = 0; d < DESCRIPTIONS; ++d)
+            if (the_program.tables.descriptions[d].made == 0 &&
+                program_take_home(program_home_of(d)))
+                return program_home_of(d);
+        program_sweep();
     }
-    if (it->queue == 0)
-        it->queue = ++the_program.queues;
-    it->made = ++the_program.opens;
-    it->access = opening->access;
-    it->nonblock = nonblock;
-    it->is_bound = true;
-    it->len = len;
-    memcpy(it->name, name, len);
+    return PROCESSES;
+}
+
+/* Opens a description, and writes which: an error of the machine's processes, or 0 and the answer
+ * of the library. */
+static int open_description(const yak_opening *opening, bool nonblock, const char *name, size_t len,
+                            uint32_t *answer, uint32_t *d)
+{
+    opened with = {.opening = *opening, .whose = FOR_DESCRIPTION};
+    const unsigned home = roomy_home();
+    if (home == PROCESSES)
+        return ENFILE;
+    with.made = ++the_program.opens != 0 ? the_program.opens : ++the_program.opens;
+    *answer = did_open(home, &with, (const uint8_t *)name, len, d);
+    /* The dead may hold queues that have lost their names. */
+    if (*answer == YAK_NOSPC && the_program.is_logged) {
+        program_sweep();
+        *answer = did_open(home, &with, (const uint8_t *)name, len, d);
+    }
+    *d = program_description(home, *d);
+    if (*answer == YAK_DONE)
+        the_program.nonblock[*d] = nonblock;
+    return 0;
+}
+
+/* The lowest number that this process does not hold; NUMBERS if it holds all. */
+static unsigned free_number(void)
+{
+    unsigned number = 0;
+    while (number < NUMBERS && program_here->me->numbers[number] != 0)
+        ++number;
+    return number;
 }
 
 static mqd_t open_queue(const char *name, int oflag, const struct mq_attr *attr)
@@ -77,12 +121,13 @@ static mqd_t open_queue(const char *name, int oflag, const struct mq_attr *attr)
         .exclusive = (oflag & O_EXCL) != 0,
         .nonblock = true,
     };
-    uint32_t answer, d = 0;
+    uint32_t answer = YAK_DONE, d = 0;
+    unsigned number;
     size_t len;
     int error;
-    if (name == 0)
+    if (name == 0 || (attr != 0 && !is_good(attr, false)))
         return fails(EFAULT);
-    if (attr != 0 && opening.create) {
+    if (attr != 0) {
         opening.maxmsg = attr->mq_maxmsg;
         opening.msgsize = attr->mq_msgsize;
         opening.limited = true;
@@ -90,13 +135,16 @@ static mqd_t open_queue(const char *name, int oflag, const struct mq_attr *attr)
     len = strlen(name);
     if ((error = program_enter()) != 0)
         return fails(error);
-    MADE(answer,
-         yak_proved_open(&the_program.processes[HOME], (const uint8_t *)name, len, &opening, &d));
-    program_count(len + (opening.limited ? MORE_BYTES : 0));
-    if (answer == YAK_DONE)
-        keep(d, name, len, &opening, (oflag & O_NONBLOCK) != 0);
+    number = free_number();
+    error = number == NUMBERS
+                ? EMFILE
+                : open_description(&opening, (oflag & O_NONBLOCK) != 0, name, len, &answer, &d);
+    if (error == 0 && answer == YAK_DONE)
+        program_here->me->numbers[number] = (uint8_t)(d + 1);
     program_leave();
-    return answer == YAK_DONE ? FIRST + (mqd_t)d : result(answer);
+    if (error != 0)
+        return fails(error);
+    return answer == YAK_DONE ? FIRST + (mqd_t)number : result(answer);
 }
 
 mqd_t mq_open(const char *name, int oflag, ...)
@@ -120,21 +168,23 @@ mqd_t __mq_open_2(const char *name, int oflag)
 
 int mq_close(mqd_t mqdes)
 {
-    uint32_t answer, answered = 0, d;
+    uint32_t answer = YAK_DONE, answered = 0, d;
     int error;
     if ((error = program_enter()) != 0)
         return fails(error);
     d = program_number(mqdes);
-    MADE(answer, yak_proved_close(&the_program.processes[HOME], d));
-    if (answer == YAK_DONE) {
-        the_program.descriptors[d].made = 0;
-        program_close_mirrors(d);
-        program_forget_registration(d);
-        answered = program_note_answers(HOME);
+    if (d < DESCRIPTIONS) {
+        program_unregister(d, program_owner_number());
+        program_here->me->numbers[mqdes - FIRST] = 0;
     }
-    program_leave();
-    if (answered != 0)
-        program_wake_them(answered);
+    if (!program_is_held(d)) {
+        answer = d < DESCRIPTIONS ? program_close_description(d) : did_close(HOME, PER_HOME);
+        /* It holds what could not be closed. */
+        if (answer != YAK_DONE && d < DESCRIPTIONS)
+            program_here->me->numbers[mqdes - FIRST] = (uint8_t)(d + 1);
+        answered = program_note_answers(program_home_of(d));
+    }
+    program_leave_waking(answered);
     return result(answer);
 }
 
@@ -148,14 +198,11 @@ int mq_unlink(const char *name)
     len = strlen(name);
     if ((error = program_enter()) != 0)
         return fails(error);
+    /* What the dead hold is not to outlive the name. */
+    if (the_program.is_logged)
+        program_sweep();
     program_mirror_all((const uint8_t *)name, len);
-    MADE(answer, yak_proved_unlink(&the_program.processes[HOME], (const uint8_t *)name, len));
-    program_count(len);
-    for (uint32_t d = 0; answer == YAK_DONE && d < DESCRIPTORS; ++d) {
-        descriptor *it = &the_program.descriptors[d];
-        if (it->len == len && memcmp(it->name, name, len) == 0)
-            it->is_bound = false;
-    }
+    answer = did_unlink(HOME, (const uint8_t *)name, len);
     program_leave();
     return result(answer);
 }
@@ -163,6 +210,9 @@ int mq_unlink(const char *name)
 static int fill(uint32_t answer, const yak_attributes *from, struct mq_attr *attr)
 {
     if (answer == YAK_DONE && attr != 0) {
+        if (!is_good(attr, true))
+            return fails(EFAULT);
+        memset(attr, 0, sizeof *attr);
         attr->mq_flags = from->nonblock ? O_NONBLOCK : 0;
         attr->mq_maxmsg = (long)from->maxmsg;
         attr->mq_msgsize = (long)from->msgsize;
@@ -171,21 +221,27 @@ static int fill(uint32_t answer, const yak_attributes *from, struct mq_attr *att
     return result(answer);
 }
 
-/* Asks for the attributes, in which the flag is the program's own, and then sets that where it is
- * to be set. */
+/* Asks for the attributes, in which the flag is the program's own, and then sets that if it is to
+ * be set. Other flags, and pointers that lead nowhere, are refused in the order of Linux's queues,
+ * which look at the pointer of the answer last. */
 static int exchange(mqd_t mqdes, const struct mq_attr *set, struct mq_attr *before)
 {
     yak_attributes attributes = {0};
     uint32_t answer, d;
     int error;
+    if (set != 0 && !is_good(set, false))
+        return fails(EFAULT);
+    if (set != 0 && (set->mq_flags & ~(long)O_NONBLOCK) != 0)
+        return fails(EINVAL);
     if ((error = program_enter()) != 0)
         return fails(error);
     d = program_number(mqdes);
-    MADE(answer, yak_proved_getattr(&the_program.processes[HOME], d, &attributes));
+    MADE(answer, yak_proved_getattr(&the_program.processes[program_home_of(d)], program_there(d),
+                                    &attributes));
     if (answer == YAK_DONE) {
-        attributes.nonblock = the_program.descriptors[d].nonblock;
+        attributes.nonblock = the_program.nonblock[d];
         if (set != 0)
-            the_program.descriptors[d].nonblock = (set->mq_flags & O_NONBLOCK) != 0;
+            the_program.nonblock[d] = (set->mq_flags & O_NONBLOCK) != 0;
     }
     program_leave();
     return fill(answer, &attributes, before);
@@ -223,17 +279,15 @@ static __attribute__((noinline)) uint32_t go_on(uint32_t d, const request *asked
     bool warns = false;
     notices found;
     found.count = 0;
-    if (answer == YAK_AGAIN && !the_program.descriptors[d].nonblock)
+    if (answer == YAK_AGAIN && !the_program.nonblock[d])
         answer = program_wait(&process, d, asked, message, &cancelling);
-    if (answer != YAK_LOST) {
-        answered = program_note_answers(process);
-        if (answer == YAK_DONE && the_program.registered != 0)
+    if (answer != YAK_LOST && answer != YAK_ANEW && answer != YAK_TORN) {
+        answered = program_note_answers(process != HOME ? process : program_home_of(d));
+        if (answer == YAK_DONE && the_program.tables.registered != 0)
             program_collect_notices(d, &found);
         warns = program_is_to_warn();
-        program_leave();
+        program_leave_waking(answered);
     }
-    if (answered != 0)
-        program_wake_them(answered);
     if (found.count != 0)
         program_deliver(&found);
     if (warns)
@@ -259,28 +313,39 @@ static inline __attribute__((always_inline)) uint32_t make(const char *call, boo
         moment.sec = (int64_t)until->tv_sec;
         moment.nsec = (int64_t)until->tv_nsec;
     }
-    if ((error = program_enter()) != 0) {
-        errno = error;
-        return YAK_REFUSED;
-    }
-    d = program_number(mqdes);
-    answer = program_try(is_send, d, bytes, len, prio, message);
-    if (answer != YAK_DONE || the_program.until_large < 0 ||
-        (the_program.registered | the_program.stranded | the_program.processes[HOME].answered) !=
-            0) {
-        request asked = {
-            .call = call,
-            .is_send = is_send,
-            .is_timed = until != 0,
-            .until = until != 0 ? moment : NEVER,
-            .bytes = bytes,
-            .len = len,
-            .prio = prio,
-        };
-        return go_on(d, &asked, message, answer);
-    }
-    program_leave();
-    return YAK_DONE;
+    do {
+        if ((error = program_enter()) != 0) {
+            errno = error;
+            return YAK_REFUSED;
+        }
+        if (__builtin_expect(the_program.is_logged, false) &&
+            the_program.tables.helpers != the_program.tables.idle && program_has_dead_waiter())
+            program_sweep();
+        d = program_number(mqdes);
+        answer = program_try(is_send, d, bytes, len, prio, message);
+        if (__builtin_expect(the_program.is_logged, false) && answer == YAK_DONE)
+            log_message(is_send, d, bytes, len, prio);
+        if (__builtin_expect(answer == YAK_DONE && the_program.until_large >= 0 &&
+                                 (the_program.tables.registered | the_program.stranded |
+                                  the_program.processes[program_home_of(d)].answered) == 0,
+                             1)) {
+            program_leave();
+            return YAK_DONE;
+        } else {
+            const request asked = {
+                .call = call,
+                .number = mqdes,
+                .is_send = is_send,
+                .is_timed = until != 0,
+                .until = until != 0 ? moment : NEVER,
+                .bytes = bytes,
+                .len = len,
+                .prio = prio,
+            };
+            answer = go_on(d, &asked, message, answer);
+        }
+    } while (answer == YAK_ANEW);
+    return answer;
 }
 
 static int last_result(uint32_t answer)
@@ -289,7 +354,16 @@ static int last_result(uint32_t answer)
         return 0;
     if (answer == YAK_REFUSED)
         return -1;
+    if (answer == YAK_TORN)
+        return fails(ENOTRECOVERABLE);
     return fails(answer >= YAK_INTERRUPTED ? EINTR : yak_errno(answer));
+}
+
+/* No message is longer than MOST_BYTES, so a longer buffer is one of that length, and a longer
+ * message is refused as one of a byte more. */
+static inline size_t at_most(size_t len, size_t most)
+{
+    return len < most ? len : most;
 }
 
 static inline __attribute__((always_inline)) int send_until(const char *call, mqd_t mqdes,
@@ -301,8 +375,8 @@ static inline __attribute__((always_inline)) int send_until(const char *call, mq
     pthread_testcancel();
     if (bytes == 0 && len != 0)
         return fails(EFAULT);
-    return last_result(make(call, true, mqdes, (uint8_t *)(uintptr_t)(len != 0 ? bytes : ""), len,
-                            prio, &message, until));
+    return last_result(make(call, true, mqdes, (uint8_t *)(uintptr_t)(len != 0 ? bytes : ""),
+                            at_most(len, MOST_BYTES + 1), prio, &message, until));
 }
 
 int mq_send(mqd_t mqdes, const char *bytes, size_t len, unsigned prio)
@@ -326,8 +400,8 @@ static inline __attribute__((always_inline)) ssize_t receive_until(const char *c
     pthread_testcancel();
     if (buf == 0 && len != 0)
         return fails(EFAULT);
-    if (last_result(make(call, false, mqdes, len != 0 ? (uint8_t *)buf : &none, len, 0, &message,
-                         until)) != 0)
+    if (last_result(make(call, false, mqdes, len != 0 ? (uint8_t *)buf : &none,
+                         at_most(len, MOST_BYTES), 0, &message, until)) != 0)
         return -1;
     if (prio != 0)
         *prio = message.prio;

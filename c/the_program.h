@@ -1,14 +1,16 @@
 /* the_program.h: what the exported calls of libyakyrombe-mqueue are made of.
  *
- * One system of the library serves the whole program. Its process 1 is the home: it holds a
- * descriptor for each that the program holds, always nonblocking, and makes each call. Where a send
- * or a receive is refused with YAK_AGAIN, and the program's descriptor is blocking, it is made
- * again by a helper, the lowest of processes 2 to 32 that has no open wait, which opens the queue
- * too when it is first needed there, and keeps the call until its wait ends. So the order of
- * messages, who is served and every refusal are the library's.
+ * One system of the library serves the whole program, with its forked children. Its process 1 is a
+ * home: it holds a descriptor for each open description of the program, always nonblocking, and
+ * makes each call on it. If a send or a receive is refused with YAK_AGAIN, and the description is
+ * blocking, it is made again by a helper, the lowest of the processes that are not homes and have
+ * no open wait, which opens the queue too when it is first needed there, and keeps the call until
+ * its wait ends. So the order of messages, who is served and every refusal are the library's. If
+ * the program has more than 16 open descriptions, helpers become homes, from process 32 down.
  *
- * All of this is guarded by one mutex, which is held for the time of a call and never while a call
- * waits.
+ * All of this lies in memory that parent and forked children share (arena.h), and is guarded by one
+ * lock, which is held for the time of a call and never while a call waits. If a process dies inside
+ * it, the next one makes the system again from the log (log.h).
  */
 #ifndef YAKYROMBE_THE_PROGRAM_H
 #define YAKYROMBE_THE_PROGRAM_H
@@ -20,6 +22,7 @@
 #define REAL(name) name
 #endif
 
+#include "arena.h"
 #include "proved.h"
 #include "wait.h"
 
@@ -33,9 +36,16 @@
 
 enum {
     PROCESSES = 32,
-    HOME = 0,
-    DESCRIPTORS = 16,
+    HOME = 0,  /* the first home; it stands for no helper, and its word is that of stranded calls */
+    HOMES = 8, /* at the most */
+    PER_HOME = 16, /* descriptors that a process of the library holds */
+    DESCRIPTIONS = HOMES * PER_HOME,
+    NUMBERS = 128, /* descriptors of one process of the machine */
+    OWNERS = 1024, /* processes of the machine that share the arena */
+    QUEUES = 64,   /* as in the library */
+    DUE = 16,      /* notices that a process has not taken yet */
     LONGEST_NAME = 256,
+    MOST_BYTES = 65536, /* of a message */
     /* The number of the first descriptor: far from those of files, so that a call on files refuses
        it. */
     FIRST = 1000,
@@ -47,34 +57,97 @@ enum {
     LARGE = 1000000000
 };
 
-/* What the program holds under a number. */
-typedef struct descriptor {
-    unsigned made; /* which open of the program it is from, counted from 1; 0 where there is none */
-    unsigned queue; /* the same number for descriptors of the same queue */
-    uint32_t access;
-    bool nonblock;
-    bool is_bound; /* its queue still has its name */
+/* ---- the tables that the log tells: they are made again with the system ---- */
+
+typedef struct queue {
+    bool is_there; /* it has its name, or a process of the library holds it */
+    bool is_bound; /* it has its name */
+    int64_t maxmsg;
+    int64_t msgsize;
     size_t len;
     uint8_t name[LONGEST_NAME];
-} descriptor;
+} queue;
 
-/* What a helper holds for a descriptor of the program. */
-typedef struct mirror {
-    unsigned made; /* of which open; 0 where it holds nothing */
-    uint32_t d;
-} mirror;
+/* An open description: number i is descriptor i % 16 of home i / 16. */
+typedef struct description {
+    unsigned made; /* which open of the program it is from, counted from 1; 0 if there is none */
+    uint8_t queue;
+    uint8_t access;
+} description;
 
-/* A registration, by the descriptor that it was made with. */
+/* A registration, by the description that it was made with. Its function and its attributes lie in
+ * the process that made it (notices.c). */
 typedef struct registration {
     bool is_set;
-    struct sigevent event;
-    bool has_attributes;
-    pthread_attr_t attributes;
+    uint16_t owner;
+    unsigned life; /* of the owner */
+    int how;
+    int signo;
+    union sigval value;
+    uint64_t serial;
 } registration;
+
+/* The open wait of a helper. The bytes of a send, or those of a receive that has ended, are kept
+ * beside it (ARENA_KEPT). */
+typedef struct pending {
+    bool is_open;
+    bool is_send;
+    bool is_timed;
+    bool has_ended; /* the library has no wait any more, and its answer is kept here */
+    uint8_t queue;
+    uint16_t owner;
+    uint32_t d;     /* the helper's descriptor */
+    uint64_t order; /* waits are begun in it */
+    uint32_t prio;
+    size_t len;
+    yak_moment until, now;
+    yak_moment since; /* what a report says: when it began, by which thread, on which number */
+    pid_t tid;
+    int number;
+    yak_message message;
+} pending;
+
+typedef struct tables {
+    queue queues[QUEUES];
+    description descriptions[DESCRIPTIONS];
+    registration registrations[DESCRIPTIONS];
+    uint8_t mirrors[PROCESSES][PER_HOME]; /* by a helper's descriptor: its queue and 1, or 0 */
+    pending waits[PROCESSES];
+    uint32_t helpers; /* the processes that are not homes, by bits */
+    uint32_t idle;    /* the helpers without an open wait */
+    uint32_t registered;
+} tables;
+
+/* ---- processes of the machine ---- */
+
+enum { OWNER_FREE, OWNER_COMING, OWNER_LIVE };
+
+typedef struct owner {
+    _Atomic uint32_t state;
+    unsigned life;  /* how often the place was taken */
+    pid_t pid;      /* while it comes, that of its parent */
+    uint64_t start; /* when the machine started it */
+    /* Of a child that comes, in milliseconds: when its parent forked, and when that was over, so
+       that the child is there or will never be; 0 before. */
+    uint64_t forked;
+    _Atomic uint64_t is_made;
+    bool is_apart;   /* it goes on with a call of its parent before it comes */
+    uint64_t looked; /* when another process looked whether it lives, in milliseconds */
+    /* Held by the thread that came with it. The kernel marks it when that thread ends, and at
+       exec. */
+    pthread_mutex_t alive;
+    uint8_t numbers[NUMBERS]; /* a description and 1, or 0 */
+    uint32_t stranded;
+    uint32_t own_threads;  /* threads of the library */
+    _Atomic uint32_t bell; /* on which its notifier sleeps */
+    uint64_t due[DUE];     /* serials of its notices that a thread of its own is to take */
+    unsigned due_count;
+} owner;
 
 /* A send or a receive. */
 typedef struct request {
     const char *call;
+    int number; /* as the program has it */
     bool is_send;
     bool is_timed;
     yak_moment until; /* the last moment of all if it is not timed */
@@ -113,27 +186,44 @@ typedef struct waiting {
     struct waiting *next;
 } waiting;
 
+/* What all processes of the machine share. */
 typedef struct program {
-    pthread_mutex_t lock;
-    atomic_bool is_ready;
-    bool is_stored; /* the journal is */
-    bool is_ending;
+    pthread_mutex_t lock; /* its memory alone: lock.c */
+    arena arena;
+    bool is_ready;
+    bool is_stored;      /* the journal is */
+    bool is_logged;      /* the log counts */
+    bool is_torn;        /* the system is to be made again before the next call */
+    bool is_lost;        /* it can't be */
     int64_t until_large; /* how many bytes the journal may still take; below 0 the error stream is
                             to say that it is large. If it is not stored, it never is */
     unsigned opens;
-    unsigned queues;
-    unsigned waited;   /* how many waits were opened */
-    uint32_t idle;     /* the helpers without an open wait, by bits */
+    unsigned waited; /* how many waits were opened */
+    unsigned closes; /* how often a description was closed */
+    uint64_t serials;
     uint32_t stranded; /* how many calls wait without a helper */
-    uint32_t registered;
     yak_process processes[PROCESSES];
-    descriptor descriptors[DESCRIPTORS];
-    registration registrations[DESCRIPTORS];
-    mirror mirrors[PROCESSES][DESCRIPTORS];
-    waiting *waits;
+    tables tables;
+    bool nonblock[DESCRIPTIONS];
+    /* The names of the queues in the reports, also of those that have lost theirs. */
+    size_t lens[QUEUES];
+    uint8_t names[QUEUES][LONGEST_NAME];
+    unsigned seen_closes[PROCESSES];  /* at which a helper has let go what nobody holds */
     _Atomic uint32_t news[PROCESSES]; /* how often there was news for the wait of a helper, and for
                                          those without one by the home's */
+    unsigned log;                     /* which of the two counts */
+    char *log_next[2];
+    size_t log_limit;     /* in bytes: then it is made short */
+    unsigned owners_used; /* places behind it are free */
+    owner owners[OWNERS];
 } program;
+
+/* What this process knows of itself, in a page that a fork wipes. program_after_fork writes it
+ * again; a child that was made without it (_Fork, clone) has no part in the queues. */
+typedef struct here {
+    owner *me;     /* null if it has no part */
+    unsigned seen; /* which openings of the arena it has followed; 0 before its first call */
+} here;
 
 /* Seen in the library alone, so that they are reached without a table. */
 #pragma GCC visibility push(hidden)
@@ -141,58 +231,99 @@ typedef struct program {
 /* Where a thread is, for a handler that interrupts it. */
 enum { OUTSIDE, INSIDE, WAITING };
 
-extern program the_program;
-extern bool program_is_forked;
+extern program *program_at;
+#define the_program (*program_at)
+extern here *program_here;
+/* Whether ThreadSanitizer is told of the lock. */
+extern bool program_is_watched;
+/* Whether this process has come to its end. */
+extern bool program_is_ending;
 extern _Thread_local volatile int program_place;
-/* The wait of this thread. */
+/* The wait of this thread, and those of this process. */
 extern _Thread_local waiting program_own_wait;
+extern waiting *program_waits;
 
-/* The word on which the wait of a process sleeps. */
+/* The word on which the wait of a process of the library sleeps. */
 static inline yak_word_ program_news(unsigned process)
 {
-    const yak_word_ news = {.at = (uint32_t *)&the_program.news[process]};
+    const yak_word_ news = {.at = (uint32_t *)&the_program.news[process], .is_shared = true};
     return news;
 }
 
-/* The notices that a call has brought, to be delivered once the lock is free. */
+static inline unsigned program_owner_number(void)
+{
+    return (unsigned)(program_here->me - the_program.owners);
+}
+
+/* What a registration of this process has that others can't use. */
+typedef struct own_part {
+    uint64_t serial; /* of the registration; 0 if there is none */
+    union sigval value;
+    void (*call)(union sigval value); /* of SIGEV_THREAD */
+    bool has_attributes;
+    pthread_attr_t attributes;
+} own_part;
+
+/* The notices that a call has brought, to be delivered. */
+typedef struct notice {
+    registration it;
+    own_part part;
+} notice;
+
 typedef struct notices {
     unsigned count;
-    registration them[DESCRIPTORS];
+    notice them[DUE];
 } notices;
 
-/* Comes into the program's lock in a forked child, in a handler, or behind a jump out of a wait: 0,
- * or ENOSYS in a child, which is told so, EDEADLK in a handler that interrupted another call
- * inside, ENOMEM. A wait of this thread is ended first: the call that began it finds its ending,
- * unless a handler has left that call by a jump. */
-int program_enter_apart(void);
+/* ---- the lock (lock.c) ---- */
+
+/* The number of this thread, 0 before its first call, and the place at which the kernel finds, if
+ * the thread dies, which lock it held or was about to take. */
+extern _Thread_local volatile int program_thread;
+extern _Thread_local void *volatile *program_pending;
+void program_meet_thread(void);
+/* Takes the lock if the first try was in vain: 0, ENOTRECOVERABLE or ENOMEM, and then it is left.
+ */
+int program_lock_slowly(void);
+/* What is left of program_unlock if others sleep. */
+void program_wake_next(void);
+/* Leaves the lock and wakes those whose waits were answered. If the process is killed in it, it has
+ * woken them, or is known to have died inside. */
+void program_leave_waking(uint32_t answered);
+void program_tell_locked(void);
+void program_tell_unlocked(bool is_before);
 /* Makes the system, at the first call: 0, or ENOMEM, and then the lock is left. */
 int program_first(void);
 
-static inline void program_lock(void)
+#define PROGRAM_WORD (&the_program.lock.__data.__lock)
+#define PROGRAM_NODE ((void *)&the_program.lock.__data.__list.__next)
+
+static inline int program_lock(void)
 {
+    int nobody = 0;
     program_place = INSIDE;
-    REAL(pthread_mutex_lock)(&the_program.lock);
+    if (__builtin_expect(program_thread == 0, 0))
+        program_meet_thread();
+    *program_pending = PROGRAM_NODE;
+    if (__builtin_expect(!__atomic_compare_exchange_n(PROGRAM_WORD, &nobody, program_thread, false,
+                                                      __ATOMIC_ACQUIRE, __ATOMIC_RELAXED),
+                         0))
+        return program_lock_slowly();
+    if (__builtin_expect(program_is_watched, 0))
+        program_tell_locked();
+    return 0;
 }
 
 static inline void program_unlock(int place)
 {
-    REAL(pthread_mutex_unlock)(&the_program.lock);
+    if (__builtin_expect(program_is_watched, 0))
+        program_tell_unlocked(true);
+    if (__builtin_expect(__atomic_exchange_n(PROGRAM_WORD, 0, __ATOMIC_RELEASE) < 0, 0))
+        program_wake_next();
+    if (__builtin_expect(program_is_watched, 0))
+        program_tell_unlocked(false);
+    *program_pending = 0;
     program_place = place;
-}
-
-/* Comes into the program's lock: 0, or one of the errors of program_enter_apart. Nothing that is
- * called from there on until program_leave is a cancellation point, or cancellation is disabled
- * there. */
-static inline int program_enter(void)
-{
-    if (program_place != OUTSIDE || program_is_forked)
-        return program_enter_apart();
-#ifdef YAK_SEEDED
-    if (!the_program.is_ending)
-        yak_seed_turn();
-#endif
-    program_lock();
-    return atomic_load_explicit(&the_program.is_ready, memory_order_relaxed) ? 0 : program_first();
 }
 
 static inline void program_leave(void)
@@ -200,15 +331,49 @@ static inline void program_leave(void)
     program_unlock(OUTSIDE);
 }
 
+/* Comes into the lock in a process without a part, in a handler, or behind a jump out of a wait: 0,
+ * or ENOSYS without a part, which the error stream tells once, EDEADLK in a handler that
+ * interrupted another call inside, ENOMEM. A wait of this thread is ended first: the call that
+ * began it finds its ending, unless a handler has left that call by a jump. */
+int program_enter_apart(void);
+/* Does what is to be done before a call, inside the lock: makes the system, at the first; opens
+ * what others have opened; makes the log short. 0, or ENOMEM or ENOTRECOVERABLE, and then the lock
+ * is left. */
+int program_attend(void);
+
+/* Takes the lock, and does that. */
+static inline int program_come_in(void)
+{
+    const int error = program_lock();
+    if (error != 0)
+        return error;
+    return __builtin_expect(program_here->seen != the_program.arena.openings, 0) ? program_attend()
+                                                                                 : 0;
+}
+
+/* Comes into the program's lock: 0, or one of those errors. Nothing that is called from there on
+ * until program_leave is a cancellation point, or cancellation is disabled there. */
+static inline int program_enter(void)
+{
+    if (program_place != OUTSIDE || program_here->me == 0)
+        return program_enter_apart();
+#ifdef YAK_SEEDED
+    if (!program_is_ending)
+        yak_seed_turn();
+#endif
+    return program_come_in();
+}
+
 /* The same for a call that is none on queues: a wait that its handler has interrupted stays open.
  * The place is to be given to program_unlock. */
 int program_enter_aside(int *place);
 
-/* How often this thread has come into a child by a fork. */
-unsigned program_forks(void);
-
 /* Writes a line to the error stream, outside the lock; the thread can't be cancelled there. */
 void program_say(const char *line);
+/* Writes something that this process does, if YAK_VERBOSE is 1. */
+void program_tell(const char *what);
+
+/* ---- calls of the library ---- */
 
 /* Makes a call of a process that leaves no entry; inside the lock nothing keeps it out. */
 #define READ(answer, call) \
@@ -229,49 +394,92 @@ static inline void program_count(size_t bytes)
         program_count(ENTRY_BYTES); \
     } while (0)
 
-/* The number of a descriptor for the library, DESCRIPTORS where the program holds none by that
- * name. */
+/* The description that this process holds under a number; DESCRIPTIONS or more if it holds none. */
 static inline uint32_t program_number(int mqdes)
 {
-    uint32_t d = (uint32_t)mqdes - FIRST;
-    return d < DESCRIPTORS && the_program.descriptors[d].made != 0 ? d : DESCRIPTORS;
+    const uint32_t number = (uint32_t)mqdes - FIRST;
+    return number < NUMBERS ? program_here->me->numbers[number] - 1u : (uint32_t)DESCRIPTIONS;
 }
 
-/* A send or a receive by the home, which never waits: YAK_AGAIN where it would. */
+/* The process of the library that holds a description, and by which descriptor; the first home and
+ * a number that it does not hold if there is no such description. */
+static inline unsigned program_home_of(uint32_t d)
+{
+    return d < PER_HOME || d >= DESCRIPTIONS ? (unsigned)HOME : PROCESSES - d / PER_HOME;
+}
+
+static inline uint32_t program_there(uint32_t d)
+{
+    return d < DESCRIPTIONS ? d % PER_HOME : (uint32_t)PER_HOME;
+}
+
+/* The description that a home holds by a descriptor. */
+static inline uint32_t program_description(unsigned home, uint32_t d)
+{
+    return (home == HOME ? 0 : PROCESSES - home) * PER_HOME + d;
+}
+
+static inline bool program_is_helper(unsigned process)
+{
+    return (the_program.tables.helpers & 1u << process) != 0;
+}
+
+/* Whether two descriptions are of one queue. */
+static inline bool program_is_same_queue(uint32_t one, uint32_t other)
+{
+    const description *first = &the_program.tables.descriptions[one],
+                      *second = &the_program.tables.descriptions[other];
+    return first->made != 0 && second->made != 0 && first->queue == second->queue;
+}
+
+/* A send or a receive by a home, which never waits: YAK_AGAIN if it would. */
 static inline __attribute__((always_inline)) uint32_t program_try(bool is_send, uint32_t d,
                                                                   uint8_t *bytes, size_t len,
                                                                   uint32_t prio,
                                                                   yak_message *message)
 {
-    yak_process *home = &the_program.processes[HOME];
+    yak_process *home = &the_program.processes[program_home_of(d)];
+    const uint32_t there = program_there(d);
     uint32_t answer;
-    if (is_send) {
-        MADE(answer, yak_proved_start_send(home, d, bytes, len, prio));
-        program_count(answer == YAK_DONE ? len : 0);
-    } else {
-        MADE(answer, yak_proved_start_receive(home, d, bytes, len, message));
-    }
+    if (is_send)
+        MADE(answer, yak_proved_start_send(home, there, bytes, len, prio));
+    else
+        MADE(answer, yak_proved_start_receive(home, there, bytes, len, message));
+    program_count(is_send && answer == YAK_DONE ? len : 0);
     return answer;
 }
 
-/* An idle helper that holds this descriptor too, or HOME where there is none. */
-unsigned program_choose(uint32_t d);
-/* A helper whose wait has ended is idle again. */
+/* An idle helper that holds the queue of this description too, by which descriptor; or HOME if
+ * there is none. */
+unsigned program_choose(uint32_t d, uint32_t *there);
+/* A helper whose wait has ended lets go what nobody holds any more. */
 void program_release(unsigned process);
-/* Lets all idle helpers hold what the program holds of the queue with this name, before it loses
- * its name. */
+/* Lets all idle helpers hold the queue with this name, before it loses its name. */
 void program_mirror_all(const uint8_t *name, size_t len);
-/* Lets go what helpers hold of a descriptor that was closed. */
-void program_close_mirrors(uint32_t d);
+/* Makes a helper a home: false if it has an open wait, or keeps a descriptor. */
+bool program_take_home(unsigned process);
+/* Closes a description that nobody holds any more, and what helpers hold for it. */
+uint32_t program_close_description(uint32_t d);
+/* The bytes beside the open wait of a helper; null if memory was refused. */
+uint8_t *program_kept(unsigned process);
 
 /* Notes inside the lock whose waits the last call of a process has answered, and after it wakes
  * them. */
 uint32_t program_note_answers(unsigned process);
 void program_wake_them(uint32_t answered);
 
-/* Beside what the library returns, of a wait: YAK_LOST where its thread is in a child now, which a
- * handler forked; the lock is not held then. */
-enum { YAK_INTERRUPTED = 100, YAK_CANCELLED = 101, YAK_REFUSED = 102, YAK_LOST = 103 };
+/* Beside what the library returns, of a wait: YAK_LOST if its thread is in a child now, which a
+ * handler forked, and the call fails with EINTR there; YAK_ANEW if the handler restarts calls, and
+ * the call is to begin anew there; YAK_TORN if the system can't be made again. Then the lock is not
+ * held. */
+enum {
+    YAK_INTERRUPTED = 100,
+    YAK_CANCELLED = 101,
+    YAK_REFUSED = 102,
+    YAK_LOST = 103,
+    YAK_ANEW = 104,
+    YAK_TORN = 105
+};
 
 /* Makes a call that the home would wait in, by the process that is written then, and waits until it
  * is answered. The lock is held before and after it, and not while it sleeps. After a wait
@@ -284,14 +492,46 @@ int program_end_own_wait(void);
 /* Ends the open wait of a thread that ends. */
 void program_end_with_thread(void *unused);
 
-/* mq_notify's part, and what a call on a descriptor may have brought. */
+/* mq_notify's part, and what a call on a description may have brought. */
 int program_register(uint32_t d, const struct sigevent *event, uint32_t *answer);
-void program_forget_registration(uint32_t d);
+/* Ends the registration that a process has by a description that it lets go. */
+void program_unregister(uint32_t d, unsigned owner);
+/* Takes the notices of the queue of a description, or with DESCRIPTIONS of all queues. Those for
+ * other processes are delivered inside the lock, so that a death loses none; those for this one
+ * by program_deliver, outside. */
 void program_collect_notices(uint32_t d, notices *found);
 void program_deliver(notices *found);
+/* Lets a thread of the library wait for what other processes send. */
+void program_begin_notifier(void);
+/* Whether this process is to be told by a thread. */
+bool program_has_thread_notices(void);
+/* In a child there is nothing of that. */
+void program_forget_notices(void);
 
-/* The child of a fork, and where YAK_FORK=new a program of its own. */
-void program_in_child(void);
+/* ---- the processes of the machine (family.c) ---- */
+
+/* Takes away what dead processes held; inside the lock. */
+void program_sweep(void);
+/* Whether a process with an open wait may have died; by one load for each that waits. */
+bool program_has_dead_waiter(void);
+/* Whether no other process has a part. */
+bool program_is_alone(void);
+/* Whether the processes of this program share their queues: no seed decides, and YAK_FORK is not
+ * new. */
+bool program_shares(void);
+/* Whether a process holds this description. */
+bool program_is_held(uint32_t d);
+/* Mends what a process that died inside may have left undone. */
+void program_mend(void);
+/* How often this thread has come into a child by a fork. */
+unsigned program_forks(void);
+/* What is left of leaving the lock in a child that a handler made inside a call: it comes back to
+ * what it shares. */
+extern bool program_is_apart;
+void program_come_to_family(void);
+/* Whether this process writes the journal at its end: the first one, and the last. */
+bool program_keeps_journal(void);
+
 /* The file that the environment asks to write the journal to, or null. */
 const char *program_journal_path(void);
 /* The journal, to a file; inside the lock. */

@@ -104,6 +104,32 @@ static bool is_answered(uint32_t d)
     return true;
 }
 
+/* A wait that was started lasts until it is answered, or no longer than it may, and stays open. */
+static bool is_awaited(uint32_t d)
+{
+    const int64_t nanos = 20000000, long_nanos = INT64_MAX;
+    const yak_moment start = yak_monotonic_now();
+    yak_process *process = &processes[0];
+    yak_message message = {0, 0};
+    uint8_t buf[8];
+    pthread_t sender;
+    int64_t took;
+    if (yak_await_answered(process, nanos) != YAK_NOT_WAITING ||
+        yak_start_receive(process, d, buf, sizeof buf, &message) != YAK_WAITS ||
+        yak_await_answered(process, nanos) != YAK_WAITS)
+        return false;
+    took = millis_between(start, yak_monotonic_now());
+    if (took < 19 || took >= 1000 || yak_await_answered(process, -1) != YAK_WAITS ||
+        pthread_create(&sender, 0, send_late, 0) != 0)
+        return false;
+    while (yak_await_answered(process, long_nanos) == YAK_WAITS)
+        ;
+    pthread_join(sender, 0);
+    return yak_await_answered(process, nanos) == YAK_DONE &&
+           yak_collect(process, buf, sizeof buf, &message) == YAK_DONE && message.len == 1 &&
+           buf[0] == 'a';
+}
+
 /* A wait whose deadline is later than the one that is waited for is too early to end before. */
 static bool ends_at_its_own(uint32_t d)
 {
@@ -134,6 +160,8 @@ int main(void)
         return 4;
     if (!ends_at_its_own(d))
         return 5;
+    if (!is_awaited(d))
+        return 6;
     puts("well");
     return yak_finish(processes, 2, 0, 0) != YAK_DONE;
 }

@@ -1,6 +1,6 @@
 /* What a forked child may do with the queues of its program: forked by main; beside threads that
  * are inside calls; and by a handler that interrupted a wait. The argument is what is wanted of the
- * child: refused, or new (YAK_FORK=new). */
+ * child: shared, or new (YAK_FORK=new). */
 #define _GNU_SOURCE
 #include <errno.h>
 #include <fcntl.h>
@@ -27,27 +27,18 @@ enum { FORKS = 20, WORKERS = 3 };
 static bool gets_new;
 static mqd_t queue;
 
-#define REFUSED(call) WANT((errno = 0, (call) == -1 && errno == ENOSYS))
-
-static void child_is_refused(void)
+/* It sends and receives beside what the parent has there, and opens a queue of its own. */
+static void child_shares(void)
 {
     struct mq_attr attr = room_for(4);
-    struct sigevent event;
-    struct timespec past = {0, 0};
     char buf[8];
-    memset(&event, 0, sizeof event);
-    event.sigev_notify = SIGEV_NONE;
-    REFUSED(mq_open("/yak-fork", O_RDWR));
-    REFUSED(mq_open("/yak-child", O_RDWR | O_CREAT, 0600, &attr));
-    REFUSED(mq_unlink("/yak-fork"));
-    REFUSED(mq_getattr(queue, &attr));
-    REFUSED(mq_setattr(queue, &attr, 0));
-    REFUSED(mq_notify(queue, &event));
-    REFUSED(mq_send(queue, "a", 1, 0));
-    REFUSED(mq_timedsend(queue, "a", 1, 0, &past));
-    REFUSED(mq_receive(queue, buf, sizeof buf, 0));
-    REFUSED(mq_timedreceive(queue, buf, sizeof buf, 0, &past));
-    REFUSED(mq_close(queue));
+    unsigned prio = 0;
+    mqd_t own;
+    WANT(mq_send(queue, "a", 1, 9) == 0);
+    WANT(mq_receive(queue, buf, sizeof buf, &prio) == 1 && prio == 9 && buf[0] == 'a');
+    WANT((own = mq_open("/yak-child", O_RDWR | O_CREAT | O_EXCL, 0600, &attr)) != -1);
+    WANT(mq_close(own) == 0 && mq_unlink("/yak-child") == 0);
+    WANT(mq_close(queue) == 0 && mq_send(queue, "a", 1, 0) == -1 && errno == EBADF);
 }
 
 static void child_has_its_own(void)
@@ -69,7 +60,7 @@ static void child(void)
     if (gets_new)
         child_has_its_own();
     else
-        child_is_refused();
+        child_shares();
 }
 
 static void await(pid_t it)
@@ -126,8 +117,7 @@ static void fork_in_handler(int number)
     of_handler = fork();
 }
 
-/* The wait of the parent is interrupted; that of the child ends too, since nobody is there who
- * could answer it. */
+/* The wait is interrupted in both. */
 static void fork_from_a_wait(void)
 {
     struct sigaction action;

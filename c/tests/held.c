@@ -1,8 +1,7 @@
 /* What a process of the library holds for a descriptor is kept in mind if memory for its close was
- * refused, and closed later. Linked with
- * --wrap=malloc and --wrap=realloc, by which memory is refused, and run with YAK_JOURNAL. In one
- * child after the other the close falls on another place of the journal, whose growth is refused in
- * some. */
+ * refused, and closed later. Linked with --wrap=mprotect, by which the library's memory is refused,
+ * and run with YAK_JOURNAL. In one child after the other the close falls on another place of the
+ * journal, whose growth is refused in some. */
 #define _GNU_SOURCE
 #include <errno.h>
 #include <fcntl.h>
@@ -19,28 +18,22 @@
 #include "stored.h"
 #include "want.h"
 
-enum { CHILDREN = 70, ROUNDS = 3, HIT = 7 };
+/* The journal grows at 4,096 entries, and needs more memory than is open then. */
+enum { CHILDREN = 70, FIRST_PADDING = 4096 - CHILDREN + 10, ROUNDS = 3, HIT = 7 };
 
 /* Volatile, since the system says of its calls that they come back into no function of this file.
  */
 static volatile bool refuses;
 static volatile int refused;
 
-void *__real_malloc(size_t size);
-void *__real_realloc(void *at, size_t size);
-void *__wrap_malloc(size_t size);
-void *__wrap_realloc(void *at, size_t size);
+int __real_mprotect(void *at, size_t size, int rights);
+int __wrap_mprotect(void *at, size_t size, int rights);
 
-void *__wrap_malloc(size_t size)
+int __wrap_mprotect(void *at, size_t size, int rights)
 {
     refused += refuses;
-    return refuses ? 0 : __real_malloc(size);
-}
-
-void *__wrap_realloc(void *at, size_t size)
-{
-    refused += refuses;
-    return refuses ? 0 : __real_realloc(at, size);
+    errno = ENOMEM;
+    return refuses ? -1 : __real_mprotect(at, size, rights);
 }
 
 /* Opens the queue, and waits in it for a moment: for that process 2 opens it too. */
@@ -108,7 +101,7 @@ int main(void)
         int status = 0;
         pid_t it = fork();
         if (it == 0)
-            child(i);
+            child(FIRST_PADDING + i);
         WANT(it != -1 && waitpid(it, &status, 0) == it && WIFEXITED(status) &&
              (WEXITSTATUS(status) == 0 || WEXITSTATUS(status) == HIT));
         hits += WEXITSTATUS(status) == HIT;

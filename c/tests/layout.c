@@ -2,6 +2,7 @@
  * library takes it to be: of several in an array each is the one that C means. No two share a cache
  * line, also where a processor fetches lines by twos. */
 #define _GNU_SOURCE
+#include "../memory.h"
 #include "../wait.h"
 
 #include "sanitized.h"
@@ -14,16 +15,6 @@ static bool is_aligned(void *p, size_t align)
 {
     return (uintptr_t)p % align == 0;
 }
-
-/* As in c/memory.c. */
-typedef struct rattle_tried {
-    bool ok;
-    void *p;
-} rattle_tried;
-
-rattle_tried rattle_alloc(size_t size, size_t align);
-rattle_tried rattle_realloc(void *p, size_t kept, size_t size, size_t align);
-void rattle_dealloc(void *p);
 
 /* A sanitizer ends a program that asks for so much. */
 static bool refused_is_aligned(void)

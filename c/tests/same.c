@@ -167,6 +167,44 @@ static void alone(void)
     SAY(mq_unlink("/yak-alone"));
 }
 
+/* Null pointers, pointers that lead nowhere, and lengths that no message has. Volatile, so that no
+ * compiler looks into them. */
+static struct mq_attr *volatile null_attr, *volatile bad_attr = (struct mq_attr *)8;
+static volatile size_t longest = (size_t)-1 / 2;
+
+static void at_fault(void)
+{
+    struct mq_attr got, set;
+    char buf[8];
+    mqd_t queue = fresh("/yak-fault", O_RDWR, 2, 8);
+    memset(&set, 0, sizeof set);
+    SAY(mq_open("/yak-fault", O_RDWR | O_CREAT, 0600, bad_attr));
+    SAY(mq_getattr(queue, null_attr));
+    SAY(mq_getattr(-1, null_attr));
+    SAY(mq_getattr(queue, bad_attr));
+    SAY(mq_getattr(-1, bad_attr));
+    SAY(mq_setattr(queue, null_attr, null_attr));
+    SAY(mq_setattr(queue, null_attr, &got));
+    SAY(mq_setattr(queue, bad_attr, &got));
+    SAY(mq_setattr(-1, bad_attr, &got));
+    set.mq_flags = O_NONBLOCK | O_APPEND;
+    SAY(mq_setattr(queue, &set, &got));
+    SAY(mq_setattr(-1, &set, &got));
+    set.mq_flags = O_NONBLOCK;
+    SAY(mq_setattr(-1, &set, bad_attr));
+    SAY(mq_setattr(queue, &set, bad_attr));
+    memset(&got, 0xff, sizeof got);
+    SAY(mq_getattr(queue, &got));
+    printf("the flag is set: %d, the rest is 0: %d\n", got.mq_flags == O_NONBLOCK,
+           ((const char *)&got)[sizeof got - 1]);
+    SAY(mq_send(queue, buf, longest, 0));
+    SAY(mq_send(queue, "a", 1, 0));
+    SAY(mq_receive(queue, buf, longest, 0));
+    SAY(mq_receive(queue, buf, longest, 0));
+    SAY(mq_close(queue));
+    SAY(mq_unlink("/yak-fault"));
+}
+
 /* ---- threads that share one descriptor ---- */
 
 static mqd_t shared;
@@ -469,6 +507,8 @@ static void notifying(void)
     SAY(mq_notify(shared, &event));
     SAY(mq_notify(shared, &event));
     SAY(mq_notify(shared, NULL));
+    SAY(mq_notify(shared, NULL));
+    SAY(mq_notify(-1, NULL));
     SAY(mq_notify(shared, &event));
     SAY(mq_send(shared, "a", 1, 0));
     event.sigev_notify = SIGEV_SIGNAL;
@@ -545,6 +585,7 @@ int main(void)
     setvbuf(stdout, 0, _IOLBF, 0);
     sem_init(&step, 0, 0);
     alone();
+    at_fault();
     crowd();
     sharing();
     cancelling();

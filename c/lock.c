@@ -1,0 +1,229 @@
+/* The lock of the program, and what is done when a process has died inside.
+ *
+ * It is a robust futex of the kernel's own form, in the memory of a robust mutex of the C library.
+ * As long as a thread holds it or asks for it, the head of its robust list names it as pending, so
+ * the kernel marks it if the thread dies. That takes fewer instructions than the mutex, and the
+ * same number with one process as with many. */
+#define _GNU_SOURCE
+#include "log.h"
+
+#include <errno.h>
+#include <linux/futex.h>
+#include <string.h>
+#include <sys/syscall.h>
+#include <unistd.h>
+
+enum {
+    TRIES = 4, /* before a thread sleeps */
+    /* So many nanoseconds a sleeper sleeps until it looks whether the holder lives. */
+    LONGEST_NAP = 50000000
+};
+
+bool program_is_watched;
+_Thread_local volatile int program_thread;
+_Thread_local void *volatile *program_pending;
+
+/* ---- ThreadSanitizer, which is there if its functions are ---- */
+
+extern void __tsan_mutex_pre_lock(void *at, unsigned flags) __attribute__((weak));
+extern void __tsan_mutex_post_lock(void *at, unsigned flags, int recursion) __attribute__((weak));
+extern int __tsan_mutex_pre_unlock(void *at, unsigned flags) __attribute__((weak));
+extern void __tsan_mutex_post_unlock(void *at, unsigned flags) __attribute__((weak));
+
+static __attribute__((constructor)) void begin(void)
+{
+    program_is_watched = __tsan_mutex_pre_lock != 0 && __tsan_mutex_post_lock != 0 &&
+                         __tsan_mutex_pre_unlock != 0 && __tsan_mutex_post_unlock != 0;
+}
+
+void program_tell_locked(void)
+{
+    __tsan_mutex_pre_lock(&the_program.lock, 1);
+    __tsan_mutex_post_lock(&the_program.lock, 1, 0);
+}
+
+void program_tell_unlocked(bool is_before)
+{
+    if (is_before)
+        __tsan_mutex_pre_unlock(&the_program.lock, 1);
+    else
+        __tsan_mutex_post_unlock(&the_program.lock, 1);
+}
+
+/* ---- the lock ---- */
+
+void program_meet_thread(void)
+{
+    struct robust_list_head *head = 0;
+    size_t size;
+    syscall(SYS_get_robust_list, 0, &head, &size);
+    program_pending = (void *volatile *)&head->list_op_pending;
+    program_thread = (int)syscall(SYS_gettid);
+}
+
+static yak_word_ lock_word(void)
+{
+    return (yak_word_){.at = (uint32_t *)PROGRAM_WORD, .is_shared = true};
+}
+
+void program_wake_next(void)
+{
+    if (program_is_apart)
+        program_come_to_family();
+    else
+        yak_wake_on_(lock_word(), 1);
+}
+
+/* A wake is lost if the thread that was woken is killed before it takes the lock, and a death is if
+ * a handler inside used a robust mutex. So nobody sleeps for long, and then it looks whether the
+ * holder lives. */
+static void sleep_for_lock(int seen)
+{
+    const struct timespec nap = {.tv_nsec = LONGEST_NAP};
+    if (syscall(SYS_futex, PROGRAM_WORD, FUTEX_WAIT, seen, &nap, 0, 0) >= 0 || errno != ETIMEDOUT ||
+        kill(seen & FUTEX_TID_MASK, 0) == 0 || errno != ESRCH)
+        return;
+    __atomic_compare_exchange_n(PROGRAM_WORD, &seen, (int)(FUTEX_WAITERS | FUTEX_OWNER_DIED), false,
+                                __ATOMIC_RELAXED, __ATOMIC_RELAXED);
+}
+
+/* Takes the lock: whether its holder has died. */
+static bool take(void)
+{
+    int *const word = PROGRAM_WORD, waiters = 0;
+    unsigned tries = 0;
+    for (;;) {
+        int seen = __atomic_load_n(word, __ATOMIC_RELAXED);
+        const int sleepers = seen & (int)FUTEX_WAITERS;
+        if ((seen & FUTEX_TID_MASK) == 0) {
+            if (__atomic_compare_exchange_n(word, &seen, program_thread | waiters | sleepers, false,
+                                            __ATOMIC_ACQUIRE, __ATOMIC_RELAXED))
+                return (seen & FUTEX_OWNER_DIED) != 0;
+        } else if (!yak_spin_(&tries, TRIES)) {
+            if (sleepers == 0 &&
+                !__atomic_compare_exchange_n(word, &seen, seen | (int)FUTEX_WAITERS, false,
+                                             __ATOMIC_RELAXED, __ATOMIC_RELAXED))
+                continue;
+            sleep_for_lock(seen | (int)FUTEX_WAITERS);
+            waiters = (int)FUTEX_WAITERS;
+        }
+    }
+}
+
+/* The system made again by the log, and the tables by who lives. False if memory is refused. */
+static bool recover(void)
+{
+    if (the_program.is_ready && !log_replay())
+        return false;
+    the_program.is_torn = false;
+    program_tell("a call did not come to its end: the queues were made again by");
+    if (the_program.is_ready)
+        program_mend();
+    for (unsigned process = 0; process < PROCESSES; ++process) {
+        atomic_fetch_add(&the_program.news[process], 1);
+        yak_wake_on_(program_news(process), OWNERS * 1024);
+    }
+    return true;
+}
+
+/* Leaves the lock for want of something. */
+static int refuse(int error)
+{
+    program_unlock(OUTSIDE);
+    return error;
+}
+
+/* Makes the system again if it is torn: 0, or an error, and then the lock is left. */
+static int repair(void)
+{
+    const int error = errno;
+    bool is_well;
+    if (the_program.is_ready && !the_program.is_logged)
+        the_program.is_lost = true;
+    if (the_program.is_lost)
+        return refuse(ENOTRECOVERABLE);
+    is_well = recover();
+    errno = error;
+    return is_well ? 0 : refuse(ENOMEM);
+}
+
+int program_lock_slowly(void)
+{
+    const bool has_died = take();
+    if (program_is_watched)
+        program_tell_locked();
+    if (!has_died)
+        return 0;
+    arena_follow();
+    the_program.is_torn = true;
+    ++the_program.arena.openings; /* so that each process looks at what is torn */
+    return repair();
+}
+
+/* Begins the log, if it is to count from now on; makes it short; or ends it if no other process is
+ * left. */
+static void shorten(void)
+{
+    const char *from = the_program.arena.parts[ARENA_LOG + the_program.log].from;
+    const size_t size = (size_t)(the_program.log_next[the_program.log] - from);
+    if (the_program.is_stored)
+        return;
+    if (!the_program.is_logged && (!program_shares() || program_is_alone()))
+        return;
+    if (the_program.is_logged && the_program.log_limit != SIZE_MAX)
+        return;
+    program_sweep();
+    if (program_is_alone()) {
+        the_program.is_logged = false;
+        return;
+    }
+    if (!log_checkpoint() && !the_program.is_torn)
+        the_program.log_limit = 2 * size;
+}
+
+int program_attend(void)
+{
+    int error = 0;
+    arena_follow();
+    if (the_program.is_torn || the_program.is_lost)
+        error = repair();
+    if (error == 0 && !the_program.is_ready)
+        error = program_first();
+    if (error != 0)
+        return error;
+    shorten();
+    if (the_program.is_torn && (error = repair()) != 0)
+        return error;
+    __atomic_store_n(&program_here->seen, the_program.arena.openings, __ATOMIC_RELAXED);
+    return 0;
+}
+
+void program_leave_waking(uint32_t answered)
+{
+    unsigned last;
+    /* Threads die together: nobody is left then who would miss the wake. */
+    if (answered == 0 || !the_program.is_logged) {
+        program_leave();
+        if (answered != 0)
+            program_wake_them(answered);
+        return;
+    }
+    last = (unsigned)__builtin_ctz(answered);
+    program_wake_them(answered & (answered - 1));
+    if (program_is_watched)
+        program_tell_unlocked(true);
+    /* One call of the kernel sets the lock free, wakes the waiter, and one that sleeps for the
+       lock. */
+    if (syscall(SYS_futex, &the_program.news[last], FUTEX_WAKE_OP, last == HOME ? OWNERS * 1024 : 1,
+                1, PROGRAM_WORD, FUTEX_OP(FUTEX_OP_SET, 0, FUTEX_OP_CMP_LT, 0)) < 0) {
+        program_wake_them(1u << last);
+        if (__atomic_exchange_n(PROGRAM_WORD, 0, __ATOMIC_RELEASE) < 0)
+            program_wake_next();
+    }
+    if (program_is_watched)
+        program_tell_unlocked(false);
+    if (program_is_apart)
+        program_come_to_family();
+    *program_pending = 0;
+    program_place = OUTSIDE;
+}

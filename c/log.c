@@ -1,0 +1,506 @@
+/* The calls that change the state, with the log of them, and the system made again from it. */
+#define _GNU_SOURCE
+#include "log.h"
+
+#include <string.h>
+
+static yak_process *at(unsigned process)
+{
+    return &the_program.processes[process];
+}
+
+/* ---- records ---- */
+
+char *log_write(unsigned log, char *to, record it, const void *own, size_t own_size,
+                const void *bytes)
+{
+    const size_t size = bytes != 0 ? it.len : 0,
+                 whole = (sizeof it + own_size + size + 7) & ~(size_t)7;
+    const char *from = the_program.arena.parts[ARENA_LOG + log].from;
+    if (!arena_reaches(ARENA_LOG + log, (size_t)(to - from) + whole))
+        return 0;
+    it.size = (uint32_t)whole;
+    memcpy(to, &it, sizeof it);
+    if (own_size != 0)
+        memcpy(to + sizeof it, own, own_size);
+    if (size != 0)
+        memcpy(to + sizeof it + own_size, bytes, size);
+    return to + whole;
+}
+
+/* Lets a call count whose record ends at a place. */
+static inline void commit(unsigned log, char *next)
+{
+    __atomic_store_n(&the_program.log_next[log], next, __ATOMIC_RELEASE);
+    if (__builtin_expect((size_t)(next - the_program.arena.parts[ARENA_LOG + log].from) >
+                             the_program.log_limit,
+                         false) &&
+        !the_program.is_stored) {
+        the_program.log_limit = SIZE_MAX;
+        ++the_program.arena.openings; /* so that the next call makes it short */
+    }
+}
+
+/* Appends a record, by which its call counts. If the log has no room, it ends, and a death inside
+ * can't be mended any more. */
+static void note(record it, const void *own, size_t own_size, const void *bytes)
+{
+    const unsigned log = the_program.log;
+    char *next;
+    if (!the_program.is_logged)
+        return;
+    next = log_write(log, the_program.log_next[log], it, own, own_size, bytes);
+    if (next == 0) {
+        the_program.is_logged = false;
+        return;
+    }
+    commit(log, next);
+}
+
+void log_message(bool is_send, uint32_t d, const uint8_t *bytes, size_t len, uint32_t prio)
+{
+    const unsigned log = the_program.log;
+    const arena_part *part = &the_program.arena.parts[ARENA_LOG + log];
+    char *const at = the_program.log_next[log];
+    const size_t whole = (sizeof(record) + (is_send ? len : 0) + 7) & ~(size_t)7;
+    record *const it = (record *)(void *)at;
+    if (__builtin_expect(!arena_reaches(ARENA_LOG + log, (size_t)(at - part->from) + whole),
+                         false)) {
+        the_program.is_logged = false;
+        return;
+    }
+    it->size = (uint32_t)whole;
+    it->what = is_send ? DID_SEND : DID_RECEIVE;
+    it->process = (uint8_t)program_home_of(d);
+    it->d = (uint8_t)program_there(d);
+    it->is_on = false;
+    it->prio = prio;
+    it->len = (uint32_t)len;
+    if (is_send)
+        memcpy(it + 1, bytes, len);
+    commit(log, at + whole);
+}
+
+/* ---- what a call does to the tables ---- */
+
+unsigned log_queue(const uint8_t *name, size_t len)
+{
+    unsigned room = 0;
+    for (unsigned i = 0; i < QUEUES; ++i) {
+        const queue *it = &the_program.tables.queues[i];
+        if (it->is_there && it->is_bound && it->len == len && memcmp(it->name, name, len) == 0)
+            return i;
+        if (!it->is_there && the_program.tables.queues[room].is_there)
+            room = i;
+    }
+    return room;
+}
+
+/* A queue that has lost its name is there as long as it is held. */
+static void settle(unsigned slot)
+{
+    const tables *all = &the_program.tables;
+    bool is_held = all->queues[slot].is_bound;
+    for (uint32_t d = 0; d < DESCRIPTIONS && !is_held; ++d)
+        is_held = all->descriptions[d].made != 0 && all->descriptions[d].queue == slot;
+    for (unsigned i = 0; i < PROCESSES * PER_HOME && !is_held; ++i)
+        is_held = all->mirrors[i / PER_HOME][i % PER_HOME] == slot + 1;
+    the_program.tables.queues[slot].is_there = is_held;
+}
+
+static void apply_open(unsigned process, uint32_t d, const opened *it, const uint8_t *name,
+                       size_t len)
+{
+    queue *of = &the_program.tables.queues[it->queue];
+    description *to;
+    if (!of->is_there) {
+        of->is_there = of->is_bound = true;
+        of->maxmsg = it->maxmsg;
+        of->msgsize = it->msgsize;
+        of->len = len;
+        memcpy(of->name, name, len);
+    }
+    if (it->whose == FOR_MIRROR)
+        the_program.tables.mirrors[process][d] = (uint8_t)(it->queue + 1);
+    if (it->whose != FOR_DESCRIPTION)
+        return;
+    to = &the_program.tables.descriptions[program_description(process, d)];
+    to->made = it->made;
+    to->queue = it->queue;
+    to->access = (uint8_t)it->opening.access;
+    the_program.tables.helpers &= ~(1u << process);
+    the_program.tables.idle &= ~(1u << process);
+}
+
+/* A home whose last description is closed becomes a helper again. */
+static void apply_close(unsigned process, uint32_t d)
+{
+    tables *all = &the_program.tables;
+    uint32_t index = program_description(process, d);
+    unsigned slot;
+    if (program_is_helper(process)) {
+        if ((slot = all->mirrors[process][d]) == 0)
+            return;
+        all->mirrors[process][d] = 0;
+        settle(slot - 1);
+        return;
+    }
+    if (index >= DESCRIPTIONS || all->descriptions[index].made == 0)
+        return;
+    all->descriptions[index].made = 0;
+    all->registered -= all->registrations[index].is_set;
+    all->registrations[index].is_set = false;
+    settle(all->descriptions[index].queue);
+    if (process == HOME)
+        return;
+    for (index = program_description(process, 0); index % PER_HOME != PER_HOME - 1; ++index)
+        if (all->descriptions[index].made != 0)
+            return;
+    if (all->descriptions[index].made == 0) {
+        all->helpers |= 1u << process;
+        all->idle |= 1u << process;
+    }
+}
+
+static void apply_unlink(const uint8_t *name, size_t len)
+{
+    const unsigned slot = log_queue(name, len);
+    queue *it = &the_program.tables.queues[slot];
+    if (!it->is_there || !it->is_bound || it->len != len || memcmp(it->name, name, len) != 0)
+        return;
+    it->is_bound = false;
+    settle(slot);
+}
+
+static void apply_registration(uint32_t d, const registration *with)
+{
+    tables *all = &the_program.tables;
+    all->registered -= all->registrations[d].is_set;
+    all->registrations[d].is_set = false;
+    if (with == 0)
+        return;
+    all->registrations[d] = *with;
+    ++all->registered;
+}
+
+static void apply_end(unsigned process)
+{
+    the_program.tables.waits[process].is_open = false;
+    the_program.tables.waits[process].has_ended = false;
+    the_program.tables.idle |= 1u << process;
+}
+
+static void apply_start(unsigned process, const pending *it)
+{
+    the_program.tables.waits[process] = *it;
+    if (it->is_open)
+        the_program.tables.idle &= ~(1u << process);
+}
+
+/* ---- the calls ---- */
+
+uint32_t did_open(unsigned process, opened *it, const uint8_t *name, size_t len, uint32_t *d)
+{
+    record head = {.what = DID_OPEN, .process = (uint8_t)process, .len = (uint32_t)len};
+    yak_attributes now = {0};
+    uint32_t answer, answer_of_read;
+    MADE(answer, yak_proved_open(at(process), name, len, &it->opening, d));
+    program_count(len + (it->opening.limited ? MORE_BYTES : 0));
+    if (answer != YAK_DONE)
+        return answer;
+    it->queue = (uint8_t)log_queue(name, len);
+    if (!the_program.tables.queues[it->queue].is_there) {
+        /* A stored journal has no entry of this, and its log is never made short. */
+        if (!the_program.is_stored)
+            READ(answer_of_read, yak_proved_getattr(at(process), *d, &now));
+        else
+            answer_of_read = YAK_DONE;
+        (void)answer_of_read;
+        it->maxmsg = now.maxmsg;
+        it->msgsize = now.msgsize;
+        the_program.lens[it->queue] = len;
+        memcpy(the_program.names[it->queue], name, len);
+    }
+    head.d = (uint8_t)*d;
+    note(head, it, sizeof *it, name);
+    apply_open(process, *d, it, name, len);
+    return answer;
+}
+
+uint32_t did_close(unsigned process, uint32_t d)
+{
+    const record head = {.what = DID_CLOSE, .process = (uint8_t)process, .d = (uint8_t)d};
+    uint32_t answer;
+    MADE(answer, yak_proved_close(at(process), d));
+    if (answer == YAK_DONE) {
+        note(head, 0, 0, 0);
+        apply_close(process, d);
+    }
+    return answer;
+}
+
+uint32_t did_unlink(unsigned process, const uint8_t *name, size_t len)
+{
+    const record head = {.what = DID_UNLINK, .process = (uint8_t)process, .len = (uint32_t)len};
+    uint32_t answer;
+    MADE(answer, yak_proved_unlink(at(process), name, len));
+    program_count(len);
+    if (answer == YAK_DONE) {
+        note(head, 0, 0, name);
+        apply_unlink(name, len);
+    }
+    return answer;
+}
+
+uint32_t did_notify(unsigned process, uint32_t d, bool registers, uint64_t value,
+                    const registration *with)
+{
+    static const registration none;
+    const record head = {.what = DID_NOTIFY,
+                         .process = (uint8_t)process,
+                         .d = (uint8_t)d,
+                         .is_on = registers,
+                         .len = (uint32_t)value};
+    uint32_t answer;
+    MADE(answer, yak_proved_notify(at(process), d, registers, value));
+    program_count(registers ? MORE_BYTES : 0);
+    if (answer == YAK_DONE) {
+        note(head, registers ? with : &none, sizeof none, 0);
+        apply_registration(program_description(process, d), registers ? with : 0);
+    }
+    return answer;
+}
+
+uint32_t did_next_notice(unsigned process, uint64_t *value)
+{
+    uint32_t answer;
+    MADE(answer, yak_proved_next_notice(at(process), value));
+    return answer;
+}
+
+void log_take_notice(unsigned process, uint32_t d)
+{
+    const record head = {
+        .what = DID_NEXT_NOTICE, .process = (uint8_t)process, .d = (uint8_t)program_there(d)};
+    note(head, 0, 0, 0);
+    apply_registration(d, 0);
+}
+
+static uint32_t start(unsigned process, const pending *it, uint8_t *bytes, size_t len,
+                      yak_message *message)
+{
+    uint32_t answer;
+    if (it->is_send)
+        MADE(answer, yak_proved_start_timed_send(at(process), it->d, bytes, len, it->prio,
+                                                 &it->until, &it->now));
+    else
+        MADE(answer, yak_proved_start_timed_receive(at(process), it->d, bytes, len, message,
+                                                    &it->until, &it->now));
+    return answer;
+}
+
+uint32_t did_start(unsigned process, pending *it, const request *asked, yak_message *message)
+{
+    const record head = {
+        .what = DID_START,
+        .process = (uint8_t)process,
+        .d = (uint8_t)it->d,
+        .len = (uint32_t)asked->len,
+    };
+    uint8_t *kept = program_kept(process);
+    uint32_t answer;
+    if (kept == 0)
+        return YAK_NOMEMORY;
+    if (it->is_send)
+        memcpy(kept, asked->bytes, asked->len);
+    answer = start(process, it, asked->bytes, asked->len, message);
+    if (answer != YAK_DONE && answer != YAK_WAITS)
+        return answer;
+    it->is_open = answer == YAK_WAITS;
+    program_count(MORE_BYTES + (it->is_send ? asked->len : 0));
+    note(head, it, sizeof *it, it->is_send ? asked->bytes : 0);
+    apply_start(process, it);
+    return answer;
+}
+
+/* What was kept of a wait that has ended before. */
+static uint32_t take_kept(unsigned process, uint8_t *buf, size_t len, yak_message *message)
+{
+    const pending *it = &the_program.tables.waits[process];
+    const record head = {.what = DID_COLLECT, .process = (uint8_t)process};
+    if (!it->is_send) {
+        if (len < it->message.len)
+            return YAK_SHORT;
+        memcpy(buf, program_kept(process), it->message.len);
+        *message = it->message;
+    }
+    note(head, 0, 0, 0);
+    apply_end(process);
+    return YAK_DONE;
+}
+
+uint32_t did_collect(unsigned process, uint8_t *buf, size_t len, yak_message *message)
+{
+    const record head = {.what = DID_COLLECT, .process = (uint8_t)process};
+    uint32_t answer;
+    if (the_program.tables.waits[process].has_ended)
+        return take_kept(process, buf, len, message);
+    MADE(answer, yak_proved_collect(at(process), buf, len, message));
+    if (answer == YAK_DONE) {
+        note(head, 0, 0, 0);
+        apply_end(process);
+    }
+    return answer;
+}
+
+uint32_t did_end(unsigned process, uint8_t *buf, size_t len, yak_message *message,
+                 const yak_moment *now)
+{
+    const record head = {.what = DID_END, .process = (uint8_t)process};
+    uint32_t answer;
+    if (the_program.tables.waits[process].has_ended)
+        return take_kept(process, buf, len, message);
+    MADE(answer, yak_proved_end_wait(at(process), buf, len, message, now));
+    program_count(answer == YAK_TIMEDOUT ? MORE_BYTES : 0);
+    if (answer == YAK_DONE || answer == YAK_TIMEDOUT) {
+        note(head, now, sizeof *now, 0);
+        apply_end(process);
+    }
+    return answer;
+}
+
+/* ---- the system made again ---- */
+
+static uint8_t room[MOST_BYTES];
+
+static uint32_t open_again(const record *it, const uint8_t *own)
+{
+    const uint8_t *name = own + sizeof(opened);
+    opened with;
+    uint32_t answer, d = 0;
+    memcpy(&with, own, sizeof with);
+    MADE(answer, yak_proved_open(at(it->process), name, it->len, &with.opening, &d));
+    if (answer == YAK_DONE && d != it->d)
+        return YAK_INVAL;
+    apply_open(it->process, d, &with, name, it->len);
+    return answer;
+}
+
+static uint32_t notify_again(const record *it, const uint8_t *own)
+{
+    registration with;
+    uint32_t answer;
+    memcpy(&with, own, sizeof with);
+    MADE(answer, yak_proved_notify(at(it->process), it->d, it->is_on, it->len));
+    apply_registration(program_description(it->process, it->d), it->is_on ? &with : 0);
+    return answer;
+}
+
+static uint32_t start_again(const record *it, const uint8_t *own)
+{
+    pending with;
+    yak_message message;
+    uint32_t answer;
+    uint8_t *kept = program_kept(it->process);
+    memcpy(&with, own, sizeof with);
+    if (kept == 0)
+        return YAK_NOMEMORY;
+    if (with.is_send)
+        memcpy(kept, own + sizeof with, it->len);
+    answer = start(it->process, &with, with.is_send ? kept : room,
+                   it->len < MOST_BYTES ? it->len : (size_t)MOST_BYTES, &message);
+    apply_start(it->process, &with);
+    return answer == YAK_WAITS ? (uint32_t)YAK_DONE : answer;
+}
+
+static uint32_t end_again(const record *it, const uint8_t *own)
+{
+    yak_message message;
+    yak_moment now;
+    uint32_t answer = YAK_DONE;
+    if (!the_program.tables.waits[it->process].has_ended) {
+        if (it->what == DID_COLLECT) {
+            MADE(answer, yak_proved_collect(at(it->process), room, sizeof room, &message));
+        } else {
+            memcpy(&now, own, sizeof now);
+            MADE(answer, yak_proved_end_wait(at(it->process), room, sizeof room, &message, &now));
+        }
+    }
+    apply_end(it->process);
+    return answer == YAK_TIMEDOUT ? (uint32_t)YAK_DONE : answer;
+}
+
+static uint32_t keep_again(const record *it, const uint8_t *own)
+{
+    pending *to = &the_program.tables.waits[it->process];
+    uint8_t *kept = program_kept(it->process);
+    if (kept == 0)
+        return YAK_NOMEMORY;
+    memcpy(to, own, sizeof *to);
+    memcpy(kept, own + sizeof *to, it->len);
+    the_program.tables.idle &= ~(1u << it->process);
+    return YAK_DONE;
+}
+
+/* Makes the call of a record again: YAK_DONE, unless memory is refused. */
+static uint32_t do_again(const record *it)
+{
+    const uint8_t *own = (const uint8_t *)(it + 1);
+    yak_message message;
+    uint64_t value;
+    uint32_t answer;
+    switch (it->what) {
+    case DID_OPEN:
+        return open_again(it, own);
+    case DID_CLOSE:
+        MADE(answer, yak_proved_close(at(it->process), it->d));
+        apply_close(it->process, it->d);
+        return answer;
+    case DID_UNLINK:
+        MADE(answer, yak_proved_unlink(at(it->process), own, it->len));
+        apply_unlink(own, it->len);
+        return answer;
+    case DID_NOTIFY:
+        return notify_again(it, own);
+    case DID_NEXT_NOTICE:
+        MADE(answer, yak_proved_next_notice(at(it->process), &value));
+        apply_registration(program_description(it->process, it->d), 0);
+        return answer;
+    case DID_SEND:
+        MADE(answer, yak_proved_start_send(at(it->process), it->d, own, it->len, it->prio));
+        return answer;
+    case DID_RECEIVE:
+        MADE(answer, yak_proved_start_receive(at(it->process), it->d, room,
+                                              it->len < MOST_BYTES ? it->len : (size_t)MOST_BYTES,
+                                              &message));
+        return answer;
+    case DID_START:
+        return start_again(it, own);
+    case DID_KEEP:
+        return keep_again(it, own);
+    default:
+        return end_again(it, own);
+    }
+}
+
+bool log_replay(void)
+{
+    const unsigned log = the_program.log;
+    const char *from = the_program.arena.parts[ARENA_LOG + log].from,
+               *end = the_program.log_next[log];
+    uint32_t (*const make)(yak_process *, size_t) = the_program.is_stored ? yak_new : yak_unstored;
+    const int64_t until_large = the_program.until_large;
+    uint32_t answer = YAK_DONE;
+    the_program.is_torn = true;
+    arena_turn();
+    memset(the_program.processes, 0, sizeof the_program.processes);
+    memset(&the_program.tables, 0, sizeof the_program.tables);
+    the_program.tables.helpers = the_program.tables.idle = UINT32_MAX & ~(1u << HOME);
+    if (make(the_program.processes, PROCESSES) != YAK_DONE)
+        return false;
+    for (const char *it = from; it != end && answer == YAK_DONE; it += ((const record *)it)->size)
+        answer = do_again((const record *)it);
+    the_program.until_large = until_large;
+    the_program.is_torn = answer != YAK_DONE;
+    return answer == YAK_DONE;
+}
