@@ -1,4 +1,4 @@
--- Replies to a plain call after journals that are alike return what was seen, or neither does.
+-- Replies to a call after equivalent journals return what was seen, or neither does.
 use Rattle.std.proofs.Common.{◌≡◌, ℕ, ◌==◌, Bool, true, false, not, ◌&&◌, List, [], ◌∷◌, length, Option, Some, None, is_some, if◌then◌else◌, refl, ap, sym, ◌∙◌, subst, eq-eqb}
 use Rattle.std.specs.Option.{option_map, unwrap_or}
 use Rattle.std.specs.Str.{bytes_eq}
@@ -17,10 +17,11 @@ use Rattle.mq_model.proofs.Cases.{Says, reply_says}
 use Rattle.mq_model.proofs.Frames.{record_at-older}
 use Rattle.mq_model.proofs.Places.{split}
 use Rattle.placeless.specs.Views.{Message, answer, at, sent, told}
-use Rattle.placeless.specs.Likeness.{AreAlike, is_plain}
-use Rattle.placeless.specs.Steps.{StepsAlike, message_given, record_of, shape}
+use Rattle.placeless.specs.Steps.{message_given, record_of, shape}
 use Rattle.placeless.proofs.Calls.{is_other, message-older, never-collected}
 use Rattle.placeless.proofs.Effects.{answered-below, is_collected}
+use Rattle.mq_equivalence.specs.Equivalence.{EquivalentUnder, StepsEquivalent}
+use Rattle.mq_equivalence.proofs.Going.{shape-outline}
 use Rattle.histories.specs.declared.operation.Outcome.{Outcome}
 use Rattle.histories.specs.declared.operation.Outcome.TheVariants as outcomes
 use Rattle.histories.specs.Outcomes.{brings, completes, fits, hands, has_bytes, has_handed, has_priority, is_message, is_notice, opens, refuses, shows}
@@ -111,15 +112,18 @@ fits-shape past r (outcomes.Attributes status) not = shows-shape r status
 fits-shape past r (outcomes.Notice value) not = notice-shape r value
 fits-shape past r (outcomes.Refused fault) not = refuses-shape r fault
 
-other-fits : (x y : Past) (p : Process) (call : Call) (given : List ℕ) (outcome : Outcome) → is_other call ≡ true → StepsAlike x y p call given →
+pub shape-same : (to : ℕ → ℕ) (x y : Past) (p : Process) (call : Call) (given : List ℕ) → StepsEquivalent to x y p call given → shape (reply_to y p call given) ≡ shape (reply_to x p call given)
+shape-same to x y p call given steps = sym (shape-outline (reply_to y p call given)) ∙ ap shape steps.reply ∙ shape-outline (reply_to x p call given)
+
+other-fits : (to : ℕ → ℕ) (x y : Past) (p : Process) (call : Call) (given : List ℕ) (outcome : Outcome) → is_other call ≡ true → StepsEquivalent to x y p call given →
     fits y (reply_to y p call given) outcome ≡ fits x (reply_to x p call given) outcome
-other-fits x y p call given outcome other steps =
+other-fits to x y p call given outcome other steps =
     let a = reply_to x p call given in
     let b = reply_to y p call given in
     let message : message_given y b ≡ message_given x a =
     sym (message-older y p call given (record_of y p call given)) ∙ steps.message ∙ message-older x p call given (record_of x p call given)
     in
-    fits-shape y b outcome (never-collected y p call given other) ∙ ap (λ (r : Reply). fits_of r (message_given y b) outcome) steps.reply ∙ ap (λ (m : Option Message). fits_of (shape a) m outcome) message
+    fits-shape y b outcome (never-collected y p call given other) ∙ ap (λ (r : Reply). fits_of r (message_given y b) outcome) (shape-same to x y p call given steps) ∙ ap (λ (m : Option Message). fits_of (shape a) m outcome) message
     ∙ sym (fits-shape x a outcome (never-collected x p call given other))
 
 -- a collect ---------------------------------------------------------------------------------------------------------------
@@ -216,11 +220,11 @@ answer-fits past by r (outcomes.Got prio message) is handed =
 answer-fits past by r _ is handed = refl
 
 -- the answers to the wait of a process, by their places
-collect-fits : (x y : Past) (p : Process) (outcome : Outcome) → AreAlike x y → (o q : Option Place) → answered_by x p ≡ o → answered_by y p ≡ q → is_some o ≡ true → is_some q ≡ true →
+collect-fits : (to : ℕ → ℕ) (x y : Past) (p : Process) (outcome : Outcome) → EquivalentUnder to x y → (o q : Option Place) → answered_by x p ≡ o → answered_by y p ≡ q → is_some o ≡ true → is_some q ≡ true →
     fits y (replies.Collected (unwrap_or q 0)) outcome ≡ fits x (replies.Collected (unwrap_or o 0)) outcome
-collect-fits x y p outcome alike None q at_x at_y some_x some_y = absurd (cc)
-collect-fits x y p outcome alike (Some a) None at_x at_y some_x some_y = absurd (cc)
-collect-fits x y p outcome alike (Some a) (Some b) at_x at_y some_x some_y =
+collect-fits to x y p outcome alike None q at_x at_y some_x some_y = absurd (cc)
+collect-fits to x y p outcome alike (Some a) None at_x at_y some_x some_y = absurd (cc)
+collect-fits to x y p outcome alike (Some a) (Some b) at_x at_y some_x some_y =
     let of_x = answer-of x p a alike.legal.0 at_x in
     let of_y = answer-of y p b alike.legal.1 at_y in
     let shown_x : answer x p ≡ Some (Some (told of_x.answering)) = ap (λ (o : Option Place). option_map (at told x) o) at_x ∙ ap (λ (o : Option Record). Some (option_map told o)) of_x.is in
@@ -229,20 +233,9 @@ collect-fits x y p outcome alike (Some a) (Some b) at_x at_y some_x some_y =
     let same : told of_y.answering ≡ told of_x.answering = cc in
     answer-fits y b of_y.answering outcome of_y.is of_y.hands_send ∙ ap (λ (m : Option Message). fits_answer m outcome) same ∙ sym (answer-fits x a of_x.answering outcome of_x.is of_x.hands_send)
 
--- a plain call ------------------------------------------------------------------------------------------------------------
+-- a call -----------------------------------------------------------------------------------------------------------------
 
-pub fits-alike : (x y : Past) (p : Process) (call : Call) (given : List ℕ) (outcome : Outcome) → AreAlike x y → is_plain call ≡ true → may_call x p call ≡ true → may_call y p call ≡ true → StepsAlike x y p call given →
+pub fits-alike : (to : ℕ → ℕ) (x y : Past) (p : Process) (call : Call) (given : List ℕ) (outcome : Outcome) → EquivalentUnder to x y → may_call x p call ≡ true → may_call y p call ≡ true → StepsEquivalent to x y p call given →
     fits y (reply_to y p call given) outcome ≡ fits x (reply_to x p call given) outcome
-fits-alike x y p Collect given outcome alike plain can_x can_y steps = collect-fits x y p outcome alike (answered_by x p) (answered_by y p) refl refl can_x can_y
-fits-alike x y p (MqClose d) given outcome alike plain can_x can_y steps = other-fits x y p (MqClose d) given outcome plain steps
-fits-alike x y p (MqSend d prio len) given outcome alike plain can_x can_y steps = other-fits x y p (MqSend d prio len) given outcome plain steps
-fits-alike x y p (MqReceive d room) given outcome alike plain can_x can_y steps = other-fits x y p (MqReceive d room) given outcome plain steps
-fits-alike x y p (MqTimedSend d prio len until now) given outcome alike plain can_x can_y steps = other-fits x y p (MqTimedSend d prio len until now) given outcome plain steps
-fits-alike x y p (MqTimedReceive d room until now) given outcome alike plain can_x can_y steps = other-fits x y p (MqTimedReceive d room until now) given outcome plain steps
-fits-alike x y p (MqGetattr d) given outcome alike plain can_x can_y steps = other-fits x y p (MqGetattr d) given outcome plain steps
-fits-alike x y p (MqSetattr d nonblock) given outcome alike plain can_x can_y steps = other-fits x y p (MqSetattr d nonblock) given outcome plain steps
-fits-alike x y p (MqOpen flags attr) given outcome alike plain can_x can_y steps = absurd (cc)
-fits-alike x y p MqUnlink given outcome alike plain can_x can_y steps = absurd (cc)
-fits-alike x y p (MqNotify d value) given outcome alike plain can_x can_y steps = absurd (cc)
-fits-alike x y p NextNotice given outcome alike plain can_x can_y steps = absurd (cc)
-fits-alike x y p (Withdraw now) given outcome alike plain can_x can_y steps = absurd (cc)
+fits-alike to x y p Collect given outcome alike can_x can_y steps = collect-fits to x y p outcome alike (answered_by x p) (answered_by y p) refl refl can_x can_y
+fits-alike to x y p call given outcome alike can_x can_y steps = other-fits to x y p call given outcome refl steps

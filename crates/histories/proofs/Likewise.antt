@@ -15,34 +15,35 @@ use Rattle.mq_state.specs.Trails.{can_call, record_of_call, with_call}
 use Rattle.orders.specs.Programs.{ends_wait, made}
 use Rattle.orders.proofs.Ordering.{legal-of}
 use Rattle.placeless.specs.Key.{key_of}
-use Rattle.placeless.specs.Likeness.{AreAlike, is_plain}
 use Rattle.placeless.proofs.Calls.{can-alike}
-use Rattle.placeless.proofs.Keys.{same-key}
-use Rattle.placeless.proofs.Stays.{steps-alike}
+use Rattle.mq_equivalence.specs.Equivalence.{Equivalent}
+use Rattle.mq_equivalence.specs.Structure.{extended}
+use Rattle.mq_equivalence.proofs.Keys.{same-key}
+use Rattle.mq_equivalence.proofs.Runs.{steps-equivalent}
 use Rattle.schedules.specs.Likeness.{AreBothAlike}
 use Rattle.schedules.specs.Schedules.{IsReached}
 use Rattle.schedules.proofs.Covering.{reach-start}
 use Rattle.histories.specs.Outcomes.{fits}
 use Rattle.histories.specs.Histories.{Histories, after_step, are_through, completed, current, current_of, ended_before, in_time, is_through, none_ended, with_end, with_fitting, with_operation, with_withdrawal}
-use Rattle.histories.specs.Likeness.{ArePlain, AreStagesAlike, HaveBegunAlike, IsStageKey, counts_then, is_plain_operation, shows_withdrawal}
+use Rattle.histories.specs.Likeness.{AreStagesAlike, HaveBegunAlike, IsStageKey, counts_then}
 use Rattle.histories.specs.Linearizations.{IsLinearization}
 use Rattle.histories.specs.Stage.{Stage, first_stage, is_linearized, next_stage, with_past}
 use Rattle.histories.specs.StageLaws.{next-first}
 use Rattle.histories.specs.declared.operation.Operation.{Operation}
 use Rattle.histories.specs.declared.operation.Outcome.{Outcome}
 use Rattle.histories.specs.declared.operation.Outcome.TheVariants.{Pending, Refused}
-use Rattle.histories.proofs.Fitting.{fits-alike}
+use Rattle.histories.proofs.Fitting.{fits-alike, shape-same}
 use Rattle.histories.proofs.Linearizing.{schedule-makes-linearization}
 use Rattle.histories.proofs.RealTime.{completed-grows}
 
 -- how far the processes are -----------------------------------------------------------------------------------------------
 
-completed-alike : (x y : Past) (n index : ℕ) → AreAlike x y → HaveBegunAlike n x y → index < n → completed y (index + 1) ≡ completed x (index + 1)
+completed-alike : (x y : Past) (n index : ℕ) → Equivalent x y → HaveBegunAlike n x y → index < n → completed y (index + 1) ≡ completed x (index + 1)
 completed-alike x y n index alike begun below =
-    ap (λ (b : Bool). if b then made y (index + 1) - 1 else made y (index + 1)) (alike.waits (index + 1))
+    ap (λ (b : Bool). if b then made y (index + 1) - 1 else made y (index + 1)) (alike.equivalent.waits (index + 1))
     ∙ ap (λ (k : ℕ). if is_some (open_wait x (index + 1)) then k - 1 else k) (begun index below)
 
-current-alike : (histories : Histories) (x y : Past) (index : ℕ) → AreAlike x y → HaveBegunAlike (length histories) x y → current_of histories y index ≡ current_of histories x index
+current-alike : (histories : Histories) (x y : Past) (index : ℕ) → Equivalent x y → HaveBegunAlike (length histories) x y → current_of histories y index ≡ current_of histories x index
 current-alike histories x y index alike begun =
     let goes : (o : Option (Vec Operation Global)) → slice_get histories index ≡ o → option_and_then (current y index) o ≡ option_and_then (current x index) o =
     λ (o : Option (Vec Operation Global)). elim o as (λ o. slice_get histories index ≡ o → option_and_then (current y index) o ≡ option_and_then (current x index) o) [
@@ -52,13 +53,13 @@ current-alike histories x y index alike begun =
     in
     goes (slice_get histories index) refl
 
-none-ended-alike : (histories : Histories) (x y : Past) (moment n : ℕ) → AreAlike x y → HaveBegunAlike (length histories) x y → none_ended histories y moment n ≡ none_ended histories x moment n
+none-ended-alike : (histories : Histories) (x y : Past) (moment n : ℕ) → Equivalent x y → HaveBegunAlike (length histories) x y → none_ended histories y moment n ≡ none_ended histories x moment n
 none-ended-alike histories x y moment zero alike begun = refl
 none-ended-alike histories x y moment (suc n) alike begun =
     ap (λ (b : Bool). b && not (ended_before moment (current_of histories y n))) (none-ended-alike histories x y moment n alike begun)
     ∙ ap (λ (o : Option Operation). none_ended histories x moment n && not (ended_before moment o)) (current-alike histories x y n alike begun)
 
-through-alike : (histories : Histories) (x y : Past) (n : ℕ) → AreAlike x y → HaveBegunAlike (length histories) x y → are_through histories y n ≡ are_through histories x n
+through-alike : (histories : Histories) (x y : Past) (n : ℕ) → Equivalent x y → HaveBegunAlike (length histories) x y → are_through histories y n ≡ are_through histories x n
 through-alike histories x y zero alike begun = refl
 through-alike histories x y (suc n) alike begun =
     ap (λ (b : Bool). b && is_through (current_of histories y n)) (through-alike histories x y n alike begun)
@@ -66,163 +67,134 @@ through-alike histories x y (suc n) alike begun =
 
 -- a call ------------------------------------------------------------------------------------------------------------------
 
--- journals that came from one that no process had completed more of
-record GrownAlike (past : Past) (n : ℕ) (x y : Past) : Type 0 where
-  grown : (p : Process) → completed past p ≤ completed x p
+record GrownAlike (n : ℕ) (x y : Past) : Type 0 where
   begun : HaveBegunAlike n x y
-  journals : AreAlike x y
+  journals : Equivalent x y
 
-call-alike : (x y : Past) (n index : ℕ) (call : Call) (given : List ℕ) → AreAlike x y → HaveBegunAlike n x y → is_plain call ≡ true →
-    can_call x (index + 1) call given ≡ true → can_call y (index + 1) call given ≡ true → GrownAlike x n (record_of_call x (index + 1) call given ∷ x) (record_of_call y (index + 1) call given ∷ y)
-call-alike x y n index call given alike begun plain can_x can_y =
+call-alike : (x y : Past) (n index : ℕ) (call : Call) (given : List ℕ) → Equivalent x y → HaveBegunAlike n x y →
+    can_call x (index + 1) call given ≡ true → GrownAlike n (record_of_call x (index + 1) call given ∷ x) (record_of_call y (index + 1) call given ∷ y)
+call-alike x y n index call given alike begun can_x =
     let p = index + 1 in
-    let legal = legal-of x p call given can_x in
     record {
-      grown = λ q. completed-grows x (record_of_call x p call given) q legal;
       begun = λ i below. ap (λ (k : ℕ). if (p == i + 1) && not (ends_wait call) then k + 1 else k) (begun i below);
-      journals = (steps-alike x y alike p call given plain).next legal (legal-of y p call given can_y);
+      journals = record {
+        to = extended alike.to (length x) (length y);
+        equivalent = (steps-equivalent alike.to x y alike.equivalent p call given).next (legal-of x p call given can_x);
+      };
     }
 
 may-of : (past : Past) (p : Process) (call : Call) (given : List ℕ) → can_call past p call given ≡ true → may_call past p call ≡ true
 may-of past p call given can = let one = and_parts _ _ can in let two = and_parts _ _ one.0 in two.1
 
-fitting-alike : (x y : Past) (n index : ℕ) (outcome : Outcome) (call : Call) (given : List ℕ) → AreAlike x y → HaveBegunAlike n x y → is_plain call ≡ true →
-    AreBothAlike (GrownAlike x n) (with_fitting x index outcome call given) (with_fitting y index outcome call given)
-fitting-alike x y n index outcome call given alike begun plain =
+fitting-alike : (x y : Past) (n index : ℕ) (outcome : Outcome) (call : Call) (given : List ℕ) → Equivalent x y → HaveBegunAlike n x y →
+    AreBothAlike (GrownAlike n) (with_fitting x index outcome call given) (with_fitting y index outcome call given)
+fitting-alike x y n index outcome call given alike begun =
     let p = index + 1 in
-    let steps = steps-alike x y alike p call given plain in
+    let to = alike.to in
+    let steps = steps-equivalent to x y alike.equivalent p call given in
     let longer : Past → Bool → Option Past = λ past can. if can then Some (record_of_call past p call given ∷ past) else None in
     let after : Past → Bool → Bool → Option Past = λ past fit can. if fit then longer past can else None in
-    let by_fit : (f g : Bool) → g ≡ f → can_call x p call given ≡ true → can_call y p call given ≡ true → AreBothAlike (GrownAlike x n) (after x f true) (after y g true) =
-    λ (f g : Bool). elim f as (λ f. g ≡ f → can_call x p call given ≡ true → can_call y p call given ≡ true → AreBothAlike (GrownAlike x n) (after x f true) (after y g true)) [
-      | true ↦ (elim g as (λ g. g ≡ true → can_call x p call given ≡ true → can_call y p call given ≡ true → AreBothAlike (GrownAlike x n) (after x true true) (after y g true))
-          [ true ↦ (λ e can_x can_y. call-alike x y n index call given alike begun plain can_x can_y) | false ↦ (λ e can_x can_y. absurd (cc)) ])
-      | false ↦ (elim g as (λ g. g ≡ false → can_call x p call given ≡ true → can_call y p call given ≡ true → AreBothAlike (GrownAlike x n) (after x false true) (after y g true))
-          [ true ↦ (λ e can_x can_y. absurd (cc)) | false ↦ (λ e can_x can_y. tt) ])
+    let by_fit : (f g : Bool) → g ≡ f → can_call x p call given ≡ true → AreBothAlike (GrownAlike n) (after x f true) (after y g true) =
+    λ (f g : Bool). elim f as (λ f. g ≡ f → can_call x p call given ≡ true → AreBothAlike (GrownAlike n) (after x f true) (after y g true)) [
+      | true ↦ (elim g as (λ g. g ≡ true → can_call x p call given ≡ true → AreBothAlike (GrownAlike n) (after x true true) (after y g true))
+          [ true ↦ (λ e can_x. call-alike x y n index call given alike begun can_x) | false ↦ (λ e can_x. absurd (cc)) ])
+      | false ↦ (elim g as (λ g. g ≡ false → can_call x p call given ≡ true → AreBothAlike (GrownAlike n) (after x false true) (after y g true))
+          [ true ↦ (λ e can_x. absurd (cc)) | false ↦ (λ e can_x. tt) ])
     ]
     in
-    let neither : (f g : Bool) → AreBothAlike (GrownAlike x n) (after x f false) (after y g false) =
-    λ (f g : Bool). elim f as (λ f. AreBothAlike (GrownAlike x n) (after x f false) (after y g false)) [
-      | true ↦ (elim g as (λ g. AreBothAlike (GrownAlike x n) (after x true false) (after y g false)) [ true ↦ tt | false ↦ tt ])
-      | false ↦ (elim g as (λ g. AreBothAlike (GrownAlike x n) (after x false false) (after y g false)) [ true ↦ tt | false ↦ tt ])
+    let neither : (f g : Bool) → AreBothAlike (GrownAlike n) (after x f false) (after y g false) =
+    λ (f g : Bool). elim f as (λ f. AreBothAlike (GrownAlike n) (after x f false) (after y g false)) [
+      | true ↦ (elim g as (λ g. AreBothAlike (GrownAlike n) (after x true false) (after y g false)) [ true ↦ tt | false ↦ tt ])
+      | false ↦ (elim g as (λ g. AreBothAlike (GrownAlike n) (after x false false) (after y g false)) [ true ↦ tt | false ↦ tt ])
     ]
     in
     let fit_x = fits x (reply_to x p call given) outcome in
     let fit_y = fits y (reply_to y p call given) outcome in
-    let by_can : (b c : Bool) → can_call x p call given ≡ b → can_call y p call given ≡ c → c ≡ b → AreBothAlike (GrownAlike x n) (after x fit_x b) (after y fit_y c) =
-    λ (b c : Bool). elim b as (λ b. can_call x p call given ≡ b → can_call y p call given ≡ c → c ≡ b → AreBothAlike (GrownAlike x n) (after x fit_x b) (after y fit_y c)) [
-      | true ↦ (elim c as (λ c. can_call x p call given ≡ true → can_call y p call given ≡ c → c ≡ true → AreBothAlike (GrownAlike x n) (after x fit_x true) (after y fit_y c)) [
-        | true ↦ (λ can_x can_y e. by_fit fit_x fit_y (fits-alike x y p call given outcome alike plain (may-of x p call given can_x) (may-of y p call given can_y) steps) can_x can_y)
+    let by_can : (b c : Bool) → can_call x p call given ≡ b → can_call y p call given ≡ c → c ≡ b → AreBothAlike (GrownAlike n) (after x fit_x b) (after y fit_y c) =
+    λ (b c : Bool). elim b as (λ b. can_call x p call given ≡ b → can_call y p call given ≡ c → c ≡ b → AreBothAlike (GrownAlike n) (after x fit_x b) (after y fit_y c)) [
+      | true ↦ (elim c as (λ c. can_call x p call given ≡ true → can_call y p call given ≡ c → c ≡ true → AreBothAlike (GrownAlike n) (after x fit_x true) (after y fit_y c)) [
+        | true ↦ (λ can_x can_y e. by_fit fit_x fit_y (fits-alike to x y p call given outcome alike.equivalent (may-of x p call given can_x) (may-of y p call given can_y) steps) can_x)
         | false ↦ (λ can_x can_y e. absurd (cc))
       ])
-      | false ↦ (elim c as (λ c. can_call x p call given ≡ false → can_call y p call given ≡ c → c ≡ false → AreBothAlike (GrownAlike x n) (after x fit_x false) (after y fit_y c)) [
+      | false ↦ (elim c as (λ c. can_call x p call given ≡ false → can_call y p call given ≡ c → c ≡ false → AreBothAlike (GrownAlike n) (after x fit_x false) (after y fit_y c)) [
         | true ↦ (λ can_x can_y e. absurd (cc))
         | false ↦ (λ can_x can_y e. neither fit_x fit_y)
       ])
     ]
     in
-    by_can (can_call x p call given) (can_call y p call given) refl refl (can-alike x y p call given steps)
+    by_can (can_call x p call given) (can_call y p call given) refl refl (can-alike x y p call given steps.turn (shape-same to x y p call given steps))
 
 -- an operation ------------------------------------------------------------------------------------------------------------
 
--- what was seen shows no withdrawal
-withdrawn-fits : (past : Past) (index : ℕ) (until : Deadline) (outcome : Outcome) → fits past (reply_to past (index + 1) (Withdraw until) []) outcome ≡ shows_withdrawal outcome
-withdrawn-fits past index until Pending = refl
-withdrawn-fits past index until (Refused fault) = refl
-withdrawn-fits past index until _ = refl
+withdrawal-alike : (x y : Past) (n index : ℕ) (outcome : Outcome) (deadline : Option Deadline) → Equivalent x y → HaveBegunAlike n x y →
+    AreBothAlike (GrownAlike n) (with_withdrawal x index outcome deadline) (with_withdrawal y index outcome deadline)
+withdrawal-alike x y n index outcome None alike begun = tt
+withdrawal-alike x y n index outcome (Some until) alike begun = fitting-alike x y n index outcome (Withdraw until) [] alike begun
 
-withdraws-not : (past : Past) (index : ℕ) (outcome : Outcome) (deadline : Option Deadline) → not (is_some deadline && shows_withdrawal outcome) ≡ true → with_withdrawal past index outcome deadline ≡ None
-withdraws-not past index outcome None not_shown = refl
-withdraws-not past index outcome (Some until) not_shown =
-    let hidden : (b : Bool) → not (true && b) ≡ true → b ≡ false = λ (b : Bool). elim b as (λ b. not (true && b) ≡ true → b ≡ false) [ true ↦ (λ h. cc) | false ↦ (λ h. refl) ] in
-    ap (λ (b : Bool). if b then with_call past (index + 1) (Withdraw until) [] else None) (withdrawn-fits past index until outcome ∙ hidden (shows_withdrawal outcome) not_shown)
-
-none-alike : (past : Past) (n : ℕ) (o q : Option Past) → o ≡ None → q ≡ None → AreBothAlike (GrownAlike past n) o q
-none-alike past n None None at_x at_y = tt
-none-alike past n (Some a) q at_x at_y = absurd (cc)
-none-alike past n None (Some b) at_x at_y = absurd (cc)
-
-end-alike : (x y : Past) (n index : ℕ) (operation : Operation) → AreAlike x y → HaveBegunAlike n x y → is_plain_operation operation ≡ true →
-    AreBothAlike (GrownAlike x n) (with_end x index operation) (with_end y index operation)
-end-alike x y n index operation alike begun plain =
+end-alike : (x y : Past) (n index : ℕ) (operation : Operation) → Equivalent x y → HaveBegunAlike n x y →
+    AreBothAlike (GrownAlike n) (with_end x index operation) (with_end y index operation)
+end-alike x y n index operation alike begun =
     let p = index + 1 in
-    let parts = and_parts (is_plain operation.call) (not (is_some (deadline_of operation.call) && shows_withdrawal operation.outcome)) plain in
     let ends : Past → Bool → Option Past = λ past b. if b then with_fitting past index operation.outcome Collect [] else with_withdrawal past index operation.outcome (deadline_of operation.call) in
-    let goes : (b : Bool) → AreBothAlike (GrownAlike x n) (ends x b) (ends y b) =
-    λ (b : Bool). elim b as (λ b. AreBothAlike (GrownAlike x n) (ends x b) (ends y b)) [
-      | true ↦ fitting-alike x y n index operation.outcome Collect [] alike begun refl
-      | false ↦ none-alike x n _ _ (withdraws-not x index operation.outcome (deadline_of operation.call) parts.1) (withdraws-not y index operation.outcome (deadline_of operation.call) parts.1)
+    let goes : (b : Bool) → AreBothAlike (GrownAlike n) (ends x b) (ends y b) =
+    λ (b : Bool). elim b as (λ b. AreBothAlike (GrownAlike n) (ends x b) (ends y b)) [
+      | true ↦ fitting-alike x y n index operation.outcome Collect [] alike begun
+      | false ↦ withdrawal-alike x y n index operation.outcome (deadline_of operation.call) alike begun
     ]
     in
-    let P : Bool → Type 0 = λ b. AreBothAlike (GrownAlike x n) (ends x (can_call x p Collect [])) (ends y b) in
-    subst P (sym (can-alike x y p Collect [] (steps-alike x y alike p Collect [] refl))) (goes (can_call x p Collect []))
+    let P : Bool → Type 0 = λ b. AreBothAlike (GrownAlike n) (ends x (can_call x p Collect [])) (ends y b) in
+    let steps = steps-equivalent alike.to x y alike.equivalent p Collect [] in
+    subst P (sym (can-alike x y p Collect [] steps.turn (shape-same alike.to x y p Collect [] steps))) (goes (can_call x p Collect []))
 
-operation-alike : (x y : Past) (n index : ℕ) (operation : Operation) → AreAlike x y → HaveBegunAlike n x y → is_plain_operation operation ≡ true →
-    AreBothAlike (GrownAlike x n) (with_operation x index operation) (with_operation y index operation)
-operation-alike x y n index operation alike begun plain =
-    let parts = and_parts (is_plain operation.call) (not (is_some (deadline_of operation.call) && shows_withdrawal operation.outcome)) plain in
+operation-alike : (x y : Past) (n index : ℕ) (operation : Operation) → Equivalent x y → HaveBegunAlike n x y →
+    AreBothAlike (GrownAlike n) (with_operation x index operation) (with_operation y index operation)
+operation-alike x y n index operation alike begun =
     let own : Past → Bool → Option Past = λ past b. if b then None else with_fitting past index operation.outcome operation.call operation.given.items in
-    let begins : (b : Bool) → AreBothAlike (GrownAlike x n) (own x b) (own y b) =
-    λ (b : Bool). elim b as (λ b. AreBothAlike (GrownAlike x n) (own x b) (own y b)) [ true ↦ tt | false ↦ fitting-alike x y n index operation.outcome operation.call operation.given.items alike begun parts.0 ]
+    let begins : (b : Bool) → AreBothAlike (GrownAlike n) (own x b) (own y b) =
+    λ (b : Bool). elim b as (λ b. AreBothAlike (GrownAlike n) (own x b) (own y b)) [ true ↦ tt | false ↦ fitting-alike x y n index operation.outcome operation.call operation.given.items alike begun ]
     in
     let goes_on : Past → Bool → Option Past = λ past b. if b then with_end past index operation else own past (ends_wait operation.call) in
-    let goes : (b : Bool) → AreBothAlike (GrownAlike x n) (goes_on x b) (goes_on y b) =
-    λ (b : Bool). elim b as (λ b. AreBothAlike (GrownAlike x n) (goes_on x b) (goes_on y b)) [ true ↦ end-alike x y n index operation alike begun plain | false ↦ begins (ends_wait operation.call) ]
+    let goes : (b : Bool) → AreBothAlike (GrownAlike n) (goes_on x b) (goes_on y b) =
+    λ (b : Bool). elim b as (λ b. AreBothAlike (GrownAlike n) (goes_on x b) (goes_on y b)) [ true ↦ end-alike x y n index operation alike begun | false ↦ begins (ends_wait operation.call) ]
     in
-    let P : Bool → Type 0 = λ b. AreBothAlike (GrownAlike x n) (goes_on x (is_some (open_wait x (index + 1)))) (goes_on y b) in
-    subst P (sym (alike.waits (index + 1))) (goes (is_some (open_wait x (index + 1))))
+    let P : Bool → Type 0 = λ b. AreBothAlike (GrownAlike n) (goes_on x (is_some (open_wait x (index + 1)))) (goes_on y b) in
+    subst P (sym (alike.equivalent.waits (index + 1))) (goes (is_some (open_wait x (index + 1))))
 
 -- a step ------------------------------------------------------------------------------------------------------------------
 
-timely-alike : (histories : Histories) (x y : Past) (index : ℕ) (o : Option Operation) → AreAlike x y → HaveBegunAlike (length histories) x y → ((operation : Operation) → o ≡ Some operation → is_plain_operation operation ≡ true) →
-    AreBothAlike (GrownAlike x (length histories)) (option_and_then (in_time histories x index) o) (option_and_then (in_time histories y index) o)
-timely-alike histories x y index None alike begun plain = tt
-timely-alike histories x y index (Some operation) alike begun plain =
+timely-alike : (histories : Histories) (x y : Past) (index : ℕ) (o : Option Operation) → Equivalent x y → HaveBegunAlike (length histories) x y →
+    AreBothAlike (GrownAlike (length histories)) (option_and_then (in_time histories x index) o) (option_and_then (in_time histories y index) o)
+timely-alike histories x y index None alike begun = tt
+timely-alike histories x y index (Some operation) alike begun =
     let n = length histories in
     let timed : Past → Bool → Option Past = λ past b. if b then with_operation past index operation else None in
-    let goes : (b : Bool) → AreBothAlike (GrownAlike x n) (timed x b) (timed y b) =
-    λ (b : Bool). elim b as (λ b. AreBothAlike (GrownAlike x n) (timed x b) (timed y b)) [ true ↦ operation-alike x y n index operation alike begun (plain operation refl) | false ↦ tt ]
+    let goes : (b : Bool) → AreBothAlike (GrownAlike n) (timed x b) (timed y b) =
+    λ (b : Bool). elim b as (λ b. AreBothAlike (GrownAlike n) (timed x b) (timed y b)) [ true ↦ operation-alike x y n index operation alike begun | false ↦ tt ]
     in
-    let P : Bool → Type 0 = λ b. AreBothAlike (GrownAlike x n) (timed x (none_ended histories x operation.begin n)) (timed y b) in
+    let P : Bool → Type 0 = λ b. AreBothAlike (GrownAlike n) (timed x (none_ended histories x operation.begin n)) (timed y b) in
     subst P (sym (none-ended-alike histories x y operation.begin n alike begun)) (goes (none_ended histories x operation.begin n))
 
--- the operation that comes next is one that is not completed
-current-plain : (s : Stage) (index : ℕ) → ArePlain s → (operation : Operation) → current_of s.histories s.past index ≡ Some operation → is_plain_operation operation ≡ true
-current-plain s index plain operation is =
-    let goes : (o : Option (Vec Operation Global)) → slice_get s.histories index ≡ o → option_and_then (current s.past index) o ≡ Some operation → is_plain_operation operation ≡ true =
-    λ (o : Option (Vec Operation Global)). elim o as (λ o. slice_get s.histories index ≡ o → option_and_then (current s.past index) o ≡ Some operation → is_plain_operation operation ≡ true) [
-      | None ↦ (λ e h. cc)
-      | Some operations ↦ (λ e h. plain index operations e (completed s.past (index + 1)) operation (omega arith) h)
-    ]
-    in
-    goes (slice_get s.histories index) refl is
-
-step-alike : (s : Stage) (past : Past) (index : ℕ) → ArePlain s → AreAlike s.past past → HaveBegunAlike (length s.histories) s.past past →
-    AreBothAlike (GrownAlike s.past (length s.histories)) (after_step s.histories s.past index) (after_step s.histories past index)
-step-alike s past index plain alike begun =
+step-alike : (s : Stage) (past : Past) (index : ℕ) → Equivalent s.past past → HaveBegunAlike (length s.histories) s.past past →
+    AreBothAlike (GrownAlike (length s.histories)) (after_step s.histories s.past index) (after_step s.histories past index)
+step-alike s past index alike begun =
     let P : Option Operation → Type 0 =
-    λ o. AreBothAlike (GrownAlike s.past (length s.histories)) (after_step s.histories s.past index) (option_and_then (in_time s.histories past index) o)
+    λ o. AreBothAlike (GrownAlike (length s.histories)) (after_step s.histories s.past index) (option_and_then (in_time s.histories past index) o)
     in
     subst P (sym (current-alike s.histories s.past past index alike begun))
-    (timely-alike s.histories s.past past index (current_of s.histories s.past index) alike begun (current-plain s index plain))
+    (timely-alike s.histories s.past past index (current_of s.histories s.past index) alike begun)
 
-stages-of : (s : Stage) (past : Past) (o q : Option Past) → ArePlain s → AreBothAlike (GrownAlike s.past (length s.histories)) o q →
+stages-of : (s : Stage) (past : Past) (o q : Option Past) → AreBothAlike (GrownAlike (length s.histories)) o q →
     AreBothAlike AreStagesAlike (option_map (with_past s) o) (option_map (with_past (with_past s past)) q)
-stages-of s past None None plain alike = tt
-stages-of s past (Some a) (Some b) plain alike = record {
-  differ = refl;
-  plain = λ index operations is at operation from. plain index operations is at operation (let more = alike.grown (index + 1) in omega (arith, more, from));
-  begun = alike.begun;
-  journals = alike.journals;
-}
-stages-of s past None (Some b) plain alike = absurd alike
-stages-of s past (Some a) None plain alike = absurd alike
+stages-of s past None None alike = tt
+stages-of s past (Some a) (Some b) alike = record { differ = refl; begun = alike.begun; journals = alike.journals }
+stages-of s past None (Some b) alike = absurd alike
+stages-of s past (Some a) None alike = absurd alike
 
 pub stages-next : (x y : Stage) (index : ℕ) → AreStagesAlike x y → AreBothAlike AreStagesAlike (next_stage x index) (next_stage y index)
 stages-next x y index alike =
     let P : Stage → Type 0 = λ s. AreBothAlike AreStagesAlike (next_stage x index) (next_stage s index) in
     subst P (sym alike.differ)
-    (stages-of x y.past (after_step x.histories x.past index) (after_step x.histories y.past index) alike.plain (step-alike x y.past index alike.plain alike.journals alike.begun))
+    (stages-of x y.past (after_step x.histories x.past index) (after_step x.histories y.past index) (step-alike x y.past index alike.journals alike.begun))
 
 pub stages-goal : (x y : Stage) → AreStagesAlike x y → is_linearized x ≡ is_linearized y
 stages-goal x y alike = sym (through-alike x.histories x.past y.past (length x.histories) alike.journals alike.begun) ∙ ap is_linearized (sym alike.differ)
@@ -257,12 +229,11 @@ stages-key from x y key to_x to_y key_x key_y =
     let legal_y : Legal y.past = linear-legal from.histories y.past (schedule-makes-linearization to_y.0 (first_stage from) y to_y.1 tt).1 in
     let count : length y.histories ≡ length x.histories = ap (λ (s : Stage). length s.histories) first in
     let codes : counts_then x.past (length x.histories) (key_of x.past) ≡ counts_then y.past (length x.histories) (key_of y.past) =
-    sym key_x.is ∙ key_y.is ∙ ap (λ (n : ℕ). counts_then y.past n (key_of y.past)) count
+    sym key_x ∙ key_y ∙ ap (λ (n : ℕ). counts_then y.past n (key_of y.past)) count
     in
     let told = counts-tell x.past y.past (length x.histories) (key_of x.past) (key_of y.past) codes in
     record {
       differ = ap (λ (s : Stage). with_past s y.past) first;
-      plain = key_x.plain;
       begun = told.0;
-      journals = same-key x.past y.past legal_x legal_y key_x.unregistered key_y.unregistered told.1;
+      journals = same-key x.past y.past legal_x legal_y told.1;
     }

@@ -19,7 +19,7 @@ use Rattle.mq_model.proofs.Cases.{Says, reply_says}
 use Rattle.mq_model.proofs.HeldQueues.{called-alive}
 use Rattle.mq_model.proofs.LegalReplies.{legal_says}
 use Rattle.mq_model.proofs.Alive.{rec}
-use Rattle.placeless.specs.Views.{Message, Sender, at, author, contents, receivers, sender, senders, sent}
+use Rattle.placeless.specs.Views.{Message, Registered, Sender, at, author, contents, receivers, registered_as, sender, senders, sent}
 use Rattle.placeless.proofs.Effects.{after_contents, after_receivers, after_senders, contents-step, is-best, message_of, receivers-step, senders-step}
 use Rattle.placeless.proofs.Falling.{any, any-least, has, pick, prio_of, top, top-best, unpicked}
 use Rattle.placeless.proofs.Changes.{got-all}
@@ -29,7 +29,6 @@ use Rattle.mq_model.specs.Ladder.{is_full_with}
 use Rattle.std.proofs.lemmas.List.{length-map}
 use Rattle.std.proofs.lemmas.Bool.Decides.{nat_tests}
 use Rattle.mq_equivalence.specs.Outline.{outline}
-use Rattle.mq_equivalence.specs.Equivalence.{Registered, registered_as}
 use Rattle.mq_equivalence.specs.Runs.{Request, after_calls}
 use Rattle.mq_equivalence.proofs.Structure.{alive-below}
 use Rattle.mq_equivalence.proofs.Replies.{any-map, best-any, placed-some, timed-shape}

@@ -14,15 +14,14 @@ use Rattle.mq_model.proofs.Frames.{attributes-older}
 use Rattle.mq_model.proofs.Cases.{Says}
 use Rattle.mq_model.proofs.LegalReplies.{legal_says}
 use Rattle.mq_model.proofs.Alive.{rec}
-use Rattle.placeless.specs.Views.{contents, receivers, senders}
+use Rattle.placeless.specs.Views.{contents, receivers, registered_as, senders}
 use Rattle.placeless.specs.Steps.{message_given, shape}
 use Rattle.placeless.proofs.Falling.{pick, top}
 use Rattle.placeless.proofs.Changes.{got-all}
 use Rattle.placeless.proofs.Effects.{after_contents, after_receivers, after_senders, called, contents-step, receivers-step, senders-step}
 use Rattle.placeless.proofs.Alike.{contents-shape, receivers-shape, senders-shape, wait-shape}
-use Rattle.placeless.proofs.Stays.{got-message}
+use Rattle.placeless.proofs.Calls.{got-message}
 use Rattle.mq_equivalence.specs.Outline.{outline}
-use Rattle.mq_equivalence.specs.Equivalence.{registered_as}
 use Rattle.mq_equivalence.proofs.Registrations.{after_registered, registered-step}
 use Rattle.mq_equivalence.proofs.Going.{shape-outline}
 use Rattle.mq_equivalence.proofs.Going.{registered-outline, told-outline}

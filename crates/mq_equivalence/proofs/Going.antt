@@ -25,14 +25,14 @@ use Rattle.mq_model.proofs.Cases.{Says}
 use Rattle.mq_model.proofs.PresentFew.{present-new}
 use Rattle.mq_model.proofs.Alive.{needed-alive, rec}
 use Rattle.mq_state.specs.Buffers.{room_of, waiting_room}
-use Rattle.placeless.specs.Views.{at, author, contents, receivers, sender, senders, sent}
+use Rattle.placeless.specs.Views.{Registered, at, author, contents, receivers, registered_as, sender, senders, sent}
 use Rattle.placeless.specs.Steps.{record_of, shape}
 use Rattle.placeless.proofs.Falling.{Falls}
 use Rattle.placeless.proofs.Effects.{after_contents, contents-step}
 use Rattle.placeless.proofs.Alike.{contents-shape, payload-alike, wait-shape}
 use Rattle.mq_equivalence.specs.Structure.{SameStructure, extended, renumbered}
 use Rattle.mq_equivalence.specs.Outline.{unnumbered, outline}
-use Rattle.mq_equivalence.specs.Equivalence.{EquivalentUnder, Registered, registered_as}
+use Rattle.mq_equivalence.specs.Equivalence.{EquivalentUnder}
 use Rattle.mq_equivalence.proofs.Structure.{alive-below, falls-alive, fewer-needed, needed-in, new-number, old-number, one-number, structure-stays}
 use Rattle.mq_equivalence.proofs.Replies.{reply-equivalent}
 use Rattle.mq_equivalence.proofs.Notified.{after_notices, notices-step, notified_as, viewed}

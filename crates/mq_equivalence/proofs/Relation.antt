@@ -10,10 +10,10 @@ use Rattle.mq_model.specs.Legality.{Legal}
 use Rattle.mq_model.specs.declared.entries.Description.{Description}
 use Rattle.mq_model.proofs.Places.{split}
 use Rattle.mq_model.proofs.HeldQueues.{held-alive}
-use Rattle.placeless.specs.Views.{contents, receivers, senders}
+use Rattle.placeless.specs.Views.{contents, receivers, registered_as, senders}
 use Rattle.placeless.proofs.Falling.{Falls}
 use Rattle.mq_equivalence.specs.Structure.{renumbered}
-use Rattle.mq_equivalence.specs.Equivalence.{Equivalent, registered_as}
+use Rattle.mq_equivalence.specs.Equivalence.{Equivalent}
 use Rattle.mq_equivalence.proofs.Structure.{falls-alive, in-map, named-by, needed-in, one-number}
 
 -- renumberings -------------------------------------------------------------------------------------------------------------
@@ -60,7 +60,7 @@ origin-is to (j ∷ qs) once q h = split (to j == to q)
     older i hi = split (j == i) (λ t. rw t refl) (λ f. rw (f, hi) refl)
 
 -- each number is that of a queue
-numbered : (to : ℕ → ℕ) (qs : List ℕ) (k : ℕ) → is_in (map to qs) k ≡ true → (q : ℕ) × (is_in qs q ≡ true) × (to q ≡ k)
+pub numbered : (to : ℕ → ℕ) (qs : List ℕ) (k : ℕ) → is_in (map to qs) k ≡ true → (q : ℕ) × (is_in qs q ≡ true) × (to q ≡ k)
 numbered to [] k h = absurd (cc)
 numbered to (j ∷ qs) k h = split (to j == k)
     (λ t. (j, rw (eq-eqb j j refl) refl, eqb-true _ _ t))

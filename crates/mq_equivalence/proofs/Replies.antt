@@ -29,12 +29,12 @@ use Rattle.mq_model.specs.declared.entries.Reply.TheVariants.{Opened, Queued, Ha
 use Rattle.mq_model.proofs.Places.{split}
 use Rattle.mq_model.proofs.Best.{best-none}
 use Rattle.mq_model.proofs.HeldQueues.{held-alive}
-use Rattle.placeless.specs.Views.{Message, Sender, at, author, sender, sent, told}
+use Rattle.placeless.specs.Views.{Message, Registered, Sender, at, author, registered_as, sender, sent, told}
 use Rattle.mq_equivalence.specs.Outline.{unnumbered, outline}
 use Rattle.placeless.proofs.Falling.{any, any-least}
 use Rattle.placeless.proofs.Effects.{is-best}
 use Rattle.mq_equivalence.specs.Structure.{renumbered}
-use Rattle.mq_equivalence.specs.Equivalence.{EquivalentUnder, Registered, registered_as}
+use Rattle.mq_equivalence.specs.Equivalence.{EquivalentUnder}
 
 pub shape-if : (b : Bool) (u v u' v' : Reply) → outline u ≡ outline u' → outline v ≡ outline v' → outline (if b then u else v) ≡ outline (if b then u' else v')
 shape-if true u v u' v' d e = d

@@ -43,7 +43,7 @@ in-map f (k ∷ ks) j h = split (k == j)
     (λ e. let same : k ≡ j = eqb-true _ _ e in rw (eq-eqb (f k) (f j) (ap f same)) refl)
     (λ n. let rest : is_in ks j ≡ true = rw n at h in split (f k == f j) (λ y. rw y refl) (λ z. rw (z, in-map f ks j rest) refl))
 
-map-same : (f g : ℕ → ℕ) (ks : List ℕ) → ((k : ℕ) → is_in ks k ≡ true → f k ≡ g k) → map f ks ≡ map g ks
+pub map-same : (f g : ℕ → ℕ) (ks : List ℕ) → ((k : ℕ) → is_in ks k ≡ true → f k ≡ g k) → map f ks ≡ map g ks
 map-same f g [] same = refl
 map-same f g (k ∷ ks) same = (λ i. same k (rw (eq-eqb k k refl) refl) i ∷ map-same f g ks (λ j h. same j (split (k == j) (λ y. rw y refl) (λ z. rw (z, h) refl))) i)
 

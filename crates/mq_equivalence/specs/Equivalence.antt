@@ -1,31 +1,18 @@
 -- Equivalent journals: all that replies depend on is the same, up to the numbers of queues and the
 -- places of entries.
-use Rattle.std.specs.Prelude.{ℕ, ◌≡◌, true, Option, is_some, List, ◌∷◌, length}
-use Rattle.std.specs.Option.{option_map}
+use Rattle.std.specs.Prelude.{ℕ, ◌≡◌, true, is_some, List, ◌∷◌, length}
 use Rattle.mq_model.specs.Record.{Past, Process, Queue}
 use Rattle.mq_model.specs.Descriptors.{alive}
 use Rattle.mq_model.specs.Messages.{is_in}
-use Rattle.mq_model.specs.Notices.{notices, registered}
+use Rattle.mq_model.specs.Notices.{notices}
 use Rattle.mq_model.specs.Waits.{open_wait, wait_deadline}
 use Rattle.mq_model.specs.Legality.{IsLegalNext, Legal, may_call, reply_to}
 use Rattle.mq_model.specs.declared.entries.Call.{Call}
-use Rattle.mq_model.specs.declared.entries.Registration.{Registration}
 use Rattle.mq_state.specs.Buffers.{waiting_room}
 use Rattle.placeless.specs.Steps.{message_collected, message_given, record_of}
-use Rattle.placeless.specs.Views.{answer, contents, receivers, senders}
+use Rattle.placeless.specs.Views.{answer, contents, receivers, registered_as, senders}
 use Rattle.mq_equivalence.specs.Structure.{SameStructure, extended}
 use Rattle.mq_equivalence.specs.Outline.{outline}
-
--- a registration without its place: who made it, by which descriptor, with which value
-pub record Registered : Type 0 where
-  pub process : Process
-  pub d : ℕ
-  pub value : ℕ
-
-abbrev pub registered_as : Past → Queue → Option Registered
-registered_as past q =
-    option_map (λ (n : Registration). record { process = n.process; d = n.d; value = n.value })
-    (registered past q)
 
 -- two legal journals in which all that replies depend on is the same, except that queue q of x is
 -- queue `to q` of y: the names, the descriptors, and the queues; the messages of each queue, who

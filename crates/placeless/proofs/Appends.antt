@@ -60,14 +60,16 @@ items-done code key begun old xs i n is le first count =
     let all : key ≡ begun ++ codes code xs = sym (append-nil key) ∙ ap (λ (ks : List ℕ). key ++ codes code ks) (sym none) ∙ is in
     parts-done key old (codes code xs) n begun all first ∙ ap (λ (k : ℕ). old ++ (k ∷ codes code xs)) count
 
+pub nothing-beyond : (past : Past) (place : ℕ) → length past ≤ place → record_at past place ≡ None
+nothing-beyond past place le = by (record_at past place) refl
+  where
+    by : (o : Option Record) → record_at past place ≡ o → o ≡ None
+    by None e = refl
+    by (Some r) e = let lt = record_at-below past place r e in absurd (omega arith)
+
 -- what is to be said of the record at a place, where there is one and where there is none
 pub at-beyond : {X : Type 0} (f : Record → X) (past : Past) (place : ℕ) → length past ≤ place → at f past place ≡ None
-at-beyond f past place le =
-    let goes : (o : Option Record) → record_at past place ≡ o → option_map f o ≡ None =
-    λ (o : Option Record). elim o as (λ o. record_at past place ≡ o → option_map f o ≡ None)
-    [ None ↦ (λ e. refl) | Some r ↦ (λ e. let lt = record_at-below past place r e in absurd (omega arith)) ]
-    in
-    goes (record_at past place) refl
+at-beyond f past place le = ap (λ (o : Option Record). option_map f o) (nothing-beyond past place le)
 
 pub at-here : {X : Type 0} (f : Record → X) (past : Past) (place : ℕ) (r : Record) → first (place + 1) past ≡ r ∷ first place past → place < length past → at f past place ≡ Some (f r)
 at-here f past place r is lt =

@@ -1,10 +1,11 @@
 -- Replies to plain calls, and which calls can be made.
-use Rattle.std.proofs.Common.{◌≡◌, ℕ, ◌==◌, Bool, true, false, ◌&&◌, List, ◌∷◌, length, Option, Some, None, is_some, nat_le, if◌then◌else◌, refl, ap, sym, ◌∙◌, subst}
+use Rattle.std.proofs.Common.{◌≡◌, ℕ, ◌<◌, ◌==◌, Bool, true, false, ◌&&◌, List, ◌∷◌, length, Option, Some, None, is_some, nat_le, if◌then◌else◌, refl, ap, sym, ◌∙◌, subst}
 use Rattle.std.specs.Option.{option_map, unwrap_or}
 use Rattle.mq_model.specs.Record.{Record, Past, Process}
 use Rattle.mq_model.specs.Limits.{most_processes}
+use Rattle.mq_model.specs.Messages.{is_in, present}
 use Rattle.mq_model.specs.Waits.{answered_by}
-use Rattle.mq_model.specs.Legality.{is_payload, may_call, payload_of, reply_to}
+use Rattle.mq_model.specs.Legality.{Legal, is_payload, may_call, payload_of, reply_to}
 use Rattle.mq_model.specs.declared.entries.Call.{Call}
 use Rattle.mq_model.specs.declared.entries.Call.TheVariants.{MqOpen, MqClose, MqUnlink, MqSend, MqReceive, MqTimedSend, MqTimedReceive, MqGetattr, MqSetattr, MqNotify, NextNotice, Collect, Withdraw}
 use Rattle.mq_model.specs.declared.entries.Reply.{Reply}
@@ -13,12 +14,12 @@ use Rattle.mq_model.proofs.Places.{split}
 use Rattle.mq_model.proofs.Cases.{Says, reply_says}
 use Rattle.mq_model.proofs.Presence.{present-below}
 use Rattle.mq_state.specs.Trails.{can_call}
-use Rattle.placeless.specs.Likeness.{is_plain}
-use Rattle.placeless.specs.Steps.{StepsAlike, message_collected, message_given, shape}
-use Rattle.placeless.specs.Views.{Message, answer, at, sent, told}
+use Rattle.placeless.specs.Steps.{message_collected, message_given, shape}
+use Rattle.placeless.specs.Views.{Message, answer, at, contents, sent, told}
 use Rattle.placeless.proofs.Alike.{payload-alike, refused-alike}
-use Rattle.placeless.proofs.Changes.{at-older, got-all, rec}
-use Rattle.placeless.proofs.Effects.{answer-older, is-best, is_collected}
+use Rattle.placeless.proofs.Falling.{pick, pick-best, top, top-best}
+use Rattle.placeless.proofs.Changes.{at-older, falls-present, got-all, rec}
+use Rattle.placeless.proofs.Effects.{answer-older, called, is-best, is_collected}
 
 -- whether a call can be made ----------------------------------------------------------------------------------------------
 
@@ -37,14 +38,15 @@ payload-form NextNotice a b payload e = refl
 payload-form Collect a b payload e = refl
 payload-form (Withdraw now) a b payload e = refl
 
-pub can-alike : (x y : Past) (p : Process) (call : Call) (given : List ℕ) → StepsAlike x y p call given → can_call y p call given ≡ can_call x p call given
-can-alike x y p call given steps =
+pub can-alike : (x y : Past) (p : Process) (call : Call) (given : List ℕ) → may_call y p call ≡ may_call x p call →
+    shape (reply_to y p call given) ≡ shape (reply_to x p call given) → can_call y p call given ≡ can_call x p call given
+can-alike x y p call given turn same =
     let a = reply_to x p call given in
     let b = reply_to y p call given in
     let process = nat_le 1 p && nat_le p most_processes in
-    ap (λ (t : Bool). process && t && is_payload call b (payload_of call b given)) steps.turn
-    ∙ ap (λ (t : Bool). process && may_call x p call && t) (payload-form call b a (payload_of call b given) steps.reply)
-    ∙ ap (λ (bytes : List ℕ). process && may_call x p call && is_payload call a bytes) (payload-alike call b a given steps.reply)
+    ap (λ (t : Bool). process && t && is_payload call b (payload_of call b given)) turn
+    ∙ ap (λ (t : Bool). process && may_call x p call && t) (payload-form call b a (payload_of call b given) same)
+    ∙ ap (λ (bytes : List ℕ). process && may_call x p call && is_payload call a bytes) (payload-alike call b a given same)
 
 -- a reply that is no collect's --------------------------------------------------------------------------------------------
 
@@ -64,7 +66,7 @@ not-collected (Refused f) never = refl
 -- of a plain call that is no collect
 abbrev pub is_other : Call → Bool
 is_other Collect = false
-is_other call = is_plain call
+is_other call = true
 
 says-collected : (past : Past) (p : ℕ) (call : Call) (b : ℕ) → is_other call ≡ true → Says past p call (Collected b) → ⊥
 says-collected past p (MqClose d) b other says = says.0
@@ -75,9 +77,9 @@ says-collected past p (MqTimedReceive d room until now) b other says = says.3
 says-collected past p (MqGetattr d) b other says = says
 says-collected past p (MqSetattr d nonblock) b other says = says
 says-collected past p Collect b other says = cc
-says-collected past p (MqOpen flags attr) b other says = cc
-says-collected past p MqUnlink b other says = cc
-says-collected past p (MqNotify d value) b other says = cc
+says-collected past p (MqOpen flags attr) b other says = says
+says-collected past p MqUnlink b other says = says
+says-collected past p (MqNotify d value) b other says = says
 says-collected past p NextNotice b other says = cc
 says-collected past p (Withdraw now) b other says = cc
 
@@ -96,6 +98,23 @@ message-older past p call given r =
     ]
     in
     goes (reply_to past p call given) (reply_says past p call given)
+
+-- the message that a receive gets
+pub got-message : (past : Past) → Legal past → (p : ℕ) (call : Call) (m : ℕ) (a n : Option ℕ) (payload : List ℕ) → Says past p call (Got m a n) →
+    at sent (rec p call (Got m a n) payload ∷ past) m ≡ pick (top (contents past (called past p call))) (contents past (called past p call))
+got-message past legal p call m a n payload says =
+    let got = got-all past p call m a n says in
+    let same : called past p call ≡ got.queue = ap (λ (o : Option ℕ). unwrap_or o 0) got.on in
+    let b = is-best past got.queue m got.best in
+    let below : m < length past = below-present past got.queue m b.inside in
+    let is : at sent past m ≡ pick (top (contents past got.queue)) (contents past got.queue) =
+    pick-best (at sent past) (present past got.queue) m (falls-present past legal got.queue) b
+    ∙ ap (λ (n : ℕ). pick n (contents past got.queue)) (sym (top-best (at sent past) (present past got.queue) m b))
+    in
+    at-older sent past (rec p call (Got m a n) payload) m below ∙ is ∙ ap (λ (q : ℕ). pick (top (contents past q)) (contents past q)) (sym same)
+  where
+    below-present : (past : Past) (q m : ℕ) → is_in (present past q) m ≡ true → m < length past
+    below-present past q m h = present-below past q m h
 
 -- a collect ---------------------------------------------------------------------------------------------------------------
 

@@ -1,5 +1,5 @@
 -- Values told from the numbers that stand for them.
-use Rattle.std.proofs.Common.{◌≡◌, ◌≢◌, ℕ, ℤ, pos, negsuc, zero, suc, ◌+◌, ◌<◌, ◌≤◌, ◌==◌, Bool, true, false, List, [], ◌∷◌, ◌++◌, length, map, Some, None, refl, sym, ◌∙◌, ap, subst, arith, append_assoc}
+use Rattle.std.proofs.Common.{◌≡◌, ◌≢◌, ℕ, ℤ, pos, negsuc, zero, suc, ◌+◌, ◌<◌, ◌≤◌, ◌==◌, Bool, true, false, List, [], ◌∷◌, ◌++◌, length, map, Option, Some, None, refl, sym, ◌∙◌, ap, subst, arith, append_assoc}
 use Rattle.std.proofs.lemmas.Bool.{eqb-false, eqb-true}
 use Rattle.std.proofs.lemmas.List.{length-map}
 use Rattle.mq_model.specs.Descriptors.{numbers_from}
@@ -7,10 +7,11 @@ use Rattle.mq_model.specs.Messages.{is_in}
 use Rattle.mq_model.specs.declared.entries.Access.{Access}
 use Rattle.mq_model.specs.declared.entries.Access.TheVariants.{Read, Write, Both}
 use Rattle.mq_model.specs.declared.entries.Attr.{Attr}
+use Rattle.mq_model.specs.declared.entries.Deadline.{Deadline}
 use Rattle.mq_model.specs.declared.entries.Description.{Description}
 use Rattle.mq_model.proofs.Places.{split}
-use Rattle.placeless.specs.Views.{Message, Sender}
-use Rattle.placeless.specs.Key.{access_number, codes, description_code, limits_code, listed, message_code, number, optional, sender_code, signed, test}
+use Rattle.placeless.specs.Views.{Message, Registered, Sender}
+use Rattle.placeless.specs.Key.{access_number, bytes_code, codes, deadline_code, description_code, index_of, limits_code, listed, message_code, number, optional, registered_code, sender_code, signed, test}
 
 -- from the numbers of a value with whatever follows them, both can be told
 abbrev pub IsTold : {X : Type 0} → (X → List ℕ) → Type 0
@@ -83,18 +84,53 @@ told-limits a b u v e =
     let rest = told-signed a.msgsize b.msgsize u v first.1 in
     (attr-same a b first.0 rest.0, rest.1)
 
-abbrev described : ℕ → Access → Bool → Description
-described q a n = record { queue = q; access = a; nonblock = n }
+abbrev moment : ℤ → ℤ → Deadline
+moment m n = record { sec = m; nsec = n }
 
-description-same : (g h : Description) → g.queue ≡ h.queue → g.access ≡ h.access → g.nonblock ≡ h.nonblock → g ≡ h
-description-same g h c d e =
-    let goes : (q p : ℕ) (a b : Access) (n m : Bool) → q ≡ p → a ≡ b → n ≡ m → described q a n ≡ described p b m = λ q p a b n m c d e. cc in
-    goes g.queue h.queue g.access h.access g.nonblock h.nonblock c d e
+moment-same : (a b : Deadline) → a.sec ≡ b.sec → a.nsec ≡ b.nsec → a ≡ b
+moment-same a b d e =
+    let goes : (m n k l : ℤ) → m ≡ k → n ≡ l → moment m n ≡ moment k l = λ m n k l d e. cc in
+    goes a.sec a.nsec b.sec b.nsec d e
 
-pub told-description : IsTold description_code
-told-description g h u v e =
+pub told-deadline : IsTold deadline_code
+told-deadline a b u v e =
+    let first = told-signed a.sec b.sec (signed a.nsec ++ u) (signed b.nsec ++ v) (sym (append_assoc (signed a.sec) (signed a.nsec) u) ∙ e ∙ append_assoc (signed b.sec) (signed b.nsec) v) in
+    let rest = told-signed a.nsec b.nsec u v first.1 in
+    (moment-same a b first.0 rest.0, rest.1)
+
+pub told-bytes_code : IsTold bytes_code
+told-bytes_code xs ys u v e = told-bytes xs ys u v (cc) (cc)
+
+abbrev registered : ℕ → ℕ → ℕ → Registered
+registered p d v = record { process = p; d = d; value = v }
+
+registered-same : (a b : Registered) → a.process ≡ b.process → a.d ≡ b.d → a.value ≡ b.value → a ≡ b
+registered-same a b c d e =
+    let goes : (p q m n k l : ℕ) → p ≡ q → m ≡ n → k ≡ l → registered p m k ≡ registered q n l = λ p q m n k l c d e. cc in
+    goes a.process b.process a.d b.d a.value b.value c d e
+
+pub told-registered : IsTold registered_code
+told-registered a b u v e = (registered-same a b (cc) (cc) (cc), cc)
+
+-- descriptions of queues with the same index in two lists
+pub record SameDescription (qs ks : List ℕ) (g h : Description) : Type 0 where
+  pub queue : index_of qs g.queue ≡ index_of ks h.queue
+  pub access : g.access ≡ h.access
+  pub nonblock : g.nonblock ≡ h.nonblock
+
+abbrev pub SameHeld : List ℕ → List ℕ → Option Description → Option Description → Type 0
+SameHeld qs ks None None = Unit {0}
+SameHeld qs ks (Some g) (Some h) = SameDescription qs ks g h
+SameHeld qs ks None (Some h) = ⊥
+SameHeld qs ks (Some g) None = ⊥
+
+pub told-held : (qs ks : List ℕ) (o p : Option Description) (u v : List ℕ) → optional (description_code qs) o ++ u ≡ optional (description_code ks) p ++ v → SameHeld qs ks o p × (u ≡ v)
+told-held qs ks None None u v e = (tt, cc)
+told-held qs ks (Some g) (Some h) u v e =
     let rest = told-test g.nonblock h.nonblock u v (cc) in
-    (description-same g h (cc) (told-access g.access h.access (cc)) rest.0, rest.1)
+    (record { queue = cc; access = told-access g.access h.access (cc); nonblock = rest.0 }, rest.1)
+told-held qs ks None (Some h) u v e = absurd (cc)
+told-held qs ks (Some g) None u v e = absurd (cc)
 
 abbrev message : ℕ → List ℕ → Message
 message a xs = record { prio = a; bytes = xs }
@@ -122,31 +158,26 @@ told-sender s t u v e =
     let rest = told-message s.message t.message u v (cc) in
     (sender-same s t (cc) rest.0, rest.1)
 
--- the same of two lists, the numbers of whose items mean something else
-pub record ToldEach (P : ℕ → Type 0) (xs ys : List ℕ) (u v : List ℕ) : Type 0 where
-  pub same : xs ≡ ys
-  pub each : (a : ℕ) → is_in xs a ≡ true → P a
-  pub rest : u ≡ v
+-- two lists whose items are related pair by pair
+abbrev pub Pairs : (ℕ → ℕ → Type 0) → List ℕ → List ℕ → Type 0
+Pairs P [] [] = Unit {0}
+Pairs P (x ∷ xs) (y ∷ ys) = P x y × Pairs P xs ys
+Pairs P [] (y ∷ ys) = ⊥
+Pairs P (x ∷ xs) [] = ⊥
 
-told-codes_each : (f g : ℕ → List ℕ) (P : ℕ → Type 0) → ((a b : ℕ) (u v : List ℕ) → f a ++ u ≡ g b ++ v → (a ≡ b) × P a × (u ≡ v)) →
-    (xs ys : List ℕ) (u v : List ℕ) → length xs ≡ length ys → codes f xs ++ u ≡ codes g ys ++ v → ToldEach P xs ys u v
-told-codes_each f g P told [] [] u v n e = record { same = refl; each = λ a h. absurd (cc); rest = e }
-told-codes_each f g P told (x ∷ xs) (y ∷ ys) u v n e =
+told-codes_pairs : (f g : ℕ → List ℕ) (P : ℕ → ℕ → Type 0) → ((a b : ℕ) (u v : List ℕ) → f a ++ u ≡ g b ++ v → P a b × (u ≡ v)) →
+    (xs ys : List ℕ) (u v : List ℕ) → length xs ≡ length ys → codes f xs ++ u ≡ codes g ys ++ v → Pairs P xs ys × (u ≡ v)
+told-codes_pairs f g P told [] [] u v n e = (tt, e)
+told-codes_pairs f g P told (x ∷ xs) (y ∷ ys) u v n e =
     let first = told x y (codes f xs ++ u) (codes g ys ++ v) (sym (append_assoc (f x) (codes f xs) u) ∙ e ∙ append_assoc (g y) (codes g ys) v) in
-    let rest = told-codes_each f g P told xs ys u v (omega arith) first.2 in
-    record {
-      same = rw (first.0, rest.same) refl;
-      each = λ a h. split (x == a)
-          (λ t. subst P (eqb-true x a t) first.1)
-          (λ d. let there : is_in xs a ≡ true = rw d at h in rest.each a there);
-      rest = rest.rest;
-    }
-told-codes_each f g P told [] (y ∷ ys) u v n e = absurd (omega arith)
-told-codes_each f g P told (x ∷ xs) [] u v n e = absurd (omega arith)
+    let rest = told-codes_pairs f g P told xs ys u v (omega arith) first.1 in
+    ((first.0, rest.0), rest.1)
+told-codes_pairs f g P told [] (y ∷ ys) u v n e = absurd (omega arith)
+told-codes_pairs f g P told (x ∷ xs) [] u v n e = absurd (omega arith)
 
-pub told-listed_each : (f g : ℕ → List ℕ) (P : ℕ → Type 0) → ((a b : ℕ) (u v : List ℕ) → f a ++ u ≡ g b ++ v → (a ≡ b) × P a × (u ≡ v)) →
-    (xs ys : List ℕ) (u v : List ℕ) → listed f xs ++ u ≡ listed g ys ++ v → ToldEach P xs ys u v
-told-listed_each f g P told xs ys u v e = told-codes_each f g P told xs ys u v (cc) (cc)
+pub told-pairs : (f g : ℕ → List ℕ) (P : ℕ → ℕ → Type 0) → ((a b : ℕ) (u v : List ℕ) → f a ++ u ≡ g b ++ v → P a b × (u ≡ v)) →
+    (xs ys : List ℕ) (u v : List ℕ) → listed f xs ++ u ≡ listed g ys ++ v → Pairs P xs ys × (u ≡ v)
+told-pairs f g P told xs ys u v e = told-codes_pairs f g P told xs ys u v (cc) (cc)
 
 -- lists of what stands at each number --------------------------------------------------------------------------------------
 
@@ -157,35 +188,37 @@ length-numbers low (suc n) = omega (arith, length-numbers (low + 1) n)
 below-or : (p low : ℕ) (n : ℕ) → low ≤ p → p < low + suc n → (low == p) ≡ false → (low + 1 ≤ p) × (p < (low + 1) + n)
 below-or p low n l h d = let ne = eqb-false low p d in let other : low ≢ p = ne in (omega arith, omega arith)
 
+record ToldNumbered (P : ℕ → Type 0) (low n : ℕ) (u v : List ℕ) : Type 0 where
+  each : (p : ℕ) → low ≤ p → p < low + n → P p
+  rest : u ≡ v
+
 codes-numbered : (f g : ℕ → List ℕ) (P : ℕ → Type 0) → ((a : ℕ) (u v : List ℕ) → f a ++ u ≡ g a ++ v → P a × (u ≡ v)) →
-    (low n : ℕ) (u v : List ℕ) → codes f (numbers_from low n) ++ u ≡ codes g (numbers_from low n) ++ v → (p : ℕ) → low ≤ p → p < low + n → P p
-codes-numbered f g P told low zero u v e p l h = absurd (omega arith)
-codes-numbered f g P told low (suc n) u v e p l h =
+    (low n : ℕ) (u v : List ℕ) → codes f (numbers_from low n) ++ u ≡ codes g (numbers_from low n) ++ v → ToldNumbered P low n u v
+codes-numbered f g P told low zero u v e = record { each = λ p l h. absurd (omega arith); rest = e }
+codes-numbered f g P told low (suc n) u v e =
     let us = codes f (numbers_from (low + 1) n) ++ u in
     let vs = codes g (numbers_from (low + 1) n) ++ v in
     let first = told low us vs (sym (append_assoc (f low) (codes f (numbers_from (low + 1) n)) u) ∙ e ∙ append_assoc (g low) (codes g (numbers_from (low + 1) n)) v) in
-    split (low == p)
-    (λ t. subst P (eqb-true low p t) first.0)
-    (λ d. let b = below-or p low n l h d in codes-numbered f g P told (low + 1) n u v first.1 p b.0 b.1)
+    let more = codes-numbered f g P told (low + 1) n u v first.1 in
+    record {
+      each = λ p l h. split (low == p)
+          (λ t. subst P (eqb-true low p t) first.0)
+          (λ d. let b = below-or p low n l h d in more.each p b.0 b.1);
+      rest = more.rest;
+    }
 
--- processes that are numbered from 0, as many as there are
+-- what is told of two lists that are numbered from 0
+pub record AllTold (P : ℕ → Type 0) (n m : ℕ) (u v : List ℕ) : Type 0 where
+  pub count : n ≡ m
+  pub each : (p : ℕ) → p < n → P p
+  pub rest : u ≡ v
+
 pub listed-numbered : (f g : ℕ → List ℕ) (P : ℕ → Type 0) → ((a : ℕ) (u v : List ℕ) → f a ++ u ≡ g a ++ v → P a × (u ≡ v)) →
-    (n m : ℕ) (u v : List ℕ) → listed f (numbers_from 0 n) ++ u ≡ listed g (numbers_from 0 m) ++ v → (n ≡ m) × ((p : ℕ) → p < n → P p)
+    (n m : ℕ) (u v : List ℕ) → listed f (numbers_from 0 n) ++ u ≡ listed g (numbers_from 0 m) ++ v → AllTold P n m u v
 listed-numbered f g P told n m u v e =
     let lengths : length (numbers_from 0 n) ≡ length (numbers_from 0 m) = cc in
     let same : n ≡ m = sym (length-numbers 0 n) ∙ lengths ∙ length-numbers 0 m in
     let rest : codes f (numbers_from 0 n) ++ u ≡ codes g (numbers_from 0 m) ++ v = cc in
     let here : codes f (numbers_from 0 n) ++ u ≡ codes g (numbers_from 0 n) ++ v = subst (λ (k : ℕ). codes f (numbers_from 0 n) ++ u ≡ codes g (numbers_from 0 k) ++ v) (sym same) rest in
-    (same, λ p h. codes-numbered f g P told 0 n u v here p (omega arith) (omega arith))
-
-map-numbered_from : {X : Type 0} (f g : ℕ → X) (low n : ℕ) → map f (numbers_from low n) ≡ map g (numbers_from low n) → (d : ℕ) → low ≤ d → d < low + n → f d ≡ g d
-map-numbered_from f g low zero e d l h = absurd (omega arith)
-map-numbered_from f g low (suc n) e d l h = split (low == d)
-    (λ t. let first : f low ≡ g low = cc in subst (λ (k : ℕ). f k ≡ g k) (eqb-true low d t) first)
-    (λ c. let b = below-or d low n l h c in map-numbered_from f g (low + 1) n (cc) d b.0 b.1)
-
-pub map-numbered : {X : Type 0} (f g : ℕ → X) (n m : ℕ) → map f (numbers_from 0 n) ≡ map g (numbers_from 0 m) → (n ≡ m) × ((d : ℕ) → d < n → f d ≡ g d)
-map-numbered f g n m e =
-    let same : n ≡ m = sym (length-numbers 0 n) ∙ sym (length-map (numbers_from 0 n) f) ∙ ap (λ xs. length xs) e ∙ length-map (numbers_from 0 m) g ∙ length-numbers 0 m in
-    let here : map f (numbers_from 0 n) ≡ map g (numbers_from 0 n) = subst (λ (k : ℕ). map f (numbers_from 0 n) ≡ map g (numbers_from 0 k)) (sym same) e in
-    (same, λ d h. map-numbered_from f g 0 n here d (omega arith) (omega arith))
+    let all = codes-numbered f g P told 0 n u v here in
+    record { count = same; each = λ p h. all.each p (omega arith) (omega arith); rest = all.rest }

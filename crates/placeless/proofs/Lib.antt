@@ -1,11 +1,13 @@
 pub mod Unanswered
+pub mod Waiting
+pub mod Given
 pub mod Falling
 pub mod Changes
 pub mod Effects
 pub mod Alike
 pub mod Calls
-pub mod Stays
 pub mod Codes
-pub mod Keys
+pub mod Bounds
+pub mod Nameless
 pub mod KindSteps
 pub mod Appends

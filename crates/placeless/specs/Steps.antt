@@ -1,12 +1,11 @@
--- What a plain call makes of two journals that are alike.
-use Rattle.std.specs.Prelude.{◌≡◌, ℕ, true, List, ◌∷◌, Option, None}
+-- Replies without places, and the messages that they give.
+use Rattle.std.specs.Prelude.{ℕ, List, Option, None}
 use Rattle.std.specs.Option.{option_map}
 use Rattle.mq_model.specs.Record.{Record, Past, Process}
-use Rattle.mq_model.specs.Legality.{IsLegalNext, may_call, payload_of, reply_to}
+use Rattle.mq_model.specs.Legality.{payload_of, reply_to}
 use Rattle.mq_model.specs.declared.entries.Call.{Call}
 use Rattle.mq_model.specs.declared.entries.Reply.{Reply}
 use Rattle.mq_model.specs.declared.entries.Reply.TheVariants.{Queued, Handed, Got, Collected, Withdrawn}
-use Rattle.placeless.specs.Likeness.{AreAlike}
 use Rattle.placeless.specs.Views.{Message, at, sent, told}
 
 -- a reply without its places: whether a send was admitted is left
@@ -35,15 +34,3 @@ message_given past reply = None
 abbrev pub message_collected : Past → Reply → Option (Option Message)
 message_collected past (Collected b) = at told past b
 message_collected past reply = None
-
--- the call may be made after both or after neither. It has replies that differ in their places alone, and gives its caller the same
--- message, as a receive or, if it may be made, as a collect. And after it the two are alike again
-pub record StepsAlike (x y : Past) (p : Process) (call : Call) (given : List ℕ) : Type 0 where
-  pub turn : may_call y p call ≡ may_call x p call
-  pub reply : shape (reply_to y p call given) ≡ shape (reply_to x p call given)
-  pub message : message_given (record_of y p call given ∷ y) (reply_to y p call given) ≡ message_given (record_of x p call given ∷ x) (reply_to x p call given)
-  pub collected :
-      may_call x p call ≡ true →
-      message_collected (record_of y p call given ∷ y) (reply_to y p call given)
-      ≡ message_collected (record_of x p call given ∷ x) (reply_to x p call given)
-  pub next : IsLegalNext x (record_of x p call given) → IsLegalNext y (record_of y p call given) → AreAlike (record_of x p call given ∷ x) (record_of y p call given ∷ y)

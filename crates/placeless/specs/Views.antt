@@ -1,7 +1,12 @@
--- What replies depend on, without places: messages by their priority and bytes, waits by their process.
+-- What replies depend on, without places: messages by their priority and bytes, waits by their
+-- process, registrations by what their process gave, and queues by their names.
 use Rattle.std.specs.Prelude.{ℕ, List, map, Option, Some, None, if◌then◌else◌}
 use Rattle.std.specs.Option.{option_map}
 use Rattle.mq_model.specs.Record.{Record, Past, Place, Process, Queue, record_at}
+use Rattle.mq_model.specs.Names.{name_of}
+use Rattle.mq_model.specs.Descriptors.{is_named}
+use Rattle.mq_model.specs.Notices.{registered}
+use Rattle.mq_model.specs.declared.entries.Registration.{Registration}
 use Rattle.mq_model.specs.Messages.{is_send, present, priority_given, waiting_sends, waiting_receives}
 use Rattle.mq_model.specs.Waits.{answered_by}
 
@@ -45,3 +50,19 @@ receivers past q = map (at author past) (waiting_receives past q)
 -- what the open wait of a process was answered with, if it was: the message of a send, or nothing
 abbrev pub answer : Past → Process → Option (Option (Option Message))
 answer past p = option_map (at told past) (answered_by past p)
+
+-- the name of a queue, if it is still bound to it
+abbrev pub bound_name : Past → Queue → Option (List ℕ)
+bound_name past q = if is_named past q then Some (name_of past q) else None
+
+-- a registration without its place: who made it, by which descriptor, with which value
+pub record Registered : Type 0 where
+  pub process : Process
+  pub d : ℕ
+  pub value : ℕ
+
+abbrev pub unplaced : Registration → Registered
+unplaced n = record { process = n.process; d = n.d; value = n.value }
+
+abbrev pub registered_as : Past → Queue → Option Registered
+registered_as past q = option_map unplaced (registered past q)

@@ -3,10 +3,11 @@
 
 ghost use Rattle.std.specs.Prelude.{◌≡◌, ◌≤◌, Some, length};
 ghost use Rattle.mq_model.specs.Record.{first};
-ghost use Rattle.mq_model.specs.Waits.{is_wait, open_wait, named_wait, names_wait, answered_by};
+ghost use Rattle.mq_model.specs.Waits.{is_wait, open_wait, named_wait, names_wait, answered_by, wait_deadline};
+ghost use Rattle.mq_state.specs.Buffers.{room_of, waiting_room};
 
 use mq_checker::scan_names::entry_at;
-use mq_model::entries::Reply;
+use mq_model::entries::{Call, Deadline, Reply};
 use mq_model::journals::Journal;
 
 fn is_wait(reply: Reply) -> bool
@@ -83,4 +84,57 @@ pub(crate) fn answered_by(journal: &Journal, k: u64, p: u32) -> Option<u64>
         None => None,
         Some(wait) => answer_to(journal, k, p, wait),
     }
+}
+
+// The length of the buffer of a receive, and 0 of any other call.
+fn room_of(call: Call) -> u64
+    ensures { result ≡ room_of call }
+{
+    match call {
+        Call::MqReceive { d: _, room } => room,
+        Call::MqTimedReceive {
+            d: _,
+            room,
+            until: _,
+            now: _,
+        } => room,
+        _ => 0,
+    }
+}
+
+// The length of the buffer with which process `p` waits before place `k`.
+#[tactic(auto, using(mq_model::proofs::Prefixes::prefixes, crate::proofs::Waiting::waiting))]
+pub(crate) fn waiting_room(journal: &Journal, k: u64, p: u32) -> Option<u64>
+    requires { k ≤ length journal.now.records }
+    ensures { result ≡ waiting_room (first k journal.now.records) p }
+{
+    for i in (0..k).rev() {
+        let entry = entry_at(journal, i);
+        if entry.process == p {
+            return if is_wait(entry.reply) {
+                Some(room_of(entry.call))
+            } else {
+                None
+            };
+        }
+    }
+    None
+}
+
+// The moment until which process `p` waits before place `k`.
+pub(crate) fn wait_deadline(journal: &Journal, k: u64, p: u32) -> Option<Deadline>
+    requires { k ≤ length journal.now.records }
+    ensures { result ≡ wait_deadline (first k journal.now.records) p }
+{
+    for i in (0..k).rev() {
+        let entry = entry_at(journal, i);
+        if entry.process == p {
+            return if is_wait(entry.reply) {
+                entry.call.deadline()
+            } else {
+                None
+            };
+        }
+    }
+    None
 }

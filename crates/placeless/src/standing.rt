@@ -4,13 +4,12 @@
 ghost use Rattle.std.specs.Prelude.{◌≡◌, ◌<◌, ◌≤◌, ◌++◌, false, get_or, IfOk, length};
 ghost use Rattle.std.specs.Option.{option_to_list};
 ghost use Rattle.mq_model.specs.Record.{first};
-ghost use Rattle.mq_model.specs.Descriptors.{created};
 ghost use Rattle.mq_model.specs.Messages.{blocks_receive, ends_send, ends_receive};
 ghost use Rattle.mq_checker.specs.TakenTable.{marked, unless_in};
 ghost use Rattle.placeless.specs.Kinds.{AreMarked, begins, ended, ends, may_begin, standing};
 
 use mq_checker::scan_messages::{blocks_send, entered, enters};
-use mq_checker::scan_names::{creates, entry_at, is_on};
+use mq_checker::scan_names::{entry_at, is_on};
 use mq_checker::taken::taken_by;
 use mq_model::entries::{Call, Entry, Reply};
 use mq_model::journals::Journal;
@@ -198,21 +197,4 @@ pub(crate) fn standing(
         add(&mut places, found)?;
     }
     Ok(places)
-}
-
-/// The queues that were created, the latest first.
-pub(crate) fn created(alloc: Global, journal: &Journal) -> Result<Vec<u64>, AllocError>
-    ensures { IfOk result (λ queues. queues.items ≡ created journal.now.records) }
-{
-    let mut queues = Vec::new(alloc);
-    for i in (0..journal.len()).rev() {
-        let entry = entry_at(journal, i);
-        let found = if creates(entry.call, entry.reply) {
-            Some(i)
-        } else {
-            None
-        };
-        add(&mut queues, found)?;
-    }
-    Ok(queues)
 }

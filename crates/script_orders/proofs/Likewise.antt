@@ -12,13 +12,14 @@ use Rattle.mq_model.specs.declared.entries.Call.TheVariants.{MqClose, Collect}
 use Rattle.mq_model.proofs.Places.{split}
 use Rattle.mq_state.specs.Trails.{can_call, record_of_call}
 use Rattle.placeless.specs.Key.{key_of, listed}
-use Rattle.placeless.specs.Likeness.{AreAlike, is_plain}
 use Rattle.placeless.specs.Views.{Message}
 use Rattle.placeless.proofs.Codes.{IsTold, told-listed, told-message}
-use Rattle.placeless.proofs.Keys.{same-key}
 use Rattle.placeless.proofs.Alike.{refused-alike}
 use Rattle.placeless.proofs.Calls.{can-alike}
-use Rattle.placeless.proofs.Stays.{steps-alike}
+use Rattle.mq_equivalence.specs.Equivalence.{Equivalent, EquivalentUnder}
+use Rattle.mq_equivalence.specs.Structure.{extended}
+use Rattle.mq_equivalence.proofs.Keys.{same-key}
+use Rattle.mq_equivalence.proofs.Runs.{steps-equivalent}
 use Rattle.schedules.specs.Likeness.{AreBothAlike}
 use Rattle.schedules.specs.Schedules.{IsReached, after}
 use Rattle.schedules.specs.Told.{Told}
@@ -29,26 +30,27 @@ use Rattle.script_orders.specs.Scenes.{Scene, after_call, after_step, close_firs
 use Rattle.script_orders.specs.Turns.{Turned, after_line, after_turn, scene_of, turned}
 use Rattle.script_orders.specs.Stage.{Stage, after_phase, first_stage, in_next_phase, is_phase_over, next_stage, none_can_turn, one_waits, replies, stands_still, told, turn_of, wait_line_of, wait_of, wait_text, waiting_lines, waits, with_turn}
 use Rattle.script_orders.specs.StageLaws.{next-first}
-use Rattle.script_orders.specs.Likeness.{ArePlain, ArePlainFrom, AreStagesAlike, IsStageKey, is_plain_step, seat_code, stage_code, with_past}
+use Rattle.script_orders.specs.Likeness.{AreStagesAlike, IsStageKey, seat_code, stage_code, with_past}
 use Rattle.script_orders.specs.declared.plan.Planned.{Planned}
 use Rattle.script_orders.specs.declared.plan.Step.{Step}
 use Rattle.script_orders.specs.declared.plan.Step.TheVariants as steps
 use Rattle.script_orders.proofs.Legality.{Free, all-free, and-parts, are-legal, close-can, legal-of, none-of}
-use Rattle.script_orders.proofs.Printing.{call-said}
+use Rattle.script_orders.proofs.Printing.{call-said, shape-same}
 
 -- a call ------------------------------------------------------------------------------------------------------------------
 
 record ScenesAlike (a b : Scene) : Type 0 where
   text : b.text ≡ a.text
-  past : AreAlike a.past b.past
+  past : Equivalent a.past b.past
 
 may-of : (past : Past) (p : Process) (call : Call) (given : List ℕ) → can_call past p call given ≡ true → may_call past p call ≡ true
 may-of past p call given can = let one = and-parts _ _ can in let two = and-parts _ _ one.0 in two.1
 
-call-alike : (x y : Past) (text : List ℕ) (p : Process) (call : Call) (given : List ℕ) → AreAlike x y → is_plain call ≡ true →
+call-alike : (x y : Past) (text : List ℕ) (p : Process) (call : Call) (given : List ℕ) → Equivalent x y →
     AreBothAlike ScenesAlike (after_call (record { past = x; text = text }) p call given) (after_call (record { past = y; text = text }) p call given)
-call-alike x y text p call given alike plain =
-    let steps = steps-alike x y alike p call given plain in
+call-alike x y text p call given alike =
+    let to = alike.to in
+    let steps = steps-equivalent to x y alike.equivalent p call given in
     let longer : Past → Past = λ past. record_of_call past p call given ∷ past in
     let scene : Past → Past → Scene = λ past new. record { past = new; text = text ++ said new p (reply_to past p call given) } in
     let after : Past → Bool → Option Scene = λ past b. option_map (scene past) (if b then Some (longer past) else None) in
@@ -56,8 +58,8 @@ call-alike x y text p call given alike plain =
     λ (b c : Bool). elim b as (λ b. can_call x p call given ≡ b → can_call y p call given ≡ c → c ≡ b → AreBothAlike ScenesAlike (after x b) (after y c)) [
       | true ↦ (elim c as (λ c. can_call x p call given ≡ true → can_call y p call given ≡ c → c ≡ true → AreBothAlike ScenesAlike (after x true) (after y c)) [
         | true ↦ (λ can_x can_y e. record {
-          text = ap (λ (line : List ℕ). text ++ line) (call-said x y p call given alike plain (may-of x p call given can_x) (may-of y p call given can_y) steps);
-          past = steps.next (legal-of x p call given can_x) (legal-of y p call given can_y);
+          text = ap (λ (line : List ℕ). text ++ line) (call-said to x y p call given alike.equivalent (may-of x p call given can_x) (may-of y p call given can_y) steps);
+          past = record { to = extended to (length x) (length y); equivalent = steps.next (legal-of x p call given can_x) };
         })
         | false ↦ (λ can_x can_y e. absurd (cc))
       ])
@@ -67,40 +69,41 @@ call-alike x y text p call given alike plain =
       ])
     ]
     in
-    goes (can_call x p call given) (can_call y p call given) refl refl (can-alike x y p call given steps)
+    goes (can_call x p call given) (can_call y p call given) refl refl (can-alike x y p call given steps.turn (shape-same to x y p call given steps))
 
 -- an exit -----------------------------------------------------------------------------------------------------------------
 
-close-alike : (x y : Past) (p d : ℕ) → (1 ≤ p) × (p ≤ 32) → Free x p → Free y p → AreAlike x y → AreAlike (close_held x p d) (close_held y p d)
+close-alike : (x y : Past) (p d : ℕ) → (1 ≤ p) × (p ≤ 32) → Free x p → Free y p → Equivalent x y → Equivalent (close_held x p d) (close_held y p d)
 close-alike x y p d bounds free_x free_y alike =
-    let steps = steps-alike x y alike p (MqClose d) [] refl in
-    let same : is_held y p d ≡ is_held x p d = ap not (refused-alike (reply_to y p (MqClose d) []) (reply_to x p (MqClose d) []) steps.reply) in
+    let to = alike.to in
+    let steps = steps-equivalent to x y alike.equivalent p (MqClose d) [] in
+    let same : is_held y p d ≡ is_held x p d = ap not (refused-alike (reply_to y p (MqClose d) []) (reply_to x p (MqClose d) []) (shape-same to x y p (MqClose d) [] steps)) in
     let closed : Past → Bool → Past = λ past b. if b then record_of_call past p (MqClose d) [] ∷ past else past in
-    let goes : (b : Bool) → AreAlike (closed x b) (closed y b) =
-    λ (b : Bool). elim b as (λ b. AreAlike (closed x b) (closed y b)) [
-      | true ↦ steps.next (legal-of x p (MqClose d) [] (close-can x p d bounds free_x)) (legal-of y p (MqClose d) [] (close-can y p d bounds free_y))
+    let goes : (b : Bool) → Equivalent (closed x b) (closed y b) =
+    λ (b : Bool). elim b as (λ b. Equivalent (closed x b) (closed y b)) [
+      | true ↦ record { to = extended to (length x) (length y); equivalent = steps.next (legal-of x p (MqClose d) [] (close-can x p d bounds free_x)) }
       | false ↦ alike
     ]
     in
-    let P : Bool → Type 0 = λ b. AreAlike (closed x (is_held x p d)) (closed y b) in
+    let P : Bool → Type 0 = λ b. Equivalent (closed x (is_held x p d)) (closed y b) in
     subst P (sym same) (goes (is_held x p d))
 
-closes-alike : (x y : Past) (p n : ℕ) → (1 ≤ p) × (p ≤ 32) → Free x p → Free y p → AreAlike x y → AreAlike (close_first x p n) (close_first y p n)
+closes-alike : (x y : Past) (p n : ℕ) → (1 ≤ p) × (p ≤ 32) → Free x p → Free y p → Equivalent x y → Equivalent (close_first x p n) (close_first y p n)
 closes-alike x y p zero bounds free_x free_y alike = alike
 closes-alike x y p (suc n) bounds free_x free_y alike =
     close-alike (close_first x p n) (close_first y p n) p n bounds (all-free x p n bounds free_x) (all-free y p n bounds free_y) (closes-alike x y p n bounds free_x free_y alike)
 
 -- a step of a process -------------------------------------------------------------------------------------------------------
 
-step-alike : (x y : Past) (text : List ℕ) (p : Process) (given : List ℕ) (step : Step) → (1 ≤ p) × (p ≤ 32) → Free x p → Free y p → AreAlike x y → is_plain_step step ≡ true →
+step-alike : (x y : Past) (text : List ℕ) (p : Process) (given : List ℕ) (step : Step) → (1 ≤ p) × (p ≤ 32) → Free x p → Free y p → Equivalent x y →
     AreBothAlike ScenesAlike (after_step (record { past = x; text = text }) p given step) (after_step (record { past = y; text = text }) p given step)
-step-alike x y text p given (steps.Call call) bounds free_x free_y alike plain = call-alike x y text p call given alike plain
-step-alike x y text p given (steps.Refusal fault) bounds free_x free_y alike plain = record { text = refl; past = alike }
-step-alike x y text p given steps.Exit bounds free_x free_y alike plain = record { text = refl; past = closes-alike x y p 16 bounds free_x free_y alike }
+step-alike x y text p given (steps.Call call) bounds free_x free_y alike = call-alike x y text p call given alike
+step-alike x y text p given (steps.Refusal fault) bounds free_x free_y alike = record { text = refl; past = alike }
+step-alike x y text p given steps.Exit bounds free_x free_y alike = record { text = refl; past = closes-alike x y p 16 bounds free_x free_y alike }
 
 record TurnsAlike (t u : Turned) : Type 0 where
   progress : u.progress ≡ t.progress
-  past : AreAlike t.past u.past
+  past : Equivalent t.past u.past
 
 turned-alike : (lines : ℕ) (progress : Progress) (o q : Option Scene) → AreBothAlike ScenesAlike o q → AreBothAlike TurnsAlike (option_map (turned lines progress) o) (option_map (turned lines progress) q)
 turned-alike lines progress None None alike = tt
@@ -111,44 +114,42 @@ turned-alike lines progress (Some a) (Some b) alike = record {
 turned-alike lines progress None (Some b) alike = absurd alike
 turned-alike lines progress (Some a) None alike = absurd alike
 
-line-alike : (x y : Past) (phase : ℕ) (p : Process) (progress : Progress) (o : Option Planned) → (1 ≤ p) × (p ≤ 32) → Free x p → Free y p → AreAlike x y →
-    ((planned : Planned) → o ≡ Some planned → is_plain_step planned.step ≡ true) →
+line-alike : (x y : Past) (phase : ℕ) (p : Process) (progress : Progress) (o : Option Planned) → (1 ≤ p) × (p ≤ 32) → Free x p → Free y p → Equivalent x y →
     AreBothAlike ScenesAlike (option_and_then (after_line x phase p progress) o) (option_and_then (after_line y phase p progress) o)
-line-alike x y phase p progress None bounds free_x free_y alike plain = tt
-line-alike x y phase p progress (Some next) bounds free_x free_y alike plain =
+line-alike x y phase p progress None bounds free_x free_y alike = tt
+line-alike x y phase p progress (Some next) bounds free_x free_y alike =
     let line : Past → Bool → Option Scene = λ past b. if b then after_step (scene_of past progress) p next.given.items next.step else None in
     let goes : (b : Bool) → AreBothAlike ScenesAlike (line x b) (line y b) =
     λ (b : Bool). elim b as (λ b. AreBothAlike ScenesAlike (line x b) (line y b)) [
-      | true ↦ step-alike x y progress.text p next.given.items next.step bounds free_x free_y alike (plain next refl)
+      | true ↦ step-alike x y progress.text p next.given.items next.step bounds free_x free_y alike
       | false ↦ tt
     ]
     in
     goes (next.phase == phase)
 
-turn-alike : (x y : Past) (phase : ℕ) (p : Process) (progress : Progress) (program : Vec Planned Global) → (1 ≤ p) × (p ≤ 32) → AreAlike x y → ArePlainFrom program.items progress.begun →
+turn-alike : (x y : Past) (phase : ℕ) (p : Process) (progress : Progress) (program : Vec Planned Global) → (1 ≤ p) × (p ≤ 32) → Equivalent x y →
     AreBothAlike TurnsAlike (after_turn x phase p progress program) (after_turn y phase p progress program)
-turn-alike x y phase p progress program bounds alike plain =
+turn-alike x y phase p progress program bounds alike =
     let collects : Past → Option Turned = λ past. option_map (turned 0 progress) (after_call (scene_of past progress) p Collect []) in
     let begins : Past → Option Turned = λ past. option_map (turned 1 progress) (option_and_then (after_line past phase p progress) (slice_get program.items progress.begun)) in
     let goes : (b : Bool) → is_some (open_wait x p) ≡ b → is_some (open_wait y p) ≡ b → AreBothAlike TurnsAlike (if b then collects x else begins x) (if b then collects y else begins y) =
     λ (b : Bool). elim b as (λ b. is_some (open_wait x p) ≡ b → is_some (open_wait y p) ≡ b → AreBothAlike TurnsAlike (if b then collects x else begins x) (if b then collects y else begins y)) [
-      | true ↦ (λ e f. turned-alike 0 progress (after_call (scene_of x progress) p Collect []) (after_call (scene_of y progress) p Collect []) (call-alike x y progress.text p Collect [] alike refl))
+      | true ↦ (λ e f. turned-alike 0 progress (after_call (scene_of x progress) p Collect []) (after_call (scene_of y progress) p Collect []) (call-alike x y progress.text p Collect [] alike))
       | false ↦ (λ e f.
-          let free_x : Free x p = record { legal = alike.legal.0; free = none-of (open_wait x p) e } in
-          let free_y : Free y p = record { legal = alike.legal.1; free = none-of (open_wait y p) f } in
+          let free_x : Free x p = record { legal = alike.equivalent.legal.0; free = none-of (open_wait x p) e } in
+          let free_y : Free y p = record { legal = alike.equivalent.legal.1; free = none-of (open_wait y p) f } in
           turned-alike 1 progress (option_and_then (after_line x phase p progress) (slice_get program.items progress.begun)) (option_and_then (after_line y phase p progress) (slice_get program.items progress.begun))
-          (line-alike x y phase p progress (slice_get program.items progress.begun) bounds free_x free_y alike
-          (λ planned is. plain progress.begun planned (omega arith) is)))
+          (line-alike x y phase p progress (slice_get program.items progress.begun) bounds free_x free_y alike))
     ]
     in
-    let here : is_some (open_wait y p) ≡ is_some (open_wait x p) = alike.waits p in
+    let here : is_some (open_wait y p) ≡ is_some (open_wait x p) = alike.equivalent.waits p in
     let P : Bool → Type 0 = λ c. AreBothAlike TurnsAlike (if is_some (open_wait x p) then collects x else begins x) (if c then collects y else begins y) in
     subst P (sym here) (goes (is_some (open_wait x p)) refl here)
 
 -- a step of the play --------------------------------------------------------------------------------------------------------
 
-turn_of-alike : (s : Stage) (past : Past) (index : ℕ) → length s.programs ≤ 32 → ArePlain s → AreAlike s.past past → AreBothAlike TurnsAlike (turn_of s index) (turn_of (with_past s past) index)
-turn_of-alike s past index few plain alike =
+turn_of-alike : (s : Stage) (past : Past) (index : ℕ) → length s.programs ≤ 32 → Equivalent s.past past → AreBothAlike TurnsAlike (turn_of s index) (turn_of (with_past s past) index)
+turn_of-alike s past index few alike =
     let by_seat : Past → Vec Planned Global → Option Progress → Option Turned = λ at program o. option_and_then (λ (seat : Progress). after_turn at s.phase (index + 1) seat program) o in
     let by_program : Past → Option (Vec Planned Global) → Option Turned = λ at o. option_and_then (λ (program : Vec Planned Global). by_seat at program (slice_get s.seats index)) o in
     let sits : (program : Vec Planned Global) → slice_get s.programs index ≡ Some program → (o : Option Progress) → slice_get s.seats index ≡ o → AreBothAlike TurnsAlike (by_seat s.past program o) (by_seat past program o) =
@@ -156,7 +157,7 @@ turn_of-alike s past index few plain alike =
       | None ↦ (λ e. tt)
       | Some seat ↦ (λ e.
           let inside : index < length s.programs = slice_get_within s.programs index program is in
-          turn-alike s.past past s.phase (index + 1) seat program (omega arith, omega (arith, inside, few)) alike (plain index program seat is e))
+          turn-alike s.past past s.phase (index + 1) seat program (omega arith, omega (arith, inside, few)) alike)
     ]
     in
     let goes : (o : Option (Vec Planned Global)) → slice_get s.programs index ≡ o → AreBothAlike TurnsAlike (by_program s.past o) (by_program past o) =
@@ -171,153 +172,68 @@ both-none (Some t) (Some u) alike = refl
 both-none None (Some u) alike = absurd alike
 both-none (Some t) None alike = absurd alike
 
-none-alike : (s : Stage) (past : Past) (n : ℕ) → length s.programs ≤ 32 → ArePlain s → AreAlike s.past past → none_can_turn (with_past s past) n ≡ none_can_turn s n
-none-alike s past zero few plain alike = refl
-none-alike s past (suc n) few plain alike =
-    ap (λ (b : Bool). b && is_none (turn_of (with_past s past) n)) (none-alike s past n few plain alike)
-    ∙ ap (λ (b : Bool). none_can_turn s n && b) (both-none (turn_of s n) (turn_of (with_past s past) n) (turn_of-alike s past n few plain alike))
+none-alike : (s : Stage) (past : Past) (n : ℕ) → length s.programs ≤ 32 → Equivalent s.past past → none_can_turn (with_past s past) n ≡ none_can_turn s n
+none-alike s past zero few alike = refl
+none-alike s past (suc n) few alike =
+    ap (λ (b : Bool). b && is_none (turn_of (with_past s past) n)) (none-alike s past n few alike)
+    ∙ ap (λ (b : Bool). none_can_turn s n && b) (both-none (turn_of s n) (turn_of (with_past s past) n) (turn_of-alike s past n few alike))
 
-waits-alike : (x y : Past) (n : ℕ) → AreAlike x y → one_waits y n ≡ one_waits x n
+waits-alike : (x y : Past) (n : ℕ) → Equivalent x y → one_waits y n ≡ one_waits x n
 waits-alike x y zero alike = refl
 waits-alike x y (suc n) alike =
-    ap (λ (b : Bool). b || is_some (open_wait y (n + 1))) (waits-alike x y n alike) ∙ ap (λ (b : Bool). one_waits x n || b) (alike.waits (n + 1))
+    ap (λ (b : Bool). b || is_some (open_wait y (n + 1))) (waits-alike x y n alike) ∙ ap (λ (b : Bool). one_waits x n || b) (alike.equivalent.waits (n + 1))
 
-lines-alike : (s : Stage) (past : Past) (n : ℕ) → AreAlike s.past past → waiting_lines (with_past s past) n ≡ waiting_lines s n
+lines-alike : (s : Stage) (past : Past) (n : ℕ) → Equivalent s.past past → waiting_lines (with_past s past) n ≡ waiting_lines s n
 lines-alike s past zero alike = refl
 lines-alike s past (suc n) alike =
     let line : Bool → List ℕ = λ b. if b then wait_text (wait_line_of s n) else [] in
     ap (λ (text : List ℕ). text ++ wait_of (with_past s past) n) (lines-alike s past n alike)
-    ∙ ap (λ (b : Bool). waiting_lines s n ++ line b) (alike.waits (n + 1))
+    ∙ ap (λ (b : Bool). waiting_lines s n ++ line b) (alike.equivalent.waits (n + 1))
 
-told-alike : (s : Stage) (past : Past) → AreAlike s.past past → told (with_past s past) ≡ told s
+told-alike : (s : Stage) (past : Past) → Equivalent s.past past → told (with_past s past) ≡ told s
 told-alike s past alike =
     let n = length s.programs in
     let build : Bool → List ℕ → Told = λ b lines. record { stage = s.phase; stuck = b; text = if b then lines else replies s.seats } in
     ap (λ (b : Bool). build b (waiting_lines (with_past s past) n)) (waits-alike s.past past n alike) ∙ ap (λ (lines : List ℕ). build (waits s) lines) (lines-alike s past n alike)
 
--- the lines to come stay plain ------------------------------------------------------------------------------------------------
-
-turned-begun : (lines : ℕ) (progress : Progress) (o : Option Scene) (t : Turned) → option_map (turned lines progress) o ≡ Some t → progress.begun ≤ t.progress.begun
-turned-begun lines progress None t h = cc
-turned-begun lines progress (Some scene) t h =
-    let e : turned lines progress scene ≡ t = cc in
-    let f : progress.begun + lines ≡ t.progress.begun = ap (λ (u : Turned). u.progress.begun) e in
-    omega (arith, f)
-
-turn-begun : (past : Past) (phase : ℕ) (p : Process) (progress : Progress) (program : Vec Planned Global) (t : Turned) → after_turn past phase p progress program ≡ Some t → progress.begun ≤ t.progress.begun
-turn-begun past phase p progress program t h =
-    let collects : Option Scene = after_call (scene_of past progress) p Collect [] in
-    let begins : Option Scene = option_and_then (after_line past phase p progress) (slice_get program.items progress.begun) in
-    let goes : (b : Bool) → (if b then option_map (turned 0 progress) collects else option_map (turned 1 progress) begins) ≡ Some t → progress.begun ≤ t.progress.begun =
-    λ (b : Bool). elim b as (λ b. (if b then option_map (turned 0 progress) collects else option_map (turned 1 progress) begins) ≡ Some t → progress.begun ≤ t.progress.begun)
-    [ true ↦ (λ h. turned-begun 0 progress collects t h) | false ↦ (λ h. turned-begun 1 progress begins t h) ]
-    in
-    goes (is_some (open_wait past p)) h
-
--- how far the process had come
-record Sat (s : Stage) (index : ℕ) (t : Turned) : Type 0 where
-  seat : Progress
-  sits : slice_get s.seats index ≡ Some seat
-  begun : seat.begun ≤ t.progress.begun
-
-sat-of : (s : Stage) (index : ℕ) (t : Turned) → turn_of s index ≡ Some t → Sat s index t
-sat-of s index t h =
-    let by_seat : Vec Planned Global → Option Progress → Option Turned = λ program o. option_and_then (λ (seat : Progress). after_turn s.past s.phase (index + 1) seat program) o in
-    let sits : (program : Vec Planned Global) (o : Option Progress) → slice_get s.seats index ≡ o → by_seat program o ≡ Some t → Sat s index t =
-    λ program. λ (o : Option Progress). elim o as (λ o. slice_get s.seats index ≡ o → by_seat program o ≡ Some t → Sat s index t) [
-      | None ↦ (λ e h. cc)
-      | Some seat ↦ (λ e h. record { seat = seat; sits = e; begun = turn-begun s.past s.phase (index + 1) seat program t h })
-    ]
-    in
-    let goes : (o : Option (Vec Planned Global)) → option_and_then (λ (program : Vec Planned Global). by_seat program (slice_get s.seats index)) o ≡ Some t → Sat s index t =
-    λ (o : Option (Vec Planned Global)). elim o as (λ o. option_and_then (λ (program : Vec Planned Global). by_seat program (slice_get s.seats index)) o ≡ Some t → Sat s index t)
-    [ None ↦ (λ h. cc) | Some program ↦ (λ h. sits program (slice_get s.seats index) refl h) ]
-    in
-    goes (slice_get s.programs index) h
-
-get-set_other : {A : Type 0} (xs : List A) (i j : ℕ) (a : A) → (j ≡ i → ⊥) → slice_get (slice_set xs i a) j ≡ slice_get xs j
-get-set_other [] i j a ne = refl
-get-set_other (x ∷ xs) zero zero a ne = absurd (ne refl)
-get-set_other (x ∷ xs) zero (suc j) a ne = refl
-get-set_other (x ∷ xs) (suc i) zero a ne = refl
-get-set_other (x ∷ xs) (suc i) (suc j) a ne = get-set_other xs i j a (λ e. ne (ap (λ (n : ℕ). suc n) e))
-
-get-set_same : {A : Type 0} (xs : List A) (i : ℕ) (a : A) → i < length xs → slice_get (slice_set xs i a) i ≡ Some a
-get-set_same [] i a below = absurd (omega arith)
-get-set_same (x ∷ xs) zero a below = refl
-get-set_same (x ∷ xs) (suc i) a below = get-set_same xs i a (omega arith)
-
-plain-turn : (s : Stage) (choice : ℕ) (t : Turned) → turn_of s choice ≡ Some t → ArePlain s → ArePlain (with_turn s choice t)
-plain-turn s choice t turns plain index program seat is sits at planned from lies =
-    let sat = sat-of s choice t turns in
-    split (index == choice)
-    (λ same.
-    let e : index ≡ choice = eqb-true index choice same in
-    let P : ℕ → Type 0 = λ i. slice_get (slice_set s.seats choice t.progress) i ≡ Some seat in
-    let there : slice_get (slice_set s.seats choice t.progress) choice ≡ Some seat = subst P e sits in
-    let new : slice_get (slice_set s.seats choice t.progress) choice ≡ Some t.progress = get-set_same s.seats choice t.progress (slice_get_within s.seats choice sat.seat sat.sits) in
-    let seat_is : t.progress ≡ seat = cc in
-    let begun : t.progress.begun ≡ seat.begun = ap (λ (q : Progress). q.begun) seat_is in
-    let Q : ℕ → Type 0 = λ i. slice_get s.seats i ≡ Some sat.seat in
-    plain index program sat.seat is (subst Q (sym e) sat.sits) at planned (omega (arith, sat.begun, begun, from)) lies)
-    (λ other.
-    let ne = eqb-false index choice other in
-    plain index program seat is (sym (get-set_other s.seats choice index t.progress ne) ∙ sits) at planned from lies)
-
-plain-phase : (s : Stage) → ArePlain s → ArePlain (in_next_phase s)
-plain-phase s plain index program seat is sits at planned from lies =
-    let clear : Progress → Progress = λ (q : Progress). record { begun = q.begun; text = [] } in
-    let there : option_map clear (slice_get s.seats index) ≡ Some seat = sym (slice_get-map clear s.seats index) ∙ sits in
-    let goes : (o : Option Progress) → slice_get s.seats index ≡ o → option_map clear o ≡ Some seat → is_plain_step planned.step ≡ true =
-    λ (o : Option Progress). elim o as (λ o. slice_get s.seats index ≡ o → option_map clear o ≡ Some seat → is_plain_step planned.step ≡ true) [
-      | None ↦ (λ e h. cc)
-      | Some old ↦ (λ e h.
-          let seat_is : clear old ≡ seat = cc in
-          let begun : old.begun ≡ seat.begun = ap (λ (q : Progress). q.begun) seat_is in
-          plain index program old is e at planned (omega (arith, begun, from)) lies)
-    ]
-    in
-    goes (slice_get s.seats index) refl there
-
 -- a choice ------------------------------------------------------------------------------------------------------------------
 
-turns-next : (s : Stage) (past : Past) (choice : ℕ) (o q : Option Turned) → length s.programs ≤ 32 → ((t : Turned) → o ≡ Some t → ArePlain (with_turn s choice t)) → AreBothAlike TurnsAlike o q →
+turns-next : (s : Stage) (past : Past) (choice : ℕ) (o q : Option Turned) → length s.programs ≤ 32 → AreBothAlike TurnsAlike o q →
     AreBothAlike AreStagesAlike (option_map (with_turn s choice) o) (option_map (with_turn (with_past s past) choice) q)
-turns-next s past choice None None few plain alike = tt
-turns-next s past choice (Some t) (Some u) few plain alike = record {
+turns-next s past choice None None few alike = tt
+turns-next s past choice (Some t) (Some u) few alike = record {
   few = few;
   differ = ap (λ (progress : Progress). with_turn s choice (let next : Turned = record { past = u.past; progress = progress } in next)) alike.progress;
-  plain = plain t refl;
   journals = alike.past;
 }
-turns-next s past choice None (Some u) few plain alike = absurd alike
-turns-next s past choice (Some t) None few plain alike = absurd alike
+turns-next s past choice None (Some u) few alike = absurd alike
+turns-next s past choice (Some t) None few alike = absurd alike
 
-over-alike : (s : Stage) (past : Past) → length s.programs ≤ 32 → ArePlain s → AreAlike s.past past → is_phase_over (with_past s past) ≡ is_phase_over s
-over-alike s past few plain alike =
+over-alike : (s : Stage) (past : Past) → length s.programs ≤ 32 → Equivalent s.past past → is_phase_over (with_past s past) ≡ is_phase_over s
+over-alike s past few alike =
     let n = length s.programs in
     let more = nat_lt (s.phase + 1) s.phases in
-    ap (λ (b : Bool). more && (b && not (waits (with_past s past)))) (none-alike s past n few plain alike) ∙ ap (λ (b : Bool). more && (stands_still s && not b)) (waits-alike s.past past n alike)
+    ap (λ (b : Bool). more && (b && not (waits (with_past s past)))) (none-alike s past n few alike) ∙ ap (λ (b : Bool). more && (stands_still s && not b)) (waits-alike s.past past n alike)
 
-phases-next : (s : Stage) (past : Past) → length s.programs ≤ 32 → ArePlain s → AreAlike s.past past → AreBothAlike AreStagesAlike (after_phase s) (after_phase (with_past s past))
-phases-next s past few plain alike =
+phases-next : (s : Stage) (past : Past) → length s.programs ≤ 32 → Equivalent s.past past → AreBothAlike AreStagesAlike (after_phase s) (after_phase (with_past s past))
+phases-next s past few alike =
     let after : Stage → Bool → Option Stage = λ x b. if b then Some (in_next_phase x) else None in
     let goes : (b : Bool) → AreBothAlike AreStagesAlike (after s b) (after (with_past s past) b) =
     λ (b : Bool). elim b as (λ b. AreBothAlike AreStagesAlike (after s b) (after (with_past s past) b)) [
-      | true ↦ record { few = few; differ = refl; plain = plain-phase s plain; journals = alike }
+      | true ↦ record { few = few; differ = refl; journals = alike }
       | false ↦ tt
     ]
     in
     let P : Bool → Type 0 = λ b. AreBothAlike AreStagesAlike (after s (is_phase_over s)) (after (with_past s past) b) in
-    subst P (sym (over-alike s past few plain alike)) (goes (is_phase_over s))
+    subst P (sym (over-alike s past few alike)) (goes (is_phase_over s))
 
-past-next : (s : Stage) (past : Past) (choice : ℕ) → length s.programs ≤ 32 → ArePlain s → AreAlike s.past past → AreBothAlike AreStagesAlike (next_stage s choice) (next_stage (with_past s past) choice)
-past-next s past choice few plain alike =
+past-next : (s : Stage) (past : Past) (choice : ℕ) → length s.programs ≤ 32 → Equivalent s.past past → AreBothAlike AreStagesAlike (next_stage s choice) (next_stage (with_past s past) choice)
+past-next s past choice few alike =
     let after : Stage → Bool → Option Stage = λ x b. if b then after_phase x else option_map (with_turn x choice) (turn_of x choice) in
     let goes : (b : Bool) → AreBothAlike AreStagesAlike (after s b) (after (with_past s past) b) =
     λ (b : Bool). elim b as (λ b. AreBothAlike AreStagesAlike (after s b) (after (with_past s past) b)) [
-      | true ↦ phases-next s past few plain alike
-      | false ↦ turns-next s past choice (turn_of s choice) (turn_of (with_past s past) choice) few (λ t is. plain-turn s choice t is plain) (turn_of-alike s past choice few plain alike)
+      | true ↦ phases-next s past few alike
+      | false ↦ turns-next s past choice (turn_of s choice) (turn_of (with_past s past) choice) few (turn_of-alike s past choice few alike)
     ]
     in
     goes (choice == length s.programs)
@@ -327,11 +243,11 @@ past-next s past choice few plain alike =
 pub stages-next : (x y : Stage) (choice : ℕ) → AreStagesAlike x y → AreBothAlike AreStagesAlike (next_stage x choice) (next_stage y choice)
 stages-next x y choice alike =
     let P : Stage → Type 0 = λ s. AreBothAlike AreStagesAlike (next_stage x choice) (next_stage s choice) in
-    subst P (sym alike.differ) (past-next x y.past choice alike.few alike.plain alike.journals)
+    subst P (sym alike.differ) (past-next x y.past choice alike.few alike.journals)
 
 pub stages-goal : (x y : Stage) → AreStagesAlike x y → stands_still x ≡ stands_still y
 stages-goal x y alike =
-    sym (none-alike x y.past (length x.programs) alike.few alike.plain alike.journals) ∙ ap stands_still (sym alike.differ)
+    sym (none-alike x y.past (length x.programs) alike.few alike.journals) ∙ ap stands_still (sym alike.differ)
 
 pub stages-told : (x y : Stage) → AreStagesAlike x y → told x ≡ told y
 stages-told x y alike = sym (told-alike x y.past alike.journals) ∙ ap told (sym alike.differ)
@@ -368,6 +284,5 @@ stages-key from x y key to_x to_y key_x key_y =
           ∙ ap (λ (n : ℕ). build x.programs n y.phase y.seats) phases
           ∙ ap (λ (n : ℕ). build x.programs x.phases n y.seats) phase
           ∙ ap (λ (seats : List Progress). build x.programs x.phases x.phase seats) parts.0;
-      plain = key_x.plain;
-      journals = same-key x.past y.past (are-legal from few to_x.0 x to_x.1) (are-legal from few to_y.0 y to_y.1) key_x.unregistered key_y.unregistered (sym parts.1);
+      journals = same-key x.past y.past (are-legal from few to_x.0 x to_x.1) (are-legal from few to_y.0 y to_y.1) (sym parts.1);
     }

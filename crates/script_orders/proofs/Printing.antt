@@ -10,10 +10,11 @@ use Rattle.mq_model.specs.declared.entries.Call.TheVariants.{MqOpen, MqClose, Mq
 use Rattle.mq_model.specs.declared.entries.Reply.{Reply}
 use Rattle.mq_model.specs.declared.entries.Reply.TheVariants.{Opened, Queued, Handed, Waits, Got, Collected, Attrs, Notice, Done, Refused, Withdrawn}
 use Rattle.placeless.specs.Views.{Message, at, sent, told}
-use Rattle.placeless.specs.Likeness.{AreAlike, is_plain}
-use Rattle.placeless.specs.Steps.{StepsAlike, message_given, record_of, shape}
+use Rattle.placeless.specs.Steps.{message_given, record_of, shape}
 use Rattle.placeless.proofs.Calls.{collected-at, is_other, never-collected}
 use Rattle.placeless.proofs.Effects.{is_collected}
+use Rattle.mq_equivalence.specs.Equivalence.{EquivalentUnder, StepsEquivalent}
+use Rattle.mq_equivalence.proofs.Going.{shape-outline}
 use Rattle.script_text.specs.Replies.{reply_line}
 use Rattle.script_text.specs.declared.reply.Outcome.TheVariants as outcomes
 use Rattle.script_orders.specs.Said.{said, said_of_collect, said_of_message}
@@ -84,9 +85,9 @@ said-alike : (x y : Past) (p : Process) (a b : Reply) → is_collected a ≡ fal
 said-alike x y p a b not_a not_b e f =
     said-shape y p b not_b ∙ ap (λ (r : Reply). said_of p r (message_given y b)) e ∙ ap (λ (m : Option Message). said_of p (shape a) m) f ∙ sym (said-shape x p a not_a)
 
-collect-said : (x y : Past) (r s : Record) (p : Process) → AreAlike x y → is_some (answered_by x p) ≡ true → is_some (answered_by y p) ≡ true →
+collect-said : (to : ℕ → ℕ) (x y : Past) (r s : Record) (p : Process) → EquivalentUnder to x y → is_some (answered_by x p) ≡ true → is_some (answered_by y p) ≡ true →
     said_of_collect (s ∷ y) p (unwrap_or (answered_by y p) 0) ≡ said_of_collect (r ∷ x) p (unwrap_or (answered_by x p) 0)
-collect-said x y r s p alike some_x some_y =
+collect-said to x y r s p alike some_x some_y =
     let e = collected-at y s p some_y in
     let f = collected-at x r p some_x in
     let same = alike.answered p in
@@ -96,25 +97,17 @@ collect-said x y r s p alike some_x some_y =
 
 -- a call ------------------------------------------------------------------------------------------------------------------
 
-other-said : (x y : Past) (p : Process) (call : Call) (given : List ℕ) → is_other call ≡ true → StepsAlike x y p call given →
-    said (record_of y p call given ∷ y) p (reply_to y p call given) ≡ said (record_of x p call given ∷ x) p (reply_to x p call given)
-other-said x y p call given other steps =
-    said-alike (record_of x p call given ∷ x) (record_of y p call given ∷ y) p (reply_to x p call given) (reply_to y p call given)
-    (never-collected x p call given other) (never-collected y p call given other) steps.reply steps.message
+pub shape-same : (to : ℕ → ℕ) (x y : Past) (p : Process) (call : Call) (given : List ℕ) → StepsEquivalent to x y p call given → shape (reply_to y p call given) ≡ shape (reply_to x p call given)
+shape-same to x y p call given steps = sym (shape-outline (reply_to y p call given)) ∙ ap shape steps.reply ∙ shape-outline (reply_to x p call given)
 
--- what is printed of a plain call after two journals that are alike
-pub call-said : (x y : Past) (p : Process) (call : Call) (given : List ℕ) → AreAlike x y → is_plain call ≡ true → may_call x p call ≡ true → may_call y p call ≡ true → StepsAlike x y p call given →
+other-said : (to : ℕ → ℕ) (x y : Past) (p : Process) (call : Call) (given : List ℕ) → is_other call ≡ true → StepsEquivalent to x y p call given →
     said (record_of y p call given ∷ y) p (reply_to y p call given) ≡ said (record_of x p call given ∷ x) p (reply_to x p call given)
-call-said x y p Collect given alike plain can_x can_y steps = collect-said x y (record_of x p Collect given) (record_of y p Collect given) p alike can_x can_y
-call-said x y p (MqClose d) given alike plain can_x can_y steps = other-said x y p (MqClose d) given plain steps
-call-said x y p (MqSend d prio len) given alike plain can_x can_y steps = other-said x y p (MqSend d prio len) given plain steps
-call-said x y p (MqReceive d room) given alike plain can_x can_y steps = other-said x y p (MqReceive d room) given plain steps
-call-said x y p (MqTimedSend d prio len until now) given alike plain can_x can_y steps = other-said x y p (MqTimedSend d prio len until now) given plain steps
-call-said x y p (MqTimedReceive d room until now) given alike plain can_x can_y steps = other-said x y p (MqTimedReceive d room until now) given plain steps
-call-said x y p (MqGetattr d) given alike plain can_x can_y steps = other-said x y p (MqGetattr d) given plain steps
-call-said x y p (MqSetattr d nonblock) given alike plain can_x can_y steps = other-said x y p (MqSetattr d nonblock) given plain steps
-call-said x y p (MqOpen flags attr) given alike plain can_x can_y steps = absurd (cc)
-call-said x y p MqUnlink given alike plain can_x can_y steps = absurd (cc)
-call-said x y p (MqNotify d value) given alike plain can_x can_y steps = absurd (cc)
-call-said x y p NextNotice given alike plain can_x can_y steps = absurd (cc)
-call-said x y p (Withdraw now) given alike plain can_x can_y steps = absurd (cc)
+other-said to x y p call given other steps =
+    said-alike (record_of x p call given ∷ x) (record_of y p call given ∷ y) p (reply_to x p call given) (reply_to y p call given)
+    (never-collected x p call given other) (never-collected y p call given other) (shape-same to x y p call given steps) steps.message
+
+-- what is printed of a call after two equivalent journals
+pub call-said : (to : ℕ → ℕ) (x y : Past) (p : Process) (call : Call) (given : List ℕ) → EquivalentUnder to x y → may_call x p call ≡ true → may_call y p call ≡ true → StepsEquivalent to x y p call given →
+    said (record_of y p call given ∷ y) p (reply_to y p call given) ≡ said (record_of x p call given ∷ x) p (reply_to x p call given)
+call-said to x y p Collect given alike can_x can_y steps = collect-said to x y (record_of x p Collect given) (record_of y p Collect given) p alike can_x can_y
+call-said to x y p call given alike can_x can_y steps = other-said to x y p call given refl steps

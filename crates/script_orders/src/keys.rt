@@ -1,36 +1,11 @@
-//! The numbers by which stages that are alike are found.
-ghost use Rattle.std.specs.Prelude.{◌≡◌, ◌++◌, OnOk, IsTrue};
+//! The numbers by which equivalent stages are found.
+ghost use Rattle.std.specs.Prelude.{◌≡◌, ◌++◌, OnOk};
 ghost use Rattle.placeless.specs.Key.{codes};
-ghost use Rattle.script_orders.specs.Likeness.{ArePlainFrom, is_plain_step, seat_code};
+ghost use Rattle.script_orders.specs.Likeness.{seat_code};
 
-use crate::plan::{Planned, Step};
 use crate::turn::Seat;
-use placeless::is_plain;
 use placeless::parts::push_bytes;
 use std::alloc::AllocError;
-
-// A step that makes plain calls alone.
-fn is_plain_step(step: Step) -> bool
-    ensures { result ≡ is_plain_step step }
-{
-    match step {
-        Step::Call(call) => is_plain(call),
-        Step::Refusal(_) => true,
-        Step::Exit => true,
-    }
-}
-
-/// All lines of a program from this one on are plain.
-pub fn are_plain_from(program: &[Planned], from: usize) -> bool
-    ensures { IsTrue result → ArePlainFrom program.now from }
-{
-    for at in from..program.len() {
-        if !is_plain_step(program[at].step) {
-            return false;
-        }
-    }
-    true
-}
 
 // How far a process has come, and what is printed of it.
 fn push_seat(key: &mut Vec<u64>, seat: &Seat) -> Result<(), AllocError>

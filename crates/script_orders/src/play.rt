@@ -1,16 +1,16 @@
 //! The processes of a script as a machine: a choice is the process that goes on, and the last one begins the next phase.
-ghost use Rattle.script_orders.specs.Likeness.{ArePlain, stage_code};
+ghost use Rattle.script_orders.specs.Likeness.{stage_code};
 ghost use Rattle.script_orders.specs.Orders.{AreLegal};
 ghost use Rattle.script_orders.specs.Stage.{first_stage, fresh, is_phase_over, next_stage, none_can_turn, one_waits, replies, seats_cleared, turn_of, wait_line_of, wait_of, waiting_lines, with_turn};
 ghost use Rattle.std.specs.Option.{option_map};
 ghost use Rattle.std.specs.Prelude.{◌≡◌, ◌≤◌, ◌<◌, ◌+◌, ◌^◌, [], ◌++◌, IfOk, OnOk, IsTrue, IsFalse, Some, None, is_some, length, replicate, vec_len, map};
 
-use crate::keys::{are_plain_from, push_seats};
+use crate::keys::push_seats;
 use crate::plan::Planned;
 use crate::turn::{Seat, can_turn, turn};
 use mq_model::journals::Journal;
 use mq_state::trail::Trail;
-use placeless::{is_unregistered, key_of};
+use placeless::key_of;
 use schedules::keyed::Keyed;
 use schedules::machine::Machine;
 use schedules::outcomes::{Outcome, Telling, TellsAlike};
@@ -256,19 +256,6 @@ impl Play {
         left
     }
 
-    // All lines that the processes have not begun are plain.
-    fn are_plain(&self) -> bool
-        ensures { IsTrue result → ArePlain self.now }
-    {
-        for index in 0..self.programs.len() {
-            if !are_plain_from(&self.programs[index], self.seats[index].begun()) {
-                return false;
-            }
-        }
-        true
-    }
-
-    // The key of the stage, where it has one.
     fn stage_key(&self, alloc: Global) -> Result<Vec<u64>, AllocError>
         ensures { IfOk result (λ key. key.items ≡ stage_code self.now) }
     {
@@ -366,10 +353,7 @@ impl Keyed for Play {
     ghost IsKey = { IsStageKey };
 
     fn key(&self, alloc: Global) -> Result<Option<Vec<u64>>, AllocError> {
-        if self.lines_left() < WORTH_A_KEY
-            || !self.are_plain()
-            || !is_unregistered(self.trail.journal())
-        {
+        if self.lines_left() < WORTH_A_KEY {
             return Ok(None);
         }
         Ok(Some(self.stage_key(alloc)?))

@@ -1,14 +1,12 @@
-use Rattle.std.proofs.Common.{◌++◌, ◌∙◌, ap, arith}
-use Rattle.mq_model.specs.Descriptors.{numbers_from}
-use Rattle.placeless.specs.Key.{listed, process_code}
+use Rattle.std.proofs.Common.{arith}
+use Rattle.placeless.specs.Key.{process_code}
 use Rattle.placeless.proofs.Appends.{code-more, codes-numbers, numbered-done}
 use Rattle.placeless.proofs.parts.push_processes.Goals as goal
 
 pub loop-p-preserved : goal.loop-p-preserved
 loop-p-preserved c =
-    code-more _ _ _ _ _ _ c.loop-p.invariant (codes-numbers (process_code c.args.journal.now.records) c.loop-p.p c.process_bound-count.result (omega arith)) c.in_ok-push_process.ensures
+    code-more _ _ _ _ _ _ c.loop-p.invariant (codes-numbers (process_code c.args.width c.args.journal.now.records) c.loop-p.p c.args.count (omega arith)) c.in_ok-push_process.ensures
 
 pub returns : goal.returns
 returns c =
-    numbered-done (process_code c.args.journal.now.records) c.loop-p.key.items _ c.args.key.now.items c.process_bound-count.result c.loop-p.p c.loop-p.invariant c.loop-p-test.false c.in_ok-push_number.ensures
-    ∙ ap (λ n. c.args.key.now.items ++ listed (process_code c.args.journal.now.records) (numbers_from 0 n)) c.process_bound-count.ensures.value
+    numbered-done (process_code c.args.width c.args.journal.now.records) c.loop-p.key.items _ c.args.key.now.items c.args.count c.loop-p.p c.loop-p.invariant c.loop-p-test.false c.in_ok-push_number.ensures
