@@ -1,5 +1,4 @@
 //! The processes of a script as a machine: a choice is the process that goes on, and the last one begins the next phase.
-ghost use Rattle.script_orders.specs.Likeness.{stage_code};
 ghost use Rattle.script_orders.specs.Orders.{AreLegal};
 ghost use Rattle.script_orders.specs.Stage.{first_stage, fresh, is_phase_over, next_stage, none_can_turn, one_waits, replies, seats_cleared, turn_of, wait_line_of, wait_of, waiting_lines, with_turn};
 ghost use Rattle.std.specs.Option.{option_map};
@@ -255,18 +254,6 @@ impl Play {
         }
         left
     }
-
-    fn stage_key(&self, alloc: Global) -> Result<Vec<u64>, AllocError>
-        ensures { IfOk result (λ key. key.items ≡ stage_code self.now) }
-    {
-        let mut key = Vec::new(alloc);
-        key.push(self.phase)?;
-        key.push(self.seats.len() as u64)?;
-        push_seats(&mut key, &self.seats)?;
-        let past = key_of(alloc, self.trail.journal())?;
-        key.extend_from_slice(&past)?;
-        Ok(key)
-    }
 }
 
 impl Machine for Play {
@@ -356,7 +343,13 @@ impl Keyed for Play {
         if self.lines_left() < WORTH_A_KEY {
             return Ok(None);
         }
-        Ok(Some(self.stage_key(alloc)?))
+        let mut key = Vec::new(alloc);
+        key.push(self.phase)?;
+        key.push(self.seats.len() as u64)?;
+        push_seats(&mut key, &self.seats)?;
+        let past = key_of(alloc, self.trail.journal())?;
+        key.extend_from_slice(&past)?;
+        Ok(Some(key))
     }
 
     fn keeps_alike(&self) {
