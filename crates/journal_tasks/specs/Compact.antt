@@ -4,6 +4,7 @@ use Rattle.std.specs.Io.KnownBytes as known
 use Rattle.text_io.specs.Output.{AppendsTooLittle}
 use Rattle.mq_model.specs.Legality.{Legal, IsFirstIllegal}
 use Rattle.mq_model.specs.Record.{Past}
+use Rattle.mq_equivalence.specs.Equivalence.{Equivalent}
 use Rattle.journal_format.specs.Fitting.{AllFit}
 use Rattle.journal_format.specs.Text.{journal_text}
 use Rattle.journal_tasks.specs.declared.compact.NoShort.{NoShort}
@@ -15,9 +16,11 @@ Explains past (Illegal place) = IsFirstIllegal past place
 Explains past Served = Legal past
 Explains past Unexpected = Legal past
 
--- known bytes have grown by the text of a legal journal, or are as they were and there is a reason
+-- known bytes have grown by the text of a journal that is equivalent to this one, or are as they were
+-- and there is a reason
 abbrev pub IsWritten : Past → Option NoShort → Option (List ℕ) → Option (List ℕ) → Type 0
-IsWritten past None old new = Legal past × ((short : Past) × Legal short × known.Appends old new (journal_text short))
+IsWritten past None old new =
+    (short : Past) × Equivalent past short × known.Appends old new (journal_text short)
 IsWritten past (Some why) old new = Explains past why × (new ≡ old)
 
 -- the same of the journal whose text these bytes are

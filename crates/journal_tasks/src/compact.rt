@@ -1,6 +1,6 @@
 //! A journal, from its bytes to a short one that leaves an equivalent state.
 ghost use Rattle.std.specs.Prelude.{◌≡◌, ◌+◌, ℕ, List, IfOk, IsErrOf, MatchResult, Some, take};
-ghost use Rattle.mq_model.specs.Legality.{Legal};
+ghost use Rattle.mq_equivalence.specs.Equivalence.{Equivalent};
 ghost use Rattle.journal_format.specs.JournalFault.{IsAtFault};
 ghost use Rattle.journal_format.specs.Lines.{ReadsUpTo};
 ghost use Rattle.journal_tasks.specs.Compact.{Compacts, CompactsInPart, Explains};
@@ -10,6 +10,7 @@ use crate::fault::LogFault;
 use journal_format::input::read_input;
 use journal_format::lines::MOST_BYTES;
 use journal_format::text::write_journal;
+use mq_equivalence::are_equivalent;
 use mq_model::journals::Journal;
 use mq_model::limits::PROCESSES;
 use mq_state::books::Books;
@@ -27,7 +28,8 @@ pub enum NoShort {
     Illegal(u64),
     /// A wait is served, and its process has not collected what it came to.
     Served,
-    /// A call of the short journal was not replied to as wanted, which never happened yet.
+    /// The journal that was made is not equivalent, or a call in it had another reply than wanted.
+    /// Neither has happened yet.
     Unexpected,
 }
 
@@ -84,7 +86,7 @@ pub fn compact_journal<R: Read, W: Write>(
 // A short journal in place of this one, or why there is none. The error is that memory was refused.
 fn short_of(alloc: Global, journal: Journal) -> Result<Result<Journal, NoShort>, AllocError>
     ensures { IfOk result (λ r. MatchResult r
-        (λ short. Legal journal.records × Legal short.records) (Explains journal.records)) }
+        (λ short. Equivalent journal.records short.records) (Explains journal.records)) }
 {
     if let Some(departure) = replay(alloc, &journal)? {
         return Ok(Err(NoShort::Illegal(departure.place)));
@@ -93,7 +95,13 @@ fn short_of(alloc: Global, journal: Journal) -> Result<Result<Journal, NoShort>,
         return Err(AllocError);
     };
     match books.rewritten(alloc) {
-        Ok(short) => Ok(Ok(short)),
+        Ok(short) => {
+            if are_equivalent(alloc, &books.into_journal(), &short)? {
+                Ok(Ok(short))
+            } else {
+                Ok(Err(NoShort::Unexpected))
+            }
+        }
         Err(Unwritten::NoMemory) => Err(AllocError),
         Err(Unwritten::Answered) => Ok(Err(NoShort::Served)),
         Err(Unwritten::Unexpected) => Ok(Err(NoShort::Unexpected)),

@@ -95,3 +95,66 @@ static TURNS: &str = "processes 3
 fn sends_and_receives_by_turns(rt: HostRuntime) -> Result<(), Fail> {
     has(&rt, rt.alloc(), TURNS, 100_000, (90, 0))
 }
+
+// Sixteen sends to a queue with room for twenty, and an unlink after them.
+static SENDS_THEN_UNLINK: &str = "processes 4
+1 open /q bc 20 8
+--
+2 open /q b
+3 open /q b
+4 open /q b
+--
+1 send 0 0 a
+1 send 0 0 a
+1 send 0 0 a
+1 send 0 0 a
+2 send 0 0 a
+2 send 0 0 a
+2 send 0 0 a
+2 send 0 0 a
+3 send 0 0 a
+3 send 0 0 a
+3 send 0 0 a
+3 send 0 0 a
+4 send 0 0 a
+4 send 0 0 a
+4 send 0 0 a
+4 send 0 0 a
+--
+1 unlink /q
+";
+
+#[test]
+fn an_unlink_to_come_leaves_equivalent_states_merged(rt: HostRuntime) -> Result<(), Fail> {
+    has(&rt, rt.alloc(), SENDS_THEN_UNLINK, 100_000, (1, 0))
+}
+
+// Four processes that each create a queue of their own and send to it: wherever in the order a queue
+// was created, the states are equivalent if the same queues exist in the same order.
+static CREATIONS: &str = "processes 4
+1 open /a bc 4 8
+2 open /b bc 4 8
+3 open /c bc 4 8
+4 open /d bc 4 8
+--
+1 notify 0 7
+2 notify 0 8
+--
+1 send 0 0 a
+2 send 0 0 a
+3 send 0 0 a
+4 send 0 0 a
+1 recv 0 8
+2 recv 0 8
+3 recv 0 8
+4 recv 0 8
+1 notice
+2 notice
+1 unlink /a
+2 unlink /b
+";
+
+#[test]
+fn registrations_and_notices_leave_equivalent_states_merged(rt: HostRuntime) -> Result<(), Fail> {
+    has(&rt, rt.alloc(), CREATIONS, 1_000_000, (1, 0))
+}

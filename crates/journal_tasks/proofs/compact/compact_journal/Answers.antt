@@ -14,24 +14,24 @@ returns-in_err-journal-clause-bad_line g c = λ all line known bad.
 
 pub returns-in_err-write_all-in-Ok-clause-output : goal.returns-in_err-write_all-in-Ok-clause-output
 returns-in_err-write_all-in-Ok-clause-output g c = λ failed.
-    let both = rw c.in-Ok.is at c.in_ok-short.ensures in
+    let equivalent = rw c.in-Ok.is at c.in_ok-short.ensures in
     let text : c.as_slice.result.now ≡ journal_text c.in-Ok.short.records = c.as_slice.ensures.value ∙ c.in_ok-text-in-Ok.ensures.text in
     record {
       short = c.in-Ok.short.records;
-      legal = both.1;
+      legal = equivalent.equivalent.legal.1;
       written = rw text at c.in_err-write_all-in-Ok.ensures.failed;
     }
 
 pub returns-in_ok-write_all-in-Ok-clause-done : goal.returns-in_ok-write_all-in-Ok-clause-done
 returns-in_ok-write_all-in-Ok-clause-done g c = λ all known.
     let found = c.in_ok-journal.ensures.found all known in
-    let both = rw c.in-Ok.is at c.in_ok-short.ensures in
+    let equivalent = rw c.in-Ok.is at c.in_ok-short.ensures in
     let text : c.as_slice.result.now ≡ journal_text c.in-Ok.short.records = c.as_slice.ensures.value ∙ c.in_ok-text-in-Ok.ensures.text in
     record {
       past = c.in_ok-journal.journal.records;
       fits = found.0;
       text = found.1;
-      written = (both.0, (c.in-Ok.short.records, both.1, rw text at c.in_ok-write_all-in-Ok.ensures.whole));
+      written = (c.in-Ok.short.records, equivalent, rw text at c.in_ok-write_all-in-Ok.ensures.whole);
     }
 
 pub returns-in-Err-clause-done : goal.returns-in-Err-clause-done
