@@ -16,10 +16,10 @@ use Rattle.mq_model.specs.declared.faults.Fault.{Fault}
 use Rattle.mq_model.proofs.Cases.{Says, reply_says}
 use Rattle.mq_model.proofs.Frames.{record_at-older}
 use Rattle.mq_model.proofs.Places.{split}
-use Rattle.placeless.specs.Views.{Message, answer, at, sent, told}
-use Rattle.placeless.specs.Steps.{message_given, record_of, shape}
-use Rattle.placeless.proofs.Calls.{is_other, message-older, never-collected}
-use Rattle.placeless.proofs.Effects.{answered-below, is_collected}
+use Rattle.mq_equivalence.specs.Views.{Message, answer, at, sent, told}
+use Rattle.mq_equivalence.specs.Steps.{message_given, record_of, shape}
+use Rattle.mq_equivalence.proofs.Calls.{is_other, message-older, never-collected}
+use Rattle.mq_equivalence.proofs.Effects.{answered-below, is_collected}
 use Rattle.mq_equivalence.specs.Equivalence.{EquivalentUnder, StepsEquivalent}
 use Rattle.mq_equivalence.proofs.Going.{shape-outline}
 use Rattle.histories.specs.declared.operation.Outcome.{Outcome}

@@ -14,11 +14,11 @@ use Rattle.mq_model.specs.declared.entries.Deadline.{Deadline}
 use Rattle.mq_state.specs.Trails.{can_call, record_of_call, with_call}
 use Rattle.orders.specs.Programs.{ends_wait, made}
 use Rattle.orders.proofs.Ordering.{legal-of}
-use Rattle.placeless.specs.Key.{key_of}
-use Rattle.placeless.proofs.Calls.{can-alike}
+use Rattle.mq_equivalence.specs.Key.{key_of}
+use Rattle.mq_equivalence.proofs.Calls.{can-alike}
 use Rattle.mq_equivalence.specs.Equivalence.{Equivalent}
 use Rattle.mq_equivalence.specs.Structure.{extended}
-use Rattle.mq_equivalence.proofs.Keys.{same-key}
+use Rattle.mq_equivalence.proofs.SameKeys.{same-key}
 use Rattle.mq_equivalence.proofs.Runs.{steps-equivalent}
 use Rattle.schedules.specs.Likeness.{AreBothAlike}
 use Rattle.schedules.specs.Schedules.{IsReached}

@@ -1,7 +1,7 @@
 -- Stages of one history from which the same can come, and their keys.
 use Rattle.std.specs.Prelude.{◌≡◌, ◌<◌, ℕ, zero, suc, ◌+◌, List, ◌∷◌, length}
 use Rattle.mq_model.specs.Record.{Past}
-use Rattle.placeless.specs.Key.{key_of}
+use Rattle.mq_equivalence.specs.Key.{key_of}
 use Rattle.mq_equivalence.specs.Equivalence.{Equivalent}
 use Rattle.orders.specs.Programs.{made}
 use Rattle.histories.specs.Stage.{Stage, with_past}

@@ -10,7 +10,7 @@ use crate::fault::LogFault;
 use journal_format::input::read_input;
 use journal_format::lines::MOST_BYTES;
 use journal_format::text::write_journal;
-use mq_equivalence::are_equivalent;
+use mq_equivalence::keys::are_equivalent;
 use mq_model::journals::Journal;
 use mq_model::limits::PROCESSES;
 use mq_state::books::Books;

@@ -13,8 +13,8 @@ use Rattle.mq_model.proofs.Cases.{Says, reply_says}
 use Rattle.mq_model.proofs.HeldQueues.{called-alive}
 use Rattle.mq_model.proofs.LegalReplies.{legal_says}
 use Rattle.mq_model.proofs.NamedWaits.{blocked-once}
-use Rattle.placeless.specs.Views.{Message}
-use Rattle.placeless.proofs.Falling.{pick, top}
+use Rattle.mq_equivalence.specs.Views.{Message}
+use Rattle.mq_equivalence.proofs.Falling.{pick, top}
 use Rattle.mq_equivalence.specs.Outline.{outline}
 use Rattle.mq_equivalence.specs.Runs.{Request}
 use Rattle.mq_equivalence.proofs.Structure.{alive-below}
@@ -109,7 +109,7 @@ module _ (past : Past) (a b : Request) (t : Two past a b) where
   same-b : outline (reply_of between b) ≡ outline (reply_of past b)
   same-b = reply-same past between b.process held-b b.call b.given t.apart.calls.1 notices-b at-b
 
-  shaped-b : Rattle.placeless.specs.Steps.shape (reply_of between b) ≡ Rattle.placeless.specs.Steps.shape (reply_of past b)
+  shaped-b : Rattle.mq_equivalence.specs.Steps.shape (reply_of between b) ≡ Rattle.mq_equivalence.specs.Steps.shape (reply_of past b)
   shaped-b = shapes (reply_of past b) (reply_of between b) same-b
 
   told-b : notified_registration between b.process b.call (reply_of between b) ≡ notified_registration past b.process b.call (reply_of past b)

@@ -25,11 +25,11 @@ use Rattle.mq_model.proofs.Alive.{rec}
 use Rattle.mq_model.proofs.NamedWaits.{least-in}
 use Rattle.mq_model.proofs.OpenWaits.{open_wait-process}
 use Rattle.mq_model.proofs.Waiters.{waiter}
-use Rattle.placeless.specs.Views.{Message, Registered, Sender, answer, at, author, contents, receivers, registered_as, sender, senders}
-use Rattle.placeless.specs.Steps.{shape}
-use Rattle.placeless.proofs.Falling.{least-oldest, oldest}
-use Rattle.placeless.proofs.Changes.{falls-receivers, falls-senders, got-all, handed-all}
-use Rattle.placeless.proofs.Effects.{after_answer, after_contents, after_receivers, after_senders, answer-step, answers, called, contents-step, is_collected, is_withdrawn, receivers-step, senders-step, told_of}
+use Rattle.mq_equivalence.specs.Views.{Message, Registered, Sender, answer, at, author, contents, receivers, registered_as, sender, senders}
+use Rattle.mq_equivalence.specs.Steps.{shape}
+use Rattle.mq_equivalence.proofs.Falling.{least-oldest, oldest}
+use Rattle.mq_equivalence.proofs.Changes.{falls-receivers, falls-senders, got-all, handed-all}
+use Rattle.mq_equivalence.proofs.Effects.{after_answer, after_contents, after_receivers, after_senders, answer-step, answers, called, contents-step, is_collected, is_withdrawn, receivers-step, senders-step, told_of}
 use Rattle.mq_equivalence.proofs.Notified.{after_notices, gain}
 use Rattle.mq_equivalence.proofs.Registrations.{after_registered, registered-step}
 use Rattle.mq_commutation.specs.Independence.{only_reads, whose_notices_by, notified_registration}

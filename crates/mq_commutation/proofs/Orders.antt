@@ -21,10 +21,10 @@ use Rattle.mq_model.proofs.Frames.{created-below, filter-same}
 use Rattle.mq_model.proofs.LegalReplies.{legal_says}
 use Rattle.mq_model.proofs.Alive.{is_held-same, name_of-older, rec}
 use Rattle.mq_state.specs.Buffers.{room_of, waiting_room}
-use Rattle.placeless.specs.Views.{Message, answer}
-use Rattle.placeless.specs.Steps.{message_given}
-use Rattle.placeless.proofs.Calls.{collected-alike}
-use Rattle.placeless.proofs.Alike.{payload-alike, refused-alike}
+use Rattle.mq_equivalence.specs.Views.{Message, answer}
+use Rattle.mq_equivalence.specs.Steps.{message_given}
+use Rattle.mq_equivalence.proofs.Calls.{collected-alike}
+use Rattle.mq_equivalence.proofs.Alike.{payload-alike, refused-alike}
 use Rattle.mq_equivalence.specs.Structure.{renumbered}
 use Rattle.mq_equivalence.specs.Outline.{outline}
 use Rattle.mq_equivalence.specs.Runs.{Request, after_calls}
@@ -186,7 +186,7 @@ module _ (past : Past) (a b : Request) (t : Order past a b) where
   pub legal-mid : Legal mid
   legal-mid = (t.legal, t.first)
 
-  pub shaped-b : Rattle.placeless.specs.Steps.shape (reply_of mid b) ≡ Rattle.placeless.specs.Steps.shape (reply_of past b)
+  pub shaped-b : Rattle.mq_equivalence.specs.Steps.shape (reply_of mid b) ≡ Rattle.mq_equivalence.specs.Steps.shape (reply_of past b)
   shaped-b = shapes (reply_of past b) (reply_of mid b) t.reply
 
   pub paid-b : paid mid b ≡ paid past b

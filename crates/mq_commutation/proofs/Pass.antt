@@ -19,10 +19,10 @@ use Rattle.mq_model.proofs.Cases.{Says, reply_says}
 use Rattle.mq_model.proofs.HeldQueues.{called-alive}
 use Rattle.mq_model.proofs.LegalReplies.{legal_says}
 use Rattle.mq_model.proofs.Alive.{rec}
-use Rattle.placeless.specs.Views.{Message, Registered, Sender, at, author, contents, receivers, registered_as, sender, senders, sent}
-use Rattle.placeless.proofs.Effects.{after_contents, after_receivers, after_senders, contents-step, is-best, message_of, receivers-step, senders-step}
-use Rattle.placeless.proofs.Falling.{any, any-least, has, pick, prio_of, top, top-best, unpicked}
-use Rattle.placeless.proofs.Changes.{got-all}
+use Rattle.mq_equivalence.specs.Views.{Message, Registered, Sender, at, author, contents, receivers, registered_as, sender, senders, sent}
+use Rattle.mq_equivalence.proofs.Effects.{after_contents, after_receivers, after_senders, contents-step, is-best, message_of, receivers-step, senders-step}
+use Rattle.mq_equivalence.proofs.Falling.{any, any-least, has, pick, prio_of, top, top-best, unpicked}
+use Rattle.mq_equivalence.proofs.Changes.{got-all}
 use Rattle.mq_equivalence.proofs.Registrations.{after_registered, registered-step}
 use Rattle.mq_model.proofs.Frames.{attributes-older}
 use Rattle.mq_model.specs.Ladder.{is_full_with}

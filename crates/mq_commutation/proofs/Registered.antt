@@ -15,7 +15,7 @@ use Rattle.mq_model.specs.declared.entries.Reply.TheVariants.{Opened, Queued, Ha
 use Rattle.mq_model.proofs.Places.{split}
 use Rattle.mq_model.proofs.Presence.{place-is}
 use Rattle.mq_model.proofs.OpenReplies.{lowest_free-is, opened-says}
-use Rattle.placeless.specs.Views.{Registered, registered_as}
+use Rattle.mq_equivalence.specs.Views.{Registered, registered_as}
 use Rattle.mq_equivalence.proofs.Notified.{viewed}
 
 -- the descriptor is held, and of this queue

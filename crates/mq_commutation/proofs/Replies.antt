@@ -18,9 +18,9 @@ use Rattle.mq_model.specs.declared.entries.Call.{Call}
 use Rattle.mq_model.specs.declared.entries.Call.TheVariants.{MqClose, MqSend, MqReceive, MqTimedSend, MqTimedReceive, MqGetattr, MqSetattr, MqNotify, NextNotice, Collect}
 use Rattle.mq_model.specs.declared.faults.Fault.TheVariants.{Again, Busy, Invalid}
 use Rattle.mq_model.specs.declared.entries.Reply.TheVariants.{Queued, Notice, Done, Refused}
-use Rattle.placeless.specs.Views.{Message, Registered, Sender, at, author, contents, receivers, registered_as, sender, senders, sent}
+use Rattle.mq_equivalence.specs.Views.{Message, Registered, Sender, at, author, contents, receivers, registered_as, sender, senders, sent}
 use Rattle.mq_equivalence.specs.Outline.{outline}
-use Rattle.placeless.proofs.Falling.{any, any-least}
+use Rattle.mq_equivalence.proofs.Falling.{any, any-least}
 use Rattle.mq_equivalence.proofs.Replies.{registered-some}
 use Rattle.mq_equivalence.proofs.Replies.{SameQueue, any-map, best-any, found-shape, hidden-same, placed-some, receive-shape, receive_with, send-shape, send_with, shape-if, timed-shape}
 use Rattle.mq_commutation.specs.Commuting.{is_covered}

@@ -14,13 +14,13 @@ use Rattle.mq_model.proofs.Frames.{attributes-older}
 use Rattle.mq_model.proofs.Cases.{Says}
 use Rattle.mq_model.proofs.LegalReplies.{legal_says}
 use Rattle.mq_model.proofs.Alive.{rec}
-use Rattle.placeless.specs.Views.{contents, receivers, registered_as, senders}
-use Rattle.placeless.specs.Steps.{message_given, shape}
-use Rattle.placeless.proofs.Falling.{pick, top}
-use Rattle.placeless.proofs.Changes.{got-all}
-use Rattle.placeless.proofs.Effects.{after_contents, after_receivers, after_senders, called, contents-step, receivers-step, senders-step}
-use Rattle.placeless.proofs.Alike.{contents-shape, receivers-shape, senders-shape, wait-shape}
-use Rattle.placeless.proofs.Calls.{got-message}
+use Rattle.mq_equivalence.specs.Views.{contents, receivers, registered_as, senders}
+use Rattle.mq_equivalence.specs.Steps.{message_given, shape}
+use Rattle.mq_equivalence.proofs.Falling.{pick, top}
+use Rattle.mq_equivalence.proofs.Changes.{got-all}
+use Rattle.mq_equivalence.proofs.Effects.{after_contents, after_receivers, after_senders, called, contents-step, receivers-step, senders-step}
+use Rattle.mq_equivalence.proofs.Alike.{contents-shape, receivers-shape, senders-shape, wait-shape}
+use Rattle.mq_equivalence.proofs.Calls.{got-message}
 use Rattle.mq_equivalence.specs.Outline.{outline}
 use Rattle.mq_equivalence.proofs.Registrations.{after_registered, registered-step}
 use Rattle.mq_equivalence.proofs.Going.{shape-outline}

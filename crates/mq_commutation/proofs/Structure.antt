@@ -10,7 +10,7 @@ use Rattle.mq_model.specs.declared.entries.Call.TheVariants.{MqOpen, MqClose, Mq
 use Rattle.mq_model.specs.declared.entries.Reply.{Reply}
 use Rattle.mq_model.specs.declared.entries.Reply.TheVariants.{Opened, Queued, Handed, Waits, Got, Collected, Attrs, Notice, Done, Refused, Withdrawn}
 use Rattle.mq_model.proofs.Alive.{rec}
-use Rattle.placeless.specs.Steps.{shape}
+use Rattle.mq_equivalence.specs.Steps.{shape}
 use Rattle.mq_commutation.specs.Commuting.{is_covered}
 
 by-and : (b : Bool) → (b && false) ≡ false

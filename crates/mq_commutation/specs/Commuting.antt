@@ -4,7 +4,7 @@ use Rattle.mq_model.specs.Record.{Record, Past}
 use Rattle.mq_model.specs.Legality.{IsLegalNext}
 use Rattle.mq_model.specs.declared.entries.Call.{Call}
 use Rattle.mq_model.specs.declared.entries.Call.TheVariants.{MqOpen, MqUnlink, Withdraw}
-use Rattle.placeless.specs.Steps.{message_collected, message_given, record_of}
+use Rattle.mq_equivalence.specs.Steps.{message_collected, message_given, record_of}
 use Rattle.mq_equivalence.specs.Outline.{outline}
 use Rattle.mq_equivalence.specs.Equivalence.{Equivalent}
 use Rattle.mq_equivalence.specs.Runs.{Request, after_calls}

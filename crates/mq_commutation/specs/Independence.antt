@@ -12,7 +12,7 @@ use Rattle.mq_model.specs.declared.entries.Call.{Call}
 use Rattle.mq_model.specs.declared.entries.Call.TheVariants.{MqOpen, MqClose, MqUnlink, MqGetattr, MqSetattr, NextNotice, Withdraw}
 use Rattle.mq_model.specs.declared.entries.Reply.{Reply}
 use Rattle.mq_model.specs.declared.entries.Reply.TheVariants.{Queued, Got}
-use Rattle.placeless.specs.Views.{Registered, registered_as}
+use Rattle.mq_equivalence.specs.Views.{Registered, registered_as}
 use Rattle.mq_equivalence.specs.Runs.{Request}
 
 abbrev pub reply_of : Past → Request → Reply

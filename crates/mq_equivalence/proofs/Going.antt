@@ -25,11 +25,11 @@ use Rattle.mq_model.proofs.Cases.{Says}
 use Rattle.mq_model.proofs.PresentFew.{present-new}
 use Rattle.mq_model.proofs.Alive.{needed-alive, rec}
 use Rattle.mq_state.specs.Buffers.{room_of, waiting_room}
-use Rattle.placeless.specs.Views.{Registered, at, author, contents, receivers, registered_as, sender, senders, sent}
-use Rattle.placeless.specs.Steps.{record_of, shape}
-use Rattle.placeless.proofs.Falling.{Falls}
-use Rattle.placeless.proofs.Effects.{after_contents, contents-step}
-use Rattle.placeless.proofs.Alike.{contents-shape, payload-alike, wait-shape}
+use Rattle.mq_equivalence.specs.Views.{Registered, at, author, contents, receivers, registered_as, sender, senders, sent}
+use Rattle.mq_equivalence.specs.Steps.{record_of, shape}
+use Rattle.mq_equivalence.proofs.Falling.{Falls}
+use Rattle.mq_equivalence.proofs.Effects.{after_contents, contents-step}
+use Rattle.mq_equivalence.proofs.Alike.{contents-shape, payload-alike, wait-shape}
 use Rattle.mq_equivalence.specs.Structure.{SameStructure, extended, renumbered}
 use Rattle.mq_equivalence.specs.Outline.{unnumbered, outline}
 use Rattle.mq_equivalence.specs.Equivalence.{EquivalentUnder}

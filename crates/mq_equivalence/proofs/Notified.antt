@@ -15,7 +15,7 @@ use Rattle.mq_model.specs.declared.entries.Reply.TheVariants.{Opened, Queued, Ha
 use Rattle.mq_model.proofs.Cases.{Says}
 use Rattle.mq_model.proofs.Alive.{rec}
 use Rattle.mq_model.proofs.NoticeSteps.{notices-given, notices-notified, notices-same}
-use Rattle.placeless.specs.Views.{Registered, registered_as}
+use Rattle.mq_equivalence.specs.Views.{Registered, registered_as}
 
 abbrev pub viewed : Registration → Registered
 viewed n = record { process = n.process; d = n.d; value = n.value }

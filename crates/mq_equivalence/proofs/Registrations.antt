@@ -15,7 +15,7 @@ use Rattle.mq_model.proofs.Places.{split}
 use Rattle.mq_model.proofs.Alive.{rec}
 use Rattle.mq_model.proofs.NoticeSteps.{made-of, only-some, registered-made}
 use Rattle.mq_model.proofs.Presence.{place-is, sent_to}
-use Rattle.placeless.specs.Views.{Registered, registered_as}
+use Rattle.mq_equivalence.specs.Views.{Registered, registered_as}
 use Rattle.mq_equivalence.proofs.Notified.{notifies, viewed}
 use Rattle.mq_model.proofs.LegalReplies.{legal_says}
 

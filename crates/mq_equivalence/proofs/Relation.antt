@@ -10,8 +10,8 @@ use Rattle.mq_model.specs.Legality.{Legal}
 use Rattle.mq_model.specs.declared.entries.Description.{Description}
 use Rattle.mq_model.proofs.Places.{split}
 use Rattle.mq_model.proofs.HeldQueues.{held-alive}
-use Rattle.placeless.specs.Views.{contents, receivers, registered_as, senders}
-use Rattle.placeless.proofs.Falling.{Falls}
+use Rattle.mq_equivalence.specs.Views.{contents, receivers, registered_as, senders}
+use Rattle.mq_equivalence.proofs.Falling.{Falls}
 use Rattle.mq_equivalence.specs.Structure.{renumbered}
 use Rattle.mq_equivalence.specs.Equivalence.{Equivalent}
 use Rattle.mq_equivalence.proofs.Structure.{falls-alive, in-map, named-by, needed-in, one-number}

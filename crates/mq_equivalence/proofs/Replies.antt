@@ -29,10 +29,10 @@ use Rattle.mq_model.specs.declared.entries.Reply.TheVariants.{Opened, Queued, Ha
 use Rattle.mq_model.proofs.Places.{split}
 use Rattle.mq_model.proofs.Best.{best-none}
 use Rattle.mq_model.proofs.HeldQueues.{held-alive}
-use Rattle.placeless.specs.Views.{Message, Registered, Sender, at, author, registered_as, sender, sent, told}
+use Rattle.mq_equivalence.specs.Views.{Message, Registered, Sender, at, author, registered_as, sender, sent, told}
 use Rattle.mq_equivalence.specs.Outline.{unnumbered, outline}
-use Rattle.placeless.proofs.Falling.{any, any-least}
-use Rattle.placeless.proofs.Effects.{is-best}
+use Rattle.mq_equivalence.proofs.Falling.{any, any-least}
+use Rattle.mq_equivalence.proofs.Effects.{is-best}
 use Rattle.mq_equivalence.specs.Structure.{renumbered}
 use Rattle.mq_equivalence.specs.Equivalence.{EquivalentUnder}
 

@@ -7,9 +7,9 @@ use Rattle.mq_model.specs.declared.entries.Call.{Call}
 use Rattle.mq_model.specs.declared.entries.Call.TheVariants.{MqOpen, MqClose, MqUnlink, MqSend, MqReceive, MqTimedSend, MqTimedReceive, MqGetattr, MqSetattr, MqNotify, NextNotice, Collect, Withdraw}
 use Rattle.mq_model.specs.declared.entries.Reply.{Reply}
 use Rattle.mq_model.proofs.Cases.{reply_says}
-use Rattle.placeless.specs.Steps.{record_of, shape}
-use Rattle.placeless.proofs.Calls.{collected-alike}
-use Rattle.placeless.proofs.Alike.{payload-alike, refused-alike}
+use Rattle.mq_equivalence.specs.Steps.{record_of, shape}
+use Rattle.mq_equivalence.proofs.Calls.{collected-alike}
+use Rattle.mq_equivalence.proofs.Alike.{payload-alike, refused-alike}
 use Rattle.mq_equivalence.specs.Structure.{extended}
 use Rattle.mq_equivalence.specs.Outline.{outline}
 use Rattle.mq_equivalence.specs.Equivalence.{Equivalent, EquivalentUnder, StepsEquivalent}

@@ -21,8 +21,8 @@ use Rattle.mq_model.proofs.Frames.{attributes-older, created-below, filter-same}
 use Rattle.mq_model.proofs.HeldQueues.{after-cases, bound-created, created-held}
 use Rattle.mq_model.proofs.Alive.{bound-named, held-is_held, is_held-holder, is_needed, named-bound, named-newest, needed-alive, rec, same-tests}
 use Rattle.mq_model.proofs.OpenReplies.{opened-says}
-use Rattle.placeless.specs.Steps.{shape}
-use Rattle.placeless.proofs.Falling.{Falls, falls-filter}
+use Rattle.mq_equivalence.specs.Steps.{shape}
+use Rattle.mq_equivalence.proofs.Falling.{Falls, falls-filter}
 use Rattle.mq_equivalence.specs.Structure.{SameStructure, extended, renumbered}
 
 -- options and lists ------------------------------------------------------------------------------------------------------

@@ -16,13 +16,13 @@ use Rattle.mq_model.proofs.Cases.{Says}
 use Rattle.mq_model.proofs.HeldQueues.{called-alive}
 use Rattle.mq_model.proofs.OpenWaits.{withdrawn-open}
 use Rattle.mq_model.proofs.Alive.{rec}
-use Rattle.placeless.specs.Views.{Message, Sender, answer, contents, receivers, senders}
-use Rattle.placeless.specs.Steps.{message_given, record_of, shape}
-use Rattle.placeless.proofs.Falling.{pick, top}
-use Rattle.placeless.proofs.Calls.{got-message}
-use Rattle.placeless.proofs.Changes.{got-all, handed-all}
-use Rattle.placeless.proofs.Effects.{after_answer, after_receivers, after_senders, answer-step, called, is_collected, is_withdrawn, receivers-step, senders-step}
-use Rattle.placeless.proofs.Alike.{answer-shape, receivers-shape, senders-shape}
+use Rattle.mq_equivalence.specs.Views.{Message, Sender, answer, contents, receivers, senders}
+use Rattle.mq_equivalence.specs.Steps.{message_given, record_of, shape}
+use Rattle.mq_equivalence.proofs.Falling.{pick, top}
+use Rattle.mq_equivalence.proofs.Calls.{got-message}
+use Rattle.mq_equivalence.proofs.Changes.{got-all, handed-all}
+use Rattle.mq_equivalence.proofs.Effects.{after_answer, after_receivers, after_senders, answer-step, called, is_collected, is_withdrawn, receivers-step, senders-step}
+use Rattle.mq_equivalence.proofs.Alike.{answer-shape, receivers-shape, senders-shape}
 use Rattle.mq_equivalence.specs.Structure.{extended, renumbered}
 use Rattle.mq_equivalence.specs.Equivalence.{EquivalentUnder}
 use Rattle.mq_equivalence.proofs.Withdrawals.{answer-withdrawn, receivers-withdrawn, receivers_but, senders-withdrawn, senders_but}

@@ -16,9 +16,9 @@ use Rattle.mq_model.proofs.Alive.{rec}
 use Rattle.mq_model.proofs.OpenWaits.{open_wait-process, same-waiter}
 use Rattle.mq_model.proofs.Steps.{filter-both, without}
 use Rattle.mq_model.proofs.Waiters.{waiter}
-use Rattle.placeless.specs.Views.{Sender, answer, at, author, receivers, sender, senders}
-use Rattle.placeless.proofs.Changes.{map-older, waiting_receives-below, waiting_sends-below}
-use Rattle.placeless.proofs.Effects.{answer-older}
+use Rattle.mq_equivalence.specs.Views.{Sender, answer, at, author, receivers, sender, senders}
+use Rattle.mq_equivalence.proofs.Changes.{map-older, waiting_receives-below, waiting_sends-below}
+use Rattle.mq_equivalence.proofs.Effects.{answer-older}
 
 filter-map : {X : Type 0} (f : ℕ → X) (t : X → Bool) (ks : List ℕ) → filter t (map f ks) ≡ map f (filter (λ k. t (f k)) ks)
 filter-map f t [] = refl

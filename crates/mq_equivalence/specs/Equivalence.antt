@@ -9,8 +9,8 @@ use Rattle.mq_model.specs.Waits.{open_wait, wait_deadline}
 use Rattle.mq_model.specs.Legality.{IsLegalNext, Legal, may_call, reply_to}
 use Rattle.mq_model.specs.declared.entries.Call.{Call}
 use Rattle.mq_state.specs.Buffers.{waiting_room}
-use Rattle.placeless.specs.Steps.{message_collected, message_given, record_of}
-use Rattle.placeless.specs.Views.{answer, contents, receivers, registered_as, senders}
+use Rattle.mq_equivalence.specs.Steps.{message_collected, message_given, record_of}
+use Rattle.mq_equivalence.specs.Views.{answer, contents, receivers, registered_as, senders}
 use Rattle.mq_equivalence.specs.Structure.{SameStructure, extended}
 use Rattle.mq_equivalence.specs.Outline.{outline}
 

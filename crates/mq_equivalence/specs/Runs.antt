@@ -2,7 +2,7 @@
 use Rattle.std.specs.Prelude.{ℕ, List, [], ◌∷◌}
 use Rattle.mq_model.specs.Record.{Past, Process}
 use Rattle.mq_model.specs.declared.entries.Call.{Call}
-use Rattle.placeless.specs.Steps.{record_of}
+use Rattle.mq_equivalence.specs.Steps.{record_of}
 
 -- a call of a process, with the name or the message that it is given
 pub record Request : Type 0 where

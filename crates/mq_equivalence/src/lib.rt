@@ -4,21 +4,21 @@
 //! nothing and take no time: the contract of each is the law.
 #![tactic(auto)]
 
-ghost use Rattle.std.specs.Prelude.{◌≡◌, ◌∷◌, ℕ, IfOk, IsTrue, List, length};
+ghost use Rattle.std.specs.Prelude.{◌≡◌, ◌∷◌, ℕ, List, length};
 ghost use Rattle.mq_model.specs.Record.{Past};
 ghost use Rattle.mq_model.specs.Legality.{IsLegalNext, Legal, reply_to};
 ghost use Rattle.mq_model.specs.declared.entries.Call.{Call};
-ghost use Rattle.placeless.specs.Key.{key_of};
-ghost use Rattle.placeless.specs.Steps.{record_of, shape};
+ghost use Rattle.mq_equivalence.specs.Steps.{record_of, shape};
 ghost use Rattle.mq_equivalence.specs.Structure.{SameStructure, extended};
 ghost use Rattle.mq_equivalence.specs.Equivalence.{Equivalent, EquivalentUnder, StepsEquivalent};
 ghost use Rattle.mq_equivalence.specs.Runs.{Request, after_calls};
 
-use mq_model::journals::Journal;
-use placeless::key_within;
-use placeless::parts::{number_bound, process_bound};
-use std::alloc::{AllocError, Global};
-use std::cmp;
+pub mod keys;
+mod naming;
+mod notices;
+pub mod parts;
+mod scans;
+mod standing;
 
 /// Equivalent journals stay equivalent under each of the 13 calls: a call may be made after both or
 /// after neither, it has the same reply but for places, and it gives its caller the same message, as
@@ -60,24 +60,3 @@ pub fn equivalence_is_symmetric()
 pub fn equivalence_is_transitive()
     ensures { (x y z : Past) → Equivalent x y → Equivalent y z → Equivalent x z }
 {}
-
-/// Two legal journals with one key (`key_of` of `placeless`) are equivalent. The key has the
-/// greatest process that called and the greatest descriptor that was given, so that two equivalent
-/// journals may have two keys.
-pub fn keys_tell()
-    ensures { (x y : Past) →
-        Legal x → Legal y → key_of x ≡ key_of y → Equivalent x y }
-{}
-
-/// Whether two legal journals are equivalent, by their keys. `false` says nothing: a body that always
-/// answers so is refused by no contract.
-pub fn are_equivalent(alloc: Global, x: &Journal, y: &Journal) -> Result<bool, AllocError>
-    requires { Legal x.now.records × Legal y.now.records }
-    ensures { IfOk result (λ same. IsTrue same → Equivalent x.now.records y.now.records) }
-{
-    let count = cmp::max(process_bound(x), process_bound(y));
-    let width = cmp::max(number_bound(x), number_bound(y));
-    let one = key_within(alloc, x, count, width)?;
-    let other = key_within(alloc, y, count, width)?;
-    Ok(one.as_slice() == other.as_slice())
-}

@@ -11,14 +11,14 @@ use Rattle.mq_model.specs.declared.entries.Call.{Call}
 use Rattle.mq_model.specs.declared.entries.Call.TheVariants.{MqClose, Collect}
 use Rattle.mq_model.proofs.Places.{split}
 use Rattle.mq_state.specs.Trails.{can_call, record_of_call}
-use Rattle.placeless.specs.Key.{key_of, listed}
-use Rattle.placeless.specs.Views.{Message}
-use Rattle.placeless.proofs.Codes.{IsTold, told-listed, told-message}
-use Rattle.placeless.proofs.Alike.{refused-alike}
-use Rattle.placeless.proofs.Calls.{can-alike}
+use Rattle.mq_equivalence.specs.Key.{key_of, listed}
+use Rattle.mq_equivalence.specs.Views.{Message}
+use Rattle.mq_equivalence.proofs.Codes.{IsTold, told-listed, told-message}
+use Rattle.mq_equivalence.proofs.Alike.{refused-alike}
+use Rattle.mq_equivalence.proofs.Calls.{can-alike}
 use Rattle.mq_equivalence.specs.Equivalence.{Equivalent, EquivalentUnder}
 use Rattle.mq_equivalence.specs.Structure.{extended}
-use Rattle.mq_equivalence.proofs.Keys.{same-key}
+use Rattle.mq_equivalence.proofs.SameKeys.{same-key}
 use Rattle.mq_equivalence.proofs.Runs.{steps-equivalent}
 use Rattle.schedules.specs.Likeness.{AreBothAlike}
 use Rattle.schedules.specs.Schedules.{IsReached, after}

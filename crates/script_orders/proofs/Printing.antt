@@ -9,10 +9,10 @@ use Rattle.mq_model.specs.declared.entries.Call.{Call}
 use Rattle.mq_model.specs.declared.entries.Call.TheVariants.{MqOpen, MqClose, MqUnlink, MqSend, MqReceive, MqTimedSend, MqTimedReceive, MqGetattr, MqSetattr, MqNotify, NextNotice, Collect, Withdraw}
 use Rattle.mq_model.specs.declared.entries.Reply.{Reply}
 use Rattle.mq_model.specs.declared.entries.Reply.TheVariants.{Opened, Queued, Handed, Waits, Got, Collected, Attrs, Notice, Done, Refused, Withdrawn}
-use Rattle.placeless.specs.Views.{Message, at, sent, told}
-use Rattle.placeless.specs.Steps.{message_given, record_of, shape}
-use Rattle.placeless.proofs.Calls.{collected-at, is_other, never-collected}
-use Rattle.placeless.proofs.Effects.{is_collected}
+use Rattle.mq_equivalence.specs.Views.{Message, at, sent, told}
+use Rattle.mq_equivalence.specs.Steps.{message_given, record_of, shape}
+use Rattle.mq_equivalence.proofs.Calls.{collected-at, is_other, never-collected}
+use Rattle.mq_equivalence.proofs.Effects.{is_collected}
 use Rattle.mq_equivalence.specs.Equivalence.{EquivalentUnder, StepsEquivalent}
 use Rattle.mq_equivalence.proofs.Going.{shape-outline}
 use Rattle.script_text.specs.Replies.{reply_line}

@@ -1,7 +1,7 @@
 -- Equivalent stages, from which the same can happen, and their keys.
 use Rattle.std.specs.Prelude.{◌≡◌, ◌≤◌, ℕ, List, ◌∷◌, ◌++◌, length}
 use Rattle.mq_model.specs.Record.{Past}
-use Rattle.placeless.specs.Key.{key_of, listed}
+use Rattle.mq_equivalence.specs.Key.{key_of, listed}
 use Rattle.mq_equivalence.specs.Equivalence.{Equivalent}
 use Rattle.script_orders.specs.Progress.{Progress}
 use Rattle.script_orders.specs.Stage.{Stage}

@@ -1,10 +1,10 @@
 //! The numbers by which equivalent stages are found.
 ghost use Rattle.std.specs.Prelude.{◌≡◌, ◌++◌, OnOk};
-ghost use Rattle.placeless.specs.Key.{codes};
+ghost use Rattle.mq_equivalence.specs.Key.{codes};
 ghost use Rattle.script_orders.specs.Likeness.{seat_code};
 
 use crate::turn::Seat;
-use placeless::parts::push_bytes;
+use mq_equivalence::parts::push_bytes;
 use std::alloc::AllocError;
 
 // How far a process has come, and what is printed of it.

@@ -7,9 +7,9 @@ ghost use Rattle.std.specs.Prelude.{◌≡◌, ◌≤◌, ◌<◌, ◌+◌, ◌^
 use crate::keys::push_seats;
 use crate::plan::Planned;
 use crate::turn::{Seat, can_turn, turn};
+use mq_equivalence::keys::key_of;
 use mq_model::journals::Journal;
 use mq_state::trail::Trail;
-use placeless::key_of;
 use schedules::keyed::Keyed;
 use schedules::machine::Machine;
 use schedules::outcomes::{Outcome, Telling, TellsAlike};

@@ -1,7 +1,7 @@
 use Rattle.std.proofs.Common.{◌≡◌, ℕ, List, ◌∷◌, length, subst, sym}
 use Rattle.mq_model.specs.Legality.{IsLegalNext, payload_of, reply_to}
 use Rattle.mq_model.proofs.Alive.{rec}
-use Rattle.placeless.proofs.Alike.{payload-alike}
+use Rattle.mq_equivalence.proofs.Alike.{payload-alike}
 use Rattle.mq_equivalence.specs.Structure.{SameStructure, extended}
 use Rattle.mq_equivalence.proofs.Structure.{structure-stays}
 use Rattle.mq_equivalence.proofs.structure_stays.Goals as goal

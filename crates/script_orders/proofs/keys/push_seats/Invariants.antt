@@ -1,5 +1,5 @@
 use Rattle.std.proofs.Common.{◌≡◌, ◌++◌, drop}
-use Rattle.placeless.specs.Key.{codes}
+use Rattle.mq_equivalence.specs.Key.{codes}
 use Rattle.script_orders.specs.Likeness.{seat_code}
 use Rattle.script_orders.proofs.keys.push_seats.Given as goal
 

@@ -1,0 +1,159 @@
+-- What a record changes of the messages and the waits of a queue.
+use Rattle.std.proofs.Common.{◌≡◌, ℕ, ◌<◌, ◌==◌, Bool, true, false, not, List, [], ◌∷◌, length, map, Option, Some, None, if◌then◌else◌, refl, sym, ◌∙◌, ap, subst, eqb-true, eq-eqb}
+use Rattle.std.specs.List.{filter, list_all}
+use Rattle.std.specs.Option.{option_map}
+use Rattle.std.proofs.lemmas.Bool.{eqb-false, eqb-true}
+use Rattle.mq_model.specs.Record.{Record, Past}
+use Rattle.mq_model.specs.Descriptors.{called_queue, is_place}
+use Rattle.mq_model.specs.Messages.{best, blocked_receives, blocked_sends, goes_first, is_in, is_send, least, present, waiting_receives, waiting_sends, with_place}
+use Rattle.mq_model.specs.Legality.{Legal}
+use Rattle.mq_model.specs.declared.entries.Call.{Call}
+use Rattle.mq_model.specs.declared.entries.Call.TheVariants.{MqOpen, MqClose, MqUnlink, MqSend, MqReceive, MqTimedSend, MqTimedReceive, MqGetattr, MqSetattr, MqNotify, NextNotice, Collect, Withdraw}
+use Rattle.mq_model.specs.declared.entries.Description.{Description}
+use Rattle.mq_model.specs.declared.entries.Reply.{Reply}
+use Rattle.mq_model.specs.declared.entries.Reply.TheVariants.{Opened, Queued, Handed, Waits, Got, Collected, Attrs, Notice, Done, Refused, Withdrawn}
+use Rattle.mq_model.specs.declared.owners.WaitKind.TheVariants.{Receive}
+use Rattle.mq_model.proofs.Places.{split, is_in-filter, find-in}
+use Rattle.mq_model.proofs.Cases.{Says}
+use Rattle.mq_model.proofs.Frames.{record_at-older}
+use Rattle.mq_model.proofs.LegalReplies.{legal_says}
+use Rattle.mq_model.proofs.NamedWaits.{blocked-below, least-in}
+use Rattle.mq_model.proofs.Presence.{GotFacts, present-admitted, present-below, present-got_elsewhere, present-got_here, present-handed}
+use Rattle.mq_model.proofs.Steps.{Below, blocked_sends-below, present-queued, present-queued_elsewhere, without}
+use Rattle.mq_laws.proofs.SendingOrder.{accepted-older}
+use Rattle.mq_equivalence.specs.Views.{at}
+use Rattle.mq_equivalence.proofs.Falling.{Falls, falls-filter}
+
+abbrev pub rec : ℕ → Call → Reply → List ℕ → Record
+rec p call reply payload = record { entry = record { process = p; call = call; reply = reply }; payload = payload }
+
+-- what stands at a place stays
+pub at-older : {X : Type 0} (f : Record → X) (past : Past) (r : Record) (k : ℕ) → k < length past → at f (r ∷ past) k ≡ at f past k
+at-older f past r k lt = ap (λ (o : Option Record). option_map f o) (record_at-older past r k lt)
+
+pub at-newest : {X : Type 0} (f : Record → X) (past : Past) (r : Record) → at f (r ∷ past) (length past) ≡ Some (f r)
+at-newest f past r = rw (eq-eqb (length past) (length past) refl) refl
+
+pub map-older : {X : Type 0} (f : Record → X) (past : Past) (r : Record) (ks : List ℕ) → Below (length past) ks → map (at f (r ∷ past)) ks ≡ map (at f past) ks
+map-older f past r [] below = refl
+map-older {X} f past r (k ∷ ks) below =
+    let here : at f (r ∷ past) k ≡ at f past k = at-older f past r k (below k (rw (eq-eqb k k refl) refl)) in
+    let rest : map (at f (r ∷ past)) ks ≡ map (at f past) ks = map-older f past r ks (λ j h. below j (split (k == j) (λ t. rw t refl) (λ n. rw (n, h) refl))) in
+    rw (here, rest) refl
+
+below-filter : (n : ℕ) (t : ℕ → Bool) (ks : List ℕ) → Below n ks → Below n (filter t ks)
+below-filter n t ks below = λ j h. below j (is_in-filter t ks j h).0
+
+pub waiting_sends-below : (past : Past) (q : ℕ) → Below (length past) (waiting_sends past q)
+waiting_sends-below past q = below-filter (length past) _ (blocked_sends past q) (blocked_sends-below past q)
+
+pub waiting_receives-below : (past : Past) (q : ℕ) → Below (length past) (waiting_receives past q)
+waiting_receives-below past q = below-filter (length past) _ (blocked_receives past q) (λ j h. blocked-below past Receive q j h)
+
+-- places fall -----------------------------------------------------------------------------------------------------------
+
+falls-if : (b : Bool) (k : ℕ) (ks : List ℕ) → Falls ks → Below k ks → Falls (if b then k ∷ ks else ks)
+falls-if true k ks falls below = (below, falls)
+falls-if false k ks falls below = falls
+
+falls-blocked_sends : (past : Past) (q : ℕ) → Falls (blocked_sends past q)
+falls-blocked_sends [] q = tt
+falls-blocked_sends (r ∷ past) q = falls-if _ (length past) (blocked_sends past q) (falls-blocked_sends past q) (blocked_sends-below past q)
+
+falls-blocked_receives : (past : Past) (q : ℕ) → Falls (blocked_receives past q)
+falls-blocked_receives [] q = tt
+falls-blocked_receives (r ∷ past) q = falls-if _ (length past) (blocked_receives past q) (falls-blocked_receives past q) (λ j h. blocked-below past Receive q j h)
+
+pub falls-senders : (past : Past) (q : ℕ) → Falls (waiting_sends past q)
+falls-senders past q = falls-filter _ (blocked_sends past q) (falls-blocked_sends past q)
+
+pub falls-receivers : (past : Past) (q : ℕ) → Falls (waiting_receives past q)
+falls-receivers past q = falls-filter _ (blocked_receives past q) (falls-blocked_receives past q)
+
+-- what a Got says
+pub record GotSays (past : Past) (p : ℕ) (call : Call) (m : ℕ) (a : Option ℕ) : Type 0 where
+  pub queue : ℕ
+  pub on : called_queue past p call ≡ Some queue
+  pub best : best past queue ≡ Some m
+  pub admitted : a ≡ least (waiting_sends past queue)
+
+pub got-all : (past : Past) (p : ℕ) (call : Call) (m : ℕ) (a n : Option ℕ) → Says past p call (Got m a n) → GotSays past p call m a
+got-all past p (MqReceive d room) m a n says = record { queue = says.0.queue; on = ap (λ (o : Option Description). option_map (λ h. h.queue) o) says.1; best = says.3.0; admitted = says.3.1 }
+got-all past p (MqTimedReceive d room until now) m a n says = record { queue = says.0.queue; on = ap (λ (o : Option Description). option_map (λ h. h.queue) o) says.1; best = says.3.0; admitted = says.3.1 }
+got-all past p (MqOpen flags attr) m a n says = absurd says
+got-all past p (MqClose d) m a n says = absurd says.0
+got-all past p MqUnlink m a n says = absurd says
+got-all past p (MqSend d prio len) m a n says = absurd says.3
+got-all past p (MqTimedSend d prio len until now) m a n says = absurd says.3
+got-all past p (MqGetattr d) m a n says = absurd says
+got-all past p (MqSetattr d nonblock) m a n says = absurd says
+got-all past p (MqNotify d value) m a n says = absurd says
+got-all past p NextNotice m a n says = absurd (cc)
+got-all past p Collect m a n says = absurd (cc)
+got-all past p (Withdraw now) m a n says = absurd (cc)
+
+-- what a Handed says
+pub record HandedSays (past : Past) (p : ℕ) (call : Call) (w : ℕ) : Type 0 where
+  pub queue : ℕ
+  pub on : called_queue past p call ≡ Some queue
+  pub first : least (waiting_receives past queue) ≡ Some w
+
+pub handed-all : (past : Past) (p : ℕ) (call : Call) (w : ℕ) → Says past p call (Handed w) → HandedSays past p call w
+handed-all past p (MqSend d prio len) w says = record { queue = says.0.queue; on = ap (λ (o : Option Description). option_map (λ h. h.queue) o) says.1; first = says.3 }
+handed-all past p (MqTimedSend d prio len until now) w says = record { queue = says.0.queue; on = ap (λ (o : Option Description). option_map (λ h. h.queue) o) says.1; first = says.3 }
+handed-all past p (MqOpen flags attr) w says = absurd says
+handed-all past p (MqClose d) w says = absurd says.0
+handed-all past p MqUnlink w says = absurd says
+handed-all past p (MqReceive d room) w says = absurd says.3
+handed-all past p (MqTimedReceive d room until now) w says = absurd says.3
+handed-all past p (MqGetattr d) w says = absurd says
+handed-all past p (MqSetattr d nonblock) w says = absurd says
+handed-all past p (MqNotify d value) w says = absurd says
+handed-all past p NextNotice w says = absurd (cc)
+handed-all past p Collect w says = absurd (cc)
+handed-all past p (Withdraw now) w says = absurd (cc)
+
+falls-with : (o : Option ℕ) (ks : List ℕ) → Falls ks → ((w : ℕ) → o ≡ Some w → Below w ks) → Falls (with_place o ks)
+falls-with None ks falls below = falls
+falls-with (Some w) ks falls below = (below w refl, falls)
+
+best-inside : (past : Past) (q m : ℕ) → best past q ≡ Some m → is_in (present past q) m ≡ true
+best-inside past q m e = (find-in (λ k. list_all (goes_first past k) (present past q)) (present past q) m e).0
+
+falls-got : (past : Past) → Legal past → (p : ℕ) (call : Call) (m : ℕ) (a n : Option ℕ) (payload : List ℕ) (q : ℕ) → Says past p call (Got m a n) → Falls (present past q) → Falls (present (rec p call (Got m a n) payload ∷ past) q)
+falls-got past legal p call m a n payload q says falls =
+    let got = got-all past p call m a n says in
+    let facts : GotFacts past got.queue m a = record { inside = best-inside past got.queue m got.best; admitted = got.admitted } in
+    split (q == got.queue)
+    (λ t. let same : q ≡ got.queue = eqb-true q got.queue t in
+    let mine : GotFacts past q m a = subst (λ (k : ℕ). GotFacts past k m a) (sym same) facts in
+    let is = present-got_here past legal p call m a n payload q mine in
+    subst Falls (sym is) (falls-with a (without m (present past q)) (falls-filter _ (present past q) falls)
+    (λ w e j h. let there = is_in-filter (λ k. not (m == k)) (present past q) j h in
+    accepted-older past legal q j w (rw (present-admitted past q j there.0) refl) (least-in (waiting_sends past q) w (sym mine.admitted ∙ e)))))
+    (λ f. let is = present-got_elsewhere past p call m a n payload got.queue q facts (eqb-false q got.queue f) in subst Falls (sym is) falls)
+
+falls-queued : (past : Past) → Legal past → (p : ℕ) (call : Call) (n : Option ℕ) (payload : List ℕ) (q : ℕ) → Falls (present past q) → Falls (present (rec p call (Queued n) payload ∷ past) q)
+falls-queued past legal p call n payload q falls =
+    split (is_place q (called_queue past p call))
+    (λ on. split (is_send call)
+    (λ sends. subst Falls (sym (present-queued past p call q n payload legal sends on)) (present-below past q, falls))
+    (λ other. let same : present (rec p call (Queued n) payload ∷ past) q ≡ present past q = rw other refl in subst Falls (sym same) falls))
+    (λ off. subst Falls (sym (present-queued_elsewhere past p call q n payload off)) falls)
+
+falls-next : (past : Past) → Legal past → (p : ℕ) (call : Call) (reply : Reply) (payload : List ℕ) (q : ℕ) → Says past p call reply → Falls (present past q) → Falls (present (rec p call reply payload ∷ past) q)
+falls-next past legal p call (Queued n) payload q says falls = falls-queued past legal p call n payload q falls
+falls-next past legal p call (Got m a n) payload q says falls = falls-got past legal p call m a n payload q says falls
+falls-next past legal p call (Handed w) payload q says falls = subst Falls (sym (present-handed past p call w payload q)) falls
+falls-next past legal p call (Opened d created) payload q says falls = falls
+falls-next past legal p call Waits payload q says falls = falls
+falls-next past legal p call (Collected b) payload q says falls = falls
+falls-next past legal p call (Withdrawn w) payload q says falls = falls
+falls-next past legal p call (Attrs s) payload q says falls = falls
+falls-next past legal p call (Notice v) payload q says falls = falls
+falls-next past legal p call Done payload q says falls = falls
+falls-next past legal p call (Refused f) payload q says falls = falls
+
+pub falls-present : (past : Past) → Legal past → (q : ℕ) → Falls (present past q)
+falls-present [] legal q = tt
+falls-present (r ∷ past) legal q = falls-next past legal.0 r.entry.process r.entry.call r.entry.reply r.payload q (legal_says past r legal.1) (falls-present past legal.0 q)

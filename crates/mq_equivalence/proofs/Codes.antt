@@ -1,0 +1,224 @@
+-- Values told from the numbers that stand for them.
+use Rattle.std.proofs.Common.{◌≡◌, ◌≢◌, ℕ, ℤ, pos, negsuc, zero, suc, ◌+◌, ◌<◌, ◌≤◌, ◌==◌, Bool, true, false, List, [], ◌∷◌, ◌++◌, length, map, Option, Some, None, refl, sym, ◌∙◌, ap, subst, arith, append_assoc}
+use Rattle.std.proofs.lemmas.Bool.{eqb-false, eqb-true}
+use Rattle.std.proofs.lemmas.List.{length-map}
+use Rattle.mq_model.specs.Descriptors.{numbers_from}
+use Rattle.mq_model.specs.Messages.{is_in}
+use Rattle.mq_model.specs.declared.entries.Access.{Access}
+use Rattle.mq_model.specs.declared.entries.Access.TheVariants.{Read, Write, Both}
+use Rattle.mq_model.specs.declared.entries.Attr.{Attr}
+use Rattle.mq_model.specs.declared.entries.Deadline.{Deadline}
+use Rattle.mq_model.specs.declared.entries.Description.{Description}
+use Rattle.mq_model.proofs.Places.{split}
+use Rattle.mq_equivalence.specs.Views.{Message, Registered, Sender}
+use Rattle.mq_equivalence.specs.Key.{access_number, bytes_code, codes, deadline_code, description_code, index_of, limits_code, listed, message_code, number, optional, registered_code, sender_code, signed, test}
+
+-- from the numbers of a value with whatever follows them, both can be told
+abbrev pub IsTold : {X : Type 0} → (X → List ℕ) → Type 0
+IsTold {X} code = (x y : X) (u v : List ℕ) → code x ++ u ≡ code y ++ v → (x ≡ y) × (u ≡ v)
+
+pub told-number : IsTold number
+told-number x y u v e = (cc, cc)
+
+pub told-test : IsTold test
+told-test false false u v e = (refl, cc)
+told-test true true u v e = (refl, cc)
+told-test false true u v e = absurd (cc)
+told-test true false u v e = absurd (cc)
+
+told-signed : IsTold signed
+told-signed (pos n) (pos m) u v e = (cc, cc)
+told-signed (negsuc n) (negsuc m) u v e = (cc, cc)
+told-signed (pos n) (negsuc m) u v e = absurd (cc)
+told-signed (negsuc n) (pos m) u v e = absurd (cc)
+
+told-access : (a b : Access) → access_number a ≡ access_number b → a ≡ b
+told-access Read Read e = refl
+told-access Write Write e = refl
+told-access Both Both e = refl
+told-access Read Write e = absurd (cc)
+told-access Read Both e = absurd (cc)
+told-access Write Read e = absurd (cc)
+told-access Write Both e = absurd (cc)
+told-access Both Read e = absurd (cc)
+told-access Both Write e = absurd (cc)
+
+told-bytes : (xs ys u v : List ℕ) → length xs ≡ length ys → xs ++ u ≡ ys ++ v → (xs ≡ ys) × (u ≡ v)
+told-bytes [] [] u v n e = (refl, e)
+told-bytes (x ∷ xs) (y ∷ ys) u v n e =
+    let same : x ≡ y = cc in
+    let rest = told-bytes xs ys u v (omega arith) (cc) in
+    (rw (same, rest.0) refl, rest.1)
+told-bytes [] (y ∷ ys) u v n e = absurd (omega arith)
+told-bytes (x ∷ xs) [] u v n e = absurd (omega arith)
+
+pub told-optional : {X : Type 0} (code : X → List ℕ) → IsTold code → IsTold (optional code)
+told-optional code told None None u v e = (refl, cc)
+told-optional code told (Some x) (Some y) u v e = let rest = told x y u v (cc) in (ap Some rest.0, rest.1)
+told-optional code told None (Some y) u v e = absurd (cc)
+told-optional code told (Some x) None u v e = absurd (cc)
+
+told-codes : {X : Type 0} (code : X → List ℕ) → IsTold code → (xs ys : List X) (u v : List ℕ) → length xs ≡ length ys → codes code xs ++ u ≡ codes code ys ++ v → (xs ≡ ys) × (u ≡ v)
+told-codes code told [] [] u v n e = (refl, e)
+told-codes code told (x ∷ xs) (y ∷ ys) u v n e =
+    let first = told x y (codes code xs ++ u) (codes code ys ++ v) (sym (append_assoc (code x) (codes code xs) u) ∙ e ∙ append_assoc (code y) (codes code ys) v) in
+    let rest = told-codes code told xs ys u v (omega arith) first.1 in
+    (rw (first.0, rest.0) refl, rest.1)
+told-codes code told [] (y ∷ ys) u v n e = absurd (omega arith)
+told-codes code told (x ∷ xs) [] u v n e = absurd (omega arith)
+
+pub told-listed : {X : Type 0} (code : X → List ℕ) → IsTold code → IsTold (listed code)
+told-listed code told xs ys u v e = told-codes code told xs ys u v (cc) (cc)
+
+abbrev attr : ℤ → ℤ → Attr
+attr m n = record { maxmsg = m; msgsize = n }
+
+attr-same : (a b : Attr) → a.maxmsg ≡ b.maxmsg → a.msgsize ≡ b.msgsize → a ≡ b
+attr-same a b d e =
+    let goes : (m n k l : ℤ) → m ≡ k → n ≡ l → attr m n ≡ attr k l = λ m n k l d e. cc in
+    goes a.maxmsg a.msgsize b.maxmsg b.msgsize d e
+
+pub told-limits : IsTold limits_code
+told-limits a b u v e =
+    let first = told-signed a.maxmsg b.maxmsg (signed a.msgsize ++ u) (signed b.msgsize ++ v) (sym (append_assoc (signed a.maxmsg) (signed a.msgsize) u) ∙ e ∙ append_assoc (signed b.maxmsg) (signed b.msgsize) v) in
+    let rest = told-signed a.msgsize b.msgsize u v first.1 in
+    (attr-same a b first.0 rest.0, rest.1)
+
+abbrev moment : ℤ → ℤ → Deadline
+moment m n = record { sec = m; nsec = n }
+
+moment-same : (a b : Deadline) → a.sec ≡ b.sec → a.nsec ≡ b.nsec → a ≡ b
+moment-same a b d e =
+    let goes : (m n k l : ℤ) → m ≡ k → n ≡ l → moment m n ≡ moment k l = λ m n k l d e. cc in
+    goes a.sec a.nsec b.sec b.nsec d e
+
+pub told-deadline : IsTold deadline_code
+told-deadline a b u v e =
+    let first = told-signed a.sec b.sec (signed a.nsec ++ u) (signed b.nsec ++ v) (sym (append_assoc (signed a.sec) (signed a.nsec) u) ∙ e ∙ append_assoc (signed b.sec) (signed b.nsec) v) in
+    let rest = told-signed a.nsec b.nsec u v first.1 in
+    (moment-same a b first.0 rest.0, rest.1)
+
+pub told-bytes_code : IsTold bytes_code
+told-bytes_code xs ys u v e = told-bytes xs ys u v (cc) (cc)
+
+abbrev registered : ℕ → ℕ → ℕ → Registered
+registered p d v = record { process = p; d = d; value = v }
+
+registered-same : (a b : Registered) → a.process ≡ b.process → a.d ≡ b.d → a.value ≡ b.value → a ≡ b
+registered-same a b c d e =
+    let goes : (p q m n k l : ℕ) → p ≡ q → m ≡ n → k ≡ l → registered p m k ≡ registered q n l = λ p q m n k l c d e. cc in
+    goes a.process b.process a.d b.d a.value b.value c d e
+
+pub told-registered : IsTold registered_code
+told-registered a b u v e = (registered-same a b (cc) (cc) (cc), cc)
+
+-- descriptions of queues with the same index in two lists
+pub record SameDescription (qs ks : List ℕ) (g h : Description) : Type 0 where
+  pub queue : index_of qs g.queue ≡ index_of ks h.queue
+  pub access : g.access ≡ h.access
+  pub nonblock : g.nonblock ≡ h.nonblock
+
+abbrev pub SameHeld : List ℕ → List ℕ → Option Description → Option Description → Type 0
+SameHeld qs ks None None = Unit {0}
+SameHeld qs ks (Some g) (Some h) = SameDescription qs ks g h
+SameHeld qs ks None (Some h) = ⊥
+SameHeld qs ks (Some g) None = ⊥
+
+pub told-held : (qs ks : List ℕ) (o p : Option Description) (u v : List ℕ) → optional (description_code qs) o ++ u ≡ optional (description_code ks) p ++ v → SameHeld qs ks o p × (u ≡ v)
+told-held qs ks None None u v e = (tt, cc)
+told-held qs ks (Some g) (Some h) u v e =
+    let rest = told-test g.nonblock h.nonblock u v (cc) in
+    (record { queue = cc; access = told-access g.access h.access (cc); nonblock = rest.0 }, rest.1)
+told-held qs ks None (Some h) u v e = absurd (cc)
+told-held qs ks (Some g) None u v e = absurd (cc)
+
+abbrev message : ℕ → List ℕ → Message
+message a xs = record { prio = a; bytes = xs }
+
+message-same : (m n : Message) → m.prio ≡ n.prio → m.bytes ≡ n.bytes → m ≡ n
+message-same m n d e =
+    let goes : (a b : ℕ) (xs ys : List ℕ) → a ≡ b → xs ≡ ys → message a xs ≡ message b ys = λ a b xs ys d e. cc in
+    goes m.prio n.prio m.bytes n.bytes d e
+
+pub told-message : IsTold message_code
+told-message m n u v e =
+    let rest = told-bytes m.bytes n.bytes u v (cc) (cc) in
+    (message-same m n (cc) rest.0, rest.1)
+
+abbrev sender : ℕ → Message → Sender
+sender a m = record { process = a; message = m }
+
+sender-same : (s t : Sender) → s.process ≡ t.process → s.message ≡ t.message → s ≡ t
+sender-same s t d e =
+    let goes : (a b : ℕ) (m n : Message) → a ≡ b → m ≡ n → sender a m ≡ sender b n = λ a b m n d e. cc in
+    goes s.process t.process s.message t.message d e
+
+pub told-sender : IsTold sender_code
+told-sender s t u v e =
+    let rest = told-message s.message t.message u v (cc) in
+    (sender-same s t (cc) rest.0, rest.1)
+
+-- two lists whose items are related pair by pair
+abbrev pub Pairs : (ℕ → ℕ → Type 0) → List ℕ → List ℕ → Type 0
+Pairs P [] [] = Unit {0}
+Pairs P (x ∷ xs) (y ∷ ys) = P x y × Pairs P xs ys
+Pairs P [] (y ∷ ys) = ⊥
+Pairs P (x ∷ xs) [] = ⊥
+
+told-codes_pairs : (f g : ℕ → List ℕ) (P : ℕ → ℕ → Type 0) → ((a b : ℕ) (u v : List ℕ) → f a ++ u ≡ g b ++ v → P a b × (u ≡ v)) →
+    (xs ys : List ℕ) (u v : List ℕ) → length xs ≡ length ys → codes f xs ++ u ≡ codes g ys ++ v → Pairs P xs ys × (u ≡ v)
+told-codes_pairs f g P told [] [] u v n e = (tt, e)
+told-codes_pairs f g P told (x ∷ xs) (y ∷ ys) u v n e =
+    let first = told x y (codes f xs ++ u) (codes g ys ++ v) (sym (append_assoc (f x) (codes f xs) u) ∙ e ∙ append_assoc (g y) (codes g ys) v) in
+    let rest = told-codes_pairs f g P told xs ys u v (omega arith) first.1 in
+    ((first.0, rest.0), rest.1)
+told-codes_pairs f g P told [] (y ∷ ys) u v n e = absurd (omega arith)
+told-codes_pairs f g P told (x ∷ xs) [] u v n e = absurd (omega arith)
+
+pub told-pairs : (f g : ℕ → List ℕ) (P : ℕ → ℕ → Type 0) → ((a b : ℕ) (u v : List ℕ) → f a ++ u ≡ g b ++ v → P a b × (u ≡ v)) →
+    (xs ys : List ℕ) (u v : List ℕ) → listed f xs ++ u ≡ listed g ys ++ v → Pairs P xs ys × (u ≡ v)
+told-pairs f g P told xs ys u v e = told-codes_pairs f g P told xs ys u v (cc) (cc)
+
+-- lists of what stands at each number --------------------------------------------------------------------------------------
+
+pub length-numbers : (low n : ℕ) → length (numbers_from low n) ≡ n
+length-numbers low zero = refl
+length-numbers low (suc n) = omega (arith, length-numbers (low + 1) n)
+
+below-or : (p low : ℕ) (n : ℕ) → low ≤ p → p < low + suc n → (low == p) ≡ false → (low + 1 ≤ p) × (p < (low + 1) + n)
+below-or p low n l h d = let ne = eqb-false low p d in let other : low ≢ p = ne in (omega arith, omega arith)
+
+record ToldNumbered (P : ℕ → Type 0) (low n : ℕ) (u v : List ℕ) : Type 0 where
+  each : (p : ℕ) → low ≤ p → p < low + n → P p
+  rest : u ≡ v
+
+codes-numbered : (f g : ℕ → List ℕ) (P : ℕ → Type 0) → ((a : ℕ) (u v : List ℕ) → f a ++ u ≡ g a ++ v → P a × (u ≡ v)) →
+    (low n : ℕ) (u v : List ℕ) → codes f (numbers_from low n) ++ u ≡ codes g (numbers_from low n) ++ v → ToldNumbered P low n u v
+codes-numbered f g P told low zero u v e = record { each = λ p l h. absurd (omega arith); rest = e }
+codes-numbered f g P told low (suc n) u v e =
+    let us = codes f (numbers_from (low + 1) n) ++ u in
+    let vs = codes g (numbers_from (low + 1) n) ++ v in
+    let first = told low us vs (sym (append_assoc (f low) (codes f (numbers_from (low + 1) n)) u) ∙ e ∙ append_assoc (g low) (codes g (numbers_from (low + 1) n)) v) in
+    let more = codes-numbered f g P told (low + 1) n u v first.1 in
+    record {
+      each = λ p l h. split (low == p)
+          (λ t. subst P (eqb-true low p t) first.0)
+          (λ d. let b = below-or p low n l h d in more.each p b.0 b.1);
+      rest = more.rest;
+    }
+
+-- what is told of two lists that are numbered from 0
+pub record AllTold (P : ℕ → Type 0) (n m : ℕ) (u v : List ℕ) : Type 0 where
+  pub count : n ≡ m
+  pub each : (p : ℕ) → p < n → P p
+  pub rest : u ≡ v
+
+pub listed-numbered : (f g : ℕ → List ℕ) (P : ℕ → Type 0) → ((a : ℕ) (u v : List ℕ) → f a ++ u ≡ g a ++ v → P a × (u ≡ v)) →
+    (n m : ℕ) (u v : List ℕ) → listed f (numbers_from 0 n) ++ u ≡ listed g (numbers_from 0 m) ++ v → AllTold P n m u v
+listed-numbered f g P told n m u v e =
+    let lengths : length (numbers_from 0 n) ≡ length (numbers_from 0 m) = cc in
+    let same : n ≡ m = sym (length-numbers 0 n) ∙ lengths ∙ length-numbers 0 m in
+    let rest : codes f (numbers_from 0 n) ++ u ≡ codes g (numbers_from 0 m) ++ v = cc in
+    let here : codes f (numbers_from 0 n) ++ u ≡ codes g (numbers_from 0 n) ++ v = subst (λ (k : ℕ). codes f (numbers_from 0 n) ++ u ≡ codes g (numbers_from 0 k) ++ v) (sym same) rest in
+    let all = codes-numbered f g P told 0 n u v here in
+    record { count = same; each = λ p h. all.each p (omega arith) (omega arith); rest = all.rest }

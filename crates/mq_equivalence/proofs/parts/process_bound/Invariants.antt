@@ -1,0 +1,7 @@
+use Rattle.std.proofs.Common.{◌≡◌, ◌≤◌, ◌^◌}
+use Rattle.mq_model.specs.Record.{first}
+use Rattle.mq_equivalence.specs.Key.{process_bound}
+use Rattle.mq_equivalence.proofs.parts.process_bound.Given as goal
+
+abbrev pub invariant-loop-i : goal.invariant-loop-i
+invariant-loop-i l = (l.bound ≡ process_bound (first l.i l.journal.records)) × (l.bound ≤ 2 ^ 32)

@@ -1,0 +1,119 @@
+-- A key of the state that a journal leaves: numbers that are the same only if two journals are
+-- equivalent.
+use Rattle.std.specs.Prelude.{ℕ, ℤ, pos, negsuc, zero, suc, ◌+◌, ◌==◌, max, Bool, true, false, List, [], ◌∷◌, ◌++◌, length, map, Option, Some, None, if◌then◌else◌}
+use Rattle.mq_model.specs.Record.{Past, Process, Queue}
+use Rattle.mq_model.specs.Names.{attributes}
+use Rattle.mq_model.specs.Descriptors.{alive, held, numbers_from}
+use Rattle.mq_model.specs.Notices.{notices}
+use Rattle.mq_model.specs.Waits.{wait_deadline}
+use Rattle.mq_model.specs.declared.entries.Access.{Access}
+use Rattle.mq_model.specs.declared.entries.Access.TheVariants.{Read, Write, Both}
+use Rattle.mq_model.specs.declared.entries.Attr.{Attr}
+use Rattle.mq_model.specs.declared.entries.Deadline.{Deadline}
+use Rattle.mq_model.specs.declared.entries.Description.{Description}
+use Rattle.mq_model.specs.declared.entries.Reply.{Reply}
+use Rattle.mq_model.specs.declared.entries.Reply.TheVariants.{Opened}
+use Rattle.mq_state.specs.Buffers.{waiting_room}
+use Rattle.mq_equivalence.specs.Views.{Message, Registered, Sender, answer, bound_name, contents, receivers, registered_as, senders}
+
+-- values as numbers: from those of a value with whatever follows them, the value and what follows
+-- can be told ------------------------------------------------------------------------------------
+
+abbrev pub codes : {X : Type 0} → (X → List ℕ) → List X → List ℕ
+codes code [] = []
+codes code (x ∷ xs) = code x ++ codes code xs
+
+-- a list, behind its length
+abbrev pub listed : {X : Type 0} → (X → List ℕ) → List X → List ℕ
+listed code xs = length xs ∷ codes code xs
+
+abbrev pub optional : {X : Type 0} → (X → List ℕ) → Option X → List ℕ
+optional code None = 0 ∷ []
+optional code (Some x) = 1 ∷ code x
+
+abbrev pub number : ℕ → List ℕ
+number n = n ∷ []
+
+abbrev pub test : Bool → List ℕ
+test false = 0 ∷ []
+test true = 1 ∷ []
+
+abbrev pub signed : ℤ → List ℕ
+signed (pos n) = 0 ∷ (n ∷ [])
+signed (negsuc n) = 1 ∷ (n ∷ [])
+
+abbrev pub bytes_code : List ℕ → List ℕ
+bytes_code bytes = length bytes ∷ bytes
+
+abbrev pub access_number : Access → ℕ
+access_number Read = 0
+access_number Write = 1
+access_number Both = 2
+
+abbrev pub limits_code : Attr → List ℕ
+limits_code a = signed a.maxmsg ++ signed a.msgsize
+
+abbrev pub deadline_code : Deadline → List ℕ
+deadline_code t = signed t.sec ++ signed t.nsec
+
+-- which of these queues it is, from 0
+abbrev pub index_of : List Queue → Queue → ℕ
+index_of [] q = 0
+index_of (k ∷ queues) q = if k == q then 0 else suc (index_of queues q)
+
+abbrev pub description_code : List Queue → Description → List ℕ
+description_code queues h =
+    index_of queues h.queue ∷ (access_number h.access ∷ test h.nonblock)
+
+abbrev pub message_code : Message → List ℕ
+message_code m = m.prio ∷ bytes_code m.bytes
+
+abbrev pub sender_code : Sender → List ℕ
+sender_code s = s.process ∷ message_code s.message
+
+abbrev pub registered_code : Registered → List ℕ
+registered_code n = n.process ∷ (n.d ∷ (n.value ∷ []))
+
+-- a queue: its name, its limits, its messages, who waits to send which message, who waits to
+-- receive, and who is registered on it
+abbrev pub queue_code : Past → Queue → List ℕ
+queue_code past q =
+    optional bytes_code (bound_name past q)
+    ++ (limits_code (attributes past q)
+    ++ (listed (optional message_code) (contents past q)
+    ++ (listed (optional sender_code) (senders past q)
+    ++ (listed (optional number) (receivers past q)
+    ++ optional registered_code (registered_as past q)))))
+
+-- above all processes that called, and above all descriptors that an open was given
+abbrev pub process_bound : Past → ℕ
+process_bound [] = 0
+process_bound (r ∷ past) = max (process_bound past) (r.entry.process + 1)
+
+abbrev pub above_number : Reply → ℕ
+above_number (Opened d created) = d + 1
+above_number reply = 0
+
+abbrev pub number_bound : Past → ℕ
+number_bound [] = 0
+number_bound (r ∷ past) = max (number_bound past) (above_number r.entry.reply)
+
+-- a process: the length of the buffer with which it waits, if it does, until when, what its wait was
+-- answered with, its notices, and what it holds under each number below `width`
+abbrev pub process_code : ℕ → Past → Process → List ℕ
+process_code width past p =
+    optional number (waiting_room past p)
+    ++ (optional deadline_code (wait_deadline past p)
+    ++ (optional (optional (optional message_code)) (answer past p)
+    ++ (listed number (notices past p)
+    ++ listed (optional (description_code (alive past)))
+    (map (held past p) (numbers_from 0 width)))))
+
+-- the queues that exist, and the processes below `count`
+abbrev pub key_within : ℕ → ℕ → Past → List ℕ
+key_within count width past =
+    listed (queue_code past) (alive past)
+    ++ listed (process_code width past) (numbers_from 0 count)
+
+abbrev pub key_of : Past → List ℕ
+key_of past = key_within (process_bound past) (number_bound past) past

@@ -1,0 +1,62 @@
+//! Keys: numbers of the state that a journal leaves. Two legal journals with one key are equivalent.
+ghost use Rattle.std.specs.Prelude.{◌≡◌, ◌≤◌, ◌^◌, IfOk, IsTrue};
+ghost use Rattle.mq_model.specs.Record.{Past};
+ghost use Rattle.mq_model.specs.Legality.{Legal};
+ghost use Rattle.mq_equivalence.specs.Equivalence.{Equivalent};
+ghost use Rattle.mq_equivalence.specs.Key.{key_of, key_within};
+
+use crate::naming;
+use crate::parts::{number_bound, process_bound, push_processes, push_queues};
+use mq_model::journals::Journal;
+use std::alloc::{AllocError, Global};
+use std::cmp;
+
+/// Two legal journals with one key are equivalent. The key has the greatest process that called and
+/// the greatest descriptor that was given, so that two equivalent journals may have two keys.
+pub fn keys_tell()
+    ensures { (x y : Past) →
+        Legal x → Legal y → key_of x ≡ key_of y → Equivalent x y }
+{}
+
+/// The key of the state that a journal leaves: its queues with their names, limits, messages, waits
+/// and registrations; and of each process its wait with what answered it, its notices and its
+/// descriptors. It reads the journal a few times for each queue and each descriptor, and once more
+/// for each message and wait that is left, back to the open of its descriptor.
+pub fn key_of(alloc: Global, journal: &Journal) -> Result<Vec<u64>, AllocError>
+    ensures { IfOk result (λ k. k.items ≡ key_of journal.now.records) }
+{
+    let count = process_bound(journal);
+    let width = number_bound(journal);
+    key_within(alloc, journal, count, width)
+}
+
+// The key, with what each process below `count` has, and holds under each number below `width`.
+fn key_within(
+    alloc: Global,
+    journal: &Journal,
+    count: u64,
+    width: u64,
+) -> Result<Vec<u64>, AllocError>
+    requires count { count ≤ 2 ^ 32 }
+    requires width { width ≤ 2 ^ 32 }
+    ensures { IfOk result (λ k. k.items ≡ key_within count width journal.now.records) }
+{
+    let queues = naming::alive(alloc, journal)?;
+    let mut key = Vec::new(alloc);
+    push_queues(alloc, &mut key, journal, &queues)?;
+    push_processes(alloc, &mut key, journal, &queues, count, width)?;
+    Ok(key)
+}
+
+/// Whether two legal journals are equivalent, by their keys. `false` says nothing: a body that always
+/// answers so is refused by no contract.
+pub fn are_equivalent(alloc: Global, x: &Journal, y: &Journal) -> Result<bool, AllocError>
+    requires { Legal x.now.records × Legal y.now.records }
+    ensures { IfOk result (λ same. IsTrue same → Equivalent x.now.records y.now.records) }
+{
+    let count = cmp::max(process_bound(x), process_bound(y));
+    let width = cmp::max(number_bound(x), number_bound(y));
+    let one = key_within(alloc, x, count, width)?;
+    let other = key_within(alloc, y, count, width)?;
+    Ok(one.as_slice() == other.as_slice())
+}

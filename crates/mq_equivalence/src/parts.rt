@@ -1,0 +1,476 @@
+//! The numbers of a key, part by part.
+#![tactic(auto, using(crate::proofs::Appends::appends))]
+
+ghost use Rattle.std.specs.Prelude.{◌≡◌, ◌≤◌, ◌<◌, ◌^◌, ◌++◌, IfOk, None, Some, if◌then◌else◌, length, map};
+ghost use Rattle.std.specs.Option.{option_map};
+ghost use Rattle.mq_model.specs.Names.{attributes};
+ghost use Rattle.mq_model.specs.Descriptors.{alive, held, numbers_from};
+ghost use Rattle.mq_model.specs.Notices.{notices};
+ghost use Rattle.mq_equivalence.specs.Views.{answer, at, author, bound_name, sender, sent, told, unplaced};
+ghost use Rattle.mq_equivalence.specs.Key.{above_number, access_number, bytes_code, deadline_code, description_code, index_of, limits_code, listed, message_code, number, number_bound, optional, process_bound, process_code, queue_code, registered_code, sender_code, signed, test};
+ghost use Rattle.mq_equivalence.specs.Kinds.{kind_code, place_code};
+
+use crate::naming::is_named;
+use crate::notices::notices;
+use crate::scans::{answered_by, wait_deadline, waiting_room};
+use crate::standing::{Kind, standing};
+use mq_checker::scan_names::{entry_at, held};
+use mq_checker::scan_notices::registered;
+use mq_model::entries::{Access, Attr, Deadline, Description, Entry, Registration, Reply};
+use mq_model::journals::Journal;
+use mq_model::ladder::{DEFAULT_ATTRIBUTES, attributes_given};
+use std::alloc::{AllocError, Global};
+use std::cmp;
+
+fn push_number(key: &mut Vec<u64>, n: u64) -> Result<(), AllocError>
+    ensures { IfOk result (λ _. key.new.items ≡ key.old.items ++ number n) }
+{
+    key.push(n)?;
+    Ok(())
+}
+
+fn push_test(key: &mut Vec<u64>, value: bool) -> Result<(), AllocError>
+    ensures { IfOk result (λ _. key.new.items ≡ key.old.items ++ test value) }
+{
+    if value {
+        push_number(key, 1)
+    } else {
+        push_number(key, 0)
+    }
+}
+
+fn push_signed(key: &mut Vec<u64>, value: i64) -> Result<(), AllocError>
+    ensures { IfOk result (λ _. key.new.items ≡ key.old.items ++ signed value) }
+{
+    if value >= 0 {
+        push_number(key, 0)?;
+        push_number(key, value as u64)
+    } else {
+        push_number(key, 1)?;
+        push_number(key, (-(value + 1)) as u64)
+    }
+}
+
+fn push_limits(key: &mut Vec<u64>, limits: Attr) -> Result<(), AllocError>
+    ensures { IfOk result (λ _. key.new.items ≡ key.old.items ++ limits_code limits) }
+{
+    push_signed(key, limits.maxmsg)?;
+    push_signed(key, limits.msgsize)
+}
+
+fn access_number(access: Access) -> u64
+    ensures { result ≡ access_number access }
+{
+    match access {
+        Access::Read => 0,
+        Access::Write => 1,
+        Access::Both => 2,
+    }
+}
+
+// Which of these queues it is, from 0.
+fn index_of(queues: &[u64], q: u64) -> u64
+    ensures { result ≡ index_of queues.now q }
+{
+    for i in 0..queues.len() {
+        if queues[i] == q {
+            return i as u64;
+        }
+    }
+    queues.len() as u64
+}
+
+fn push_description(key: &mut Vec<u64>, queues: &[u64], h: Description) -> Result<(), AllocError>
+    ensures { IfOk result (λ _. key.new.items ≡ key.old.items ++ description_code queues.now h) }
+{
+    push_number(key, index_of(queues, h.queue))?;
+    push_number(key, access_number(h.access))?;
+    push_test(key, h.nonblock)
+}
+
+fn push_held(
+    key: &mut Vec<u64>,
+    queues: &[u64],
+    held: Option<Description>,
+) -> Result<(), AllocError>
+    ensures { IfOk result (λ _. key.new.items ≡ key.old.items
+        ++ optional (description_code queues.now) held) }
+{
+    match held {
+        None => push_number(key, 0),
+        Some(h) => {
+            push_number(key, 1)?;
+            push_description(key, queues, h)
+        }
+    }
+}
+
+/// Adds each byte as a number.
+pub fn push_bytes(key: &mut Vec<u64>, bytes: &[u8]) -> Result<(), AllocError>
+    ensures { IfOk result (λ _. key.new.items ≡ key.old.items ++ bytes.now) }
+{
+    for b in bytes {
+        push_number(key, u64::from(*b))?;
+    }
+    Ok(())
+}
+
+// Adds the bytes behind their number.
+fn push_listed_bytes(key: &mut Vec<u64>, bytes: &[u8]) -> Result<(), AllocError>
+    ensures { IfOk result (λ _. key.new.items ≡ key.old.items ++ bytes_code bytes.now) }
+{
+    push_number(key, bytes.len() as u64)?;
+    push_bytes(key, bytes)
+}
+
+fn push_message(key: &mut Vec<u64>, entry: Entry, payload: &[u8]) -> Result<(), AllocError>
+    ensures { IfOk result (λ _. key.new.items ≡ key.old.items
+        ++ message_code (sent (record { entry = entry; payload = payload.now }))) }
+{
+    push_number(key, u64::from(entry.call.priority()))?;
+    push_listed_bytes(key, payload)
+}
+
+// The message that was sent at a place.
+fn push_sent(key: &mut Vec<u64>, journal: &Journal, place: u64) -> Result<(), AllocError>
+    ensures { IfOk result (λ _. key.new.items ≡ key.old.items
+        ++ optional message_code (at sent journal.now.records place)) }
+{
+    if place >= journal.len() {
+        return push_number(key, 0);
+    }
+    let (entry, payload) = journal.record(place);
+    push_number(key, 1)?;
+    push_message(key, entry, payload)
+}
+
+// The send that waits since a place.
+fn push_sender(key: &mut Vec<u64>, journal: &Journal, place: u64) -> Result<(), AllocError>
+    ensures { IfOk result (λ _. key.new.items ≡ key.old.items
+        ++ optional sender_code (at sender journal.now.records place)) }
+{
+    if place >= journal.len() {
+        return push_number(key, 0);
+    }
+    let (entry, payload) = journal.record(place);
+    push_number(key, 1)?;
+    push_number(key, u64::from(entry.process))?;
+    push_message(key, entry, payload)
+}
+
+// The receive that waits since a place.
+fn push_receiver(key: &mut Vec<u64>, journal: &Journal, place: u64) -> Result<(), AllocError>
+    ensures { IfOk result (λ _. key.new.items ≡ key.old.items
+        ++ optional number (at author journal.now.records place)) }
+{
+    if place >= journal.len() {
+        return push_number(key, 0);
+    }
+    let (entry, _) = journal.record(place);
+    push_number(key, 1)?;
+    push_number(key, u64::from(entry.process))
+}
+
+fn push_place(
+    key: &mut Vec<u64>,
+    journal: &Journal,
+    kind: Kind,
+    place: u64,
+) -> Result<(), AllocError>
+    ensures { IfOk result (λ _. key.new.items ≡ key.old.items
+        ++ place_code kind journal.now.records place) }
+{
+    match kind {
+        Kind::Messages => push_sent(key, journal, place),
+        Kind::Senders => push_sender(key, journal, place),
+        Kind::Receivers => push_receiver(key, journal, place),
+    }
+}
+
+// All of a kind that stands in queue `q` or on it.
+fn push_kind(
+    alloc: Global,
+    key: &mut Vec<u64>,
+    journal: &Journal,
+    kind: Kind,
+    q: u64,
+) -> Result<(), AllocError>
+    ensures { IfOk result (λ _. key.new.items ≡ key.old.items
+        ++ kind_code kind journal.now.records q) }
+{
+    let places = standing(alloc, journal, kind, q)?;
+    push_number(key, places.len() as u64)?;
+    for place in &places {
+        push_place(key, journal, kind, *place)?;
+    }
+    Ok(())
+}
+
+fn attributes(journal: &Journal, q: u64) -> Attr
+    ensures { result ≡ attributes journal.now.records q }
+{
+    match journal.entry(q) {
+        Some(entry) => attributes_given(entry.call),
+        None => DEFAULT_ATTRIBUTES,
+    }
+}
+
+// The name of a queue, if it is still bound to it.
+fn push_name(key: &mut Vec<u64>, journal: &Journal, q: u64) -> Result<(), AllocError>
+    ensures { IfOk result (λ _. key.new.items ≡ key.old.items
+        ++ optional bytes_code (bound_name journal.now.records q)) }
+{
+    let n = journal.len();
+    if q >= n {
+        return push_number(key, 0);
+    }
+    let (_, name) = journal.record(q);
+    if is_named(journal, n, q) {
+        push_number(key, 1)?;
+        push_listed_bytes(key, name)
+    } else {
+        push_number(key, 0)
+    }
+}
+
+fn push_registration(
+    key: &mut Vec<u64>,
+    registration: Option<Registration>,
+) -> Result<(), AllocError>
+    ensures { IfOk result (λ _. key.new.items ≡ key.old.items
+        ++ optional registered_code (option_map unplaced registration)) }
+{
+    match registration {
+        None => push_number(key, 0),
+        Some(r) => {
+            push_number(key, 1)?;
+            push_number(key, u64::from(r.process))?;
+            push_number(key, u64::from(r.d))?;
+            push_number(key, r.value)
+        }
+    }
+}
+
+/// A queue: its name, its limits, its messages, who waits on it, and who is registered on it.
+pub(crate) fn push_queue(
+    alloc: Global,
+    key: &mut Vec<u64>,
+    journal: &Journal,
+    q: u64,
+) -> Result<(), AllocError>
+    ensures { IfOk result (λ _. key.new.items ≡ key.old.items ++ queue_code journal.now.records q) }
+{
+    push_name(key, journal, q)?;
+    push_limits(key, attributes(journal, q))?;
+    push_kind(alloc, key, journal, Kind::Messages, q)?;
+    push_kind(alloc, key, journal, Kind::Senders, q)?;
+    push_kind(alloc, key, journal, Kind::Receivers, q)?;
+    push_registration(key, registered(journal, journal.len(), q))
+}
+
+// What the entry at a place tells the process whose wait it answers.
+fn push_told(key: &mut Vec<u64>, journal: &Journal, place: u64) -> Result<(), AllocError>
+    ensures { IfOk result (λ _. key.new.items ≡ key.old.items
+        ++ optional (optional message_code) (at told journal.now.records place)) }
+{
+    if place >= journal.len() {
+        return push_number(key, 0);
+    }
+    let (entry, payload) = journal.record(place);
+    push_number(key, 1)?;
+    push_message_if(key, entry.call.is_send(), entry, payload)
+}
+
+// The message of an entry, if it has one.
+fn push_message_if(
+    key: &mut Vec<u64>,
+    sends: bool,
+    entry: Entry,
+    payload: &[u8],
+) -> Result<(), AllocError>
+    ensures { IfOk result (λ _. key.new.items ≡ key.old.items
+        ++ optional message_code
+        (if sends then Some (sent (record { entry = entry; payload = payload.now })) else None)) }
+{
+    if sends {
+        push_number(key, 1)?;
+        push_message(key, entry, payload)
+    } else {
+        push_number(key, 0)
+    }
+}
+
+fn push_answer(key: &mut Vec<u64>, journal: &Journal, p: u32) -> Result<(), AllocError>
+    ensures { IfOk result (λ _. key.new.items ≡ key.old.items
+        ++ optional (optional (optional message_code)) (answer journal.now.records p)) }
+{
+    match answered_by(journal, journal.len(), p) {
+        None => push_number(key, 0),
+        Some(by) => {
+            push_number(key, 1)?;
+            push_told(key, journal, by)
+        }
+    }
+}
+
+// The length of the buffer with which process `p` waits, if it does.
+fn push_room(key: &mut Vec<u64>, room: Option<u64>) -> Result<(), AllocError>
+    ensures { IfOk result (λ _. key.new.items ≡ key.old.items ++ optional number room) }
+{
+    match room {
+        None => push_number(key, 0),
+        Some(room) => {
+            push_number(key, 1)?;
+            push_number(key, room)
+        }
+    }
+}
+
+fn push_deadline(key: &mut Vec<u64>, until: Option<Deadline>) -> Result<(), AllocError>
+    ensures { IfOk result (λ _. key.new.items ≡ key.old.items ++ optional deadline_code until) }
+{
+    match until {
+        None => push_number(key, 0),
+        Some(until) => {
+            push_number(key, 1)?;
+            push_signed(key, until.sec)?;
+            push_signed(key, until.nsec)
+        }
+    }
+}
+
+// The notices that process `p` was not yet given.
+fn push_notices(
+    alloc: Global,
+    key: &mut Vec<u64>,
+    journal: &Journal,
+    p: u32,
+) -> Result<(), AllocError>
+    ensures { IfOk result (λ _. key.new.items ≡ key.old.items
+        ++ listed number (notices journal.now.records p)) }
+{
+    let values = notices(alloc, journal, p)?;
+    push_number(key, values.len() as u64)?;
+    for value in &values {
+        push_number(key, *value)?;
+    }
+    Ok(())
+}
+
+// What process `p` holds under each number below `width`.
+fn push_holdings(
+    key: &mut Vec<u64>,
+    journal: &Journal,
+    queues: &[u64],
+    width: u64,
+    p: u32,
+) -> Result<(), AllocError>
+    requires { width ≤ 2 ^ 32 }
+    ensures { IfOk result (λ _. key.new.items ≡ key.old.items
+        ++ listed (optional (description_code queues.now))
+        (map (held journal.now.records p) (numbers_from 0 width))) }
+{
+    push_number(key, width)?;
+    for d in 0..width {
+        push_held(key, queues, held(journal, journal.len(), p, d as u32))?;
+    }
+    Ok(())
+}
+
+/// A process: with which buffer it waits, if it does, and until when, what its wait was answered
+/// with, its notices, and what it holds of these queues under each number below `width`.
+pub(crate) fn push_process(
+    alloc: Global,
+    key: &mut Vec<u64>,
+    journal: &Journal,
+    queues: &[u64],
+    width: u64,
+    p: u32,
+) -> Result<(), AllocError>
+    requires bound { width ≤ 2 ^ 32 }
+    requires queues { queues.now ≡ alive journal.now.records }
+    ensures { IfOk result (λ _. key.new.items ≡ key.old.items
+        ++ process_code width journal.now.records p) }
+{
+    let n = journal.len();
+    push_room(key, waiting_room(journal, n, p))?;
+    push_deadline(key, wait_deadline(journal, n, p))?;
+    push_answer(key, journal, p)?;
+    push_notices(alloc, key, journal, p)?;
+    push_holdings(key, journal, queues, width, p)
+}
+
+/// The queues that exist.
+pub(crate) fn push_queues(
+    alloc: Global,
+    key: &mut Vec<u64>,
+    journal: &Journal,
+    queues: &[u64],
+) -> Result<(), AllocError>
+    ensures { IfOk result (λ _. key.new.items ≡ key.old.items
+        ++ listed (queue_code journal.now.records) queues.now) }
+{
+    push_number(key, queues.len() as u64)?;
+    for q in queues {
+        push_queue(alloc, key, journal, *q)?;
+    }
+    Ok(())
+}
+
+/// One more than the greatest process that called.
+pub fn process_bound(journal: &Journal) -> u64
+    ensures value { result ≡ process_bound journal.now.records }
+    ensures bound { result ≤ 2 ^ 32 }
+{
+    let mut bound = 0;
+    for i in 0..journal.len() {
+        let entry = entry_at(journal, i);
+        bound = cmp::max(bound, u64::from(entry.process) + 1);
+    }
+    bound
+}
+
+fn above_number(reply: Reply) -> u64
+    ensures value { result ≡ above_number reply }
+    ensures bound { result ≤ 2 ^ 32 }
+{
+    match reply {
+        Reply::Opened { d, created: _ } => u64::from(d) + 1,
+        _ => 0,
+    }
+}
+
+/// One more than the greatest descriptor that an open was given.
+pub fn number_bound(journal: &Journal) -> u64
+    ensures value { result ≡ number_bound journal.now.records }
+    ensures bound { result ≤ 2 ^ 32 }
+{
+    let mut bound = 0;
+    for i in 0..journal.len() {
+        let entry = entry_at(journal, i);
+        bound = cmp::max(bound, above_number(entry.reply));
+    }
+    bound
+}
+
+/// The processes below `count`.
+pub(crate) fn push_processes(
+    alloc: Global,
+    key: &mut Vec<u64>,
+    journal: &Journal,
+    queues: &[u64],
+    count: u64,
+    width: u64,
+) -> Result<(), AllocError>
+    requires count { count ≤ 2 ^ 32 }
+    requires width { width ≤ 2 ^ 32 }
+    requires queues { queues.now ≡ alive journal.now.records }
+    ensures { IfOk result (λ _. key.new.items ≡ key.old.items
+        ++ listed (process_code width journal.now.records) (numbers_from 0 count)) }
+{
+    push_number(key, count)?;
+    for p in 0..count {
+        push_process(alloc, key, journal, queues, width, p as u32)?;
+    }
+    Ok(())
+}

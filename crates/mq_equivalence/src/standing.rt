@@ -1,0 +1,200 @@
+//! The places of the messages in a queue, and of the sends and receives that wait on it.
+#![tactic(auto, using(mq_model::proofs::Prefixes::prefixes))]
+
+ghost use Rattle.std.specs.Prelude.{◌≡◌, ◌<◌, ◌≤◌, ◌++◌, false, get_or, IfOk, length};
+ghost use Rattle.std.specs.Option.{option_to_list};
+ghost use Rattle.mq_model.specs.Record.{first};
+ghost use Rattle.mq_model.specs.Messages.{blocks_receive, ends_send, ends_receive};
+ghost use Rattle.mq_checker.specs.TakenTable.{marked, unless_in};
+ghost use Rattle.mq_equivalence.specs.Kinds.{AreMarked, begins, ended, ends, may_begin, standing};
+
+use mq_checker::scan_messages::{blocks_send, entered, enters};
+use mq_checker::scan_names::{entry_at, is_on};
+use mq_checker::taken::taken_by;
+use mq_model::entries::{Call, Entry, Reply};
+use mq_model::journals::Journal;
+use std::alloc::{AllocError, Global};
+
+/// What stands in a queue or on it.
+#[derive(Clone, Copy)]
+pub(crate) enum Kind {
+    /// Its messages.
+    Messages,
+    /// The sends that wait for room.
+    Senders,
+    /// The receives that wait for a message.
+    Receivers,
+}
+
+fn blocks_receive(call: Call, reply: Reply) -> bool
+    ensures { result ≡ blocks_receive call reply }
+{
+    match reply {
+        Reply::Waits => call.is_receive(),
+        _ => false,
+    }
+}
+
+fn ends_send(reply: Reply) -> Option<u64>
+    ensures { result ≡ ends_send reply }
+{
+    match reply {
+        Reply::Got {
+            place: _,
+            admitted,
+            notified: _,
+        } => admitted,
+        Reply::Withdrawn { wait } => Some(wait),
+        _ => None,
+    }
+}
+
+fn ends_receive(reply: Reply) -> Option<u64>
+    ensures { result ≡ ends_receive reply }
+{
+    match reply {
+        Reply::Handed { wait } => Some(wait),
+        Reply::Withdrawn { wait } => Some(wait),
+        _ => None,
+    }
+}
+
+// The place of a kind that the reply at place `here` takes away.
+fn ends(kind: Kind, here: u64, reply: Reply) -> Option<u64>
+    ensures { result ≡ ends kind here reply }
+{
+    match kind {
+        Kind::Messages => taken_by(here, reply),
+        Kind::Senders => ends_send(reply),
+        Kind::Receivers => ends_receive(reply),
+    }
+}
+
+// Marks a place, if the table has it.
+fn mark(marks: &mut [bool], place: Option<u64>)
+    ensures { marks.new ≡ marked marks.old place }
+{
+    if let Some(m) = place {
+        if m < marks.len() as u64 {
+            marks[m as usize] = true;
+        }
+    }
+}
+
+// Which places of a kind are gone.
+fn gone(alloc: Global, journal: &Journal, kind: Kind) -> Result<Vec<bool>, AllocError>
+    ensures { IfOk result (λ marks.
+        AreMarked (length journal.now.records) (ended kind journal.now.records) marks.items) }
+{
+    let n = journal.len();
+    let mut marks = vec![in alloc; false; n as usize]?;
+    for i in 0..n {
+        let entry = entry_at(journal, i);
+        mark(&mut marks, ends(kind, i, entry.reply));
+    }
+    Ok(marks)
+}
+
+// The place of a kind that the entry at place `k` brings to queue `q`.
+fn begins(journal: &Journal, kind: Kind, k: u64, entry: Entry, q: u64) -> Option<u64>
+    requires { k ≤ length journal.now.records }
+    ensures { result ≡ begins kind (first k journal.now.records) entry q }
+{
+    match kind {
+        Kind::Messages => entered(journal, k, entry, q),
+        Kind::Senders => {
+            if blocks_send(entry.call, entry.reply)
+                && is_on(journal, k, entry.process, entry.call, q)
+            {
+                Some(k)
+            } else {
+                None
+            }
+        }
+        Kind::Receivers => {
+            if blocks_receive(entry.call, entry.reply)
+                && is_on(journal, k, entry.process, entry.call, q)
+            {
+                Some(k)
+            } else {
+                None
+            }
+        }
+    }
+}
+
+// The place of a kind that the entry at place `here` may bring to some queue.
+fn may_begin(kind: Kind, here: u64, entry: Entry) -> Option<u64>
+    ensures { result ≡ may_begin kind here entry }
+{
+    match kind {
+        Kind::Messages => enters(here, entry),
+        Kind::Senders => {
+            if blocks_send(entry.call, entry.reply) {
+                Some(here)
+            } else {
+                None
+            }
+        }
+        Kind::Receivers => {
+            if blocks_receive(entry.call, entry.reply) {
+                Some(here)
+            } else {
+                None
+            }
+        }
+    }
+}
+
+// Whether a place is marked.
+fn is_marked(marks: &[bool], m: u64) -> bool
+    ensures { result ≡ get_or marks.now m false }
+{
+    m < marks.len() as u64 && marks[m as usize]
+}
+
+// The place of a kind that the entry at place `i` brings to queue `q`, unless it is marked as gone.
+fn stays(journal: &Journal, marks: &[bool], kind: Kind, i: u64, entry: Entry, q: u64) -> Option<u64>
+    requires place { i < length journal.now.records }
+    requires marks { AreMarked (length journal.now.records)
+        (ended kind journal.now.records) marks.now }
+    ensures { result ≡ unless_in (ended kind journal.now.records)
+        (begins kind (first i journal.now.records) entry q) }
+{
+    let Some(m) = may_begin(kind, i, entry) else {
+        return None;
+    };
+    if is_marked(marks, m) {
+        return None;
+    }
+    begins(journal, kind, i, entry, q)
+}
+
+// Adds a place, if there is one.
+fn add(places: &mut Vec<u64>, place: Option<u64>) -> Result<(), AllocError>
+    ensures { IfOk result (λ _. places.new.items ≡ places.old.items ++ option_to_list place) }
+{
+    if let Some(m) = place {
+        places.push(m)?;
+    }
+    Ok(())
+}
+
+/// The places of a kind that stand in queue `q` or on it, the latest first.
+pub(crate) fn standing(
+    alloc: Global,
+    journal: &Journal,
+    kind: Kind,
+    q: u64,
+) -> Result<Vec<u64>, AllocError>
+    ensures { IfOk result (λ places. places.items ≡ standing kind journal.now.records q) }
+{
+    let marks = gone(alloc, journal, kind)?;
+    let mut places = Vec::new(alloc);
+    for i in (0..journal.len()).rev() {
+        let entry = entry_at(journal, i);
+        let found = stays(journal, &marks, kind, i, entry, q);
+        add(&mut places, found)?;
+    }
+    Ok(places)
+}

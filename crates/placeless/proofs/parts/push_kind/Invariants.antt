@@ -1,9 +1,0 @@
-use Rattle.std.proofs.Common.{◌≡◌, ◌++◌, drop}
-use Rattle.placeless.specs.Key.{codes}
-use Rattle.placeless.specs.Kinds.{place_code}
-use Rattle.placeless.proofs.parts.push_kind.Given as goal
-
-abbrev pub invariant-loop-place : goal.invariant-loop-place
-invariant-loop-place l =
-    l.key.items ++ codes (place_code l.kind l.journal.records) (drop l.place-index l.place-items)
-    ≡ l.initial.key.items ++ codes (place_code l.kind l.journal.records) l.place-items

@@ -1,9 +1,0 @@
-use Rattle.std.proofs.Common.{◌≡◌, ◌-◌, ◌++◌}
-use Rattle.mq_model.specs.Descriptors.{numbers_from}
-use Rattle.placeless.specs.Key.{codes, process_code}
-use Rattle.placeless.proofs.parts.push_processes.Given as goal
-
-abbrev pub invariant-loop-p : goal.invariant-loop-p
-invariant-loop-p l =
-    l.key.items ++ codes (process_code l.width l.journal.records) (numbers_from l.p (l.count - l.p))
-    ≡ l.initial.key.items ++ codes (process_code l.width l.journal.records) (numbers_from 0 l.count)

@@ -1,8 +1,0 @@
-use Rattle.std.proofs.Common.{◌≡◌, ◌++◌, drop}
-use Rattle.placeless.specs.Key.{codes, queue_code}
-use Rattle.placeless.proofs.parts.push_queues.Given as goal
-
-abbrev pub invariant-loop-q : goal.invariant-loop-q
-invariant-loop-q l =
-    l.key.items ++ codes (queue_code l.journal.records) (drop l.q-index l.queues)
-    ≡ l.initial.key.items ++ codes (queue_code l.journal.records) l.queues

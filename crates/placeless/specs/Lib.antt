@@ -1,4 +1,0 @@
-pub mod Views
-pub mod Steps
-pub mod Key
-pub mod Kinds
