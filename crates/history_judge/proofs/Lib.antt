@@ -11,3 +11,4 @@ pub mod Strangers
 pub mod OwnNumbers
 pub mod LineLengths
 pub mod Pending
+pub mod Noting

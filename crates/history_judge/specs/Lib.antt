@@ -9,3 +9,4 @@ pub mod Fronts
 pub mod Verdicts
 pub mod Said
 pub mod OwnNumbers
+pub mod WellFormed

@@ -17,4 +17,5 @@ pub mod renaming;
 pub mod said;
 pub mod tasks;
 pub mod text;
+pub mod well_formed;
 pub mod windows;

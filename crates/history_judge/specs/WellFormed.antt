@@ -1,0 +1,68 @@
+-- Well-formed histories: each process makes its calls one after the other, and each call is given the
+-- bytes that it takes.
+use Rattle.std.specs.Prelude.{◌≡◌, ◌<◌, ℕ, zero, suc, Bool, true, false, ◌&&◌, ◌||◌, ◌==◌, nat_lt, max, List, Option, Some, None, codes, slice_get, if◌then◌else◌}
+use Rattle.std.specs.Option.{option_and_then}
+use Rattle.mq_model.specs.Legality.{is_payload}
+use Rattle.mq_model.specs.declared.entries.Call.{Call}
+use Rattle.mq_model.specs.declared.entries.Call.TheVariants.{MqOpen, MqUnlink}
+use Rattle.mq_model.specs.declared.entries.Reply.TheVariants.{Done}
+use Rattle.histories.specs.Histories.{is_pending}
+use Rattle.history_judge.specs.declared.line.Called.{Called}
+use Rattle.history_judge.specs.declared.well_formed.IllFormed.{IllFormed}
+use Rattle.history_judge.specs.declared.well_formed.IllFormed.TheVariants.{BadLength, BadName, BehindPending, EndsFirst, Overlaps}
+
+abbrev pub end_by : ℕ → Option Called → ℕ
+end_by p None = 0
+end_by p (Some c) = if c.process == p then c.operation.end else 0
+
+-- the latest moment at which one of the first n calls ended that process p made
+abbrev pub latest_end : List Called → ℕ → ℕ → ℕ
+latest_end calls p zero = 0
+latest_end calls p (suc n) = max (latest_end calls p n) (end_by p (slice_get calls n))
+
+abbrev pub is_pending_by : ℕ → Option Called → Bool
+is_pending_by p None = false
+is_pending_by p (Some c) = (c.process == p) && is_pending c.operation.outcome
+
+-- one of the first n calls is of process p and had not returned
+abbrev pub has_pending : List Called → ℕ → ℕ → Bool
+has_pending calls p zero = false
+has_pending calls p (suc n) = has_pending calls p n || is_pending_by p (slice_get calls n)
+
+abbrev pub takes_name : Call → Bool
+takes_name (MqOpen flags attr) = true
+takes_name MqUnlink = true
+takes_name _ = false
+
+-- why a call may not stand behind others of its process, of which the latest ended at `latest`, and
+-- one had not returned if `pending`
+abbrev pub fault_behind : Bool → ℕ → Called → Option IllFormed
+fault_behind pending latest c =
+    if pending then Some BehindPending
+    else (if nat_lt c.operation.begin latest then Some Overlaps
+    else (if nat_lt c.operation.end c.operation.begin then Some EndsFirst
+    else (if is_payload c.operation.call Done c.operation.given.items then None
+    else (if takes_name c.operation.call then Some BadName else Some BadLength))))
+
+abbrev pub fault_of : List Called → ℕ → Called → Option IllFormed
+fault_of calls n c = fault_behind (has_pending calls c.process n) (latest_end calls c.process n) c
+
+-- why the call at an index, from 0, may not stand behind those before it
+abbrev pub fault_at : List Called → ℕ → Option IllFormed
+fault_at calls n = option_and_then (fault_of calls n) (slice_get calls n)
+
+abbrev pub IsWellFormed : List Called → Type 0
+IsWellFormed calls = (n : ℕ) → fault_at calls n ≡ None
+
+-- the call at this index is the first that may not stand there, and this is why
+pub record IsFirstFault (calls : List Called) (n : ℕ) (why : IllFormed) : Type 0 where
+  pub before : (m : ℕ) → m < n → fault_at calls m ≡ None
+  pub is : fault_at calls n ≡ Some why
+
+-- the printed text
+abbrev pub ill_formed_text : IllFormed → List ℕ
+ill_formed_text BehindPending = codes "an earlier call of this process had not returned"
+ill_formed_text Overlaps = codes "this call begins before an earlier one of its process ended"
+ill_formed_text EndsFirst = codes "this call ends before it begins"
+ill_formed_text BadName = codes "the name is none of a queue"
+ill_formed_text BadLength = codes "the length is not that of the message"

@@ -1,0 +1,112 @@
+//! Whether a history is well-formed: each process makes its calls one after the other, and each call
+//! is given the bytes that it takes.
+ghost use Rattle.std.specs.Prelude.{◌≡◌, IfSome, None, Some, max};
+ghost use Rattle.histories.specs.Histories.{is_pending};
+ghost use Rattle.history_judge.specs.Processes.{AreOfProcesses};
+ghost use Rattle.history_judge.specs.WellFormed.{IsFirstFault, IsWellFormed, fault_behind, ill_formed_text, takes_name};
+
+use crate::line::Called;
+use histories::operation::Outcome;
+use mq_model::entries::{Call, Reply};
+use mq_model::forms::is_payload;
+use mq_model::limits::PROCESSES;
+use std::fmt;
+
+/// Why a call may not stand in a history behind those before it.
+#[derive(Clone, Copy, Debug, PartialEq, Eq)]
+pub enum IllFormed {
+    /// An earlier call of its process had not returned.
+    BehindPending,
+    /// It begins before an earlier call of its process ended.
+    Overlaps,
+    /// It ends before it begins.
+    EndsFirst,
+    /// It names a queue by bytes that are no name.
+    BadName,
+    /// Its length is not that of its message, or it has a message that it does not take.
+    BadLength,
+}
+
+impl fmt::Display for IllFormed {
+    ghost output = { λ why. Some (ill_formed_text why) };
+
+    fn fmt<W: fmt::Write>(&self, f: &mut fmt::Formatter<W>) -> fmt::Result {
+        f.write_str(match self {
+            IllFormed::BehindPending => "an earlier call of this process had not returned",
+            IllFormed::Overlaps => "this call begins before an earlier one of its process ended",
+            IllFormed::EndsFirst => "this call ends before it begins",
+            IllFormed::BadName => "the name is none of a queue",
+            IllFormed::BadLength => "the length is not that of the message",
+        })
+    }
+}
+
+const COUNT: usize = PROCESSES as usize + 1;
+
+fn takes_name(call: Call) -> bool
+    ensures { result ≡ takes_name call }
+{
+    match call {
+        Call::MqOpen { flags: _, attr: _ } | Call::MqUnlink => true,
+        _ => false,
+    }
+}
+
+fn is_pending(outcome: &Outcome) -> bool
+    ensures { result ≡ is_pending outcome.now }
+{
+    match outcome {
+        Outcome::Pending => true,
+        _ => false,
+    }
+}
+
+fn later(one: u64, other: u64) -> u64
+    ensures { result ≡ max one other }
+{
+    one.max(other)
+}
+
+// Why a call may not stand behind others of its process.
+fn fault_behind(pending: bool, latest: u64, called: &Called) -> Option<IllFormed>
+    ensures { result ≡ fault_behind pending latest called.now }
+{
+    let operation = &called.operation;
+    if pending {
+        return Some(IllFormed::BehindPending);
+    }
+    if operation.begin < latest {
+        return Some(IllFormed::Overlaps);
+    }
+    if operation.end < operation.begin {
+        return Some(IllFormed::EndsFirst);
+    }
+    if is_payload(operation.call, Reply::Done, &operation.given) {
+        return None;
+    }
+    if takes_name(operation.call) {
+        Some(IllFormed::BadName)
+    } else {
+        Some(IllFormed::BadLength)
+    }
+}
+
+/// The first call, by its index from 0, that may not stand behind those before it, and why.
+pub fn first_fault(calls: &[Called]) -> Option<(usize, IllFormed)>
+    requires { AreOfProcesses calls.now }
+    ensures none { result ≡ None → IsWellFormed calls.now }
+    ensures some { IfSome result (λ fault. IsFirstFault calls.now fault.0 fault.1) }
+{
+    let mut latest = [0u64; COUNT];
+    let mut pending = [false; COUNT];
+    for n in 0..calls.len() {
+        let called = &calls[n];
+        let p = called.process as usize;
+        if let Some(why) = fault_behind(pending[p], latest[p], called) {
+            return Some((n, why));
+        }
+        latest[p] = later(latest[p], called.operation.end);
+        pending[p] = pending[p] | is_pending(&called.operation.outcome);
+    }
+    None
+}
