@@ -102,13 +102,14 @@ static bool is_counted(void)
     return mode == '2';
 }
 
-char *arena_map(size_t tables, size_t place)
+char *arena_map(size_t tables, size_t place, bool is_private)
 {
+    const int kind = is_private ? MAP_PRIVATE : MAP_SHARED;
     const size_t least = (size_t)48 << 20;
     tables = whole_pages(tables);
     for (size_t size = is_counted() ? (size_t)768 << 20 : (size_t)96 << 30; size >= least;
          size /= 2) {
-        char *at = mmap(0, size, PROT_NONE, MAP_SHARED | MAP_ANONYMOUS | MAP_NORESERVE, -1, 0);
+        char *at = mmap(0, size, PROT_NONE, kind | MAP_ANONYMOUS | MAP_NORESERVE, -1, 0);
         if (at == MAP_FAILED)
             continue;
         madvise(at, size, MADV_DONTDUMP);

@@ -46,8 +46,8 @@ typedef struct arena {
 #pragma GCC visibility push(hidden)
 
 /* Maps an arena with so many bytes of tables, of which `arena` is a part at this place: where it
- * begins, or null. */
-char *arena_map(size_t tables, size_t place);
+ * begins, or null. One that is private is not shared: a fork copies it. */
+char *arena_map(size_t tables, size_t place, bool is_private);
 /* The arena that is in use; null before there is one. */
 extern arena *arena_here;
 /* Unmaps it. */

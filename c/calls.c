@@ -1,5 +1,6 @@
 /* The calls of POSIX's <mqueue.h>, as exported symbols. */
 #define _GNU_SOURCE
+#include "explored_calls.h"
 #include "log.h"
 
 #include <errno.h>
@@ -133,17 +134,21 @@ static mqd_t open_queue(const char *name, int oflag, const struct mq_attr *attr)
         opening.limited = true;
     }
     len = strlen(name);
+    explored_names(STEP_OPEN);
     if ((error = program_enter()) != 0)
         return fails(error);
     number = free_number();
     error = number == NUMBERS
                 ? EMFILE
                 : open_description(&opening, (oflag & O_NONBLOCK) != 0, name, len, &answer, &d);
-    if (error == 0 && answer == YAK_DONE)
+    if (error == 0 && answer == YAK_DONE) {
         program_here->me->numbers[number] = (uint8_t)(d + 1);
+        explored_number(number, d);
+    }
     program_leave();
     if (error != 0)
         return fails(error);
+    explored_gave(answer, 0);
     return answer == YAK_DONE ? FIRST + (mqd_t)number : result(answer);
 }
 
@@ -170,6 +175,7 @@ int mq_close(mqd_t mqdes)
 {
     uint32_t answer = YAK_DONE, answered = 0, d;
     int error;
+    explored_call(STEP_CLOSE, mqdes);
     if ((error = program_enter()) != 0)
         return fails(error);
     d = program_number(mqdes);
@@ -185,6 +191,7 @@ int mq_close(mqd_t mqdes)
         answered = program_note_answers(program_home_of(d));
     }
     program_leave_waking(answered);
+    explored_gave(answer, 0);
     return result(answer);
 }
 
@@ -196,6 +203,7 @@ int mq_unlink(const char *name)
     if (name == 0)
         return fails(EFAULT);
     len = strlen(name);
+    explored_names(STEP_UNLINK);
     if ((error = program_enter()) != 0)
         return fails(error);
     /* What the dead hold is not to outlive the name. */
@@ -204,6 +212,7 @@ int mq_unlink(const char *name)
     program_mirror_all((const uint8_t *)name, len);
     answer = did_unlink(HOME, (const uint8_t *)name, len);
     program_leave();
+    explored_gave(answer, 0);
     return result(answer);
 }
 
@@ -233,6 +242,7 @@ static int exchange(mqd_t mqdes, const struct mq_attr *set, struct mq_attr *befo
         return fails(EFAULT);
     if (set != 0 && (set->mq_flags & ~(long)O_NONBLOCK) != 0)
         return fails(EINVAL);
+    explored_call(set != 0 ? STEP_SETATTR : STEP_GETATTR, mqdes);
     if ((error = program_enter()) != 0)
         return fails(error);
     d = program_number(mqdes);
@@ -244,6 +254,7 @@ static int exchange(mqd_t mqdes, const struct mq_attr *set, struct mq_attr *befo
             the_program.nonblock[d] = (set->mq_flags & O_NONBLOCK) != 0;
     }
     program_leave();
+    explored_gave(answer, (uint32_t)attributes.curmsgs);
     return fill(answer, &attributes, before);
 }
 
@@ -261,6 +272,7 @@ int mq_notify(mqd_t mqdes, const struct sigevent *event)
 {
     uint32_t answer = YAK_DONE;
     int error;
+    explored_call(STEP_NOTIFY, mqdes);
     if ((error = program_enter()) != 0)
         return fails(error);
     error = program_register(program_number(mqdes), event, &answer);
@@ -313,6 +325,7 @@ static inline __attribute__((always_inline)) uint32_t make(const char *call, boo
         moment.sec = (int64_t)until->tv_sec;
         moment.nsec = (int64_t)until->tv_nsec;
     }
+    explored_transfer(is_send, mqdes, len, prio, until);
     do {
         if ((error = program_enter()) != 0) {
             errno = error;
@@ -330,6 +343,7 @@ static inline __attribute__((always_inline)) uint32_t make(const char *call, boo
                                   the_program.processes[program_home_of(d)].answered) == 0,
                              1)) {
             program_leave();
+            explored_moved(is_send, d, answer, bytes, is_send ? len : message->len);
             return YAK_DONE;
         } else {
             const request asked = {
@@ -345,6 +359,7 @@ static inline __attribute__((always_inline)) uint32_t make(const char *call, boo
             answer = go_on(d, &asked, message, answer);
         }
     } while (answer == YAK_ANEW);
+    explored_moved(is_send, d, answer, bytes, is_send ? len : message->len);
     return answer;
 }
 

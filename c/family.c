@@ -49,6 +49,16 @@ bool program_shares(void)
     return wanted == 0 || strcmp(wanted, "new") != 0;
 }
 
+/* Whether a fork copies the queues: each run of yak-explore is a child of its own. */
+static bool is_copied(void)
+{
+#ifdef YAK_EXPLORED
+    return yak_seed_decides() || getenv("YAK_EXPLORE") != 0 || getenv("YAK_SCHEDULE") != 0;
+#else
+    return false;
+#endif
+}
+
 /* ---- who lives ---- */
 
 /* What /proc/PID/stat says. */
@@ -348,7 +358,9 @@ static void come(owner *it)
 /* Maps an arena for this process, and takes its first place. */
 static bool begin_arena(void)
 {
-    if ((program_at = (program *)(void *)arena_map(sizeof(program), offsetof(program, arena))) == 0)
+    program_at =
+        (program *)(void *)arena_map(sizeof(program), offsetof(program, arena), is_copied());
+    if (program_at == 0)
         return false;
     the_program.arena.openings = 1;
     program_here->seen = 0;
@@ -602,7 +614,8 @@ static __attribute__((constructor)) void begin(void)
     if (own == MAP_FAILED)
         abort();
 #ifdef MADV_WIPEONFORK
-    madvise(own, page, MADV_WIPEONFORK);
+    if (!is_copied())
+        madvise(own, page, MADV_WIPEONFORK);
 #endif
     program_here = own;
     begin_arena();

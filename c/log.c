@@ -1,6 +1,7 @@
 /* The calls that change the state, with the log of them, and the system made again from it. */
 #define _GNU_SOURCE
 #include "log.h"
+#include "explored_calls.h"
 
 #include <string.h>
 
@@ -220,6 +221,7 @@ uint32_t did_open(unsigned process, opened *it, const uint8_t *name, size_t len,
         it->msgsize = now.msgsize;
         the_program.lens[it->queue] = len;
         memcpy(the_program.names[it->queue], name, len);
+        explored_queue(it->queue, name, len, &it->opening);
     }
     head.d = (uint8_t)*d;
     note(head, it, sizeof *it, name);

@@ -1,0 +1,142 @@
+/* explore.h: what the machine in a program and yak-explore share.
+ *
+ * yak-explore makes this memory, and the program maps it (machine.c). Before a run yak-explore
+ * writes what is asked for; the machine writes the trace of the run. One byte each way over a
+ * socket says whose turn it is. docs/explore.md says what a step is. */
+#ifndef YAKYROMBE_EXPLORE_H
+#define YAKYROMBE_EXPLORE_H
+
+#include <stdbool.h>
+#include <stdint.h>
+#include <sys/types.h>
+
+enum {
+    YAK_SEATS = 64, /* threads of a run */
+    YAK_MOST_STEPS = 1 << 14,
+    YAK_MOST_OBJECTS = 1 << 12,
+    YAK_MOST_RECORDS = 1 << 20,
+    YAK_MOST_SLEEPS = 1 << 10,
+    YAK_OBJECT_NAME = 256,
+    YAK_EXPLORE_VERSION = 1
+};
+
+/* The kinds of steps: the word of the protocol with the engine, and the call that a report names,
+ * without and with a deadline. */
+#define YAK_KINDS(X)                                                              \
+    X(NONE, "none", "nothing", "nothing")                                         \
+    X(START, "start", "its start", "its start")                                   \
+    X(JOIN, "join", "pthread_join", "pthread_join")                               \
+    X(LOCK, "lock", "pthread_mutex_lock", "pthread_mutex_timedlock")              \
+    X(TRYLOCK, "trylock", "pthread_mutex_trylock", "pthread_mutex_trylock")       \
+    X(UNLOCK, "unlock", "pthread_mutex_unlock", "pthread_mutex_unlock")           \
+    X(REGISTER, "register", "pthread_cond_wait", "pthread_cond_timedwait")        \
+    X(WAKE, "wake", "pthread_cond_wait", "pthread_cond_timedwait")                \
+    X(SIGNAL, "signal", "pthread_cond_signal", "pthread_cond_signal")             \
+    X(BROADCAST, "broadcast", "pthread_cond_broadcast", "pthread_cond_broadcast") \
+    X(SEMWAIT, "semwait", "sem_wait", "sem_timedwait")                            \
+    X(SEMTRY, "semtry", "sem_trywait", "sem_trywait")                             \
+    X(POST, "post", "sem_post", "sem_post")                                       \
+    X(SLEEP, "sleep", "a sleep", "a sleep")                                       \
+    X(YIELD, "yield", "sched_yield", "sched_yield")                               \
+    X(EXIT, "exit", "exit", "exit")                                               \
+    X(OPEN, "open", "mq_open", "mq_open")                                         \
+    X(CLOSE, "close", "mq_close", "mq_close")                                     \
+    X(UNLINK, "unlink", "mq_unlink", "mq_unlink")                                 \
+    X(SEND, "send", "mq_send", "mq_timedsend")                                    \
+    X(RECEIVE, "receive", "mq_receive", "mq_timedreceive")                        \
+    X(GETATTR, "getattr", "mq_getattr", "mq_getattr")                             \
+    X(SETATTR, "setattr", "mq_setattr", "mq_setattr")                             \
+    X(NOTIFY, "notify", "mq_notify", "mq_notify")                                 \
+    X(COLLECT, "collect", "a wait that has begun", "a wait that has begun")       \
+    X(CLOCK, "clock", "clock_gettime", "clock_gettime")                           \
+    X(CREATE, "create", "pthread_create", "pthread_create")                       \
+    X(RDLOCK, "rdlock", "pthread_rwlock_rdlock", "pthread_rwlock_timedrdlock")    \
+    X(WRLOCK, "wrlock", "pthread_rwlock_wrlock", "pthread_rwlock_timedwrlock")    \
+    X(RWUNLOCK, "rwunlock", "pthread_rwlock_unlock", "pthread_rwlock_unlock")     \
+    X(BARRIER, "barrier", "pthread_barrier_wait", "pthread_barrier_wait")         \
+    X(ONCE, "once", "pthread_once", "pthread_once")                               \
+    X(FUTEXWAIT, "futexwait", "a wait by futex", "a wait by futex")               \
+    X(FUTEXWAKE, "futexwake", "a wake by futex", "a wake by futex")
+
+typedef enum yak_kind {
+#define YAK_KIND(name, word, call, timed_call) STEP_##name,
+    YAK_KINDS(YAK_KIND)
+#undef YAK_KIND
+        STEP_KINDS
+} yak_kind;
+
+/* Of a step: it has a deadline; it is a try, or its description does not block; it never blocks,
+ * since its arguments are wrong. */
+enum { YAK_TIMED = 1, YAK_TRY = 2, YAK_NEVER_BLOCKS = 4 };
+
+/* Whether a parked thread can go on: not, or because of what it waits for, or since its deadline
+ * may pass. */
+enum { YAK_CANNOT, YAK_CAN, YAK_LATE };
+
+/* The parts of a trace. */
+typedef enum yak_what {
+    YAK_AT,    /* before a step: a parked thread with its next operation */
+    YAK_CHOSE, /* the step: the thread, and the variant in `variants` */
+    YAK_ALSO,  /* what else the step did: kind and object */
+    YAK_GAVE,  /* what came of it: the error in `object`, the value in `arg` */
+    YAK_HOLDS, /* at the end: who holds the mutex that a thread waits for */
+    YAK_LEFT,  /* at the end: a parked thread, as in YAK_AT */
+    YAK_END    /* why the run ended, in `kind` */
+} yak_what;
+
+typedef enum yak_end {
+    YAK_END_NONE,
+    YAK_END_DONE,
+    YAK_END_DEADLOCK,
+    YAK_END_STEPS, /* too many */
+    YAK_END_UNFIT, /* a thread that was to go on could not */
+    YAK_END_SLEPT  /* all that can go on are asleep */
+} yak_end;
+
+typedef struct yak_record {
+    uint8_t what, thread, kind, flags, able, variants;
+    uint16_t step; /* of YAK_AT and YAK_CHOSE, counted from 1 */
+    uint32_t object;
+    uint32_t arg;
+} yak_record;
+
+/* What steps touch, by its number from 1. An object has an address, or, if it is a queue, a name
+ * and how often the name was given before. */
+typedef struct yak_object {
+    uint64_t at;
+    uint32_t given;
+    uint32_t room; /* of a queue: its maxmsg */
+    uint8_t kind;  /* of the first step that touched it */
+    char name[YAK_OBJECT_NAME];
+} yak_object;
+
+/* A thread that the rule avoids until a step touches an object; 0 is any. */
+typedef struct yak_sleeper {
+    uint32_t thread;
+    uint32_t object;
+} yak_sleeper;
+
+typedef struct yak_explored {
+    /* What is asked for. */
+    uint32_t most_steps;
+    bool is_last; /* a deadline passes only if nobody else can go on */
+    bool is_each; /* an unlock and a post are steps of their own */
+    bool is_random;
+    uint64_t seed;
+    uint32_t choices; /* the thread, and the variant times 256; 0 leaves the step to the rule */
+    uint32_t leads;
+    uint32_t sleepers;
+    uint16_t choice[YAK_MOST_STEPS];
+    uint8_t lead[YAK_MOST_STEPS];
+    yak_sleeper sleeper[YAK_MOST_SLEEPS];
+    /* What the machine answers. */
+    uint32_t version; /* it is there */
+    pid_t child;      /* that makes the run */
+    int status;       /* of the child, as waitpid has it */
+    uint32_t objects;
+    yak_object object[YAK_MOST_OBJECTS];
+    uint32_t records;
+    yak_record record[YAK_MOST_RECORDS];
+} yak_explored;
+
+#endif

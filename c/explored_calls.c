@@ -1,0 +1,168 @@
+/* The calls on queues as steps. */
+#define _GNU_SOURCE
+#include "explored_calls.h"
+#include "machine.h"
+
+#include <string.h>
+
+/* The names of queues are one object. */
+static const char names;
+
+static uint32_t names_object(void)
+{
+    return machine_object(&names, STEP_OPEN);
+}
+
+/* Whether this call is one of a thread that the machine knows, and not one in a handler that has
+ * interrupted another call. */
+static bool is_step(void)
+{
+    return machine_decides() && program_place == OUTSIDE && program_here->me != 0;
+}
+
+static const machine_queue *queue_of(uint32_t d)
+{
+    return &the_machine.queues[the_program.tables.descriptions[d].queue];
+}
+
+/* A number that stands for no description has the queue of its last one. */
+static uint32_t object_of(int mqdes)
+{
+    const uint32_t d = program_number(mqdes), number = (uint32_t)mqdes - FIRST;
+    uint32_t object = 0;
+    if (d < DESCRIPTIONS)
+        object = queue_of(d)->object;
+    else if (number < NUMBERS)
+        object = the_machine.number_queue[number];
+    return object != 0 ? object : names_object();
+}
+
+void explored_names(yak_kind kind)
+{
+    if (is_step())
+        machine_acts(kind, &names, 0);
+}
+
+void explored_call(yak_kind kind, int mqdes)
+{
+    machine_op op;
+    if (!is_step())
+        return;
+    op = machine_op_on(kind, 0, 0);
+    op.object = object_of(mqdes);
+    machine_act(&op);
+}
+
+static bool is_wrong(bool is_send, uint32_t d, size_t len, unsigned prio)
+{
+    const int64_t msgsize = queue_of(d)->msgsize;
+    if (the_program.tables.descriptions[d].access == (is_send ? 0 : 1))
+        return true;
+    return is_send ? (int64_t)len > msgsize || prio > 32767 : (int64_t)len < msgsize;
+}
+
+void explored_transfer(bool is_send, int mqdes, size_t len, unsigned prio,
+                       const struct timespec *until)
+{
+    machine_op op;
+    uint32_t d;
+    if (!is_step())
+        return;
+    op = machine_op_on(is_send ? STEP_SEND : STEP_RECEIVE, 0, until);
+    op.object = object_of(mqdes);
+    op.arg = is_send ? prio : 0;
+    d = program_number(mqdes);
+    if (d >= DESCRIPTIONS || is_wrong(is_send, d, len, prio))
+        op.flags |= YAK_NEVER_BLOCKS;
+    else if (the_program.nonblock[d])
+        op.flags |= YAK_TRY;
+    else if (queue_of(d)->object != 0)
+        op.with = (void *)(uintptr_t)queue_of(d);
+    machine_act(&op);
+}
+
+static int error_of(uint32_t answer)
+{
+    if (answer == YAK_DONE)
+        return 0;
+    return answer >= YAK_INTERRUPTED ? EINTR : yak_errno(answer);
+}
+
+void explored_gave(uint32_t answer, uint32_t value)
+{
+    if (program_place == OUTSIDE)
+        machine_gave(error_of(answer), value);
+}
+
+static uint32_t hash_of(const uint8_t *bytes, size_t len)
+{
+    uint32_t it = 2166136261u;
+    for (size_t i = 0; i < len; ++i)
+        it = (it ^ bytes[i]) * 16777619u;
+    return it;
+}
+
+void explored_moved(bool is_send, uint32_t d, uint32_t answer, const uint8_t *bytes, size_t len)
+{
+    if (!machine_decides())
+        return;
+    if (answer == YAK_DONE && d < DESCRIPTIONS)
+        the_machine.queues[the_program.tables.descriptions[d].queue].current += is_send ? 1 : -1;
+    explored_gave(answer, answer == YAK_DONE ? hash_of(bytes, len) : 0);
+}
+
+/* How often the name was given in this run. */
+static uint32_t given_before(const char *name)
+{
+    uint32_t count = 0;
+    for (unsigned i = 0; i < the_machine.made; ++i)
+        count += strcmp(the_machine.shared->object[the_machine.made_queue[i] - 1].name, name) == 0;
+    return count;
+}
+
+/* The number of a queue. Of queues of one name each has its own. */
+static uint32_t queue_object(const char *name, uint32_t room)
+{
+    yak_explored *all = the_machine.shared;
+    const uint32_t given = given_before(name);
+    yak_object *it;
+    for (uint32_t i = 0; i < all->objects; ++i)
+        if (strcmp(all->object[i].name, name) == 0 && all->object[i].given == given &&
+            all->object[i].room == room)
+            return i + 1;
+    if (all->objects == YAK_MOST_OBJECTS)
+        return YAK_MOST_OBJECTS;
+    it = &all->object[all->objects];
+    it->given = given;
+    it->room = room;
+    it->kind = STEP_OPEN;
+    strcpy(it->name, name);
+    return ++all->objects;
+}
+
+void explored_queue(unsigned slot, const uint8_t *name, size_t len, const yak_opening *opening)
+{
+    machine_queue *it = &the_machine.queues[slot];
+    char text[YAK_OBJECT_NAME] = {0};
+    if (!machine_decides() || len >= sizeof text)
+        return;
+    memcpy(text, name, len);
+    /* Without limits a queue has those of Linux's. */
+    it->room = opening->limited ? opening->maxmsg : 10;
+    it->msgsize = opening->limited ? opening->msgsize : 8192;
+    it->current = 0;
+    it->object = queue_object(text, (uint32_t)it->room);
+    if (the_machine.made < MACHINE_MADE)
+        the_machine.made_queue[the_machine.made++] = it->object;
+}
+
+void explored_number(unsigned number, uint32_t d)
+{
+    uint32_t before = the_machine.number_queue[number];
+    if (!machine_decides())
+        return;
+    the_machine.number_queue[number] = queue_of(d)->object;
+    /* A call on the number that came before would have failed. */
+    if (before != 0)
+        machine_also(STEP_OPEN, before);
+}

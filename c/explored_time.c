@@ -1,0 +1,105 @@
+/* The names of the system that libyakyrombe-explore takes: time, and the end of the program.
+ *
+ * Time stands still, but if a deadline passes. A thread sees a microsecond more each time it reads
+ * the clock. */
+#define _GNU_SOURCE
+#include "machine.h"
+
+#include <sched.h>
+#include <stdlib.h>
+#include <sys/time.h>
+#include <unistd.h>
+
+/* The simulated time as this thread reads it. */
+static struct timespec read_clock(void)
+{
+    const struct timespec more = {.tv_nsec = 1000L * (long)++machine_seat()->reads};
+    machine_also(STEP_CLOCK, machine_clock_object());
+    return machine_later(&more);
+}
+
+int clock_gettime(clockid_t clock, struct timespec *now)
+{
+    if (!machine_decides() || (clock != CLOCK_REALTIME && clock != CLOCK_MONOTONIC))
+        return find_clock_gettime()(clock, now);
+    *now = read_clock();
+    return 0;
+}
+
+time_t time(time_t *now)
+{
+    struct timespec it;
+    clock_gettime(CLOCK_REALTIME, &it);
+    if (now != 0)
+        *now = it.tv_sec;
+    return it.tv_sec;
+}
+
+int gettimeofday(struct timeval *now, void *zone)
+{
+    struct timespec it;
+    (void)zone;
+    clock_gettime(CLOCK_REALTIME, &it);
+    now->tv_sec = it.tv_sec;
+    now->tv_usec = it.tv_nsec / 1000;
+    return 0;
+}
+
+static void sleep_until(const struct timespec *until)
+{
+    machine_acts(STEP_SLEEP, 0, until);
+}
+
+int clock_nanosleep(clockid_t clock, int flags, const struct timespec *time, struct timespec *left)
+{
+    struct timespec until;
+    if (!machine_decides())
+        return find_clock_nanosleep()(clock, flags, time, left);
+    until = (flags & TIMER_ABSTIME) != 0 ? *time : machine_later(time);
+    sleep_until(&until);
+    return 0;
+}
+
+int nanosleep(const struct timespec *time, struct timespec *left)
+{
+    struct timespec until;
+    if (!machine_decides())
+        return find_nanosleep()(time, left);
+    until = machine_later(time);
+    sleep_until(&until);
+    return 0;
+}
+
+unsigned sleep(unsigned seconds)
+{
+    const struct timespec time = {.tv_sec = (time_t)seconds};
+    if (!machine_decides())
+        return find_sleep()(seconds);
+    nanosleep(&time, 0);
+    return 0;
+}
+
+int usleep(useconds_t micros)
+{
+    const struct timespec time = {.tv_sec = (time_t)(micros / 1000000),
+                                  .tv_nsec = (long)(micros % 1000000) * 1000};
+    return nanosleep(&time, 0);
+}
+
+int sched_yield(void)
+{
+    if (!machine_decides())
+        return find_sched_yield()();
+    machine_acts(STEP_YIELD, 0, 0);
+    return 0;
+}
+
+/* ---- the end of the program ---- */
+
+void _exit(int status)
+{
+    machine_exits(status);
+    machine_quit(status);
+}
+
+void _Exit(int status) __attribute__((alias("_exit")));

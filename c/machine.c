@@ -1,0 +1,667 @@
+/* The machine: who goes on, and the trace of it. One thread runs at a time, so nothing guards it.
+ */
+#define _GNU_SOURCE
+#include "machine.h"
+
+#include <limits.h>
+#include <linux/futex.h>
+#include <string.h>
+#include <sys/syscall.h>
+
+machine the_machine;
+
+/* The number of this thread; 0 if the machine does not know it, and HAS_LEFT once it has ended. */
+enum { HAS_LEFT = YAK_SEATS + 1 };
+static __thread unsigned number_here;
+
+static void stop(const char *why)
+{
+    fprintf(stderr, "yakyrombe: the run ends: %s\n", why);
+    the_machine.is_on = false;
+    machine_quit(2);
+}
+
+bool machine_decides(void)
+{
+    if (!the_machine.is_on || number_here == HAS_LEFT)
+        return false;
+    if (number_here == 0)
+        stop("there is a thread that was not started by pthread_create");
+    return true;
+}
+
+seat *machine_seat(void)
+{
+    return &the_machine.seats[number_here - 1];
+}
+
+static unsigned number_of(const seat *it)
+{
+    return (unsigned)(it - the_machine.seats) + 1;
+}
+
+static bool is_before(const struct timespec *one, const struct timespec *other)
+{
+    return one->tv_sec != other->tv_sec ? one->tv_sec < other->tv_sec
+                                        : one->tv_nsec < other->tv_nsec;
+}
+
+uint64_t machine_random(void)
+{
+    the_machine.random ^= the_machine.random << 13;
+    the_machine.random ^= the_machine.random >> 7;
+    the_machine.random ^= the_machine.random << 17;
+    return the_machine.random;
+}
+
+/* ---- objects ---- */
+
+uint32_t machine_object(const void *at, yak_kind kind)
+{
+    yak_explored *all = the_machine.shared;
+    yak_object *it;
+    if (at == 0)
+        return 0;
+    for (uint32_t i = 0; i < all->objects; ++i)
+        if (all->object[i].at == (uint64_t)(uintptr_t)at && all->object[i].name[0] == 0)
+            return i + 1;
+    /* All that have no place of their own are one object, which makes more steps depend. */
+    if (all->objects == YAK_MOST_OBJECTS)
+        return YAK_MOST_OBJECTS;
+    it = &all->object[all->objects];
+    it->at = (uint64_t)(uintptr_t)at;
+    it->kind = (uint8_t)kind;
+    return ++all->objects;
+}
+
+static const char the_clock;
+
+uint32_t machine_clock_object(void)
+{
+    return machine_object(&the_clock, STEP_CLOCK);
+}
+
+/* ---- the trace ---- */
+
+static void note(yak_record it)
+{
+    yak_explored *all = the_machine.shared;
+    if (!the_machine.counts || the_machine.is_direct || all->records == YAK_MOST_RECORDS)
+        return;
+    it.step = (uint16_t)(the_machine.steps + (it.what == YAK_AT));
+    all->record[all->records++] = it;
+}
+
+/* The last records are kept for the end. */
+static bool is_full(void)
+{
+    return the_machine.shared->records > YAK_MOST_RECORDS - 4 * YAK_SEATS;
+}
+
+static void touch(uint32_t object)
+{
+    if (the_machine.touches == MACHINE_TOUCHED)
+        the_machine.touches_all = true;
+    else
+        the_machine.touched[the_machine.touches++] = object;
+}
+
+void machine_also(yak_kind kind, uint32_t object)
+{
+    if (!machine_decides() || !the_machine.counts)
+        return;
+    note((yak_record){.what = YAK_ALSO, .kind = (uint8_t)kind, .object = object});
+    if (kind == STEP_CREATE)
+        the_machine.touches_all = true;
+    else
+        touch(object);
+}
+
+void machine_gave(int error, uint32_t value)
+{
+    if (machine_decides())
+        note((yak_record){.what = YAK_GAVE, .object = (uint32_t)error, .arg = value});
+}
+
+/* ---- who can go on ---- */
+
+/* The kernel's number of the thread that holds a mutex; 0 if nobody does. */
+static pid_t holder(const pthread_mutex_t *mutex)
+{
+    const int word = __atomic_load_n(&mutex->__data.__lock, __ATOMIC_RELAXED);
+    return (word & ~(int)FUTEX_OWNER_DIED) == 0 ? 0 : mutex->__data.__owner;
+}
+
+/* A mutex that its own thread locks again is recursive, or the system refuses it; else the thread
+ * waits for itself, for ever. */
+static bool is_free(const pthread_mutex_t *mutex, const seat *it)
+{
+    const pid_t tid = holder(mutex);
+    return tid == 0 || (tid == it->tid && (mutex->__data.__kind & 3) != PTHREAD_MUTEX_NORMAL &&
+                        (mutex->__data.__kind & 3) != PTHREAD_MUTEX_ADAPTIVE_NP);
+}
+
+/* The number of readers stands above three bits. A writer that asks again is refused. */
+static bool is_rwlock_free(const pthread_rwlock_t *lock, bool is_writer, const seat *it)
+{
+    if (lock->__data.__cur_writer != 0)
+        return lock->__data.__cur_writer == it->tid;
+    return !is_writer || lock->__data.__readers >> 3 == 0;
+}
+
+static bool has_count(const void *at)
+{
+    int value = 0;
+    sem_getvalue((sem_t *)(uintptr_t)at, &value);
+    return value > 0;
+}
+
+static bool can_move(const machine_op *op)
+{
+    const machine_queue *it = op->with;
+    if (it == 0)
+        return true;
+    return op->kind == STEP_SEND ? it->current < it->room : it->current > 0;
+}
+
+static bool is_cancelled_in(const seat *it)
+{
+    switch (it->op.kind) {
+    case STEP_JOIN:
+    case STEP_WAKE:
+    case STEP_SEMWAIT:
+    case STEP_SLEEP:
+    case STEP_SEND:
+    case STEP_RECEIVE:
+        return it->is_cancelled;
+    default:
+        return false;
+    }
+}
+
+/* Whether what an operation waits for is there. */
+static bool is_there(const seat *it)
+{
+    const machine_op *op = &it->op;
+    if ((op->flags & (YAK_TRY | YAK_NEVER_BLOCKS)) != 0)
+        return true;
+    switch (op->kind) {
+    case STEP_JOIN:
+        return the_machine.seats[op->arg - 1].state == SEAT_OUT;
+    case STEP_LOCK:
+        return is_free(op->at, it);
+    case STEP_WAKE:
+        return it->told != 0 && (op->mutex == 0 || is_free(op->mutex, it));
+    case STEP_SEMWAIT:
+        return has_count(op->at);
+    case STEP_RDLOCK:
+    case STEP_WRLOCK:
+        return is_rwlock_free(op->at, op->kind == STEP_WRLOCK, it);
+    case STEP_ONCE:
+        return (*(const int *)op->at & 1) == 0;
+    case STEP_SEND:
+    case STEP_RECEIVE:
+        return can_move(op);
+    case STEP_COLLECT:
+        return op->goes_on(op->with);
+    case STEP_SLEEP:
+        return false;
+    default:
+        return true;
+    }
+}
+
+static unsigned ability(const seat *it)
+{
+    const machine_op *op = &it->op;
+    if (it->state != SEAT_PARKED)
+        return YAK_CANNOT;
+    if (is_there(it) || is_cancelled_in(it))
+        return YAK_CAN;
+    /* A wait for a condition ends with its mutex, also at its deadline. */
+    if ((op->flags & YAK_TIMED) == 0 || (op->mutex != 0 && !is_free(op->mutex, it)))
+        return YAK_CANNOT;
+    return YAK_LATE;
+}
+
+/* What no other thread can see is done at once, and is no choice. */
+static bool is_local(yak_kind kind)
+{
+    return kind == STEP_START || kind == STEP_JOIN || kind == STEP_COLLECT;
+}
+
+static void keep_only(uint8_t *able, unsigned chosen)
+{
+    for (unsigned i = 0; i < the_machine.used; ++i)
+        able[i] = i == chosen ? able[i] : (uint8_t)YAK_CANNOT;
+}
+
+static unsigned count_of(const uint8_t *able, unsigned ability)
+{
+    unsigned count = 0;
+    for (unsigned i = 0; i < the_machine.used; ++i)
+        count += able[i] == ability;
+    return count;
+}
+
+/* The parked thread whose deadline comes first. */
+static unsigned first_late(const uint8_t *able)
+{
+    unsigned first = YAK_SEATS;
+    for (unsigned i = 0; i < the_machine.used; ++i)
+        if (able[i] == YAK_LATE &&
+            (first == YAK_SEATS ||
+             is_before(&the_machine.seats[i].op.until, &the_machine.seats[first].op.until)))
+            first = i;
+    return first;
+}
+
+/* A thread that yields goes on only if nobody else can; with `--time last` a deadline passes only
+ * then, the first one. */
+static void hold_back(uint8_t *able)
+{
+    const bool is_last = the_machine.shared->is_last;
+    bool others = !is_last && count_of(able, YAK_LATE) != 0;
+    for (unsigned i = 0; i < the_machine.used; ++i)
+        others = others || (able[i] == YAK_CAN && the_machine.seats[i].op.kind != STEP_YIELD);
+    for (unsigned i = 0; i < the_machine.used; ++i)
+        if (others && the_machine.seats[i].op.kind == STEP_YIELD)
+            able[i] = YAK_CANNOT;
+    if (!is_last)
+        return;
+    if (count_of(able, YAK_CAN) == 0)
+        keep_only(able, first_late(able));
+    else
+        for (unsigned i = 0; i < the_machine.used; ++i)
+            able[i] = able[i] == YAK_CAN ? (uint8_t)YAK_CAN : (uint8_t)YAK_CANNOT;
+}
+
+/* Who can go on, by seats. If one has a step to make at once, it is that one alone, which is
+ * returned; else YAK_SEATS. */
+static unsigned look(uint8_t *able)
+{
+    for (unsigned i = 0; i < the_machine.used; ++i) {
+        able[i] = (uint8_t)ability(&the_machine.seats[i]);
+        if (able[i] == YAK_CAN && is_local(the_machine.seats[i].op.kind)) {
+            memset(able, YAK_CANNOT, the_machine.used);
+            able[i] = YAK_CAN;
+            return i;
+        }
+    }
+    hold_back(able);
+    return YAK_SEATS;
+}
+
+/* ---- the choice ---- */
+
+static bool waits_for(const seat *it, const void *at)
+{
+    return it->state == SEAT_PARKED && it->op.kind == STEP_WAKE && it->op.at == at && it->told == 0;
+}
+
+/* In how many ways a thread can make its step: a wake of one can wake any of those that wait. */
+static unsigned variants(const seat *of)
+{
+    unsigned count = 0;
+    if (of->op.kind != STEP_SIGNAL && (of->op.kind != STEP_FUTEXWAKE || of->op.arg != 1))
+        return 1;
+    for (unsigned i = 0; i < the_machine.used; ++i)
+        count += waits_for(&the_machine.seats[i], of->op.at);
+    return count == 0 ? 1 : count;
+}
+
+static bool is_woken(const seat *it)
+{
+    const bool is_of_names =
+        it->op.kind == STEP_OPEN || it->op.kind == STEP_CLOSE || it->op.kind == STEP_UNLINK;
+    if (the_machine.touches_all || (the_machine.touches_names && is_of_names))
+        return true;
+    for (unsigned i = 0; i < it->asleep; ++i) {
+        if (it->wakes[i] == 0)
+            return true;
+        for (unsigned j = 0; j < the_machine.touches; ++j)
+            if (it->wakes[i] == the_machine.touched[j])
+                return true;
+    }
+    return false;
+}
+
+/* Wakes sleepers by what the step before has touched. They sleep from the last choice on. */
+static void wake_sleepers(void)
+{
+    const bool has_run = the_machine.steps != 0;
+    for (unsigned i = 0; i < the_machine.used; ++i)
+        if (has_run && the_machine.steps >= the_machine.shared->choices &&
+            is_woken(&the_machine.seats[i]))
+            the_machine.seats[i].asleep = 0;
+    the_machine.touches = 0;
+    the_machine.touches_all = the_machine.touches_names = false;
+}
+
+static bool is_awake(const uint8_t *able, unsigned i)
+{
+    return i < the_machine.used && able[i] != YAK_CANNOT && the_machine.seats[i].asleep == 0;
+}
+
+static unsigned at_random(const uint8_t *able, unsigned awake, unsigned *variant)
+{
+    unsigned left = (unsigned)(machine_random() % awake), i = 0;
+    while (!is_awake(able, i) || left-- != 0)
+        ++i;
+    *variant = (unsigned)(machine_random() % variants(&the_machine.seats[i]));
+    return i;
+}
+
+/* On with the thread that ran last, else the lowest that can go on, else the lowest whose deadline
+ * may pass. */
+static unsigned by_rule(const uint8_t *able)
+{
+    const yak_explored *all = the_machine.shared;
+    if (the_machine.leads < all->leads) {
+        const unsigned next = all->lead[the_machine.leads++] - 1u;
+        if (is_awake(able, next))
+            return next;
+        the_machine.leads = all->leads;
+    }
+    if (is_awake(able, the_machine.last) && able[the_machine.last] == YAK_CAN)
+        return the_machine.last;
+    for (unsigned i = 0; i < the_machine.used; ++i)
+        if (is_awake(able, i) && able[i] == YAK_CAN)
+            return i;
+    for (unsigned i = 0; i < the_machine.used; ++i)
+        if (is_awake(able, i))
+            return i;
+    return YAK_SEATS;
+}
+
+/* The seat that goes on, and the variant of its step. */
+static unsigned decide(const uint8_t *able, unsigned local, unsigned *variant)
+{
+    const yak_explored *all = the_machine.shared;
+    unsigned awake = 0, chosen;
+    *variant = 0;
+    if (the_machine.steps < all->choices && all->choice[the_machine.steps] != 0) {
+        chosen = (all->choice[the_machine.steps] & 0xffu) - 1;
+        *variant = all->choice[the_machine.steps] >> 8;
+        if (chosen >= the_machine.used || able[chosen] == YAK_CANNOT)
+            machine_end_run(YAK_END_UNFIT, 7);
+        return chosen;
+    }
+    if (local != YAK_SEATS)
+        return local;
+    for (unsigned i = 0; i < the_machine.used; ++i)
+        awake += is_awake(able, i);
+    if (awake == 0)
+        machine_end_run(YAK_END_SLEPT, 8);
+    return all->is_random ? at_random(able, awake, variant) : by_rule(able);
+}
+
+static yak_record record_of(const seat *it, yak_what what, unsigned able)
+{
+    return (yak_record){
+        .what = (uint8_t)what,
+        .thread = (uint8_t)number_of(it),
+        .kind = (uint8_t)it->op.kind,
+        .flags = (uint8_t)it->op.flags,
+        .able = (uint8_t)able,
+        .variants = (uint8_t)variants(it),
+        .object = it->op.object,
+        .arg = it->op.arg,
+    };
+}
+
+/* The step that a seat makes: what it touches, and the time. */
+static void begin_step(seat *it, unsigned able, unsigned variant)
+{
+    const machine_op *op = &it->op;
+    it->is_late = able == YAK_LATE;
+    it->variant = (uint8_t)variant;
+    touch(op->object);
+    the_machine.touches_all = op->kind == STEP_EXIT || op->kind == STEP_YIELD ||
+                              (it->is_late && the_machine.shared->is_last);
+    the_machine.touches_names =
+        op->kind == STEP_OPEN || op->kind == STEP_CLOSE || op->kind == STEP_UNLINK;
+    if (it->is_late) {
+        if (is_before(&the_machine.now, &op->until))
+            the_machine.now = op->until;
+        machine_also(STEP_SLEEP, machine_clock_object());
+    }
+    if (!is_local(op->kind) || it->is_late)
+        the_machine.last = number_of(it) - 1;
+    it->state = SEAT_RUNS;
+}
+
+/* Chooses who goes on, and lets it; null if no thread is left. */
+static seat *choose(void)
+{
+    uint8_t able[YAK_SEATS] = {0};
+    unsigned parked = 0, variant, local, chosen;
+    seat *it;
+    wake_sleepers();
+    for (unsigned i = 0; i < the_machine.used; ++i)
+        parked += the_machine.seats[i].state == SEAT_PARKED;
+    if (parked == 0)
+        return 0;
+    local = look(able);
+    if (count_of(able, YAK_CANNOT) == the_machine.used)
+        machine_end_run(YAK_END_DEADLOCK, 5);
+    if (the_machine.steps >= the_machine.shared->most_steps || is_full())
+        machine_end_run(YAK_END_STEPS, 6);
+    chosen = decide(able, local, &variant);
+    it = &the_machine.seats[chosen];
+    for (unsigned i = 0; i < the_machine.used; ++i)
+        if (the_machine.seats[i].state == SEAT_PARKED)
+            note(record_of(&the_machine.seats[i], YAK_AT, able[i]));
+    ++the_machine.steps;
+    note((yak_record){
+        .what = YAK_CHOSE, .thread = (uint8_t)number_of(it), .variants = (uint8_t)variant});
+    begin_step(it, able[chosen], variant);
+    if (it != machine_seat()) {
+        __atomic_store_n(&it->go, 1, __ATOMIC_SEQ_CST);
+        machine_futex(&it->go, FUTEX_WAKE_PRIVATE, 1);
+    }
+    return it;
+}
+
+static void await_turn(seat *it)
+{
+    while (__atomic_load_n(&it->go, __ATOMIC_SEQ_CST) != 1)
+        machine_futex(&it->go, FUTEX_WAIT_PRIVATE, 0);
+    __atomic_store_n(&it->go, 0, __ATOMIC_SEQ_CST);
+}
+
+bool machine_act(const machine_op *op)
+{
+    seat *it = machine_seat();
+    if (it->state == SEAT_PARKED)
+        stop("a signal handler, which interrupted a thread that is parked, made a call");
+    it->op = *op;
+    it->state = SEAT_PARKED;
+    it->is_late = false;
+    /* Alone it has no choice, unless it waits. */
+    if (!the_machine.counts) {
+        if (ability(it) == YAK_CAN) {
+            it->state = SEAT_RUNS;
+            return true;
+        }
+        machine_count();
+    }
+    if (choose() != it)
+        await_turn(it);
+    /* A wait for a condition ends with its mutex, also then. */
+    if (is_cancelled_in(it) && op->kind != STEP_WAKE)
+        pthread_testcancel();
+    return !it->is_late;
+}
+
+machine_op machine_op_on(yak_kind kind, const void *at, const struct timespec *until)
+{
+    machine_op op = {.kind = kind, .object = machine_object(at, kind), .at = at};
+    if (until != 0) {
+        const bool is_moment = until->tv_nsec >= 0 && until->tv_nsec < 1000000000;
+        op.flags = is_moment && is_before(&the_machine.now, until) ? YAK_TIMED : YAK_TRY;
+        op.until = *until;
+    }
+    return op;
+}
+
+int machine_acts(yak_kind kind, const void *at, const struct timespec *until)
+{
+    const machine_op op = machine_op_on(kind, at, until);
+    return machine_act(&op) ? 0 : ETIMEDOUT;
+}
+
+unsigned machine_tell(const void *at, unsigned most)
+{
+    unsigned skipped = most == 1 ? machine_seat()->variant : 0, told = 0;
+    for (unsigned i = 0; i < the_machine.used && told < most; ++i) {
+        seat *it = &the_machine.seats[i];
+        if (!waits_for(it, at))
+            continue;
+        if (skipped != 0) {
+            --skipped;
+            continue;
+        }
+        it->told = the_machine.steps != 0 ? the_machine.steps : 1;
+        ++told;
+    }
+    return told;
+}
+
+/* ---- threads ---- */
+
+seat *machine_add_seat(void)
+{
+    seat *it;
+    if (the_machine.used == YAK_SEATS)
+        return 0;
+    it = &the_machine.seats[the_machine.used];
+    it->op = (machine_op){.kind = STEP_START};
+    it->state = SEAT_PARKED;
+    ++the_machine.used;
+    return it;
+}
+
+void machine_drop_seat(void)
+{
+    the_machine.seats[--the_machine.used].state = SEAT_FREE;
+}
+
+void machine_sit_down(seat *it, bool is_first)
+{
+    number_here = number_of(it);
+    it->thread = pthread_self();
+    it->tid = (pid_t)syscall(SYS_gettid);
+    pthread_setspecific(the_machine.key, &the_machine);
+    if (!is_first)
+        await_turn(it);
+}
+
+void machine_leave(void)
+{
+    if (!machine_decides())
+        return;
+    machine_seat()->state = SEAT_OUT;
+    if (the_machine.counts)
+        choose();
+    number_here = HAS_LEFT;
+}
+
+struct timespec machine_later(const struct timespec *time)
+{
+    struct timespec it = the_machine.now;
+    it.tv_sec += time->tv_sec + (it.tv_nsec + time->tv_nsec) / 1000000000;
+    it.tv_nsec = (it.tv_nsec + time->tv_nsec) % 1000000000;
+    return it;
+}
+
+/* ---- the end of a run ---- */
+
+static void say_who_waits(void)
+{
+    static const char *const calls[][2] = {
+#define YAK_KIND(name, word, call, timed_call) {call, timed_call},
+        YAK_KINDS(YAK_KIND)
+#undef YAK_KIND
+    };
+    for (unsigned i = 0; i < the_machine.used; ++i) {
+        const seat *it = &the_machine.seats[i];
+        const uint32_t object = it->op.object;
+        if (it->state == SEAT_PARKED)
+            fprintf(stderr, "yakyrombe: thread %u waits in %s%s%s\n", i + 1,
+                    calls[it->op.kind][(it->op.flags & YAK_TIMED) != 0],
+                    object != 0 && the_machine.shared->object[object - 1].name[0] != 0 ? " on "
+                                                                                       : "",
+                    object != 0 ? the_machine.shared->object[object - 1].name : "");
+    }
+}
+
+static void say_end(yak_end why)
+{
+    if (why == YAK_END_DEADLOCK) {
+        fprintf(stderr, "yakyrombe: deadlock: nobody can go on, after %u steps\n",
+                the_machine.steps);
+        say_who_waits();
+    } else if (why == YAK_END_UNFIT) {
+        fprintf(stderr, "yakyrombe: YAK_SCHEDULE does not fit the program at step %u\n",
+                the_machine.steps + 1);
+    } else {
+        fprintf(stderr, "yakyrombe: the run ends after %u steps\n", the_machine.steps);
+    }
+}
+
+void machine_keep_journal(void)
+{
+    const char *path = program_journal_path();
+    FILE *to;
+    if (path == 0 || the_machine.write == 0 || (to = fopen(path, "we")) == 0)
+        return;
+    the_machine.write(the_machine.with, to);
+    fclose(to);
+}
+
+/* Who holds what a thread waits for. */
+static void note_holder(const seat *it)
+{
+    const pthread_mutex_t *mutex = it->op.kind == STEP_LOCK ? it->op.at : it->op.mutex;
+    for (unsigned i = 0; mutex != 0 && i < the_machine.used; ++i)
+        if (the_machine.seats[i].tid == holder(mutex) && holder(mutex) != 0)
+            note((yak_record){.what = YAK_HOLDS,
+                              .thread = (uint8_t)(i + 1),
+                              .object = machine_object(mutex, STEP_LOCK)});
+}
+
+/* Writes the end of the trace. From here on nobody parks. */
+static void end_trace(yak_end why)
+{
+    for (unsigned i = 0; i < the_machine.used; ++i) {
+        const seat *it = &the_machine.seats[i];
+        if (it->state != SEAT_PARKED)
+            continue;
+        note(record_of(it, YAK_LEFT, ability(it)));
+        note_holder(it);
+    }
+    note((yak_record){.what = YAK_END, .kind = (uint8_t)why});
+    the_machine.is_on = false;
+}
+
+void machine_exits(int status)
+{
+    machine_op op = {.kind = STEP_EXIT, .arg = (uint32_t)status};
+    if (!machine_decides())
+        return;
+    machine_count();
+    machine_act(&op);
+    end_trace(YAK_END_DONE);
+}
+
+void machine_end_run(yak_end why, int status)
+{
+    end_trace(why);
+    if (the_machine.is_direct)
+        say_end(why);
+    machine_keep_journal();
+    if (why == YAK_END_DEADLOCK || why == YAK_END_STEPS)
+        fflush(0);
+    machine_quit(status);
+}

@@ -1,0 +1,135 @@
+/* machine.h: the machine of libyakyrombe-explore, which runs the threads of a program one at a
+ * time. It stands in the place of seed_machine.c, under the names that the other files of c call.
+ *
+ * A thread that comes to an operation that others can see parks in front of it. The thread that
+ * parks chooses who goes on: by the choices that are asked for, and then by a rule. What was
+ * chosen, what all parked threads were about to do, and what the step did, is the trace
+ * (explore.h). Steps are counted from the first pthread_create on; up to there a thread is alone.
+ */
+#ifndef YAKYROMBE_MACHINE_H
+#define YAKYROMBE_MACHINE_H
+
+#include "explore.h"
+#include "the_program.h"
+
+#include <time.h>
+
+enum { MACHINE_TOUCHED = 64, MACHINE_ASLEEP = 8, MACHINE_MADE = 1024 };
+
+/* What a thread is about to do. */
+typedef struct machine_op {
+    yak_kind kind;
+    unsigned flags;
+    uint32_t object;
+    uint32_t arg;
+    struct timespec until;
+    const void *at;         /* the mutex, semaphore or other object */
+    pthread_mutex_t *mutex; /* of a wait for a condition */
+    bool (*goes_on)(void *with);
+    void *with;
+} machine_op;
+
+typedef enum seat_state { SEAT_FREE, SEAT_PARKED, SEAT_RUNS, SEAT_OUT } seat_state;
+
+/* A thread; its number is that of its seat, from 1. */
+typedef struct seat {
+    seat_state state;
+    pthread_t thread;
+    pid_t tid;
+    bool is_joined;
+    bool is_cancelled;
+    bool is_late;    /* its deadline has passed */
+    unsigned told;   /* by which step its wait was ended; 0 if none has */
+    uint8_t variant; /* of its step */
+    unsigned reads;  /* of the clock */
+    unsigned asleep; /* how many objects wake it, if it sleeps */
+    uint32_t wakes[MACHINE_ASLEEP];
+    machine_op op;
+    uint32_t go; /* a futex word */
+} seat;
+
+/* A queue, by its place in the program's tables. */
+typedef struct machine_queue {
+    uint32_t object;
+    int64_t room, msgsize, current;
+} machine_queue;
+
+typedef struct machine {
+    bool is_on;  /* it decides, and time is simulated */
+    bool counts; /* there has been a second thread */
+    bool is_direct;
+    int link; /* to yak-explore */
+    yak_explored *shared;
+    unsigned used, last, steps, leads;
+    uint64_t random;
+    struct timespec now;
+    unsigned touches; /* by the step that runs */
+    uint32_t touched[MACHINE_TOUCHED];
+    bool touches_all, touches_names;
+    void (*write)(void *with, FILE *to);
+    void *with;
+    machine_queue queues[QUEUES];
+    uint32_t number_queue[NUMBERS]; /* the queue that a descriptor had at last */
+    unsigned made;                  /* queues that were created */
+    uint32_t made_queue[MACHINE_MADE];
+    pthread_key_t key;
+    seat seats[YAK_SEATS];
+} machine;
+
+#pragma GCC visibility push(hidden)
+
+extern machine the_machine;
+
+/* ---- what the names of the system do (explored_threads.c, explored_time.c) ---- */
+
+/* Whether the machine decides about this thread. */
+bool machine_decides(void);
+/* The seat of this thread. */
+seat *machine_seat(void);
+/* The number of an object at an address. */
+uint32_t machine_object(const void *at, yak_kind kind);
+/* An operation on an object. A deadline may be null. */
+machine_op machine_op_on(yak_kind kind, const void *at, const struct timespec *until);
+/* Parks in front of an operation until it is chosen: false if its deadline has passed. */
+bool machine_act(const machine_op *op);
+/* Parks, and says what the program is told of a deadline that has passed: 0, or an error. */
+int machine_acts(yak_kind kind, const void *at, const struct timespec *until);
+/* What the step that runs did too, and what came of it. */
+void machine_also(yak_kind kind, uint32_t object);
+void machine_gave(int error, uint32_t value);
+/* Ends waits of threads for an object: of so many at the most, of one by the variant of the step.
+ * How many. */
+unsigned machine_tell(const void *at, unsigned most);
+/* The number of the clock. */
+uint32_t machine_clock_object(void);
+
+/* A new thread takes a seat, null if there is none, and waits there for its turn. The first thread
+ * does not wait. */
+seat *machine_add_seat(void);
+void machine_drop_seat(void);
+void machine_sit_down(seat *it, bool is_first);
+/* A thread has ended. */
+void machine_leave(void);
+/* The program ends by this step. */
+void machine_exits(int status);
+/* The simulated time, and a moment so much later. */
+struct timespec machine_later(const struct timespec *time);
+/* Lets the machine count steps. If yak-explore asks for runs, this returns in a child for each. */
+void machine_count(void);
+void machine_quit(int status) __attribute__((noreturn));
+/* A futex call of the system itself. */
+long machine_futex(uint32_t *word, int how, uint32_t value);
+
+/* ---- between the files of the machine ---- */
+
+/* Writes the journal where the environment asks for it. Nobody else runs any more. */
+void machine_keep_journal(void);
+
+/* Reads YAK_SCHEDULE. */
+void machine_read_schedule(const char *text, yak_explored *to);
+uint64_t machine_random(void);
+void machine_end_run(yak_end why, int status) __attribute__((noreturn));
+
+#pragma GCC visibility pop
+
+#endif

@@ -1,0 +1,297 @@
+/* The machine's begin; YAK_SCHEDULE; and the server that makes a child for each run. */
+#define _GNU_SOURCE
+#include "machine.h"
+
+#include <fcntl.h>
+#include <limits.h>
+#include <stdlib.h>
+#include <string.h>
+#include <sys/mman.h>
+#include <sys/syscall.h>
+#include <sys/wait.h>
+#include <unistd.h>
+
+/* A child without what pthread_atfork asks for; since version 2.34 of the GNU C library. */
+extern pid_t _Fork(void) __attribute__((weak));
+
+void machine_quit(int status)
+{
+    for (;;)
+        syscall(SYS_exit_group, status);
+}
+
+static void stop(const char *why)
+{
+    fprintf(stderr, "yakyrombe: %s\n", why);
+    machine_quit(2);
+}
+
+/* ---- YAK_SCHEDULE ---- */
+
+static void stop_at(const char *text)
+{
+    fprintf(stderr,
+            "yakyrombe: YAK_SCHEDULE has %s, which is not STEP:THREAD or STEP:THREAD.VARIANT in "
+            "the order of the steps, each, last, or random:SEED\n",
+            text);
+    machine_quit(2);
+}
+
+/* A number from 1 to the most, which begins here; `text` is moved behind it. */
+static unsigned read_number(const char **text, unsigned least, unsigned most, const char *word)
+{
+    char *end;
+    const unsigned long it = strtoul(*text, &end, 10);
+    if (**text < '0' || **text > '9' || it < least || it > most)
+        stop_at(word);
+    *text = end;
+    return (unsigned)it;
+}
+
+static void read_choice(const char *word, yak_explored *to)
+{
+    const char *at = word;
+    const unsigned step = read_number(&at, to->choices + 1, YAK_MOST_STEPS, word);
+    unsigned thread, variant = 0;
+    if (*at++ != ':')
+        stop_at(word);
+    thread = read_number(&at, 1, YAK_SEATS, word);
+    if (*at == '.') {
+        ++at;
+        variant = read_number(&at, 0, YAK_SEATS, word);
+    }
+    if (*at != 0)
+        stop_at(word);
+    to->choices = step;
+    to->choice[step - 1] = (uint16_t)(thread | variant << 8);
+}
+
+static void read_seed(const char *word, yak_explored *to)
+{
+    char *end;
+    errno = 0;
+    to->seed = strtoull(word, &end, 10);
+    to->is_random = true;
+    if (*word < '0' || *word > '9' || *end != 0 || errno != 0)
+        stop_at(word);
+}
+
+void machine_read_schedule(const char *text, yak_explored *to)
+{
+    char *copy = strdup(text), *rest = copy;
+    if (copy == 0)
+        stop("no memory");
+    for (char *word; (word = strtok_r(rest, " ", &rest)) != 0;) {
+        if (strcmp(word, "each") == 0)
+            to->is_each = true;
+        else if (strcmp(word, "last") == 0)
+            to->is_last = true;
+        else if (strncmp(word, "random:", 7) == 0)
+            read_seed(word + 7, to);
+        else
+            read_choice(word, to);
+    }
+    free(copy);
+}
+
+/* ---- runs ---- */
+
+static void end_program(int status, void *unused)
+{
+    (void)unused;
+    machine_exits(status);
+}
+
+/* From here on steps count, and the end of the program is one, before what was asked for at its end
+ * up to here. From 0 the generator would give 0 for ever. */
+static void begin_run(void)
+{
+    const yak_explored *all = the_machine.shared;
+    const uint64_t x = (all->seed + 1) * 0x9E3779B97F4A7C15u;
+    the_machine.counts = true;
+    on_exit(end_program, 0);
+    the_machine.random = x != 0 ? x : 1;
+    for (int i = 0; i < 20; ++i)
+        machine_random();
+    for (uint32_t i = 0; i < all->sleepers && i < YAK_MOST_SLEEPS; ++i) {
+        seat *it = &the_machine.seats[(all->sleeper[i].thread - 1) % YAK_SEATS];
+        if (it->asleep < MACHINE_ASLEEP)
+            it->wakes[it->asleep++] = all->sleeper[i].object;
+        else
+            it->wakes[0] = 0;
+    }
+}
+
+/* Returns in each child; the server itself ends with yak-explore. */
+static void serve(void)
+{
+    yak_explored *all = the_machine.shared;
+    char byte = 'r';
+    fflush(0);
+    if (_Fork == 0)
+        stop("the runs of a program need version 2.34 of the GNU C library");
+    while (write(the_machine.link, &byte, 1) == 1 && read(the_machine.link, &byte, 1) == 1) {
+        pid_t child;
+        all->records = 0;
+        child = _Fork();
+        if (child == 0) {
+            close(the_machine.link);
+            machine_seat()->tid = (pid_t)syscall(SYS_gettid);
+            program_meet_thread();
+            return;
+        }
+        if (child < 0)
+            stop("no child can be made");
+        all->child = child;
+        while (waitpid(child, &all->status, 0) < 0 && errno == EINTR)
+            ;
+    }
+    machine_quit(0);
+}
+
+void machine_count(void)
+{
+    if (the_machine.counts)
+        return;
+    if (!the_machine.is_direct)
+        serve();
+    begin_run();
+}
+
+/* ---- the begin ---- */
+
+/* At the end of a thread, after the other destructors of thread-specific data. */
+static void end_thread(void *of)
+{
+    static __thread unsigned times;
+    if (++times + 1 < PTHREAD_DESTRUCTOR_ITERATIONS &&
+        pthread_setspecific(the_machine.key, of) == 0)
+        return;
+    machine_leave();
+}
+
+static void in_child(void)
+{
+    the_machine.is_on = false;
+}
+
+/* Maps the memory of yak-explore, by the numbers of its files: those of the memory and of the
+ * socket. They are not for what the program starts, and neither is this library. */
+static void meet_explorer(const char *files)
+{
+    int memory = -1;
+    if (sscanf(files, "%d,%d", &memory, &the_machine.link) != 2)
+        stop("YAK_EXPLORE is for yak-explore");
+    the_machine.shared =
+        mmap(0, sizeof(yak_explored), PROT_READ | PROT_WRITE, MAP_SHARED, memory, 0);
+    if (the_machine.shared == MAP_FAILED)
+        stop("the memory of yak-explore can't be mapped");
+    close(memory);
+    fcntl(the_machine.link, F_SETFD, FD_CLOEXEC);
+    unsetenv("YAK_EXPLORE");
+    unsetenv("LD_PRELOAD");
+    the_machine.shared->version = YAK_EXPLORE_VERSION;
+}
+
+/* A run that ends by a signal leaves its journal too. All other threads are parked. */
+static void crash(int number)
+{
+    the_machine.is_on = false;
+    machine_keep_journal();
+    raise(number);
+}
+
+static void keep_journal_at_crash(void)
+{
+    static const int crashes[] = {SIGABRT, SIGSEGV, SIGBUS, SIGFPE, SIGILL};
+    struct sigaction action = {.sa_handler = crash, .sa_flags = (int)SA_RESETHAND};
+    for (unsigned i = 0; i < sizeof crashes / sizeof crashes[0]; ++i)
+        sigaction(crashes[i], &action, 0);
+}
+
+static void begin_alone(const char *schedule)
+{
+    keep_journal_at_crash();
+    the_machine.shared = mmap(0, sizeof(yak_explored), PROT_READ | PROT_WRITE,
+                              MAP_PRIVATE | MAP_ANONYMOUS | MAP_NORESERVE, -1, 0);
+    if (the_machine.shared == MAP_FAILED)
+        stop("no memory");
+    the_machine.is_direct = true;
+    the_machine.shared->most_steps = YAK_MOST_STEPS;
+    machine_read_schedule(schedule, the_machine.shared);
+}
+
+static struct timespec now(void)
+{
+    return the_machine.now;
+}
+
+static void take_turn(void)
+{
+}
+
+static __attribute__((constructor)) void begin(void)
+{
+    static const yak_turns_ turns = {.turn = take_turn, .now = now};
+    const char *schedule = getenv("YAK_SCHEDULE"), *files = getenv("YAK_EXPLORE");
+    if (files != 0)
+        meet_explorer(files);
+    else if (schedule != 0)
+        begin_alone(schedule);
+    else
+        return;
+    the_machine.now.tv_sec = 1000000000;
+    pthread_key_create(&the_machine.key, end_thread);
+    pthread_atfork(0, 0, in_child);
+    the_machine.used = 1;
+    the_machine.seats[0].state = SEAT_RUNS;
+    machine_sit_down(&the_machine.seats[0], true);
+    the_machine.is_on = true;
+    /* Also a program that never has a second thread has a run. */
+    on_exit(end_program, 0);
+    yak_follow_(&turns);
+}
+
+/* ---- what the other files of c call ---- */
+
+/* So that the linker leaves out the machine of seeds. */
+const char yak_seed_machine;
+
+bool yak_seed_decides(void)
+{
+    return the_machine.is_on;
+}
+
+/* A call on queues has parked before (explored_calls.h). */
+void yak_seed_turn(void)
+{
+}
+
+bool yak_seed_wait(bool (*goes_on)(void *with), void *with, const struct timespec *until,
+                   const char *what)
+{
+    machine_op op = machine_op_on(STEP_COLLECT, 0, until);
+    (void)what;
+    op.goes_on = goes_on;
+    op.with = with;
+    return machine_act(&op);
+}
+
+void yak_seed_writes_journal(void (*write)(void *with, FILE *to), void *with)
+{
+    the_machine.write = write;
+    the_machine.with = with;
+}
+
+/* A thread that is cancelled goes on. */
+void yak_seed_cancels(pthread_t thread)
+{
+    for (unsigned i = 0; machine_decides() && i < the_machine.used; ++i)
+        if (the_machine.seats[i].state != SEAT_FREE &&
+            pthread_equal(the_machine.seats[i].thread, thread))
+            the_machine.seats[i].is_cancelled = true;
+}
+
+void yak_seed_signals(void)
+{
+}
