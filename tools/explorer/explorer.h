@@ -1,0 +1,134 @@
+/* explorer.h: the parts of yak-explore. docs/explore.md says what it is for. */
+#ifndef YAKYROMBE_EXPLORER_H
+#define YAKYROMBE_EXPLORER_H
+
+#include <explore.h>
+
+#include <stdio.h>
+
+/* The statuses of yak-explore. */
+enum { EVERY_ORDER = 0, WRONG_USE = 2, FAILURE = 5, NOT_EVERY_ORDER = 6 };
+
+typedef struct options {
+    bool is_last; /* --time last */
+    bool stops;   /* --stop */
+    unsigned long bounds, budget, check, seconds, steps;
+    const char *output;
+    char **words; /* the program and its arguments */
+} options;
+
+/* Ends yak-explore with a line on the error stream. */
+void stop(const char *format, ...) __attribute__((noreturn, format(printf, 1, 2)));
+void *need(void *memory);
+/* Where a file is: beside yak-explore, or in a folder named from there; null if it is nowhere. */
+char *find_beside(const char *name, const char *const *folders);
+
+/* ---- the program under test (program.c) ---- */
+
+/* What a run came to. */
+typedef struct run {
+    yak_end end;   /* YAK_END_NONE if the program ended without saying so */
+    bool is_hung;  /* it made no step for some seconds, and was killed */
+    int status;    /* as waitpid has it */
+    char *printed; /* on both streams, a string */
+} run;
+
+typedef struct program {
+    const options *options;
+    char *library;
+    pid_t server;
+    int link, printed; /* files */
+    off_t before;      /* what was printed before the first run */
+    bool is_gone;      /* it ended before its first run, with this status */
+    int status;
+    yak_explored *shared;
+} program;
+
+void program_start(program *it, const options *options);
+/* Makes the run that it->shared asks for. */
+void program_run(program *it, run *result);
+void program_stop(program *it);
+/* Runs the program once without the server, by YAK_SCHEDULE: its status, or -1 if it was killed
+ * since it took too long. What it prints goes to a file, and its journal to another. */
+int program_run_alone(const program *it, const char *schedule, const char *printed,
+                      const char *journal);
+
+/* ---- the search engine (engine.c) ---- */
+
+typedef struct engine {
+    pid_t process;
+    FILE *to, *from;
+    uint32_t told; /* how many objects it knows */
+} engine;
+
+typedef enum asked { ASKED_RUN, ASKED_BOUND, ASKED_DONE, ASKED_NOTHING } asked;
+
+void engine_start(engine *it, const options *options);
+void engine_stop(engine *it);
+/* Reads what the engine asks for next. A run is written into `to`; the line stays in `line`. */
+asked engine_read(engine *it, yak_explored *to, char **line);
+/* Tells it what a run was. */
+void engine_tell(engine *it, const yak_explored *of, const run *result, bool fails);
+
+/* ---- outcomes (outcomes.c) ---- */
+
+typedef struct choice {
+    unsigned step;
+    uint8_t thread, variant;
+} choice;
+
+/* A step of a run, from the records. */
+typedef struct step {
+    const yak_record *at; /* the parked threads */
+    unsigned parked;
+    const yak_record *chosen;  /* the one of them that went on */
+    const yak_record *choice;  /* what of it was chosen */
+    const yak_record *follows; /* what it did, up to `end` */
+    const yak_record *end;
+    bool preempts; /* it took the turn from a thread that could go on */
+    bool is_local; /* it was no choice */
+    bool is_by_rule;
+} step;
+
+typedef struct steps {
+    const yak_explored *of;
+    const yak_record *next;
+    uint8_t last; /* the thread that ran last */
+} steps;
+
+/* The steps of a run, one after the other; false after the last. */
+steps steps_of(const yak_explored *of);
+bool next_step(steps *all, step *it);
+
+typedef struct outcome {
+    char *what; /* how a run ended, and what it printed: a line, and indented lines */
+    bool fails;
+    unsigned long runs, first;
+    unsigned preemptions, length; /* of the shortest schedule */
+    choice *choices;              /* of it: those that are not the rule's */
+    bool is_each;
+} outcome;
+
+typedef struct outcomes {
+    outcome *them;
+    unsigned count, failing;
+} outcomes;
+
+/* Keeps what a run came to: whether it fails. One that was not made to its end is not kept. */
+bool outcomes_keep(outcomes *all, const yak_explored *of, const run *result, unsigned long number);
+/* The text of YAK_SCHEDULE. */
+char *schedule_of(const outcome *it, bool is_last);
+/* Asks for that schedule. */
+void ask_for(const outcome *it, yak_explored *to);
+/* The name of an object in a report. */
+const char *object_name(const yak_explored *of, uint32_t object, char *text, size_t size);
+const char *call_name(const yak_record *of);
+const char *kind_word(unsigned kind);
+
+/* ---- the report (report.c) ---- */
+
+void write_report(const outcomes *all, const program *it);
+/* Writes a folder for each failure. */
+void write_folders(const outcomes *all, program *it);
+
+#endif

@@ -1,0 +1,335 @@
+/* yak-explore runs a program under every schedule that can matter, and reports how it can end.
+ *
+ * The machine of libyakyrombe-explore runs the program's threads by a list of choices
+ * (c/machine.h); an engine says which list is next; yak-explore carries choices and traces between
+ * the two, and keeps what the runs came to. */
+#define _GNU_SOURCE
+#include "explorer.h"
+
+#include <errno.h>
+#include <getopt.h>
+#include <limits.h>
+#include <sched.h>
+#include <signal.h>
+#include <stdarg.h>
+#include <stdlib.h>
+#include <string.h>
+#include <time.h>
+#include <unistd.h>
+
+static const char *const help =
+    "usage: yak-explore [OPTION..] PROGRAM [ARGUMENT..]\n"
+    "Runs a program under every schedule of its threads that can matter.\n"
+    "\n"
+    "  --time any|last  a deadline passes at any moment of its wait (any), or only if no thread\n"
+    "                   can go on otherwise (last); any if left out\n"
+    "  --bounds MOST    schedules with 0 to MOST preemptions come first, or 'none'; 2 if left out\n"
+    "  --budget RUNS    the most runs, 100000 if left out\n"
+    "  --seconds N      the most seconds\n"
+    "  --check RUNS     random runs after the search, 200 if left out\n"
+    "  --steps MOST     the most steps of a run, 2000 if left out\n"
+    "  --stop           stop at the first failure\n"
+    "  --output DIR     write a folder for each failure: schedule, journal, lanes, output\n"
+    "  --help           say this\n"
+    "  --version        say which version this is\n"
+    "\n"
+    "The status is 0 if every order was tried and none fails, 5 if one fails, 6 if not every "
+    "order\n"
+    "was tried, and 2 if the arguments are wrong.\n";
+
+void stop(const char *format, ...)
+{
+    va_list rest;
+    fprintf(stderr, "yak-explore: ");
+    va_start(rest, format);
+    vfprintf(stderr, format, rest);
+    va_end(rest);
+    fputc('\n', stderr);
+    exit(WRONG_USE);
+}
+
+void *need(void *memory)
+{
+    if (memory == 0)
+        stop("no memory");
+    return memory;
+}
+
+char *find_beside(const char *name, const char *const *folders)
+{
+    char here[PATH_MAX], *path, *real;
+    ssize_t len = readlink("/proc/self/exe", here, sizeof here - 1);
+    here[len > 0 ? len : 0] = 0;
+    if (strrchr(here, '/') != 0)
+        *strrchr(here, '/') = 0;
+    for (; *folders != 0; ++folders) {
+        if (asprintf(&path, "%s/%s/%s", here, *folders, name) < 0)
+            stop("no memory");
+        real = realpath(path, 0);
+        free(path);
+        if (real != 0)
+            return real;
+    }
+    return 0;
+}
+
+/* The library beside yak-explore, or where it is installed; else the system looks for it. */
+static char *find_library(void)
+{
+    static const char *const folders[] = {".", YAK_NEAR, 0};
+    const char *named = getenv("YAK_EXPLORE_LIBRARY");
+    char *found;
+    if (named != 0 && *named != 0)
+        return need(strdup(named));
+    found = find_beside("libyakyrombe-explore.so", folders);
+    return found != 0 ? found : need(strdup("libyakyrombe-explore.so"));
+}
+
+/* ---- options ---- */
+
+static unsigned long number_of(const char *option, const char *text, unsigned long most)
+{
+    char *end;
+    unsigned long it;
+    errno = 0;
+    it = strtoul(text, &end, 10);
+    if (*text < '0' || *text > '9' || *end != 0 || errno != 0 || it > most)
+        stop("--%s takes a whole number up to %lu, not %s", option, most, text);
+    return it;
+}
+
+enum { BOUNDS = 1, BUDGET, CHECK, SECONDS, STEPS, TIME, STOP, OUTPUT, HELP, VERSION };
+
+static const struct option names[] = {
+    {"bounds", required_argument, 0, BOUNDS},
+    {"budget", required_argument, 0, BUDGET},
+    {"check", required_argument, 0, CHECK},
+    {"seconds", required_argument, 0, SECONDS},
+    {"steps", required_argument, 0, STEPS},
+    {"time", required_argument, 0, TIME},
+    {"stop", no_argument, 0, STOP},
+    {"output", required_argument, 0, OUTPUT},
+    {"help", no_argument, 0, HELP},
+    {"version", no_argument, 0, VERSION},
+    {0, 0, 0, 0},
+};
+
+static void take_option(options *to, int which, const char *text)
+{
+    switch (which) {
+    case BOUNDS:
+        to->bounds = strcmp(text, "none") == 0 ? 0 : number_of("bounds", text, 1000) + 1;
+        break;
+    case BUDGET:
+        to->budget = number_of("budget", text, 1000000000);
+        break;
+    case CHECK:
+        to->check = number_of("check", text, 1000000000);
+        break;
+    case SECONDS:
+        to->seconds = number_of("seconds", text, 1000000000);
+        break;
+    case STEPS:
+        to->steps = number_of("steps", text, YAK_MOST_STEPS);
+        break;
+    case TIME:
+        if (strcmp(text, "any") != 0 && strcmp(text, "last") != 0)
+            stop("--time takes any or last, not %s", text);
+        to->is_last = strcmp(text, "last") == 0;
+        break;
+    case STOP:
+        to->stops = true;
+        break;
+    case OUTPUT:
+        to->output = text;
+        break;
+    case HELP:
+        fputs(help, stdout);
+        exit(0);
+    case VERSION:
+        puts("yak-explore (Yakyrombe) " YAK_VERSION);
+        exit(0);
+    default:
+        exit(WRONG_USE);
+    }
+}
+
+static options read_options(int count, char **words)
+{
+    options it = {.bounds = 3, .budget = 100000, .check = 200, .steps = 2000};
+    for (int which; (which = getopt_long(count, words, "+", names, 0)) != -1;)
+        take_option(&it, which, optarg);
+    it.words = words + optind;
+    if (*it.words == 0)
+        stop("there is no program to run; see yak-explore --help");
+    return it;
+}
+
+/* ---- the exploration ---- */
+
+typedef struct exploration {
+    const options *options;
+    program program;
+    engine engine;
+    outcomes outcomes;
+    unsigned long runs;
+    struct timespec began;
+    char *done; /* what the engine says of the end, or null */
+    bool is_late;
+} exploration;
+
+static double seconds_since(const struct timespec *from)
+{
+    struct timespec now;
+    clock_gettime(CLOCK_MONOTONIC, &now);
+    return (double)(now.tv_sec - from->tv_sec) + (double)(now.tv_nsec - from->tv_nsec) / 1e9;
+}
+
+/* A line on a terminal, twice a second. */
+static void show_progress(const exploration *it, bool is_last)
+{
+    static double shown;
+    const double seconds = seconds_since(&it->began);
+    if (!isatty(STDERR_FILENO) || (!is_last && seconds < shown + 0.5))
+        return;
+    shown = seconds;
+    fprintf(stderr, "\r%lu runs, %u outcomes, %u of them failing, %.0f seconds%s", it->runs,
+            it->outcomes.count, it->outcomes.failing, seconds, is_last ? "\n" : "");
+}
+
+/* Whether somebody tried for what another thread held or may give: then unlocks and posts have to
+ * be steps of their own. */
+static bool has_tries(const yak_explored *of)
+{
+    for (uint32_t i = 0; i < of->records; ++i) {
+        const yak_record *it = &of->record[i];
+        const bool is_wait = it->kind == STEP_LOCK || it->kind == STEP_SEMWAIT;
+        if (it->what == YAK_AT && (it->kind == STEP_TRYLOCK || it->kind == STEP_SEMTRY ||
+                                   (is_wait && (it->flags & (YAK_TIMED | YAK_TRY)) != 0)))
+            return true;
+    }
+    return false;
+}
+
+/* Makes a run and keeps what it came to: false if the search is to stop. */
+static bool make_run(exploration *it, run *result, bool *fails)
+{
+    program_run(&it->program, result);
+    ++it->runs;
+    *fails = outcomes_keep(&it->outcomes, it->program.shared, result, it->runs);
+    free(result->printed);
+    show_progress(it, false);
+    it->is_late =
+        it->options->seconds != 0 && seconds_since(&it->began) >= (double)it->options->seconds;
+    return !it->is_late && !(*fails && it->options->stops) && !it->program.is_gone;
+}
+
+/* Searches until the engine is done, or something ends it earlier: false if the search is to begin
+ * again with unlocks as steps. */
+static bool search(exploration *it)
+{
+    yak_explored *shared = it->program.shared;
+    bool goes_on = true, begins_again = false, fails;
+    run result;
+    engine_start(&it->engine, it->options);
+    while (goes_on) {
+        char *line = 0;
+        switch (engine_read(&it->engine, shared, &line)) {
+        case ASKED_RUN:
+            goes_on = make_run(it, &result, &fails);
+            begins_again = goes_on && !shared->is_each && has_tries(shared);
+            if (begins_again)
+                goes_on = false;
+            else
+                engine_tell(&it->engine, shared, &result, fails);
+            break;
+        case ASKED_DONE:
+            free(it->done);
+            it->done = need(strdup(line + strlen("done ")));
+            break;
+        case ASKED_BOUND:
+            break;
+        default:
+            if (it->done == 0)
+                stop("the engine has ended before it was done");
+            goes_on = false;
+        }
+    }
+    engine_stop(&it->engine);
+    return !begins_again;
+}
+
+/* Says how far the search came: whether every order was tried. */
+static bool say_how_far(const exploration *it)
+{
+    const char *done = it->done != 0 ? it->done : "";
+    unsigned long unseen = 0, of = 0;
+    if (it->program.is_gone) {
+        puts("the program has no second thread: it has one order");
+        return true;
+    }
+    if (strcmp(done, "all") == 0) {
+        puts("every order that can matter was tried");
+        return true;
+    }
+    if (sscanf(done, "unseen %lu %lu", &unseen, &of) == 2 && unseen == 0) {
+        puts("every order that can matter was tried");
+        return true;
+    }
+    if (of != 0)
+        printf("not every order was tried: %lu of %lu random runs had one that the search had not "
+               "seen, so the program shares what is not seen\n",
+               unseen, of);
+    else if (it->is_late)
+        puts("not every order was tried: the time is used up");
+    else if (strcmp(done, "budget") == 0)
+        puts("not every order was tried: the budget is used up");
+    else if (strcmp(done, "bound") == 0)
+        puts("every order with that many preemptions was tried, and there are more");
+    else if (strcmp(done, "unfit") == 0)
+        puts("not every order was tried: the program does not do the same again by the same "
+             "choices");
+    else
+        puts("not every order was tried: the search stopped at a failure");
+    return false;
+}
+
+/* The program and yak-explore take turns, which is faster on one processor. */
+static void stay_on_one_processor(void)
+{
+    const int here = sched_getcpu();
+    cpu_set_t set;
+    CPU_ZERO(&set);
+    CPU_SET(here >= 0 ? here : 0, &set);
+    sched_setaffinity(0, sizeof set, &set);
+}
+
+int main(int count, char **words)
+{
+    const options options = read_options(count, words);
+    exploration it = {.options = &options};
+    double seconds;
+    bool is_all, fails;
+    run result;
+    signal(SIGPIPE, SIG_IGN);
+    stay_on_one_processor();
+    clock_gettime(CLOCK_MONOTONIC, &it.began);
+    it.program.library = find_library();
+    program_start(&it.program, &options);
+    if (it.program.is_gone)
+        make_run(&it, &result, &fails);
+    else
+        while (!search(&it))
+            it.program.shared->is_each = true;
+    seconds = seconds_since(&it.began);
+    show_progress(&it, true);
+    if (options.output != 0 && it.outcomes.failing != 0)
+        write_folders(&it.outcomes, &it.program);
+    program_stop(&it.program);
+    write_report(&it.outcomes, &it.program);
+    printf("%lu run%s in %.2f seconds, %u outcome%s, %u failing: ", it.runs,
+           it.runs == 1 ? "" : "s", seconds, it.outcomes.count, it.outcomes.count == 1 ? "" : "s",
+           it.outcomes.failing);
+    is_all = say_how_far(&it);
+    return it.outcomes.failing != 0 ? FAILURE : is_all ? EVERY_ORDER : NOT_EVERY_ORDER;
+}
