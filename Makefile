@@ -1,15 +1,16 @@
 # make                                     says this
-# make install PREFIX=/usr/local DESTDIR=  installs the programs, the tools yak-run, yak-seeds and
-#                                          yak-record, the libraries and headers for C, the manual,
-#                                          the pages, and the completion of mqlog for bash
+# make install PREFIX=/usr/local DESTDIR=  installs the programs, the tools yak-run, yak-seeds,
+#                                          yak-explore and yak-record, the libraries and headers for
+#                                          C, the manual, the pages, and the completion of mqlog for
+#                                          bash
 # make uninstall PREFIX=/usr/local         removes what install has put there
 # make dist                                writes dist/yakyrombe-VERSION-linux-x86_64.tar.gz
 # make deb                                 writes Debian packages into dist
 # make clean                               removes what make has built, but no proved library
 #
-# BINDIR, LIBDIR, INCLUDEDIR, MANDIR, DOCDIR and COMPLETIONSDIR are as usual. What is proved has to
-# be built before: ./test builds all of it. With PROGRAMS= no program is installed, and only
-# tools/c_library has to be run before.
+# BINDIR, LIBDIR, LIBEXECDIR, INCLUDEDIR, MANDIR, DOCDIR and COMPLETIONSDIR are as usual. What is
+# proved has to be built before: ./test builds all of it. With PROGRAMS= no program is installed, and
+# only tools/c_library has to be run before.
 CC ?= cc
 INSTALL ?= install
 CFLAGS ?= -O2 -g
@@ -17,6 +18,7 @@ LDFLAGS ?=
 PREFIX ?= /usr/local
 BINDIR ?= $(PREFIX)/bin
 LIBDIR ?= $(PREFIX)/lib
+LIBEXECDIR ?= $(PREFIX)/libexec
 MANDIR ?= $(PREFIX)/share/man
 DOCDIR ?= $(PREFIX)/share/doc/yakyrombe
 COMPLETIONSDIR ?= $(PREFIX)/share/bash-completion/completions
@@ -26,11 +28,15 @@ VERSION := $(shell cat VERSION)
 PROGRAMS = mqrun mqlog mqbench
 TOOLS = run seeds record
 RECORDER = libyakyrombe-record.so
-MANUAL = $(PROGRAMS:%=%.1) $(TOOLS:%=yak-%.1)
+# What yak-explore asks what to run next, if it is built.
+ENGINE = $(wildcard crates/mqexplore/out/mqexplore)
+ENGINEDIR = $(LIBEXECDIR)/yakyrombe
+MANUAL = $(PROGRAMS:%=%.1) $(TOOLS:%=yak-%.1) yak-explore.1
 COMPLETIONS = $(filter mqlog,$(PROGRAMS))
 DOCS = $(wildcard docs/*)
 # Where the tools find the libraries, from their own folder.
 NEAR = $(shell realpath -m --relative-to='$(BINDIR)' '$(LIBDIR)')
+ENGINE_NEAR = $(shell realpath -m --relative-to='$(BINDIR)' '$(ENGINEDIR)')
 
 help:
 	@sed -n '/^#/!q;s/^# \{0,1\}//p' Makefile
@@ -56,6 +62,12 @@ install: $(foreach it,$(PROGRAMS),crates/$(it)/out/$(it)) $(LIB)/$(RECORDER)
 	    tools/$$tool > $(DESTDIR)$(BINDIR)/yak-$$tool && \
 	  chmod 755 $(DESTDIR)$(BINDIR)/yak-$$tool || exit 1; \
 	done
+	$(CC) $(CFLAGS) $(LDFLAGS) -std=gnu11 -Ic -DYAK_VERSION='"$(VERSION)"' -DYAK_NEAR='"$(NEAR)"' \
+	  -DYAK_ENGINE_NEAR='"$(ENGINE_NEAR)"' tools/explorer/*.c -o $(DESTDIR)$(BINDIR)/yak-explore
+	for engine in $(ENGINE); do \
+	  $(INSTALL) -d $(DESTDIR)$(ENGINEDIR) && \
+	  $(INSTALL) -m 755 $$engine $(DESTDIR)$(ENGINEDIR) || exit 1; \
+	done
 	$(INSTALL) -m 755 $(LIB)/$(RECORDER) $(DESTDIR)$(LIBDIR)
 	$(INSTALL) -m 644 $(MANUAL:%=man/%) $(DESTDIR)$(MANDIR)/man1
 	$(INSTALL) -m 644 README.md CHANGELOG.md $(DESTDIR)$(DOCDIR)
@@ -66,10 +78,11 @@ install: $(foreach it,$(PROGRAMS),crates/$(it)/out/$(it)) $(LIB)/$(RECORDER)
 
 uninstall:
 	rm -f $(PROGRAMS:%=$(DESTDIR)$(BINDIR)/%) $(TOOLS:%=$(DESTDIR)$(BINDIR)/yak-%) \
+	  $(DESTDIR)$(BINDIR)/yak-explore $(DESTDIR)$(ENGINEDIR)/mqexplore \
 	  $(DESTDIR)$(LIBDIR)/$(RECORDER) $(MANUAL:%=$(DESTDIR)$(MANDIR)/man1/%) \
 	  $(COMPLETIONS:%=$(DESTDIR)$(COMPLETIONSDIR)/%) \
 	  $(DESTDIR)$(DOCDIR)/README.md $(DESTDIR)$(DOCDIR)/CHANGELOG.md $(DOCS:%=$(DESTDIR)$(DOCDIR)/%)
-	for folder in $(DESTDIR)$(DOCDIR)/docs $(DESTDIR)$(DOCDIR); do \
+	for folder in $(DESTDIR)$(DOCDIR)/docs $(DESTDIR)$(DOCDIR) $(DESTDIR)$(ENGINEDIR); do \
 	  [ ! -d $$folder ] || rmdir --ignore-fail-on-non-empty $$folder; \
 	done
 	$(MAKE) -C c uninstall LIB='$(LIB)'

@@ -599,7 +599,7 @@ static void say_who_waits(void)
 static void say_end(yak_end why)
 {
     if (why == YAK_END_DEADLOCK) {
-        fprintf(stderr, "yakyrombe: deadlock: nobody can go on, after %u steps\n",
+        fprintf(stderr, "yakyrombe: deadlock: no thread can run, after %u steps\n",
                 the_machine.steps);
         say_who_waits();
     } else if (why == YAK_END_UNFIT) {

@@ -13,8 +13,7 @@
 
 static char *find_engine(void)
 {
-    static const char *const folders[] = {".", "../libexec/yakyrombe", "../lib/yakyrombe",
-                                          "../crates/mqexplore/out", 0};
+    static const char *const folders[] = {".", YAK_ENGINE_NEAR, 0};
     const char *named = getenv("YAK_ENGINE");
     char *found;
     if (named != 0 && *named != 0)

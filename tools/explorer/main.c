@@ -22,7 +22,7 @@ static const char *const help =
     "Runs a program under every schedule of its threads that can matter.\n"
     "\n"
     "  --time any|last  a deadline passes at any moment of its wait (any), or only if no thread\n"
-    "                   can go on otherwise (last); any if left out\n"
+    "                   can run (last); any if left out\n"
     "  --bounds MOST    schedules with 0 to MOST preemptions come first, or 'none'; 2 if left out\n"
     "  --budget RUNS    the most runs, 100000 if left out\n"
     "  --seconds N      the most seconds\n"

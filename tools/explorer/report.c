@@ -132,7 +132,7 @@ static void write_lanes(FILE *to, const yak_explored *of, const outcome *outcome
     const unsigned threads = count_threads(of);
     steps all = steps_of(of);
     fprintf(to, "A line is a step: its number, the thread that makes it in the lane of its number, "
-                "and the call.\nA * marks a preemption: another thread could have gone on.\n\n");
+                "and the call.\nA * marks a preemption.\n\n");
     for (step it; next_step(&all, &it);)
         write_step(to, of, &it, threads);
     fprintf(to, "\n%s", outcome->what);
