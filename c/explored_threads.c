@@ -48,7 +48,7 @@ int pthread_create(pthread_t *thread, const pthread_attr_t *attr, void *(*run)(v
     int error;
     if (!machine_decides())
         return find_pthread_create()(thread, attr, run, with);
-    machine_count();
+    machine_begin_choices();
     await_ended();
     if ((it = malloc(sizeof *it)) == 0)
         return EAGAIN;
@@ -89,8 +89,8 @@ static int lock_until(pthread_mutex_t *mutex, const struct timespec *until)
 {
     int error = machine_acts(STEP_LOCK, mutex, until);
     if (error == 0 && until == 0)
-        return find_pthread_mutex_lock()(mutex);
-    if (error == 0 && (error = find_pthread_mutex_trylock()(mutex)) == EBUSY)
+        error = find_pthread_mutex_lock()(mutex);
+    else if (error == 0 && (error = find_pthread_mutex_trylock()(mutex)) == EBUSY)
         error = ETIMEDOUT;
     machine_gave(error, 0);
     return error;

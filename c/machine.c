@@ -86,7 +86,7 @@ uint32_t machine_clock_object(void)
 static void note(yak_record it)
 {
     yak_explored *all = the_machine.shared;
-    if (!the_machine.counts || the_machine.is_direct || all->records == YAK_MOST_RECORDS)
+    if (the_machine.is_direct || all->records == YAK_MOST_RECORDS)
         return;
     it.step = (uint16_t)(the_machine.steps + (it.what == YAK_AT));
     all->record[all->records++] = it;
@@ -108,7 +108,7 @@ static void touch(uint32_t object)
 
 void machine_also(yak_kind kind, uint32_t object)
 {
-    if (!machine_decides() || !the_machine.counts)
+    if (!machine_decides() || !the_machine.chooses || !the_machine.is_noted)
         return;
     note((yak_record){.what = YAK_ALSO, .kind = (uint8_t)kind, .object = object});
     if (kind == STEP_CREATE)
@@ -119,7 +119,7 @@ void machine_also(yak_kind kind, uint32_t object)
 
 void machine_gave(int error, uint32_t value)
 {
-    if (machine_decides())
+    if (machine_decides() && the_machine.is_noted)
         note((yak_record){.what = YAK_GAVE, .object = (uint32_t)error, .arg = value});
 }
 
@@ -191,7 +191,7 @@ static bool is_there(const seat *it)
     case STEP_LOCK:
         return is_free(op->at, it);
     case STEP_WAKE:
-        return it->told != 0 && (op->mutex == 0 || is_free(op->mutex, it));
+        return it->told != 0;
     case STEP_SEMWAIT:
         return has_count(op->at);
     case STEP_RDLOCK:
@@ -216,12 +216,12 @@ static unsigned ability(const seat *it)
     const machine_op *op = &it->op;
     if (it->state != SEAT_PARKED)
         return YAK_CANNOT;
+    /* A wait for a condition ends with its mutex, also at its deadline. */
+    if (op->mutex != 0 && !is_free(op->mutex, it))
+        return YAK_CANNOT;
     if (is_there(it) || is_cancelled_in(it))
         return YAK_CAN;
-    /* A wait for a condition ends with its mutex, also at its deadline. */
-    if ((op->flags & YAK_TIMED) == 0 || (op->mutex != 0 && !is_free(op->mutex, it)))
-        return YAK_CANNOT;
-    return YAK_LATE;
+    return (op->flags & YAK_TIMED) != 0 ? YAK_LATE : YAK_CANNOT;
 }
 
 /* What no other thread can see is done at once, and is no choice. */
@@ -431,6 +431,14 @@ static void begin_step(seat *it, unsigned able, unsigned variant)
     it->state = SEAT_RUNS;
 }
 
+static void note_choice(const seat *it, unsigned variant)
+{
+    ++the_machine.steps;
+    the_machine.is_noted = true;
+    note((yak_record){
+        .what = YAK_CHOSE, .thread = (uint8_t)number_of(it), .variants = (uint8_t)variant});
+}
+
 /* Chooses who goes on, and lets it; null if no thread is left. */
 static seat *choose(void)
 {
@@ -445,16 +453,15 @@ static seat *choose(void)
     local = look(able);
     if (count_of(able, YAK_CANNOT) == the_machine.used)
         machine_end_run(YAK_END_DEADLOCK, 5);
-    if (the_machine.steps >= the_machine.shared->most_steps || is_full())
+    if (the_machine.steps - the_machine.first >= the_machine.shared->most_steps ||
+        the_machine.steps >= YAK_MOST_STEPS || is_full())
         machine_end_run(YAK_END_STEPS, 6);
     chosen = decide(able, local, &variant);
     it = &the_machine.seats[chosen];
     for (unsigned i = 0; i < the_machine.used; ++i)
         if (the_machine.seats[i].state == SEAT_PARKED)
             note(record_of(&the_machine.seats[i], YAK_AT, able[i]));
-    ++the_machine.steps;
-    note((yak_record){
-        .what = YAK_CHOSE, .thread = (uint8_t)number_of(it), .variants = (uint8_t)variant});
+    note_choice(it, variant);
     begin_step(it, able[chosen], variant);
     if (it != machine_seat()) {
         __atomic_store_n(&it->go, 1, __ATOMIC_SEQ_CST);
@@ -470,6 +477,20 @@ static void await_turn(seat *it)
     __atomic_store_n(&it->go, 0, __ATOMIC_SEQ_CST);
 }
 
+/* A thread that is alone has no choice, unless it waits. */
+static bool goes_on_alone(seat *it)
+{
+    if (ability(it) != YAK_CAN)
+        return false;
+    the_machine.is_noted = false;
+    if (it->op.kind >= STEP_OPEN && it->op.kind <= STEP_NOTIFY) {
+        note(record_of(it, YAK_AT, YAK_CAN));
+        note_choice(it, 0);
+    }
+    it->state = SEAT_RUNS;
+    return true;
+}
+
 bool machine_act(const machine_op *op)
 {
     seat *it = machine_seat();
@@ -478,13 +499,10 @@ bool machine_act(const machine_op *op)
     it->op = *op;
     it->state = SEAT_PARKED;
     it->is_late = false;
-    /* Alone it has no choice, unless it waits. */
-    if (!the_machine.counts) {
-        if (ability(it) == YAK_CAN) {
-            it->state = SEAT_RUNS;
+    if (!the_machine.chooses) {
+        if (goes_on_alone(it))
             return true;
-        }
-        machine_count();
+        machine_begin_choices();
     }
     if (choose() != it)
         await_turn(it);
@@ -562,7 +580,7 @@ void machine_leave(void)
     if (!machine_decides())
         return;
     machine_seat()->state = SEAT_OUT;
-    if (the_machine.counts)
+    if (the_machine.chooses)
         choose();
     number_here = HAS_LEFT;
 }
@@ -650,7 +668,7 @@ void machine_exits(int status)
     machine_op op = {.kind = STEP_EXIT, .arg = (uint32_t)status};
     if (!machine_decides())
         return;
-    machine_count();
+    machine_begin_choices();
     machine_act(&op);
     end_trace(YAK_END_DONE);
 }

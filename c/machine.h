@@ -4,8 +4,8 @@
  * A thread that comes to an operation that others can see parks in front of it. The thread that
  * parks chooses who goes on: by the choices that are asked for, and then by a rule. What was
  * chosen, what all parked threads were about to do, and what the step did, is the trace
- * (explore.h). Steps are counted from the first pthread_create on; up to there a thread is alone.
- */
+ * (explore.h). Up to the first pthread_create a thread is alone; of what it does until then only
+ * the calls on queues are steps, since the trace is to show what the queues hold. */
 #ifndef YAKYROMBE_MACHINE_H
 #define YAKYROMBE_MACHINE_H
 
@@ -55,12 +55,14 @@ typedef struct machine_queue {
 } machine_queue;
 
 typedef struct machine {
-    bool is_on;  /* it decides, and time is simulated */
-    bool counts; /* there has been a second thread */
+    bool is_on;    /* it decides, and time is simulated */
+    bool chooses;  /* there has been a second thread */
+    bool is_noted; /* the step that runs is in the trace */
     bool is_direct;
     int link; /* to yak-explore */
     yak_explored *shared;
-    unsigned used, last, steps, leads;
+    unsigned used, last, leads;
+    unsigned steps, first; /* and those before there was a choice */
     uint64_t random;
     struct timespec now;
     unsigned touches; /* by the step that runs */
@@ -114,8 +116,8 @@ void machine_leave(void);
 void machine_exits(int status);
 /* The simulated time, and a moment so much later. */
 struct timespec machine_later(const struct timespec *time);
-/* Lets the machine count steps. If yak-explore asks for runs, this returns in a child for each. */
-void machine_count(void);
+/* Begins the choices. If yak-explore asks for runs, this returns in a child for each. */
+void machine_begin_choices(void);
 void machine_quit(int status) __attribute__((noreturn));
 /* A futex call of the system itself. */
 long machine_futex(uint32_t *word, int how, uint32_t value);

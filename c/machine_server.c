@@ -102,13 +102,14 @@ static void end_program(int status, void *unused)
     machine_exits(status);
 }
 
-/* From here on steps count, and the end of the program is one, before what was asked for at its end
- * up to here. From 0 the generator would give 0 for ever. */
+/* From here on there are choices. The end of the program is a step, before what was asked for at
+ * its end up to here. From 0 the generator would give 0 for ever. */
 static void begin_run(void)
 {
     const yak_explored *all = the_machine.shared;
     const uint64_t x = (all->seed + 1) * 0x9E3779B97F4A7C15u;
-    the_machine.counts = true;
+    the_machine.chooses = true;
+    the_machine.first = the_machine.steps;
     on_exit(end_program, 0);
     the_machine.random = x != 0 ? x : 1;
     for (int i = 0; i < 20; ++i)
@@ -126,13 +127,14 @@ static void begin_run(void)
 static void serve(void)
 {
     yak_explored *all = the_machine.shared;
+    const uint32_t before = all->records;
     char byte = 'r';
     fflush(0);
     if (_Fork == 0)
         stop("the runs of a program need version 2.34 of the GNU C library");
     while (write(the_machine.link, &byte, 1) == 1 && read(the_machine.link, &byte, 1) == 1) {
         pid_t child;
-        all->records = 0;
+        all->records = before;
         child = _Fork();
         if (child == 0) {
             close(the_machine.link);
@@ -149,9 +151,9 @@ static void serve(void)
     machine_quit(0);
 }
 
-void machine_count(void)
+void machine_begin_choices(void)
 {
-    if (the_machine.counts)
+    if (the_machine.chooses)
         return;
     if (!the_machine.is_direct)
         serve();

@@ -265,7 +265,7 @@ static bool say_how_far(const exploration *it)
     const char *done = it->done != 0 ? it->done : "";
     unsigned long unseen = 0, of = 0;
     if (it->program.is_gone) {
-        puts("the program has no second thread: it has one order");
+        puts("the program ended before its first thread, in one order");
         return true;
     }
     if (strcmp(done, "all") == 0) {

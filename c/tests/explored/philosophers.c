@@ -1,6 +1,7 @@
 /* philosophers COUNT [right]: each fork is a message in a queue of its own, and a philosopher takes
- * the one on the left, and then the one on the right. All can hold one fork, which takes a
- * preemption of each but the last. Right is that the last one takes the right one first. */
+ * the one on the left, and then the one on the right. All can hold one fork, by one preemption:
+ * each other comes to a fork that is taken. Right is that the last one takes the right one first.
+ */
 #include "short.h"
 
 static mqd_t forks[8];
