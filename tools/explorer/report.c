@@ -111,7 +111,8 @@ static void write_step(FILE *to, const yak_explored *of, const step *it, unsigne
     fprintf(to, "  %s", call_name(it->chosen));
     if (it->chosen->kind == STEP_JOIN)
         fprintf(to, " thread %u", it->chosen->arg);
-    else if (it->chosen->object != 0)
+    else if (it->chosen->object != 0 && it->chosen->kind != STEP_OPEN &&
+             it->chosen->kind != STEP_UNLINK)
         fprintf(to, " %s", object_name(of, it->chosen->object, text, sizeof text));
     write_result(to, of, it);
     fputc('\n', to);

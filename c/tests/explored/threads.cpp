@@ -1,5 +1,6 @@
-// threads [right]: two producers and two consumers of C++'s own threads share a list of one, and one
-// condition for both kinds. A wake of one may meet a thread of the wrong kind; right is to wake all.
+// threads [right]: two producers and two consumers of C++'s own threads share a list of one, and
+// one condition for both kinds. A wake of one may meet a thread of the wrong kind; right is to wake
+// all.
 #include <condition_variable>
 #include <cstdio>
 #include <cstdlib>
