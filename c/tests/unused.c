@@ -1,6 +1,7 @@
 /* A program that uses no queue is not touched by the library: pthread_cancel makes no system, whose
  * journal would be written at the end, and in a forked child it tells nothing of queues, also in a
- * child of a program that uses them. The argument is used or unused. */
+ * child of a program that uses them. So it is under a seed, and under a schedule. The argument is
+ * used or unused. */
 #define _GNU_SOURCE
 #include <fcntl.h>
 #include <mqueue.h>
@@ -15,9 +16,12 @@
 
 static void *sleep_long(void *of)
 {
-    (void)of;
-    sleep(1000);
-    return 0;
+    /* Under a seed a sleep is no cancellation point. */
+    for (;;) {
+        sleep(1);
+        pthread_testcancel();
+    }
+    return of;
 }
 
 static void cancel_one(void)
