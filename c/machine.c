@@ -256,18 +256,31 @@ static unsigned first_late(const uint8_t *able)
     return first;
 }
 
-/* A thread that yields goes on only if nobody else can; with `--time last` a deadline passes only
- * then, the first one. */
-static void hold_back(uint8_t *able)
+static bool yields(const seat *it)
 {
-    const bool is_last = the_machine.shared->is_last;
-    bool others = !is_last && count_of(able, YAK_LATE) != 0;
+    return it->state == SEAT_PARKED && it->op.kind == STEP_YIELD;
+}
+
+/* Threads that yield run only if no other thread can, in the order in which they did. */
+static void hold_back_yields(uint8_t *able)
+{
+    bool others = !the_machine.shared->is_last && count_of(able, YAK_LATE) != 0;
+    unsigned first = YAK_SEATS;
+    for (unsigned i = 0; i < the_machine.used; ++i) {
+        const seat *it = &the_machine.seats[i];
+        others = others || (able[i] == YAK_CAN && !yields(it));
+        if (yields(it) && (first == YAK_SEATS || it->ran < the_machine.seats[first].ran))
+            first = i;
+    }
     for (unsigned i = 0; i < the_machine.used; ++i)
-        others = others || (able[i] == YAK_CAN && the_machine.seats[i].op.kind != STEP_YIELD);
-    for (unsigned i = 0; i < the_machine.used; ++i)
-        if (others && the_machine.seats[i].op.kind == STEP_YIELD)
+        if (yields(&the_machine.seats[i]) && (others || i != first))
             able[i] = YAK_CANNOT;
-    if (!is_last)
+}
+
+/* With `--time last` a deadline passes only if no thread can run, the first one. */
+static void hold_back_deadlines(uint8_t *able)
+{
+    if (!the_machine.shared->is_last)
         return;
     if (count_of(able, YAK_CAN) == 0)
         keep_only(able, first_late(able));
@@ -288,7 +301,8 @@ static unsigned look(uint8_t *able)
             return i;
         }
     }
-    hold_back(able);
+    hold_back_yields(able);
+    hold_back_deadlines(able);
     return YAK_SEATS;
 }
 
@@ -352,7 +366,7 @@ static unsigned at_random(const uint8_t *able, unsigned awake, unsigned *variant
     return i;
 }
 
-/* On with the thread that ran last, else the lowest that can go on, else the lowest whose deadline
+/* On with the thread that ran last, else the lowest that can run, else the lowest whose deadline
  * may pass. */
 static unsigned by_rule(const uint8_t *able)
 {
@@ -416,6 +430,7 @@ static void begin_step(seat *it, unsigned able, unsigned variant)
     const machine_op *op = &it->op;
     it->is_late = able == YAK_LATE;
     it->variant = (uint8_t)variant;
+    it->ran = the_machine.steps;
     touch(op->object);
     the_machine.touches_all = op->kind == STEP_EXIT || op->kind == STEP_YIELD ||
                               (it->is_late && the_machine.shared->is_last);

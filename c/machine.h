@@ -41,6 +41,7 @@ typedef struct seat {
     bool is_late;    /* its deadline has passed */
     unsigned told;   /* by which step its wait was ended; 0 if none has */
     uint8_t variant; /* of its step */
+    unsigned ran;    /* at which step it ran last */
     unsigned reads;  /* of the clock */
     unsigned asleep; /* how many objects wake it, if it sleeps */
     uint32_t wakes[MACHINE_ASLEEP];
