@@ -55,8 +55,8 @@ enum {
     X(RWUNLOCK, "rwunlock", "pthread_rwlock_unlock", "pthread_rwlock_unlock")     \
     X(BARRIER, "barrier", "pthread_barrier_wait", "pthread_barrier_wait")         \
     X(ONCE, "once", "pthread_once", "pthread_once")                               \
-    X(FUTEXWAIT, "futexwait", "a wait by futex", "a wait by futex")               \
-    X(FUTEXWAKE, "futexwake", "a wake by futex", "a wake by futex")
+    X(FUTEXWAIT, "futexwait", "FUTEX_WAIT", "FUTEX_WAIT")                         \
+    X(FUTEXWAKE, "futexwake", "FUTEX_WAKE", "FUTEX_WAKE")
 
 typedef enum yak_kind {
 #define YAK_KIND(name, word, call, timed_call) STEP_##name,
@@ -68,6 +68,19 @@ typedef enum yak_kind {
 /* Of a step: it has a deadline; it is a try, or its description does not block; it never blocks,
  * since its arguments are wrong. */
 enum { YAK_TIMED = 1, YAK_TRY = 2, YAK_NEVER_BLOCKS = 4 };
+
+/* The call of a step. A wait for a condition has a mutex in `arg`, and one by futex has none. */
+static inline const char *yak_call_name(unsigned kind, unsigned flags, uint32_t arg)
+{
+    static const char *const calls[][2] = {
+#define YAK_KIND(name, word, call, timed_call) {call, timed_call},
+        YAK_KINDS(YAK_KIND)
+#undef YAK_KIND
+    };
+    if (kind == STEP_WAKE && arg == 0)
+        kind = STEP_FUTEXWAIT;
+    return calls[kind % STEP_KINDS][(flags & YAK_TIMED) != 0];
+}
 
 /* Whether a parked thread can go on: not, or because of what it waits for, or since its deadline
  * may pass. */

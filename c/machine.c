@@ -612,20 +612,14 @@ struct timespec machine_later(const struct timespec *time)
 
 static void say_who_waits(void)
 {
-    static const char *const calls[][2] = {
-#define YAK_KIND(name, word, call, timed_call) {call, timed_call},
-        YAK_KINDS(YAK_KIND)
-#undef YAK_KIND
-    };
     for (unsigned i = 0; i < the_machine.used; ++i) {
         const seat *it = &the_machine.seats[i];
         const uint32_t object = it->op.object;
+        const char *name = object != 0 ? the_machine.shared->object[object - 1].name : "";
         if (it->state == SEAT_PARKED)
             fprintf(stderr, "yakyrombe: thread %u waits in %s%s%s\n", i + 1,
-                    calls[it->op.kind][(it->op.flags & YAK_TIMED) != 0],
-                    object != 0 && the_machine.shared->object[object - 1].name[0] != 0 ? " on "
-                                                                                       : "",
-                    object != 0 ? the_machine.shared->object[object - 1].name : "");
+                    yak_call_name(it->op.kind, it->op.flags, it->op.arg), *name != 0 ? " on " : "",
+                    name);
     }
 }
 

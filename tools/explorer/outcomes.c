@@ -20,12 +20,7 @@ const char *kind_word(unsigned kind)
 
 const char *call_name(const yak_record *of)
 {
-    static const char *const calls[][2] = {
-#define YAK_KIND(name, word, call, timed_call) {call, timed_call},
-        YAK_KINDS(YAK_KIND)
-#undef YAK_KIND
-    };
-    return calls[of->kind % STEP_KINDS][(of->flags & YAK_TIMED) != 0];
+    return yak_call_name(of->kind, of->flags, of->arg);
 }
 
 /* What an object is called that has no name. */

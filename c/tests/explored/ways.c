@@ -5,6 +5,7 @@
 #include <errno.h>
 #include <limits.h>
 #include <linux/futex.h>
+#include <sched.h>
 #include <semaphore.h>
 #include <sys/syscall.h>
 #include <unistd.h>
@@ -176,6 +177,36 @@ static void await_word(void)
     say('t');
 }
 
+/* The explorer does not see a pipe: whoever reads first waits for ever. */
+static int ends[2];
+
+static void *write_pipe(void *of)
+{
+    say('w');
+    (void)!write(ends[1], "p", 1);
+    return of;
+}
+
+static void read_pipe(void)
+{
+    char byte;
+    (void)!read(ends[0], &byte, 1);
+    say(byte);
+}
+
+static void *yield_to_all(void *of)
+{
+    while (__atomic_load_n(&word, __ATOMIC_SEQ_CST) == 0)
+        sched_yield();
+    return of;
+}
+
+static void yield_and_tell(void)
+{
+    sched_yield();
+    __atomic_store_n(&word, 1, __ATOMIC_SEQ_CST);
+}
+
 static void *end_program(void *of)
 {
     (void)of;
@@ -221,6 +252,8 @@ static const struct way {
     {"sleep", sleep_and_say, say_m},
     {"futex", wake_word, await_word},
     {"exit", end_program, say_m},
+    {"pipe", write_pipe, read_pipe},
+    {"yield", yield_to_all, yield_and_tell},
     {"twice", hold_for_a_while, lock_twice},
     {"recursive", sleep_and_say, lock_recursively},
 };
@@ -249,6 +282,8 @@ int main(int count, char **words)
     pthread_t them[2];
     queue = fresh("/said", 8);
     sem_init(&semaphore, 0, 0);
+    if (pipe(ends) != 0)
+        abort();
     pthread_barrier_init(&barrier, 0, 2);
     for (unsigned i = 0; i < sizeof ways / sizeof ways[0]; ++i)
         if (strcmp(ways[i].name, name) == 0)
