@@ -397,7 +397,8 @@ static unsigned decide(const uint8_t *able, unsigned local, unsigned *variant)
     if (the_machine.steps < all->choices && all->choice[the_machine.steps] != 0) {
         chosen = (all->choice[the_machine.steps] & 0xffu) - 1;
         *variant = all->choice[the_machine.steps] >> 8;
-        if (chosen >= the_machine.used || able[chosen] == YAK_CANNOT)
+        if (chosen >= the_machine.used || able[chosen] == YAK_CANNOT ||
+            *variant >= variants(&the_machine.seats[chosen]))
             machine_end_run(YAK_END_UNFIT, 7);
         return chosen;
     }
@@ -675,7 +676,8 @@ static void end_trace(yak_end why)
 void machine_exits(int status)
 {
     machine_op op = {.kind = STEP_EXIT, .arg = (uint32_t)status};
-    if (!machine_decides())
+    /* A child by vfork has the memory of its parent. */
+    if (!machine_decides() || the_machine.process != getpid())
         return;
     machine_begin_choices();
     machine_act(&op);

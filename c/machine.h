@@ -60,6 +60,7 @@ typedef struct machine {
     bool chooses;  /* there has been a second thread */
     bool is_noted; /* the step that runs is in the trace */
     bool is_direct;
+    pid_t process;
     int link; /* to yak-explore */
     yak_explored *shared;
     unsigned used, last, leads;

@@ -139,6 +139,7 @@ static void serve(void)
         if (child == 0) {
             close(the_machine.link);
             machine_seat()->tid = (pid_t)syscall(SYS_gettid);
+            the_machine.process = getpid();
             program_meet_thread();
             return;
         }
@@ -245,6 +246,7 @@ static __attribute__((constructor)) void begin(void)
     the_machine.now.tv_sec = 1000000000;
     pthread_key_create(&the_machine.key, end_thread);
     pthread_atfork(0, 0, in_child);
+    the_machine.process = getpid();
     the_machine.used = 1;
     the_machine.seats[0].state = SEAT_RUNS;
     machine_sit_down(&the_machine.seats[0], true);
