@@ -32,7 +32,7 @@ static void *consume(void *of)
     else if (count == 0)
         pthread_cond_wait(&filled, &lock);
     if (count == 0)
-        abort();
+        exit(1);
     --count;
     pthread_cond_signal(&emptied);
     pthread_mutex_unlock(&lock);
