@@ -1,6 +1,6 @@
 /* notice [right]: a thread of SIGEV_THREAD takes what is in a queue, and registers again. If it
- * registers after it has found the queue empty, a message that comes between the two is lost; right
- * is to register first. */
+ * registers after it has found the queue empty, a message that comes between the two is lost, with
+ * two preemptions; right is to register first. */
 #include "short.h"
 
 #include <signal.h>
