@@ -129,8 +129,8 @@ void program_start(program *it, const options *options)
     if (it->is_gone && WIFEXITED(it->status) && WEXITSTATUS(it->status) == NOT_FOUND)
         stop("%s", read_printed(it));
     if (it->shared->version != YAK_EXPLORE_VERSION)
-        stop("%s was not loaded into %s: is that a program over shared libraries?", it->library,
-             options->words[0]);
+        stop("%s was not loaded into %s, which may be linked statically; it said:\n%s", it->library,
+             options->words[0], read_printed(it));
 }
 
 void program_run(program *it, run *result)
