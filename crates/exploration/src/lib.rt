@@ -1,0 +1,9 @@
+//! Which schedules of a program are tried: chosen from the traces of its runs so far.
+#![tactic(auto)]
+
+pub mod fault;
+pub mod kind;
+pub mod operation;
+pub mod record;
+pub mod request;
+pub mod trace;
