@@ -1,0 +1,122 @@
+//! Which steps depend on one another: those that don't may be exchanged where they stand next to each other.
+ghost use Rattle.std.specs.Prelude.{◌≡◌};
+ghost use Rattle.exploration.specs.Dependence.{are_apart, are_bound, are_independent, both_create, commute, commute_on, is_apart, passes, share_time};
+
+use crate::deed::{Deed, Effect, is_exit, is_on_names, is_receive, is_send, is_wait, tells_time};
+use crate::kind::Kind;
+
+// A send and a receive of one queue that don't need one another: the receive takes an older message of that priority or a higher
+// one, and the send needs not the place that the receive frees.
+fn passes(send: &Effect, receive: &Effect) -> bool
+    ensures { result ≡ passes send.now receive.now }
+{
+    is_send(send.kind)
+        && is_receive(receive.kind)
+        && send.message != 0
+        && receive.message != 0
+        && send.message != receive.message
+        && send.priority <= receive.priority
+        && u64::from(send.number) != u64::from(receive.number) + u64::from(receive.room)
+}
+
+// Two effects on one object come to the same in either order.
+fn commute_on(x: &Effect, y: &Effect) -> bool
+    ensures { result ≡ commute_on x.now y.now }
+{
+    x.looks && y.looks
+        || !x.looks && !y.looks && (passes(x, y) || passes(y, x))
+        || is_wait(x.kind) && is_wait(y.kind)
+}
+
+// Two effects come to the same in either order.
+fn commute(x: &Effect, y: &Effect) -> bool
+    ensures { result ≡ commute x.now y.now }
+{
+    x.object != y.object || commute_on(x, y)
+}
+
+// An effect commutes with each of those.
+fn is_apart(x: &Effect, effects: &[Effect]) -> bool
+    ensures { result ≡ is_apart x.now effects.now }
+{
+    effects.iter().all(|y| commute(x, y))
+}
+
+// Each of those effects commutes with each of the others.
+fn are_apart(xs: &[Effect], ys: &[Effect]) -> bool
+    ensures { result ≡ are_apart xs.now ys.now }
+{
+    xs.iter().all(|x| is_apart(x, ys))
+}
+
+// Both create threads, which have their numbers in the order of their creation.
+fn both_create(a: &Deed, b: &Deed) -> bool
+    ensures { result ≡ both_create a.now b.now }
+{
+    !a.created.is_empty() && !b.created.is_empty()
+}
+
+// The one tells a time that the other ends.
+fn share_time(a: &Deed, b: &Deed) -> bool
+    ensures { result ≡ share_time a.now b.now }
+{
+    tells_time(a.kind) && b.is_late || tells_time(b.kind) && a.is_late
+}
+
+// One of the steps depends on all others, or both are about names, the creation of threads or the time.
+fn are_bound(a: &Deed, b: &Deed) -> bool
+    ensures { result ≡ are_bound a.now b.now }
+{
+    a.stands_still
+        || b.stands_still
+        || is_exit(a.kind)
+        || is_exit(b.kind)
+        || is_on_names(a.kind) && is_on_names(b.kind)
+        || both_create(a, b)
+        || share_time(a, b)
+}
+
+/// Neither step depends on whether the other was made before it, so they may be exchanged.
+pub fn are_independent(a: &Deed, b: &Deed) -> bool
+    ensures { result ≡ are_independent a.now b.now }
+{
+    a.choice.thread != b.choice.thread && !are_bound(a, b) && are_apart(&a.effects, &b.effects)
+}
+
+// The first effect may be what lets the second happen at all.
+fn lets(x: &Effect, y: &Effect) -> bool {
+    match (x.kind, y.kind) {
+        (Kind::Unlock, Kind::Lock) => true,
+        (Kind::RwUnlock, Kind::ReadLock | Kind::WriteLock) => true,
+        (Kind::Send, Kind::Receive) => {
+            !x.looks
+                && !y.looks
+                && !y.is_free
+                && x.message != 0
+                && x.message == y.message
+                && y.older == 0
+        }
+        (Kind::Receive, Kind::Send) => {
+            !x.looks
+                && !y.looks
+                && !y.is_free
+                && x.number != 0
+                && u64::from(y.number) == u64::from(x.number) + u64::from(x.room)
+                && y.priority <= x.priority
+        }
+        _ => false,
+    }
+}
+
+// Some effects of the two may come in the other order, and that may matter.
+fn any_race(a: &Deed, b: &Deed) -> bool {
+    a.effects.iter().any(|x| { b.effects.iter().any(|y| !commute(x, y) && !lets(x, y)) })
+}
+
+/// The two steps depend on each other, and the later one may come before the other. `place` is that of the earlier step.
+pub fn may_race(a: &Deed, place: usize, b: &Deed) -> bool {
+    if a.choice.thread == b.choice.thread || a.stands_still || b.stands_still {
+        return false;
+    }
+    are_bound(a, b) || b.cause != Some(place) && any_race(a, b)
+}

@@ -1,0 +1,154 @@
+//! The partial order of the steps of a run: which come before which, whatever schedule has them.
+
+use crate::deed::Deed;
+use crate::dependence::are_independent;
+use crate::kind::Kind;
+use std::alloc::{AllocError, Global};
+
+/// How many events of each thread come before one, itself among them: a vector clock.
+#[derive(Debug, Drop)]
+pub struct Clock {
+    counts: Vec<u32>,
+}
+
+/// A step in its partial order.
+#[derive(Debug, Drop)]
+pub struct Event {
+    pub deed: Deed,
+    pub clock: Clock,
+    /// Its number among the events of its thread, from 1 on.
+    pub number: u32,
+}
+
+impl Clock {
+    pub fn new(alloc: Global) -> Clock {
+        Clock {
+            counts: Vec::new(alloc),
+        }
+    }
+
+    pub fn copy(&self, alloc: Global) -> Result<Clock, AllocError> {
+        let counts = self.counts.to_vec(alloc)?;
+        Ok(Clock { counts })
+    }
+
+    pub fn count(&self, thread: u32) -> u32 {
+        match self.counts.get(thread as usize) {
+            Some(count) => *count,
+            None => 0,
+        }
+    }
+
+    /// The counts, without the zeros at the end.
+    pub fn counts(&self) -> &[u32] {
+        self.counts.as_slice()
+    }
+
+    /// What comes before the other comes before this one too.
+    pub fn join(&mut self, other: &Clock) -> Result<(), AllocError> {
+        for (i, count) in other.counts.iter().enumerate() {
+            if i < self.counts.len() {
+                if self.counts[i] < *count {
+                    self.counts[i] = *count;
+                }
+            } else {
+                self.counts.push(*count)?;
+            }
+        }
+        Ok(())
+    }
+
+    /// One more event of a thread. Gives its number.
+    pub fn tick(&mut self, thread: u32) -> Result<u32, AllocError> {
+        let at = thread as usize;
+        for _ in self.counts.len()..=at {
+            self.counts.push(0)?;
+        }
+        let number = self.count(thread).saturating_add(1);
+        if at < self.counts.len() {
+            self.counts[at] = number;
+        }
+        Ok(number)
+    }
+
+    /// The event comes before what the clock is of.
+    pub fn has(&self, event: &Event) -> bool {
+        self.count(event.deed.choice.thread) >= event.number
+    }
+}
+
+/// The clock of a thread after these events.
+pub fn clock_of(alloc: Global, events: &[Event], thread: u32) -> Result<Clock, AllocError> {
+    for event in events.iter().rev() {
+        if event.deed.choice.thread == thread {
+            return event.clock.copy(alloc);
+        }
+    }
+    Ok(Clock::new(alloc))
+}
+
+// The event that must come before a step: that which let it go on, made its thread, or ended the one that it joins.
+fn before<'e>(events: &'e [Event], deed: &Deed, joined: u32) -> Option<&'e Event> {
+    match deed.kind {
+        Kind::Start => events
+            .iter()
+            .rev()
+            .find(|it| it.deed.created.contains(&deed.choice.thread)),
+        Kind::Join => events
+            .iter()
+            .rev()
+            .find(|it| it.deed.choice.thread == joined),
+        _ => events.get(deed.cause?),
+    }
+}
+
+/// The event that a step is after these.
+pub fn event_of(
+    alloc: Global,
+    events: &[Event],
+    deed: Deed,
+    joined: u32,
+) -> Result<Event, AllocError> {
+    let thread = deed.choice.thread;
+    let mut clock = clock_of(alloc, events, thread)?;
+    if let Some(event) = before(events, &deed, joined) {
+        clock.join(&event.clock)?;
+    }
+    for event in events.iter().rev() {
+        if !clock.has(event) && !are_independent(&event.deed, &deed) {
+            clock.join(&event.clock)?;
+        }
+    }
+    let number = clock.tick(thread)?;
+    Ok(Event {
+        deed,
+        clock,
+        number,
+    })
+}
+
+// Mixes a number into a hash.
+fn mixed(hash: u64, value: u64) -> u64 {
+    let x = (hash ^ value).wrapping_mul(0x9E37_79B9_7F4A_7C15);
+    x ^ (x >> 32)
+}
+
+fn event_key(event: &Event) -> u64 {
+    let choice = event.deed.choice;
+    let mut hash = mixed(u64::from(choice.thread), u64::from(choice.variant));
+    hash = mixed(hash, u64::from(event.number));
+    hash = mixed(hash, u64::from(event.deed.is_late));
+    for count in event.clock.counts() {
+        hash = mixed(hash, u64::from(*count));
+    }
+    hash
+}
+
+/// A number for the partial order of a run. Runs of one partial order have one; two orders may have one by chance.
+pub fn order_key(events: &[Event]) -> u64 {
+    let mut key = 0u64;
+    for event in events {
+        key = key.wrapping_add(event_key(event));
+    }
+    key
+}

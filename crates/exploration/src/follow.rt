@@ -1,0 +1,299 @@
+//! What the steps of a run did, and which message each receive took.
+
+use crate::deed::{Deed, Effect, is_receive, is_send};
+use crate::kind::Kind;
+use crate::operation::{Ability, Choice, Operation, Parked, Step, parked_of};
+use crate::trace::Room;
+use std::alloc::{AllocError, Global};
+
+// A message of a queue.
+#[derive(Clone, Copy, Debug)]
+struct Held {
+    priority: u32,
+    // The place of its send, from 1 on.
+    message: u32,
+}
+
+// What was sent to a queue in a run, and received.
+#[derive(Debug, Drop)]
+struct Moved {
+    object: u32,
+    room: u32,
+    held: Vec<Held>,
+    sends: u32,
+    receives: u32,
+}
+
+/// What the steps of a run moved so far.
+#[derive(Debug, Drop)]
+pub struct Follower {
+    queues: Vec<Moved>,
+}
+
+/// How the operations of a program are told apart.
+#[derive(Clone, Copy, Debug)]
+pub struct Rules {
+    /// A deadline may pass at any moment, and not only when nobody else can go on.
+    pub any_time: bool,
+}
+
+// The message that is received next: the oldest of the highest priority.
+fn next_message(held: &[Held]) -> Option<usize> {
+    let mut best: Option<(usize, u32)> = None;
+    for (i, it) in held.iter().enumerate() {
+        match best {
+            Some((_, priority)) if it.priority <= priority => {}
+            _ => best = Some((i, it.priority)),
+        }
+    }
+    match best {
+        Some((i, _)) if i < held.len() => Some(i),
+        _ => None,
+    }
+}
+
+// Of a queue that is known: it was empty when it was first seen.
+fn known_room(rooms: &[Room], object: u32) -> Option<u32> {
+    let room = rooms.iter().find(|it| it.object == object)?;
+    if room.held == 0 {
+        Some(room.most)
+    } else {
+        None
+    }
+}
+
+impl Moved {
+    fn send(&mut self, effect: &mut Effect, place: u32) -> Result<(), AllocError> {
+        self.sends = self.sends.saturating_add(1);
+        effect.message = place;
+        effect.number = self.sends;
+        effect.room = self.room;
+        self.held.push(Held {
+            priority: effect.priority,
+            message: place,
+        })?;
+        Ok(())
+    }
+
+    fn receive(&mut self, effect: &mut Effect) {
+        let Some(i) = next_message(&self.held) else {
+            return;
+        };
+        if i < self.held.len() {
+            let older = self.held[..i].iter().count();
+            let it = self.held.remove(i);
+            self.receives = self.receives.saturating_add(1);
+            effect.message = it.message;
+            effect.priority = it.priority;
+            effect.number = self.receives;
+            effect.room = self.room;
+            effect.older = u32::try_from(older).unwrap_or(u32::MAX);
+        }
+    }
+}
+
+impl Follower {
+    pub fn new(alloc: Global) -> Follower {
+        Follower {
+            queues: Vec::new(alloc),
+        }
+    }
+
+    // The queue of a call, if it is known.
+    fn queue(
+        &mut self,
+        alloc: Global,
+        rooms: &[Room],
+        object: u32,
+    ) -> Result<Option<&mut Moved>, AllocError> {
+        let found = self.queues.iter().position(|it| it.object == object);
+        let at = match found {
+            Some(at) => at,
+            None => {
+                let Some(room) = known_room(rooms, object) else {
+                    return Ok(None);
+                };
+                let held = Vec::new(alloc);
+                self.queues.push(Moved {
+                    object,
+                    room,
+                    held,
+                    sends: 0,
+                    receives: 0,
+                })?;
+                self.queues.len() - 1
+            }
+        };
+        Ok(self.queues.get_mut(at))
+    }
+
+    fn follow(
+        &mut self,
+        alloc: Global,
+        rooms: &[Room],
+        effect: &mut Effect,
+        place: u32,
+    ) -> Result<(), AllocError> {
+        if effect.looks {
+            return Ok(());
+        }
+        let is_sent = is_send(effect.kind);
+        if !is_sent && !is_receive(effect.kind) {
+            return Ok(());
+        }
+        let Some(queue) = self.queue(alloc, rooms, effect.object)? else {
+            return Ok(());
+        };
+        if is_sent {
+            queue.send(effect, place)
+        } else {
+            queue.receive(effect);
+            Ok(())
+        }
+    }
+}
+
+// An operation that is refused changes nothing, and one that asks doesn't either.
+fn only_looks(kind: Kind, error: u32) -> bool {
+    match kind {
+        Kind::GetAttr | Kind::ReadLock => true,
+        Kind::Send | Kind::Receive | Kind::TryLock | Kind::SemTry | Kind::SemWait => error != 0,
+        Kind::Lock | Kind::WriteLock | Kind::Wake => error != 0,
+        _ => false,
+    }
+}
+
+fn effect_of(kind: Kind, object: u32, error: u32) -> Effect {
+    Effect {
+        kind,
+        object,
+        looks: only_looks(kind, error),
+        is_free: false,
+        message: 0,
+        priority: 0,
+        number: 0,
+        room: 0,
+        older: 0,
+    }
+}
+
+// The effects of an operation: on its object, and of a half of a wait also on its mutex.
+fn effects_of(alloc: Global, operation: Operation, error: u32) -> Result<Vec<Effect>, AllocError> {
+    let mut effects = Vec::new(alloc);
+    if operation.object != 0 {
+        let mut effect = effect_of(operation.kind, operation.object, error);
+        effect.is_free = operation.has_deadline || operation.is_try;
+        effect.priority = operation.argument;
+        effects.push(effect)?;
+    }
+    if operation.argument != 0 {
+        match operation.kind {
+            Kind::Register => effects.push(effect_of(Kind::Unlock, operation.argument, 0))?,
+            Kind::Wake => effects.push(effect_of(Kind::Lock, operation.argument, 0))?,
+            _ => {}
+        }
+    }
+    Ok(effects)
+}
+
+fn stands_still(rules: Rules, kind: Kind, is_late: bool) -> bool {
+    matches!(kind, Kind::Yield) || is_late && !rules.any_time
+}
+
+/// What a thread would do if it could make its operation.
+pub fn likely_deed(alloc: Global, rules: Rules, parked: &Parked) -> Result<Deed, AllocError> {
+    let effects = effects_of(alloc, parked.operation, 0)?;
+    let created = Vec::new(alloc);
+    Ok(Deed {
+        choice: Choice {
+            thread: parked.thread,
+            variant: 0,
+        },
+        kind: parked.operation.kind,
+        is_late: false,
+        stands_still: stands_still(rules, parked.operation.kind, false),
+        effects,
+        created,
+        cause: None,
+    })
+}
+
+// The place of the step that let the step at a place go on: the last before which its thread was parked and could not.
+fn cause_of(steps: &[Step], place: usize, thread: u32) -> Option<usize> {
+    for k in (0..place).rev() {
+        let step = steps.get(k)?;
+        if step.choice.thread == thread {
+            return None;
+        }
+        match parked_of(&step.parked, thread)?.ability {
+            Ability::Can => {}
+            _ => return Some(k),
+        }
+    }
+    None
+}
+
+/// What the step at a place did.
+pub fn deed_of(
+    alloc: Global,
+    rules: Rules,
+    rooms: &[Room],
+    follower: &mut Follower,
+    steps: &[Step],
+    place: usize,
+) -> Result<Option<Deed>, AllocError> {
+    let Some(step) = steps.get(place) else {
+        return Ok(None);
+    };
+    let choice = step.choice;
+    let Some(parked) = parked_of(&step.parked, choice.thread) else {
+        return Ok(None);
+    };
+    let is_late = matches!(parked.ability, Ability::Late);
+    let cause = if is_late {
+        None
+    } else {
+        cause_of(steps, place, choice.thread)
+    };
+    let number = u32::try_from(place)
+        .unwrap_or(u32::MAX - 1)
+        .saturating_add(1);
+    let (effects, created) = all_effects(alloc, rooms, follower, step, parked, number)?;
+    Ok(Some(Deed {
+        choice,
+        kind: parked.operation.kind,
+        is_late,
+        stands_still: stands_still(rules, parked.operation.kind, is_late),
+        effects,
+        created,
+        cause,
+    }))
+}
+
+// The effects of a step, with their numbers, and the threads that it created.
+fn all_effects(
+    alloc: Global,
+    rooms: &[Room],
+    follower: &mut Follower,
+    step: &Step,
+    parked: Parked,
+    place: u32,
+) -> Result<(Vec<Effect>, Vec<u32>), AllocError> {
+    let mut effects = effects_of(alloc, parked.operation, step.error)?;
+    let mut created = Vec::new(alloc);
+    if matches!(parked.operation.kind, Kind::Create) {
+        created.push(parked.operation.object)?;
+        effects.clear();
+    }
+    for also in &step.also {
+        if matches!(also.kind, Kind::Create) {
+            created.push(also.object)?;
+        } else if also.object != 0 {
+            effects.push(effect_of(also.kind, also.object, 0))?;
+        }
+    }
+    for effect in effects.iter_mut() {
+        follower.follow(alloc, rooms, effect, place)?;
+    }
+    Ok((effects, created))
+}
