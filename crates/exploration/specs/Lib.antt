@@ -1,3 +1,4 @@
 pub mod Kinds
 pub mod Choices
 pub mod Dependence
+pub mod Shown

@@ -1,0 +1,153 @@
+//! Which of the choices of a node are worth a run.
+
+use crate::deed::Deed;
+use crate::dependence::are_independent;
+use crate::kind::Kind;
+use crate::operation::{Ability, Choice, Parked, parked_of};
+use crate::request::Sleeper;
+use std::alloc::{AllocError, Global};
+
+/// Who is to go on behind the choice of a thread: so the race that asked for it is soon had in its other order.
+#[derive(Debug, Drop)]
+pub struct Lead {
+    pub first: u32,
+    pub threads: Vec<u32>,
+}
+
+/// What the search knows of a node.
+#[derive(Debug, Drop)]
+pub struct Advice {
+    /// The threads that are worth a choice here.
+    pub wanted: Vec<u32>,
+    /// Steps of other threads that were tried before, and on which nothing that was made since depends.
+    pub sleeping: Vec<Deed>,
+    /// The steps that were made here, one for each run.
+    pub made: Vec<Deed>,
+    pub leads: Vec<Lead>,
+    /// What the choices before cost.
+    pub spent: u32,
+    /// The thread that went on last.
+    pub last: u32,
+}
+
+impl Advice {
+    pub fn new(alloc: Global, spent: u32, last: u32) -> Advice {
+        Advice {
+            wanted: Vec::new(alloc),
+            sleeping: Vec::new(alloc),
+            made: Vec::new(alloc),
+            leads: Vec::new(alloc),
+            spent,
+            last,
+        }
+    }
+
+    pub fn want(&mut self, thread: u32) -> Result<(), AllocError> {
+        if !self.wanted.contains(&thread) {
+            self.wanted.push(thread)?;
+        }
+        Ok(())
+    }
+
+    /// Wants each thread that can go on.
+    pub fn want_all(&mut self, parked: &[Parked]) -> Result<(), AllocError> {
+        for it in parked {
+            if it.can_go_on() {
+                self.want(it.thread)?;
+            }
+        }
+        Ok(())
+    }
+
+    pub fn wants(&self, thread: u32) -> bool {
+        self.wanted.contains(&thread)
+    }
+
+    /// The step of this choice sleeps.
+    pub fn sleeps(&self, choice: Choice) -> bool {
+        self.sleeping.iter().any(|it| it.choice == choice)
+    }
+
+    /// Who goes on behind a choice.
+    pub fn lead(&self, alloc: Global, thread: u32) -> Result<Vec<u32>, AllocError> {
+        match self.leads.iter().find(|it| it.first == thread) {
+            Some(lead) => lead.threads.to_vec(alloc),
+            None => Ok(Vec::new(alloc)),
+        }
+    }
+
+    /// What sleeps behind a choice that is made here.
+    pub fn asleep_after(&self, alloc: Global, made: &Deed) -> Result<Vec<Deed>, AllocError> {
+        let mut sleeping = Vec::new(alloc);
+        for deed in &self.sleeping {
+            if are_independent(deed, made) {
+                sleeping.push(deed.copy(alloc)?)?;
+            }
+        }
+        for deed in &self.made {
+            if are_independent(deed, made) {
+                sleeping.push(deed.copy(alloc)?)?;
+            }
+        }
+        Ok(sleeping)
+    }
+
+    /// What sleeps here but one thread, by the objects that it touches.
+    pub fn sleepers(&self, alloc: Global, but: u32) -> Result<Vec<Sleeper>, AllocError> {
+        let mut sleepers = Vec::new(alloc);
+        for deed in &self.sleeping {
+            add_sleepers(&mut sleepers, deed, but)?;
+        }
+        for deed in &self.made {
+            add_sleepers(&mut sleepers, deed, but)?;
+        }
+        Ok(sleepers)
+    }
+}
+
+// The most sleepers of a request.
+const MOST_SLEEPERS: usize = 400;
+
+// Adds what a step touches, if that is all on which it depends.
+fn add_sleepers(sleepers: &mut Vec<Sleeper>, deed: &Deed, but: u32) -> Result<(), AllocError> {
+    let thread = deed.choice.thread;
+    let is_rough = deed.stands_still
+        || deed.is_late
+        || deed.choice.variant != 0
+        || !deed.created.is_empty()
+        || depends_on_more(deed.kind);
+    if is_rough || thread == but || MOST_SLEEPERS <= sleepers.len() {
+        return Ok(());
+    }
+    for effect in &deed.effects {
+        sleepers.push(Sleeper {
+            thread,
+            object: effect.object,
+        })?;
+    }
+    Ok(())
+}
+
+// Operations that depend on more than their object, or that have several ways.
+fn depends_on_more(kind: Kind) -> bool {
+    match kind {
+        Kind::Exit | Kind::Open | Kind::Close | Kind::Unlink | Kind::Clock => true,
+        Kind::Signal | Kind::Create => true,
+        _ => false,
+    }
+}
+
+/// What it costs to let a thread go on: it takes the turn from one that can go on, or its deadline passes early.
+pub fn cost(parked: &[Parked], last: u32, thread: u32) -> u32 {
+    let can = |it: &Parked| matches!(it.ability, Ability::Can);
+    let takes = thread != last
+        && parked.iter().any(|it| it.thread == last
+            && can(it)
+            && !matches!(it.operation.kind, Kind::Yield));
+    let is_late = match parked_of(parked, thread) {
+        Some(it) => matches!(it.ability, Ability::Late),
+        None => false,
+    };
+    let early = is_late && parked.iter().any(can);
+    if takes || early { 1 } else { 0 }
+}

@@ -1,0 +1,241 @@
+//! What a search takes from a trace, and what it picks next.
+ghost use Rattle.std.specs.Prelude.{◌≡◌, ◌<◌, ◌≤◌, IfOk, IfSome, length};
+
+use crate::advice::{Advice, cost};
+use crate::deed::Deed;
+use crate::event::{Event, event_of, order_key};
+use crate::fault::Fault;
+use crate::follow::{Follower, Rules, deed_of};
+use crate::operation::{Choice, Parked, Step, Trace, parked_of};
+use crate::request::Sleeper;
+use crate::trace::Room;
+use std::alloc::{AllocError, Global};
+
+/// What the search knows of the nodes of its path, and of the steps between them.
+#[derive(Debug, Drop)]
+pub struct Plan {
+    rules: Rules,
+    /// The most that the choices of a run may cost. With no bound, steps that were tried sleep.
+    bound: Option<u32>,
+    advices: Vec<Advice>,
+    events: Vec<Event>,
+    /// Something was beyond the bound.
+    is_cut: bool,
+}
+
+impl Plan {
+    pub fn new(alloc: Global, rules: Rules, bound: Option<u32>) -> Plan {
+        Plan {
+            rules,
+            bound,
+            advices: Vec::new(alloc),
+            events: Vec::new(alloc),
+            is_cut: false,
+        }
+    }
+
+    /// Whether a choice was left out only for its cost.
+    pub fn is_cut(&self) -> bool {
+        self.is_cut
+    }
+
+    /// A number for the partial order of the steps of the last run.
+    pub fn order_key(&self) -> u64 {
+        order_key(&self.events)
+    }
+
+    // What a choice costs, with those before it, at a node.
+    fn price(&self, place: usize, parked: &[Parked], thread: u32) -> u32 {
+        match self.advices.get(place) {
+            Some(advice) => advice
+                .spent
+                .saturating_add(cost(parked, advice.last, thread)),
+            None => 0,
+        }
+    }
+
+    fn is_within(&self, price: u32) -> bool {
+        match self.bound {
+            Some(most) => price <= most,
+            None => true,
+        }
+    }
+
+    // The choice is worth a run, if its cost is within the bound.
+    fn is_wanted(&self, place: usize, choice: Choice) -> bool {
+        match self.advices.get(place) {
+            Some(advice) => {
+                advice.wants(choice.thread) && (self.bound.is_some() || !advice.sleeps(choice))
+            }
+            None => false,
+        }
+    }
+
+    /// The next choice at a node, of those that are still open there.
+    pub fn pick(&mut self, place: usize, parked: &[Parked], untried: &[Choice]) -> Option<usize>
+        ensures { IfSome result (λ i. i < length untried.now) }
+    {
+        for (i, choice) in untried.iter().enumerate() {
+            if self.is_wanted(place, *choice) {
+                if self.is_within(self.price(place, parked, choice.thread)) {
+                    return Some(i);
+                }
+                self.is_cut = true;
+            }
+        }
+        None
+    }
+
+    /// Goes back to a node.
+    pub fn go_back(&mut self, place: usize) {
+        self.events.truncate(place);
+        self.advices.truncate(place.saturating_add(1));
+    }
+
+    /// Who is to go on behind a choice at a node.
+    pub fn lead(&self, alloc: Global, place: usize, thread: u32) -> Result<Vec<u32>, AllocError> {
+        match self.advices.get(place) {
+            Some(advice) => advice.lead(alloc, thread),
+            None => Ok(Vec::new(alloc)),
+        }
+    }
+
+    /// Who is not to go on behind a choice at a node.
+    pub fn sleepers(
+        &self,
+        alloc: Global,
+        place: usize,
+        thread: u32,
+    ) -> Result<Vec<Sleeper>, AllocError> {
+        match self.advices.get(place) {
+            Some(advice) if self.bound.is_none() => advice.sleepers(alloc, thread),
+            _ => Ok(Vec::new(alloc)),
+        }
+    }
+
+    // What is known of the node at a place, where the events before it were made.
+    fn advice_at(&self, alloc: Global, steps: &[Step], place: usize) -> Result<Advice, AllocError> {
+        let before = place.checked_sub(1);
+        let (Some(advice), Some(event), Some(step)) = (
+            before.and_then(|i| self.advices.get(i)),
+            before.and_then(|i| self.events.get(i)),
+            before.and_then(|i| steps.get(i)),
+        ) else {
+            return Ok(Advice::new(alloc, 0, 1));
+        };
+        let thread = step.choice.thread;
+        let spent = advice
+            .spent
+            .saturating_add(cost(&step.parked, advice.last, thread));
+        let last = if event.deed.is_local() {
+            advice.last
+        } else {
+            thread
+        };
+        let mut new = Advice::new(alloc, spent, last);
+        if self.bound.is_none() {
+            new.sleeping = advice.asleep_after(alloc, &event.deed)?;
+        }
+        Ok(new)
+    }
+
+    // Adds the node of a step. False: the step sleeps there, so the search does not go on from it.
+    fn add_node(
+        &mut self,
+        alloc: Global,
+        steps: &[Step],
+        step: &Step,
+        place: usize,
+        deed: &Deed,
+    ) -> Result<bool, AllocError> {
+        let mut advice = self.advice_at(alloc, steps, place)?;
+        let sleeps = advice.sleeps(step.choice);
+        if deed.is_local() {
+            advice.want(step.choice.thread)?;
+        } else {
+            advice.want_all(&step.parked)?;
+        }
+        self.advices.push(advice)?;
+        Ok(!sleeps)
+    }
+
+    // Adds a step that was made at the last node.
+    fn add_event(
+        &mut self,
+        alloc: Global,
+        parked: &[Parked],
+        deed: Deed,
+    ) -> Result<(), AllocError> {
+        let joined = match parked_of(parked, deed.choice.thread) {
+            Some(it) => it.operation.argument,
+            None => 0,
+        };
+        if let Some(advice) = self.advices.last_mut() {
+            let made = deed.copy(alloc)?;
+            advice.made.push(made)?;
+        }
+        let event = event_of(alloc, &self.events, deed, joined)?;
+        self.events.push(event)?;
+        Ok(())
+    }
+
+    // The run made at a place what the one before it made there.
+    fn is_same(&self, place: usize, deed: &Deed) -> bool {
+        match self.events.get(place) {
+            Some(event) => event.deed.choice == deed.choice && event.deed.kind == deed.kind,
+            None => false,
+        }
+    }
+
+    /// Takes in the steps of a run by some choices. Gives at how many places the search may choose another step.
+    pub fn learn(
+        &mut self,
+        alloc: Global,
+        rooms: &[Room],
+        asked: usize,
+        trace: &Trace,
+    ) -> Result<usize, Fault>
+        ensures { IfOk result (λ n. n ≤ length trace.now.steps.items) }
+    {
+        self.go_back(asked.saturating_sub(1));
+        let mut follower = Follower::new(alloc);
+        for (place, step) in trace.steps.iter().enumerate() {
+            let found = deed_of(alloc, self.rules, rooms, &mut follower, &trace.steps, place)?;
+            let Some(deed) = found else {
+                return Err(Fault::Unfit);
+            };
+            if place < self.events.len() {
+                if !self.is_same(place, &deed) {
+                    return Err(Fault::Unfit);
+                }
+            } else {
+                if self.advices.len() <= place
+                    && !self.add_node(alloc, &trace.steps, step, place, &deed)?
+                {
+                    return Ok(place + 1);
+                }
+                self.add_event(alloc, &step.parked, deed)?;
+            }
+        }
+        Ok(trace.steps.len())
+    }
+
+    /// Takes in a whole run that nothing was asked of.
+    pub fn learn_order(
+        &mut self,
+        alloc: Global,
+        rooms: &[Room],
+        trace: &Trace,
+    ) -> Result<(), AllocError> {
+        self.events.clear();
+        self.advices.clear();
+        let mut follower = Follower::new(alloc);
+        for (place, step) in trace.steps.iter().enumerate() {
+            let found = deed_of(alloc, self.rules, rooms, &mut follower, &trace.steps, place)?;
+            if let Some(deed) = found {
+                self.add_event(alloc, &step.parked, deed)?;
+            }
+        }
+        Ok(())
+    }
+}
