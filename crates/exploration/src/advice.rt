@@ -59,6 +59,20 @@ impl Advice {
         Ok(())
     }
 
+    /// Wants the first thread that can go on and does not sleep.
+    pub fn want_awake(&mut self, parked: &[Parked]) -> Result<(), AllocError> {
+        for it in parked {
+            let choice = Choice {
+                thread: it.thread,
+                variant: 0,
+            };
+            if it.can_go_on() && !self.sleeps(choice) {
+                return self.want(it.thread);
+            }
+        }
+        Ok(())
+    }
+
     pub fn wants(&self, thread: u32) -> bool {
         self.wanted.contains(&thread)
     }

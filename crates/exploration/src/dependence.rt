@@ -110,13 +110,37 @@ fn lets(x: &Effect, y: &Effect) -> bool {
 
 // Some effects of the two may come in the other order, and that may matter.
 fn any_race(a: &Deed, b: &Deed) -> bool {
-    a.effects.iter().any(|x| { b.effects.iter().any(|y| !commute(x, y) && !lets(x, y)) })
+    a.effects.iter().any(|x| b.effects.iter().any(|y| !commute(x, y) && !lets(x, y)))
+}
+
+// The first effect is of a kind that only lets the second go on, which waits for it.
+fn only_lets(x: &Effect, y: &Effect) -> bool {
+    !x.looks
+        && !y.is_free
+        && (is_send(x.kind) && is_receive(y.kind) && x.priority == 0
+            || is_receive(x.kind) && is_send(y.kind))
+}
+
+// The same, where the second was not made, because it waits.
+fn any_race_if_made(a: &Deed, b: &Deed) -> bool {
+    a.effects.iter().any(|x| {
+        b.effects
+            .iter()
+            .any(|y| !commute(x, y) && !lets(x, y) && !only_lets(x, y))
+    })
+}
+
+// Neither is to be exchanged with anything, or both are of one thread.
+fn are_in_order(a: &Deed, b: &Deed) -> bool {
+    a.choice.thread == b.choice.thread || a.stands_still || b.stands_still
 }
 
 /// The two steps depend on each other, and the later one may come before the other. `place` is that of the earlier step.
 pub fn may_race(a: &Deed, place: usize, b: &Deed) -> bool {
-    if a.choice.thread == b.choice.thread || a.stands_still || b.stands_still {
-        return false;
-    }
-    are_bound(a, b) || b.cause != Some(place) && any_race(a, b)
+    !are_in_order(a, b) && (are_bound(a, b) || b.cause != Some(place) && any_race(a, b))
+}
+
+/// The same, where the later one is not made yet.
+pub fn may_race_if_made(a: &Deed, place: usize, b: &Deed) -> bool {
+    !are_in_order(a, b) && (are_bound(a, b) || b.cause != Some(place) && any_race_if_made(a, b))
 }

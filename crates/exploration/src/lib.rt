@@ -11,6 +11,7 @@ pub mod follow;
 pub mod kind;
 pub mod operation;
 pub mod plan;
+pub mod races;
 pub mod record;
 pub mod request;
 pub mod search;

@@ -6,7 +6,8 @@ use crate::deed::Deed;
 use crate::event::{Event, event_of, order_key};
 use crate::fault::Fault;
 use crate::follow::{Follower, Rules, deed_of};
-use crate::operation::{Choice, Parked, Step, Trace, parked_of};
+use crate::operation::{Choice, End, Parked, Step, Trace, parked_of};
+use crate::races::Races;
 use crate::request::Sleeper;
 use crate::trace::Room;
 use std::alloc::{AllocError, Global};
@@ -146,14 +147,13 @@ impl Plan {
         steps: &[Step],
         step: &Step,
         place: usize,
-        deed: &Deed,
     ) -> Result<bool, AllocError> {
         let mut advice = self.advice_at(alloc, steps, place)?;
-        let sleeps = advice.sleeps(step.choice);
-        if deed.is_local() {
-            advice.want(step.choice.thread)?;
+        let sleeps = self.bound.is_none() && advice.sleeps(step.choice);
+        if sleeps {
+            advice.want_awake(&step.parked)?;
         } else {
-            advice.want_all(&step.parked)?;
+            advice.want(step.choice.thread)?;
         }
         self.advices.push(advice)?;
         Ok(!sleeps)
@@ -177,6 +177,19 @@ impl Plan {
         let event = event_of(alloc, &self.events, deed, joined)?;
         self.events.push(event)?;
         Ok(())
+    }
+
+    // Wants what the races of the last event ask for.
+    fn find_races(&mut self, alloc: Global, trace: &Trace) -> Result<(), AllocError> {
+        let races = Races {
+            rules: self.rules,
+            is_bounded: self.bound.is_some(),
+            events: &self.events,
+            steps: &trace.steps,
+            left: &trace.left,
+            is_whole: !matches!(trace.end, End::Slept),
+        };
+        races.find(alloc, &mut self.advices)
     }
 
     // The run made at a place what the one before it made there.
@@ -210,11 +223,12 @@ impl Plan {
                 }
             } else {
                 if self.advices.len() <= place
-                    && !self.add_node(alloc, &trace.steps, step, place, &deed)?
+                    && !self.add_node(alloc, &trace.steps, step, place)?
                 {
                     return Ok(place + 1);
                 }
                 self.add_event(alloc, &step.parked, deed)?;
+                self.find_races(alloc, trace)?;
             }
         }
         Ok(trace.steps.len())

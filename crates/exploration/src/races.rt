@@ -1,0 +1,442 @@
+//! Which choices are worth a run, by the races of a run: dynamic partial-order reduction by source sets.
+//!
+//! None of this is proved but that it is total: a choice that no race asks for is not made, so a race that is overlooked is an order that
+//! is not tried. Tests compare it with all interleavings.
+
+use crate::advice::{Advice, Lead};
+use crate::deed::Deed;
+use crate::dependence::{may_race, may_race_if_made};
+use crate::event::{Clock, Event, clock_of};
+use crate::follow::{Rules, likely_deed};
+use crate::kind::Kind;
+use crate::operation::{Ability, Choice, Parked, Step, parked_of};
+use std::alloc::{AllocError, Global};
+
+/// A run, as far as its races were looked for.
+#[derive(Clone, Copy, Debug)]
+pub struct Races<'r> {
+    pub rules: Rules,
+    /// The search is within a bound: it asks for more, since what races may be beyond the bound.
+    pub is_bounded: bool,
+    /// The last is the one whose races are looked for.
+    pub events: &'r [Event],
+    /// All steps of the run.
+    pub steps: &'r [Step],
+    /// Who is parked at the end.
+    pub left: &'r [Parked],
+    /// The run ended by itself, and not because all that could go on slept.
+    pub is_whole: bool,
+}
+
+// Who comes in front of an event with which a step of its races.
+#[derive(Clone, Copy, Debug)]
+struct Overtaking {
+    thread: u32,
+    /// The places of the events between them end here.
+    end: usize,
+    /// The place of the step that races, if it was made.
+    made: Option<usize>,
+}
+
+fn is_local(step: &Step) -> bool {
+    match parked_of(&step.parked, step.choice.thread) {
+        Some(it) => match it.operation.kind {
+            Kind::Start | Kind::Join => true,
+            Kind::Collect => !matches!(it.ability, Ability::Late),
+            _ => false,
+        },
+        None => false,
+    }
+}
+
+fn is_same(a: &Parked, b: &Parked) -> bool {
+    a.operation.kind == b.operation.kind && a.operation.object == b.operation.object
+}
+
+impl Races<'_> {
+    // Who is parked after the step at a place and the local ones that follow it.
+    fn parked_after(&self, place: usize) -> &[Parked] {
+        for i in place.saturating_add(1)..self.steps.len() {
+            if !is_local(&self.steps[i]) {
+                return &self.steps[i].parked;
+            }
+        }
+        self.left
+    }
+
+    // Whether a thread makes one of the local steps behind a place, of this kind if one is given.
+    fn goes_on_after(&self, place: usize, thread: u32, kind: Option<Kind>) -> bool {
+        for i in place.saturating_add(1)..self.steps.len() {
+            let step = &self.steps[i];
+            if !is_local(step) {
+                return false;
+            }
+            if step.choice.thread == thread {
+                match (kind, parked_of(&step.parked, thread)) {
+                    (Some(kind), Some(it)) => return it.operation.kind == kind,
+                    _ => return true,
+                }
+            }
+        }
+        false
+    }
+
+    fn clock_before(&self, alloc: Global, end: usize, thread: u32) -> Result<Clock, AllocError> {
+        if end <= self.events.len() {
+            clock_of(alloc, &self.events[..end], thread)
+        } else {
+            clock_of(alloc, self.events, thread)
+        }
+    }
+
+    // An event comes before a clock.
+    fn is_in(&self, clock: &Clock, place: usize) -> bool {
+        match self.events.get(place) {
+            Some(event) => clock.has(event),
+            None => false,
+        }
+    }
+
+    /// Asks for what the races of the last event make worth a run.
+    pub fn find(&self, alloc: Global, advices: &mut [Advice]) -> Result<(), AllocError> {
+        let Some(event) = self.events.last() else {
+            return Ok(());
+        };
+        let place = self.events.len() - 1;
+        if !event.deed.is_local() {
+            self.find_made(alloc, advices, place, &event.deed)?;
+        }
+        self.find_kept(alloc, advices, place, &event.deed)?;
+        self.find_stopped(alloc, advices, place, &event.deed)
+    }
+
+    // The events with which a step races.
+    fn find_made(
+        &self,
+        alloc: Global,
+        advices: &mut [Advice],
+        place: usize,
+        deed: &Deed,
+    ) -> Result<(), AllocError> {
+        let thread = deed.choice.thread;
+        let mut seen = self.clock_before(alloc, place, thread)?;
+        for i in (0..place).rev() {
+            if let Some(other) = self.events.get(i)
+                && !seen.has(other)
+                && !other.deed.is_local()
+                && may_race(&other.deed, i, deed)
+            {
+                seen.join(&other.clock)?;
+                let overtaking = Overtaking {
+                    thread,
+                    end: place,
+                    made: Some(place),
+                };
+                self.ask(alloc, advices, i, overtaking)?;
+            }
+        }
+        Ok(())
+    }
+
+    // Whom a step disables, or keeps from going on, and whom it answers before the deadline.
+    fn find_kept(
+        &self,
+        alloc: Global,
+        advices: &mut [Advice],
+        place: usize,
+        deed: &Deed,
+    ) -> Result<(), AllocError> {
+        let Some(step) = self.steps.get(place) else {
+            return Ok(());
+        };
+        let after = self.parked_after(place);
+        for it in &step.parked {
+            if it.thread != deed.choice.thread && self.is_kept(alloc, place, deed, it, after)? {
+                let overtaking = Overtaking {
+                    thread: it.thread,
+                    end: place.saturating_add(1),
+                    made: None,
+                };
+                self.ask(alloc, advices, place, overtaking)?;
+            }
+        }
+        Ok(())
+    }
+
+    fn is_kept(
+        &self,
+        alloc: Global,
+        place: usize,
+        deed: &Deed,
+        it: &Parked,
+        after: &[Parked],
+    ) -> Result<bool, AllocError> {
+        let may_pass = self.rules.any_time && matches!(it.ability, Ability::Late);
+        let collects = matches!(it.operation.kind, Kind::Collect);
+        if may_pass && collects && self.goes_on_after(place, it.thread, Some(Kind::Collect)) {
+            return Ok(true);
+        }
+        let Some(then) = parked_of(after, it.thread) else {
+            return Ok(false);
+        };
+        if !is_same(it, &then) {
+            return Ok(false);
+        }
+        if may_pass && matches!(then.ability, Ability::Can) {
+            return Ok(true);
+        }
+        if then.can_go_on() {
+            return Ok(false);
+        }
+        if it.can_go_on() {
+            return Ok(true);
+        }
+        if deed.is_local() {
+            return Ok(false);
+        }
+        self.may_race_with(alloc, place, deed, &then)
+    }
+
+    // An operation that is still to be made may race with a step.
+    fn may_race_with(
+        &self,
+        alloc: Global,
+        place: usize,
+        deed: &Deed,
+        parked: &Parked,
+    ) -> Result<bool, AllocError> {
+        let likely = likely_deed(alloc, self.rules, parked)?;
+        Ok(may_race_if_made(deed, place, &likely))
+    }
+
+    // A thread that comes to an operation that it can't make, and at the end all that were not made.
+    fn find_stopped(
+        &self,
+        alloc: Global,
+        advices: &mut [Advice],
+        place: usize,
+        deed: &Deed,
+    ) -> Result<(), AllocError> {
+        let thread = deed.choice.thread;
+        if let Some(it) = parked_of(self.parked_after(place), thread)
+            && !it.can_go_on()
+            && !self.goes_on_after(place, thread, None)
+        {
+            self.look_back(alloc, advices, place, &it, true)?;
+        }
+        if place.saturating_add(1) == self.steps.len() && self.is_whole {
+            for it in self.left {
+                self.look_back(alloc, advices, place, it, false)?;
+            }
+        }
+        Ok(())
+    }
+
+    // Asks for the steps, up to one, that race with an operation that is still to be made, or only for the last.
+    fn look_back(
+        &self,
+        alloc: Global,
+        advices: &mut [Advice],
+        place: usize,
+        parked: &Parked,
+        only_last: bool,
+    ) -> Result<(), AllocError> {
+        let end = place.saturating_add(1);
+        let mut seen = self.clock_before(alloc, end, parked.thread)?;
+        for i in (0..end).rev() {
+            if let Some(other) = self.events.get(i)
+                && !seen.has(other)
+                && !other.deed.is_local()
+                && self.may_race_with(alloc, i, &other.deed, parked)?
+            {
+                seen.join(&other.clock)?;
+                let overtaking = Overtaking {
+                    thread: parked.thread,
+                    end,
+                    made: None,
+                };
+                self.ask(alloc, advices, i, overtaking)?;
+                if only_last {
+                    return Ok(());
+                }
+            }
+        }
+        Ok(())
+    }
+
+    // Lets a thread come in front of the event at a place: wants a choice there that leads to it.
+    fn ask(
+        &self,
+        alloc: Global,
+        advices: &mut [Advice],
+        i: usize,
+        overtaking: Overtaking,
+    ) -> Result<(), AllocError> {
+        if self.is_bounded {
+            self.ask_at(advices, i, overtaking.thread)?;
+            return self.ask_at(advices, self.first_of_block(i), overtaking.thread);
+        }
+        let apart = self.apart(alloc, i, overtaking.end)?;
+        let firsts = self.firsts(alloc, i, &apart, overtaking)?;
+        let (Some(advice), Some(step)) = (advices.get_mut(i), self.steps.get(i)) else {
+            return Ok(());
+        };
+        if firsts.iter().any(|q| is_had(advice, *q)) {
+            return Ok(());
+        }
+        let Some(first) = best(&firsts, overtaking.thread) else {
+            return advice.want_all(&step.parked);
+        };
+        let threads = self.lead(alloc, &apart, overtaking.thread, first)?;
+        advice.leads.push(Lead { first, threads })?;
+        advice.want(first)
+    }
+
+    // Wants a thread at a place, or if it can't go on there, all that can.
+    fn ask_at(&self, advices: &mut [Advice], i: usize, thread: u32) -> Result<(), AllocError> {
+        let (Some(advice), Some(step)) = (advices.get_mut(i), self.steps.get(i)) else {
+            return Ok(());
+        };
+        match parked_of(&step.parked, thread) {
+            Some(it) if it.can_go_on() => advice.want(thread),
+            _ => advice.want_all(&step.parked),
+        }
+    }
+
+    // The place at which the thread of an event got the turn.
+    fn first_of_block(&self, i: usize) -> usize {
+        let mut first = i;
+        let Some(event) = self.events.get(i) else {
+            return first;
+        };
+        for j in (0..i).rev() {
+            if let Some(other) = self.events.get(j)
+                && !other.deed.is_local()
+            {
+                if other.deed.choice.thread != event.deed.choice.thread {
+                    return first;
+                }
+                first = j;
+            }
+        }
+        first
+    }
+
+    // The places behind one, up to an end, whose events don't come after its.
+    fn apart(&self, alloc: Global, i: usize, end: usize) -> Result<Vec<usize>, AllocError> {
+        let mut apart = Vec::new(alloc);
+        if let Some(event) = self.events.get(i) {
+            for j in i.saturating_add(1)..end {
+                if let Some(other) = self.events.get(j)
+                    && !other.clock.has(event)
+                {
+                    apart.push(j)?;
+                }
+            }
+        }
+        Ok(apart)
+    }
+
+    // The threads whose event can be the first of these, with the one that overtakes, and that can go on at the place.
+    fn firsts(
+        &self,
+        alloc: Global,
+        i: usize,
+        apart: &[usize],
+        overtaking: Overtaking,
+    ) -> Result<Vec<u32>, AllocError> {
+        let mut firsts = Vec::new(alloc);
+        let mut seen: Vec<u32> = Vec::new(alloc);
+        for j in apart {
+            if let Some(event) = self.events.get(*j) {
+                let thread = event.deed.choice.thread;
+                if !seen.contains(&thread) {
+                    seen.push(thread)?;
+                    if self.is_first(apart, *j, &event.clock) && self.can(i, thread) {
+                        firsts.push(thread)?;
+                    }
+                }
+            }
+        }
+        let thread = overtaking.thread;
+        if !seen.contains(&thread) && self.can(i, thread) {
+            let clock = self.clock_of_overtaking(alloc, overtaking)?;
+            if self.is_first(apart, usize::MAX, &clock) {
+                firsts.push(thread)?;
+            }
+        }
+        Ok(firsts)
+    }
+
+    // The clock of the step that races, or of its thread before it.
+    fn clock_of_overtaking(
+        &self,
+        alloc: Global,
+        overtaking: Overtaking,
+    ) -> Result<Clock, AllocError> {
+        match overtaking.made {
+            Some(place) => match self.events.get(place) {
+                Some(event) => event.clock.copy(alloc),
+                None => Ok(Clock::new(alloc)),
+            },
+            None => self.clock_before(alloc, overtaking.end, overtaking.thread),
+        }
+    }
+
+    // None of the events at those places, as far as they are below one, comes before a clock.
+    fn is_first(&self, apart: &[usize], below: usize, clock: &Clock) -> bool {
+        !apart.iter().any(|g| *g < below && self.is_in(clock, *g))
+    }
+
+    fn can(&self, i: usize, thread: u32) -> bool {
+        match self.steps.get(i) {
+            Some(step) => match parked_of(&step.parked, thread) {
+                Some(it) => it.can_go_on(),
+                None => false,
+            },
+            None => false,
+        }
+    }
+
+    // Who goes on behind the first choice, so that the race is had in its other order.
+    fn lead(
+        &self,
+        alloc: Global,
+        apart: &[usize],
+        thread: u32,
+        first: u32,
+    ) -> Result<Vec<u32>, AllocError> {
+        let mut threads = Vec::new(alloc);
+        let mut is_left_out = false;
+        for j in apart {
+            if let Some(event) = self.events.get(*j)
+                && !event.deed.is_local()
+            {
+                let other = event.deed.choice.thread;
+                if other == first && !is_left_out {
+                    is_left_out = true;
+                } else {
+                    threads.push(other)?;
+                }
+            }
+        }
+        if is_left_out || thread != first {
+            threads.push(thread)?;
+        }
+        Ok(threads)
+    }
+}
+
+// A choice of the thread was wanted before, or sleeps.
+fn is_had(advice: &Advice, thread: u32) -> bool {
+    advice.wants(thread) || advice.sleeps(Choice { thread, variant: 0 })
+}
+
+// The thread itself, if it is among them, else the first.
+fn best(firsts: &[u32], thread: u32) -> Option<u32> {
+    if firsts.contains(&thread) {
+        Some(thread)
+    } else {
+        firsts.first().copied()
+    }
+}

@@ -1,0 +1,27 @@
+//! What the test of independence of an exploration rests on: the definitions of the queues. The law is a function that does nothing: its
+//! contract is the law.
+#![tactic(auto)]
+
+ghost use Rattle.std.specs.Prelude.{◌≡◌, ℕ, true};
+ghost use Rattle.mq_model.specs.Record.{Past, Queue};
+ghost use Rattle.mq_model.specs.Legality.{IsLegalNext, Legal};
+ghost use Rattle.mq_equivalence.specs.Runs.{Request};
+ghost use Rattle.mq_commutation.specs.Commuting.{Commute, is_covered, record_for};
+ghost use Rattle.mq_commutation.specs.Independence.{differ, whose_notices};
+ghost use Rattle.exploration.specs.Dependence.{are_independent};
+ghost use Rattle.exploration.specs.declared.deed.Deed.{Deed};
+ghost use Rattle.exploration_laws.specs.Calls.{IsCall, OwnThreads};
+
+/// Two steps that make calls of the queues, and that an exploration treats as independent, commute: after a legal journal where each call
+/// may be made, each may be made after the other, has the reply that it has without the other but for places, and both orders leave
+/// equivalent journals. It covers all calls but `mq_open`, `mq_unlink` and the withdrawal of a wait, if the two don't change the notices
+/// of one process; and of sends and receives those that are done at once, on a queue with nobody registered. It does not cover calls
+/// that are refused.
+pub fn independent_steps_commute()
+    ensures { (past : Past) (object : Queue → ℕ) (a b : Request) (d e : Deed) → Legal past →
+        IsLegalNext past (record_for past a) → IsLegalNext past (record_for past b) →
+        is_covered a.call ≡ true → is_covered b.call ≡ true → OwnThreads a b d e →
+        differ (whose_notices past a) (whose_notices past b) ≡ true →
+        IsCall past object a d → IsCall past object b e →
+        are_independent d e ≡ true → Commute past a b }
+{}
