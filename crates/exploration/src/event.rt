@@ -87,17 +87,25 @@ pub fn clock_of(alloc: Global, events: &[Event], thread: u32) -> Result<Clock, A
     Ok(Clock::new(alloc))
 }
 
-// The event that must come before a step: that which let it go on, made its thread, or ended the one that it joins.
+// The event that made a thread.
+fn creation(events: &[Event], thread: u32) -> Option<&Event> {
+    events
+        .iter()
+        .rev()
+        .find(|it| it.deed.created.contains(&thread))
+}
+
+fn last_of(events: &[Event], thread: u32) -> Option<&Event> {
+    events
+        .iter()
+        .rev()
+        .find(|it| it.deed.choice.thread == thread)
+}
+
+// The event that must come before a step, as it let it go on or ended the thread that it joins.
 fn before<'e>(events: &'e [Event], deed: &Deed, joined: u32) -> Option<&'e Event> {
     match deed.kind {
-        Kind::Start => events
-            .iter()
-            .rev()
-            .find(|it| it.deed.created.contains(&deed.choice.thread)),
-        Kind::Join => events
-            .iter()
-            .rev()
-            .find(|it| it.deed.choice.thread == joined),
+        Kind::Join => last_of(events, joined),
         _ => events.get(deed.cause?),
     }
 }
@@ -111,6 +119,11 @@ pub fn event_of(
 ) -> Result<Event, AllocError> {
     let thread = deed.choice.thread;
     let mut clock = clock_of(alloc, events, thread)?;
+    if clock.count(thread) == 0
+        && let Some(event) = creation(events, thread)
+    {
+        clock.join(&event.clock)?;
+    }
     if let Some(event) = before(events, &deed, joined) {
         clock.join(&event.clock)?;
     }
