@@ -130,9 +130,11 @@ fn any_race_if_made(a: &Deed, b: &Deed) -> bool {
     })
 }
 
-// Neither is to be exchanged with anything, or both are of one thread.
+// They can't come in the other order: one thread makes both, or one stands still, and they are not two deadlines that pass where
+// nobody else can go on.
 fn are_in_order(a: &Deed, b: &Deed) -> bool {
-    a.choice.thread == b.choice.thread || a.stands_still || b.stands_still
+    a.choice.thread == b.choice.thread
+        || (a.stands_still || b.stands_still) && !(a.is_late && b.is_late)
 }
 
 /// The two steps depend on each other, and the later one may come before the other. `place` is that of the earlier step.

@@ -218,6 +218,18 @@ pub fn likely_deed(alloc: Global, rules: Rules, parked: &Parked) -> Result<Deed,
     })
 }
 
+/// A step that is no choice: it is made at once, and meanwhile nobody else is shown as able to go on.
+pub fn is_local(step: &Step) -> bool {
+    match parked_of(&step.parked, step.choice.thread) {
+        Some(it) => match it.operation.kind {
+            Kind::Start | Kind::Join => true,
+            Kind::Collect => !matches!(it.ability, Ability::Late),
+            _ => false,
+        },
+        None => false,
+    }
+}
+
 // The place of the step that let the step at a place go on: the last before which its thread was parked and could not.
 fn cause_of(steps: &[Step], place: usize, thread: u32) -> Option<usize> {
     for k in (0..place).rev() {
@@ -225,9 +237,12 @@ fn cause_of(steps: &[Step], place: usize, thread: u32) -> Option<usize> {
         if step.choice.thread == thread {
             return None;
         }
-        match parked_of(&step.parked, thread)?.ability {
-            Ability::Can => {}
-            _ => return Some(k),
+        let can = match parked_of(&step.parked, thread)?.ability {
+            Ability::Can => true,
+            _ => is_local(step),
+        };
+        if !can {
+            return Some(k);
         }
     }
     None

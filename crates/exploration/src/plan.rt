@@ -6,7 +6,7 @@ use crate::deed::Deed;
 use crate::event::{Event, event_of, order_key};
 use crate::fault::Fault;
 use crate::follow::{Follower, Rules, deed_of};
-use crate::operation::{Choice, End, Parked, Step, Trace, parked_of};
+use crate::operation::{Ability, Choice, End, Parked, Step, Trace, parked_of};
 use crate::races::Races;
 use crate::request::Sleeper;
 use crate::trace::Room;
@@ -140,6 +140,14 @@ impl Plan {
         Ok(new)
     }
 
+    // A deadline passes at a step, where nobody can go on: which one comes first may matter.
+    fn passes_last(&self, step: &Step) -> bool {
+        match parked_of(&step.parked, step.choice.thread) {
+            Some(it) => !self.rules.any_time && matches!(it.ability, Ability::Late),
+            None => false,
+        }
+    }
+
     // Adds the node of a step. False: the step sleeps there, so the search does not go on from it.
     fn add_node(
         &mut self,
@@ -152,6 +160,8 @@ impl Plan {
         let sleeps = self.bound.is_none() && advice.sleeps(step.choice);
         if sleeps {
             advice.want_awake(&step.parked)?;
+        } else if self.passes_last(step) {
+            advice.want_all(&step.parked)?;
         } else {
             advice.want(step.choice.thread)?;
         }

@@ -7,7 +7,7 @@ use crate::advice::{Advice, Lead};
 use crate::deed::Deed;
 use crate::dependence::{may_race, may_race_if_made};
 use crate::event::{Clock, Event, clock_of};
-use crate::follow::{Rules, likely_deed};
+use crate::follow::{Rules, is_local, likely_deed};
 use crate::kind::Kind;
 use crate::operation::{Ability, Choice, Parked, Step, parked_of};
 use std::alloc::{AllocError, Global};
@@ -36,17 +36,6 @@ struct Overtaking {
     end: usize,
     /// The place of the step that races, if it was made.
     made: Option<usize>,
-}
-
-fn is_local(step: &Step) -> bool {
-    match parked_of(&step.parked, step.choice.thread) {
-        Some(it) => match it.operation.kind {
-            Kind::Start | Kind::Join => true,
-            Kind::Collect => !matches!(it.ability, Ability::Late),
-            _ => false,
-        },
-        None => false,
-    }
 }
 
 fn is_same(a: &Parked, b: &Parked) -> bool {
@@ -86,6 +75,15 @@ impl Races<'_> {
             clock_of(alloc, &self.events[..end], thread)
         } else {
             clock_of(alloc, self.events, thread)
+        }
+    }
+
+    // Whether a thread can go on, also while others can.
+    fn goes_on(&self, it: &Parked) -> bool {
+        match it.ability {
+            Ability::Cannot => false,
+            Ability::Can => true,
+            Ability::Late => self.rules.any_time,
         }
     }
 
@@ -185,10 +183,10 @@ impl Races<'_> {
         if may_pass && matches!(then.ability, Ability::Can) {
             return Ok(true);
         }
-        if then.can_go_on() {
+        if self.goes_on(&then) {
             return Ok(false);
         }
-        if it.can_go_on() {
+        if self.goes_on(it) {
             return Ok(true);
         }
         if deed.is_local() {
@@ -219,7 +217,7 @@ impl Races<'_> {
     ) -> Result<(), AllocError> {
         let thread = deed.choice.thread;
         if let Some(it) = parked_of(self.parked_after(place), thread)
-            && !it.can_go_on()
+            && !self.goes_on(&it)
             && !self.goes_on_after(place, thread, None)
         {
             self.look_back(alloc, advices, place, &it, true)?;

@@ -7,7 +7,7 @@ ghost use Rattle.exploration.specs.declared.operation.Step.{Step};
 
 use crate::fault::Fault;
 use crate::follow::Rules;
-use crate::operation::{Choice, Parked, Step, Trace, can_choose};
+use crate::operation::{Choice, End, Parked, Step, Trace, can_choose};
 use crate::plan::Plan;
 use crate::request::Request;
 use crate::trace::Room;
@@ -187,7 +187,7 @@ impl Search {
         if steps.len() > self.limits.steps {
             return Err(Fault::TooLarge);
         }
-        if !takes(steps, asked) {
+        if matches!(trace.end, End::Unfit) || !takes(steps, asked) {
             return Err(Fault::Unfit);
         }
         let count = self.plan.learn(alloc, rooms, asked.len(), trace)?;
