@@ -5,8 +5,8 @@ use Rattle.mq_model.specs.Record.{Past, Queue}
 use Rattle.mq_model.specs.Messages as messages
 use Rattle.mq_model.specs.declared.entries.Reply.TheVariants.{Queued, Got}
 use Rattle.mq_equivalence.specs.Runs.{Request}
-use Rattle.mq_commutation.specs.Independence.{changes_queues, only_reads, queue_touched, reply_of, stays_filled}
-use Rattle.exploration.specs.Dependence.{is_on_names, is_receive, is_send, is_wait}
+use Rattle.mq_commutation.specs.Independence.{only_reads, queue_touched, reply_of, stays_filled}
+use Rattle.exploration.specs.Dependence.{is_receive, is_send, is_wait}
 use Rattle.exploration.specs.declared.deed.Deed.{Deed}
 use Rattle.exploration.specs.declared.deed.Effect.{Effect}
 
@@ -25,13 +25,12 @@ pub record IsReceive (past : Past) (a : Request) (effect : Effect) : Type 0 wher
   pub urgency : messages.priority past message ≡ effect.priority
 
 -- the step makes the call: its effect is on the object of the queue that the call touches; it only looks
--- if the call only reads; it is on names if the call may change which queues there are
+-- if the call only reads; and it is no half of a wait on a condition
 pub record IsCall (past : Past) (object : Queue → ℕ) (a : Request) (d : Deed) : Type 0 where
   pub effect : Effect
   pub among : Contains d.effects.items effect
   pub queue : (q : Queue) → queue_touched past a ≡ Some q → object q ≡ effect.object
   pub looks : effect.looks ≡ true → only_reads a.call ≡ true
-  pub names : changes_queues a.call ≡ true → is_on_names d.kind ≡ true
   pub sends : is_send effect.kind ≡ true → effect.looks ≡ false → IsSend past a effect
   pub receives : is_receive effect.kind ≡ true → effect.looks ≡ false → IsReceive past a effect
   pub waits : is_wait effect.kind ≡ false
