@@ -1,0 +1,9 @@
+//! The exploration of small programs, against all their interleavings.
+#![tactic(auto)]
+
+pub mod generated;
+pub mod interleavings;
+pub mod program;
+pub mod simulated;
+#[cfg(test)]
+mod tests;
