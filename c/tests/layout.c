@@ -7,6 +7,8 @@
 
 #include "sanitized.h"
 
+#include <string.h>
+
 enum { PROCESSES = 32, LINES = 128 };
 
 _Static_assert(sizeof(yak_process) == LINES, "a handle has two cache lines");
@@ -76,6 +78,8 @@ int main(void)
 {
     static yak_process processes[PROCESSES + 1];
     uint32_t k;
+    if (strcmp(yak_version(), YAK_VERSION) != 0)
+        return 7;
     if (!memory_is_aligned())
         return 5;
     if (!sleeps_while_it_is_one())

@@ -1,0 +1,7 @@
+/* The version of the library. */
+#include <yakyrombe.h>
+
+const char *yak_version(void)
+{
+    return YAK_VERSION;
+}
