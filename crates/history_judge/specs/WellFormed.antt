@@ -1,6 +1,6 @@
 -- Well-formed histories: each process makes its calls one after the other, and each call is given the
 -- bytes that it takes.
-use Rattle.std.specs.Prelude.{◌≡◌, ◌<◌, ℕ, zero, suc, Bool, true, false, ◌&&◌, ◌||◌, ◌==◌, nat_lt, max, List, Option, Some, None, codes, slice_get, if◌then◌else◌}
+use Rattle.std.specs.Prelude.{◌≡◌, ◌<◌, ◌+◌, ℕ, zero, suc, Bool, true, false, ◌&&◌, ◌||◌, ◌==◌, nat_lt, max, List, Option, Some, None, codes, slice_get, if◌then◌else◌}
 use Rattle.std.specs.Option.{option_and_then}
 use Rattle.mq_model.specs.Legality.{is_payload}
 use Rattle.mq_model.specs.declared.entries.Call.{Call}
@@ -54,10 +54,12 @@ fault_at calls n = option_and_then (fault_of calls n) (slice_get calls n)
 abbrev pub IsWellFormed : List Called → Type 0
 IsWellFormed calls = (n : ℕ) → fault_at calls n ≡ None
 
--- the call at this index is the first that may not stand there, and this is why
-pub record IsFirstFault (calls : List Called) (n : ℕ) (why : IllFormed) : Type 0 where
-  pub before : (m : ℕ) → m < n → fault_at calls m ≡ None
-  pub is : fault_at calls n ≡ Some why
+-- the call in this line, from 1, is the first that may not stand there, and this is why
+pub record IsFirstFault (calls : List Called) (line : ℕ) (why : IllFormed) : Type 0 where
+  pub index : ℕ
+  pub line_is : line ≡ index + 1
+  pub before : (m : ℕ) → m < index → fault_at calls m ≡ None
+  pub is : fault_at calls index ≡ Some why
 
 -- the printed text
 abbrev pub ill_formed_text : IllFormed → List ℕ

@@ -91,8 +91,8 @@ fn fault_behind(pending: bool, latest: u64, called: &Called) -> Option<IllFormed
     }
 }
 
-/// The first call, by its index from 0, that may not stand behind those before it, and why.
-pub fn first_fault(calls: &[Called]) -> Option<(usize, IllFormed)>
+/// The first line, from 1, whose call may not stand behind those before it, and why.
+pub fn first_fault(calls: &[Called]) -> Option<(u64, IllFormed)>
     requires { AreOfProcesses calls.now }
     ensures none { result ≡ None → IsWellFormed calls.now }
     ensures some { IfSome result (λ fault. IsFirstFault calls.now fault.0 fault.1) }
@@ -103,7 +103,7 @@ pub fn first_fault(calls: &[Called]) -> Option<(usize, IllFormed)>
         let called = &calls[n];
         let p = called.process as usize;
         if let Some(why) = fault_behind(pending[p], latest[p], called) {
-            return Some((n, why));
+            return Some((n as u64 + 1, why));
         }
         latest[p] = later(latest[p], called.operation.end);
         pending[p] = pending[p] | is_pending(&called.operation.outcome);

@@ -1,5 +1,5 @@
 -- What a concurrent history comes to.
-use Rattle.std.specs.Prelude.{◌≡◌, ℕ, ◌+◌, Bool, List, Option}
+use Rattle.std.specs.Prelude.{◌≡◌, ℕ, Bool, List, Option}
 use Rattle.std.specs.Io.KnownBytes as known
 use Rattle.text_io.specs.Output.{AppendsTooLittle}
 use Rattle.history_judge.specs.Fitting.{AllFit}
@@ -38,8 +38,6 @@ pub record StopsInJudgement (budget : ℕ) (bytes : List ℕ) (with_journal : Bo
 -- makes it so, and this is why
 pub record IsIllFormed (line : ℕ) (why : IllFormed) (bytes : List ℕ) : Type 0 where
   pub calls : List Called
-  pub index : ℕ
   pub text : bytes ≡ history_text calls
   pub fits : AllFit calls
-  pub line_is : line ≡ index + 1
-  pub first : IsFirstFault calls index why
+  pub first : IsFirstFault calls line why

@@ -66,8 +66,8 @@ pub fn judge_history<R: Read, W: Write>(
         question.journal (W.contents output.old) (W.contents output.new) }
 {
     let calls = read_input(alloc, input)?;
-    if let Some((index, why)) = first_fault(&calls) {
-        return Err(LogFault::IllFormed(index as u64 + 1, why));
+    if let Some((line, why)) = first_fault(&calls) {
+        return Err(LogFault::IllFormed(line, why));
     }
     let judgement = judge_calls(alloc, &calls, question.budget)?;
     let said = judgement_text(alloc, &calls, &judgement, question.journal)?;

@@ -14,6 +14,8 @@ pub returns-in-Some-clause-some : goal.returns-in-Some-clause-some
 returns-in-Some-clause-some c =
     let is = slice_get_read c.args.calls.now (length c.args.calls.now) c.loop-n.n c.index-calls-n.result refl c.loop-n-test.true c.index-calls-n.is in
     record {
+      index = c.loop-n.n;
+      line_is = refl;
       before = c.loop-n.invariant.1;
       is = latest-of c.args.calls.now c.loop-n.n c.index-calls-n.result _ _ is (few c.args.calls.now c.loop-n.n c.index-calls-n.result c.requires is) c.loop-n.invariant.0 ∙ sym c.fault_behind.ensures ∙ c.in-Some.is;
     }
