@@ -570,6 +570,8 @@ static void in_child(void)
     ++forks;
     is_first = false;
     program_here->me = 0;
+    if (program_is_watched)
+        program_tell_forked(is_inside);
     if (program_at == 0)
         return;
     if (is_inside) {
@@ -585,8 +587,6 @@ static void in_child(void)
     forget();
     if (is_held_for_fork) {
         /* It is the parent's. */
-        program_tell_unlocked(true);
-        program_tell_unlocked(false);
         program_place = place_before;
         is_held_for_fork = false;
     }

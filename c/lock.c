@@ -36,18 +36,30 @@ static __attribute__((constructor)) void begin(void)
                          __tsan_mutex_pre_unlock != 0 && __tsan_mutex_post_unlock != 0;
 }
 
+/* ThreadSanitizer knows the lock by one of these addresses. If another thread is in a call below at
+ * a fork, then in the child this address stays taken for ever, so the child uses the next one. */
+static char addresses[64];
+static unsigned address;
+
 void program_tell_locked(void)
 {
-    __tsan_mutex_pre_lock(&the_program.lock, 1);
-    __tsan_mutex_post_lock(&the_program.lock, 1, 0);
+    __tsan_mutex_pre_lock(&addresses[address], 1);
+    __tsan_mutex_post_lock(&addresses[address], 1, 0);
 }
 
 void program_tell_unlocked(bool is_before)
 {
     if (is_before)
-        __tsan_mutex_pre_unlock(&the_program.lock, 1);
+        __tsan_mutex_pre_unlock(&addresses[address], 1);
     else
-        __tsan_mutex_post_unlock(&the_program.lock, 1);
+        __tsan_mutex_post_unlock(&addresses[address], 1);
+}
+
+void program_tell_forked(bool is_inside)
+{
+    address = (address + 1) % sizeof addresses;
+    if (is_inside)
+        program_tell_locked();
 }
 
 /* ---- the lock ---- */

@@ -292,6 +292,7 @@ void program_wake_next(void);
 void program_leave_waking(uint32_t answered);
 void program_tell_locked(void);
 void program_tell_unlocked(bool is_before);
+void program_tell_forked(bool is_inside);
 /* Makes the system, at the first call: 0, or ENOMEM, and then the lock is left. */
 int program_first(void);
 
