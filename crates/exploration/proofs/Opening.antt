@@ -1,9 +1,8 @@
 -- What a search keeps of its nodes: their choices stay possible, and how many runs are left.
-use Rattle.std.proofs.Common.{◌≡◌, ℕ, zero, suc, ◌+◌, ◌*◌, ◌-◌, ◌^◌, ◌<◌, ◌≤◌, max, Bool, true, List, [], ◌∷◌, ◌++◌, length, All, take, drop, get_or, refl, sym, ap, ◌∙◌, subst, arith}
-use Rattle.std.specs.List.{remove, sum_by}
+use Rattle.std.proofs.Common.{◌≡◌, ℕ, zero, suc, ◌+◌, ◌*◌, ◌-◌, ◌^◌, ◌<◌, ◌≤◌, max, Bool, true, List, [], ◌∷◌, ◌++◌, length, All, take, drop, get_or, sym, ap, ◌∙◌, subst, arith}
+use Rattle.std.specs.List.{remove}
 use Rattle.std.proofs.Math.Nat.{pow-suc, one-le-pow, mul-le-mul_left}
 use Rattle.std.proofs.lemmas.List.Elements.{All-append, All-drop, All-get_or, All-push, All-take, All-weaker}
-use Rattle.std.proofs.lemmas.Grind.{common_steps}
 use Rattle.std.proofs.lemmas.List.Edits.{length-remove}
 use Rattle.std.proofs.lemmas.List.Sums.{sum_by_push}
 use Rattle.exploration.specs.Choices.{can_choose}

@@ -1,5 +1,5 @@
 -- Which steps depend on one another.
-use Rattle.std.specs.Prelude.{ℕ, Bool, true, false, ◌&&◌, ◌||◌, ◌==◌, ◌+◌, not, nat_le, nat_lt, List, length}
+use Rattle.std.specs.Prelude.{Bool, true, false, ◌&&◌, ◌||◌, ◌==◌, ◌+◌, not, nat_le, List, length}
 use Rattle.std.specs.List.{list_all}
 use Rattle.exploration.specs.declared.kind.Kind.{Kind}
 use Rattle.exploration.specs.declared.kind.Kind.TheVariants as kind
@@ -35,8 +35,8 @@ abbrev pub tells_time : Kind → Bool
 tells_time kind.Clock = true
 tells_time _ = false
 
--- a send, and a receive that takes an older message of that priority or a higher one, which frees not
--- the place that the send needs
+-- a send, and a receive that takes an older message of that priority or a higher one, which frees
+-- not the place that the send needs
 abbrev pub passes : Effect → Effect → Bool
 passes s r =
     is_send s.kind && is_receive r.kind && not (s.message == 0) && not (r.message == 0)
@@ -68,14 +68,15 @@ both_create a b = not (length a.created.items == 0) && not (length b.created.ite
 abbrev pub share_time : Deed → Deed → Bool
 share_time a b = tells_time a.kind && b.is_late || tells_time b.kind && a.is_late
 
--- one of the steps depends on all others, or both are about names, the creation of threads or the time
+-- one of the steps depends on all others, or both are about names, the creation of threads or the
+-- time
 abbrev pub are_bound : Deed → Deed → Bool
 are_bound a b =
     a.stands_still || b.stands_still || is_exit a.kind || is_exit b.kind
     || is_on_names a.kind && is_on_names b.kind || both_create a b || share_time a b
 
--- steps of two threads that are not bound to each other, and each effect of the one commutes with each of
--- the other
+-- steps of two threads that are not bound to each other, and each effect of the one commutes with
+-- each of the other
 abbrev pub are_independent : Deed → Deed → Bool
 are_independent a b =
     not (a.choice.thread == b.choice.thread) && not (are_bound a b)

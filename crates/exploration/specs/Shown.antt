@@ -1,5 +1,5 @@
--- What runs showed of a program, by a test: it is true of some choices and one more if a run showed that
--- this one could be made after those.
+-- What runs showed of a program, by a test: it is true of some choices and one more if a run showed
+-- that this one could be made after those.
 use Rattle.std.specs.Prelude.{◌≡◌, ℕ, ◌*◌, ◌-◌, ◌^◌, suc, Bool, true, List, [], ◌∷◌, ◌++◌, length, All}
 use Rattle.std.specs.List.{sum_by}
 use Rattle.exploration.specs.Choices.{can_choose}
@@ -10,8 +10,8 @@ use Rattle.exploration.specs.declared.search.Node.{Node}
 -- each of the choices could be made after those before it
 pub data Possible (could : List Choice → Choice → Bool) : List Choice → Type 0 where
   none : Possible could []
-  one : {before : List Choice} {choice : Choice} → Possible could before → could before choice ≡ true →
-      Possible could (before ++ choice ∷ [])
+  one : {before : List Choice} {choice : Choice} → Possible could before →
+      could before choice ≡ true → Possible could (before ++ choice ∷ [])
 
 -- steps, after these choices, show what could be chosen before each of them
 abbrev pub Shows : (List Choice → Choice → Bool) → List Choice → List Step → Type 0
@@ -25,8 +25,8 @@ pub record IsOpen (could : List Choice → Choice → Bool) (node : Node) : Type
   pub leads : Possible could node.prefix.items
   pub goes_on : All (λ choice. could node.prefix.items choice ≡ true) node.open.items
 
--- how many runs a node may still take, where a node has so many open choices at most, and a run so many
--- steps
+-- how many runs a node may still take, where a node has so many open choices at most, and a run so
+-- many steps
 abbrev pub runs_of : ℕ → ℕ → Node → ℕ
 runs_of most steps node = length node.open.items * suc most ^ (steps - length node.prefix.items)
 

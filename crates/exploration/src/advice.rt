@@ -1,4 +1,5 @@
-//! Which of the choices of a node are worth a run.
+//! Which of the choices of a node are worth a run. That they are total is all that is proved of the
+//! functions here.
 
 use crate::deed::Deed;
 use crate::dependence::are_independent;
@@ -7,7 +8,8 @@ use crate::operation::{Ability, Choice, Parked, parked_of};
 use crate::request::Sleeper;
 use std::alloc::{AllocError, Global};
 
-/// Who is to go on behind the choice of a thread: so the race that asked for it is soon had in its other order.
+/// Who is to go on behind the choice of a thread: so the race that asked for it is soon had in its
+/// other order.
 #[derive(Debug, Drop)]
 pub struct Lead {
     pub first: u32,
@@ -19,7 +21,8 @@ pub struct Lead {
 pub struct Advice {
     /// The threads that are worth a choice here.
     pub wanted: Vec<u32>,
-    /// Steps of other threads that were tried before, and on which nothing that was made since depends.
+    /// Steps of other threads that were tried before, and on which nothing that was made since
+    /// depends.
     pub sleeping: Vec<Deed>,
     /// The steps that were made here, one for each run.
     pub made: Vec<Deed>,
@@ -151,7 +154,8 @@ fn depends_on_more(kind: Kind) -> bool {
     }
 }
 
-/// What it costs to let a thread go on: it takes the turn from one that can go on, or its deadline passes early.
+/// What it costs to let a thread go on: it takes the turn from one that can go on, or its deadline
+/// passes early.
 pub fn cost(parked: &[Parked], last: u32, thread: u32) -> u32 {
     let can = |it: &Parked| matches!(it.ability, Ability::Can);
     let takes = thread != last

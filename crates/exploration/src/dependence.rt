@@ -1,12 +1,13 @@
-//! Which steps depend on one another: those that don't may be exchanged where they stand next to each other.
+//! Which steps depend on one another: those that don't may be exchanged where they stand next to
+//! each other.
 ghost use Rattle.std.specs.Prelude.{◌≡◌};
 ghost use Rattle.exploration.specs.Dependence.{are_apart, are_bound, are_independent, both_create, commute, commute_on, is_apart, passes, share_time};
 
 use crate::deed::{Deed, Effect, is_exit, is_on_names, is_receive, is_send, is_wait, tells_time};
 use crate::kind::Kind;
 
-// A send and a receive of one queue that don't need one another: the receive takes an older message of that priority or a higher
-// one, and the send needs not the place that the receive frees.
+// A send and a receive of one queue that don't need one another: the receive takes an older message
+// of that priority or a higher one, and the send needs not the place that the receive frees.
 fn passes(send: &Effect, receive: &Effect) -> bool
     ensures { result ≡ passes send.now receive.now }
 {
@@ -63,7 +64,8 @@ fn share_time(a: &Deed, b: &Deed) -> bool
     tells_time(a.kind) && b.is_late || tells_time(b.kind) && a.is_late
 }
 
-// One of the steps depends on all others, or both are about names, the creation of threads or the time.
+// One of the steps depends on all others, or both are about names, the creation of threads or the
+// time.
 fn are_bound(a: &Deed, b: &Deed) -> bool
     ensures { result ≡ are_bound a.now b.now }
 {
@@ -130,14 +132,15 @@ fn any_race_if_made(a: &Deed, b: &Deed) -> bool {
     })
 }
 
-// They can't come in the other order: one thread makes both, or one stands still, and they are not two deadlines that pass where
-// nobody else can go on.
+// They can't come in the other order: one thread makes both, or one stands still, and they are not
+// two deadlines that pass where nobody else can go on.
 fn are_in_order(a: &Deed, b: &Deed) -> bool {
     a.choice.thread == b.choice.thread
         || (a.stands_still || b.stands_still) && !(a.is_late && b.is_late)
 }
 
-/// The two steps depend on each other, and the later one may come before the other. `place` is that of the earlier step.
+/// The two steps depend on each other, and the later one may come before the other. `place` is that
+/// of the earlier step.
 pub fn may_race(a: &Deed, place: usize, b: &Deed) -> bool {
     !are_in_order(a, b) && (are_bound(a, b) || b.cause != Some(place) && any_race(a, b))
 }

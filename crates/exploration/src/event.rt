@@ -157,7 +157,8 @@ fn event_key(event: &Event) -> u64 {
     hash
 }
 
-/// A number for the partial order of a run. Runs of one partial order have one; two orders may have one by chance.
+/// A number for the partial order of a run. Runs of one partial order have one; two orders may have
+/// one by chance.
 pub fn order_key(events: &[Event]) -> u64 {
     let mut key = 0u64;
     for event in events {

@@ -119,7 +119,8 @@ impl Tally {
     }
 }
 
-// Tries the schedules within a bound, or all. It ends by itself: its measure is how many runs are left at most.
+// Tries the schedules within a bound, or all. It ends by itself: its measure is how many runs are
+// left at most.
 fn search_within<P: Program>(
     alloc: Global,
     program: &mut P,
@@ -154,7 +155,8 @@ fn ending_of(is_cut: bool) -> Searched {
     }
 }
 
-// The searches within the bounds from 0 on, as long as more is beyond them, and then the one without.
+// The searches within the bounds from 0 on, as long as more is beyond them, and then the one
+// without.
 fn search_all<P: Program>(
     alloc: Global,
     program: &mut P,
@@ -195,8 +197,9 @@ fn unseen_orders<P: Program>(
     Ok(unseen)
 }
 
-/// Runs a program by each schedule that can matter, unless the budget is used up before, and then at random. Each schedule is of
-/// choices that a run before showed as possible: `Program::run` requires it.
+/// Runs a program by each schedule that can matter, unless the budget is used up before, and then
+/// at random. Each schedule is of choices that a run before showed as possible: `Program::run`
+/// requires it.
 pub fn explore<P: Program>(
     alloc: Global,
     program: &mut P,

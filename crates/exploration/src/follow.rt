@@ -218,7 +218,8 @@ pub fn likely_deed(alloc: Global, rules: Rules, parked: &Parked) -> Result<Deed,
     })
 }
 
-/// A step that is no choice: it is made at once, and meanwhile nobody else is shown as able to go on.
+/// A step that is no choice: it is made at once, and meanwhile nobody else is shown as able to go
+/// on.
 pub fn is_local(step: &Step) -> bool {
     match parked_of(&step.parked, step.choice.thread) {
         Some(it) => match it.operation.kind {
@@ -230,7 +231,8 @@ pub fn is_local(step: &Step) -> bool {
     }
 }
 
-// The place of the step that let the step at a place go on: the last before which its thread was parked and could not.
+// The place of the step that let the step at a place go on: the last before which its thread was
+// parked and could not.
 fn cause_of(steps: &[Step], place: usize, thread: u32) -> Option<usize> {
     for k in (0..place).rev() {
         let step = steps.get(k)?;

@@ -1,4 +1,5 @@
-//! What a search takes from a trace, and what it picks next.
+//! What a search takes from a trace, and what it picks next. Proved is only that what it picks is
+//! still open: that it leaves out nothing that matters is tested.
 ghost use Rattle.std.specs.Prelude.{◌≡◌, ◌<◌, ◌≤◌, IfOk, IfSome, length};
 
 use crate::advice::{Advice, cost};
@@ -210,7 +211,8 @@ impl Plan {
         }
     }
 
-    /// Takes in the steps of a run by some choices. Gives at how many places the search may choose another step.
+    /// Takes in the steps of a run by some choices. Gives at how many places the search may choose
+    /// another step.
     pub fn learn(
         &mut self,
         alloc: Global,

@@ -1,7 +1,8 @@
-//! Which choices are worth a run, by the races of a run: dynamic partial-order reduction by source sets.
+//! Which choices are worth a run, by the races of a run: dynamic partial-order reduction by source
+//! sets.
 //!
-//! None of this is proved but that it is total: a choice that no race asks for is not made, so a race that is overlooked is an order that
-//! is not tried. Tests compare it with all interleavings.
+//! None of this is proved but that it is total: a choice that no race asks for is not made, so a
+//! race that is overlooked is an order that is not tried. Tests compare it with all interleavings.
 
 use crate::advice::{Advice, Lead};
 use crate::deed::Deed;
@@ -207,7 +208,8 @@ impl Races<'_> {
         Ok(may_race_if_made(deed, place, &likely))
     }
 
-    // A thread that comes to an operation that it can't make, and at the end all that were not made.
+    // A thread that comes to an operation that it can't make, and at the end all that were not
+    // made.
     fn find_stopped(
         &self,
         alloc: Global,
@@ -230,7 +232,8 @@ impl Races<'_> {
         Ok(())
     }
 
-    // Asks for the steps, up to one, that race with an operation that is still to be made, or only for the last.
+    // Asks for the steps, up to one, that race with an operation that is still to be made, or only
+    // for the last.
     fn look_back(
         &self,
         alloc: Global,
@@ -335,7 +338,8 @@ impl Races<'_> {
         Ok(apart)
     }
 
-    // The threads whose event can be the first of these, with the one that overtakes, and that can go on at the place.
+    // The threads whose event can be the first of these, with the one that overtakes, and that can
+    // go on at the place.
     fn firsts(
         &self,
         alloc: Global,

@@ -82,7 +82,8 @@ fn add_node(
 ) -> Result<(), Fault>
     ensures open { (could : List Choice → Choice → Bool) (steps : List Step) →
         All (IsOpen could) nodes.old.items → Possible could prefix.now →
-        Shows could prefix.now (step.now ∷ steps) → OnOk result (All (IsOpen could) nodes.new.items) }
+        Shows could prefix.now (step.now ∷ steps) →
+        OnOk result (All (IsOpen could) nodes.new.items) }
     ensures work { length prefix.now ≤ limits.steps → OnOk result
         (runs_left limits.choices limits.steps nodes.new.items
         + suc limits.choices ^ (limits.steps - length prefix.now)
@@ -118,7 +119,8 @@ fn add_nodes(
 ) -> Result<(), Fault>
     requires { length steps.now ≤ limits.steps }
     ensures open { (could : List Choice → Choice → Bool) → All (IsOpen could) nodes.old.items →
-        Shows could [] steps.now → OnOk result (All (IsOpen could) nodes.new.items) }
+        Shows could [] steps.now →
+        OnOk result (All (IsOpen could) nodes.new.items) }
     ensures work { OnOk result
         (runs_left limits.choices limits.steps nodes.new.items
         < runs_left limits.choices limits.steps nodes.old.items
@@ -175,8 +177,9 @@ impl Search {
         asked: &[Choice],
         trace: &Trace,
     ) -> Result<bool, Fault>
-        ensures open { (could : List Choice → Choice → Bool) → All (IsOpen could) self.old.nodes.items →
-            Shows could [] trace.now.steps.items → OnOk result (All (IsOpen could) self.new.nodes.items) }
+        ensures open { (could : List Choice → Choice → Bool) →
+            All (IsOpen could) self.old.nodes.items → Shows could [] trace.now.steps.items →
+            OnOk result (All (IsOpen could) self.new.nodes.items) }
         ensures work { OnOk result
             (runs_left self.old.limits.choices self.old.limits.steps self.new.nodes.items
             < runs_left self.old.limits.choices self.old.limits.steps self.old.nodes.items
@@ -203,12 +206,14 @@ impl Search {
 
     /// The next run, unless there is none left.
     pub fn next(&mut self, alloc: Global) -> Result<Option<Request>, AllocError>
-        ensures possible { (could : List Choice → Choice → Bool) → All (IsOpen could) self.old.nodes.items →
+        ensures possible { (could : List Choice → Choice → Bool) →
+            All (IsOpen could) self.old.nodes.items →
             IfOk result (λ next. All (IsOpen could) self.new.nodes.items
             × IfSome next (λ request. Possible could request.choices.items)) }
         ensures work { IfOk result (λ next. IfSome next (λ request.
             runs_left self.old.limits.choices self.old.limits.steps self.new.nodes.items
-            + suc self.old.limits.choices ^ (suc self.old.limits.steps - length request.choices.items)
+            + suc self.old.limits.choices
+            ^ (suc self.old.limits.steps - length request.choices.items)
             ≤ runs_left self.old.limits.choices self.old.limits.steps self.old.nodes.items)) }
         ensures limits { self.new.limits ≡ self.old.limits }
     {
@@ -224,12 +229,14 @@ impl Search {
     // The run that takes an open choice at a node, which is the last from then on.
     fn go_on(&mut self, alloc: Global, mut node: Node, at: usize) -> Result<Request, AllocError>
         requires { at < length node.open.items }
-        ensures possible { (could : List Choice → Choice → Bool) → All (IsOpen could) self.old.nodes.items →
+        ensures possible { (could : List Choice → Choice → Bool) →
+            All (IsOpen could) self.old.nodes.items →
             IsOpen could node → IfOk result (λ request. All (IsOpen could) self.new.nodes.items
             × Possible could request.choices.items) }
         ensures work { IfOk result (λ request.
             runs_left self.old.limits.choices self.old.limits.steps self.new.nodes.items
-            + suc self.old.limits.choices ^ (suc self.old.limits.steps - length request.choices.items)
+            + suc self.old.limits.choices
+            ^ (suc self.old.limits.steps - length request.choices.items)
             ≤ runs_left self.old.limits.choices self.old.limits.steps self.old.nodes.items
             + runs_of self.old.limits.choices self.old.limits.steps node) }
         ensures limits { self.new.limits ≡ self.old.limits }

@@ -1,5 +1,5 @@
 -- Steps of an exploration that make calls of the queues.
-use Rattle.std.specs.Prelude.{◌≡◌, ℕ, true, false, Option, Some, None}
+use Rattle.std.specs.Prelude.{◌≡◌, ℕ, true, false, Some, None}
 use Rattle.std.specs.List.{Contains}
 use Rattle.mq_model.specs.Record.{Past, Queue}
 use Rattle.mq_model.specs.Messages as messages
@@ -10,8 +10,8 @@ use Rattle.exploration.specs.Dependence.{is_receive, is_send, is_wait}
 use Rattle.exploration.specs.declared.deed.Deed.{Deed}
 use Rattle.exploration.specs.declared.deed.Effect.{Effect}
 
--- a send that queues a message of the effect's priority, on a queue with nobody registered, or that has
--- not just one message
+-- a send that queues a message of the effect's priority, on a queue with nobody registered, or that
+-- has not just one message
 pub record IsSend (past : Past) (a : Request) (effect : Effect) : Type 0 where
   pub call : messages.is_send a.call ≡ true
   pub queued : reply_of past a ≡ Queued None
@@ -24,8 +24,8 @@ pub record IsReceive (past : Past) (a : Request) (effect : Effect) : Type 0 wher
   pub got : reply_of past a ≡ Got message None None
   pub urgency : messages.priority past message ≡ effect.priority
 
--- the step makes the call: its effect is on the object of the queue that the call touches; it only looks
--- if the call only reads; and it is no half of a wait on a condition
+-- the step makes the call: its effect is on the object of the queue that the call touches; it only
+-- looks if the call only reads; and it is no half of a wait on a condition
 pub record IsCall (past : Past) (object : Queue → ℕ) (a : Request) (d : Deed) : Type 0 where
   pub effect : Effect
   pub among : Contains d.effects.items effect

@@ -1,5 +1,5 @@
-//! Chooses the schedules by which a launcher runs a program: reads traces from the standard input and writes requests to the
-//! standard output.
+//! Chooses the schedules by which a launcher runs a program: reads traces from the standard input
+//! and writes requests to the standard output.
 #![tactic(auto)]
 
 mod ask;

@@ -269,7 +269,8 @@ impl State {
         Ok(Made { error, also })
     }
 
-    /// A number for what the run came to: what each thread was told, where it stands, and what the queues hold.
+    /// A number for what the run came to: what each thread was told, where it stands, and what the
+    /// queues hold.
     pub fn outcome(&self) -> u64 {
         let mut key = 1u64;
         for at in &self.at {

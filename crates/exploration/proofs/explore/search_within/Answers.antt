@@ -1,6 +1,6 @@
-use Rattle.std.proofs.Common.{◌≡◌, ◌∙◌, All, length}
+use Rattle.std.proofs.Common.{◌∙◌}
 use Rattle.std.proofs.lemmas.List.Elements.{All-nil}
-use Rattle.exploration.specs.Shown.{IsOpen, Possible, none}
+use Rattle.exploration.specs.Shown.{IsOpen, none}
 use Rattle.exploration.proofs.Opening.{opens-kept}
 use Rattle.exploration.proofs.explore.search_within.Goals as goal
 

@@ -1,4 +1,3 @@
-use Rattle.std.proofs.Common.{◌≡◌, ◌+◌, ◌*◌, ◌-◌, ◌^◌, ◌<◌, ◌≤◌, suc, true, Bool, ℕ, List, [], ◌∷◌, ◌++◌, ◌∙◌, All, length, take, drop, get_or, refl, sym, ap, subst, max, arith}
 use Rattle.exploration.proofs.Opening.{left-node}
 use Rattle.exploration.proofs.search.add_node.Goals as goal
 

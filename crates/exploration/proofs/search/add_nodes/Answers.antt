@@ -1,9 +1,6 @@
-use Rattle.std.proofs.Common.{◌≡◌, ◌+◌, ◌*◌, ◌-◌, ◌^◌, ◌<◌, ◌≤◌, suc, true, Bool, ℕ, List, [], ◌∷◌, ◌++◌, ◌∙◌, All, length, take, drop, get_or, refl, sym, ap, subst, max, arith, drop-cons, add-one, length-append}
-use Rattle.std.proofs.lemmas.Grind.{common_steps}
+use Rattle.std.proofs.Common.{◌≡◌, ◌+◌, ◌-◌, ◌<◌, ◌≤◌, suc, true, [], ◌∷◌, ◌∙◌, All, length, drop, refl, ap, max, arith, drop-cons, add-one, length-append}
 use Rattle.exploration.specs.Choices.{can_choose}
-use Rattle.exploration.specs.Shown.{IsOpen, Possible, none, one, Shows, runs_left}
-use Rattle.exploration.specs.declared.operation.Choice.{Choice}
-use Rattle.exploration.specs.declared.operation.Step.{Step}
+use Rattle.exploration.specs.Shown.{IsOpen, none, Shows}
 use Rattle.exploration.proofs.Opening.{left-end, left-more, left-same, open-step}
 use Rattle.exploration.proofs.search.add_nodes.Goals as goal
 use Rattle.exploration.proofs.search.add_nodes.Goals.{then-from-len+in_ok-add_node, else-from-len}

@@ -1,4 +1,4 @@
-use Rattle.std.proofs.Common.{◌≡◌, ℕ, suc, ◌+◌, ◌-◌, ◌^◌, ◌≤◌, max, Bool, List, [], All, drop, length, vec_len}
+use Rattle.std.proofs.Common.{◌≡◌, suc, ◌+◌, ◌-◌, ◌^◌, ◌≤◌, max, Bool, List, [], All, drop, length}
 use Rattle.exploration.specs.Shown.{IsOpen, Possible, Shows, runs_left}
 use Rattle.exploration.specs.declared.operation.Choice.{Choice}
 use Rattle.exploration.proofs.search.add_nodes.Given as goal

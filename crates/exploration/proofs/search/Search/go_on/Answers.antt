@@ -1,6 +1,4 @@
-use Rattle.std.proofs.Common.{◌≡◌, ◌+◌, ◌*◌, ◌-◌, ◌^◌, ◌<◌, ◌≤◌, suc, true, Bool, ℕ, List, [], ◌∷◌, ◌++◌, ◌∙◌, All, length, take, drop, get_or, refl, sym, ap, subst, max, arith, length-append}
-use Rattle.exploration.specs.Shown.{IsOpen, Possible, runs_left, runs_of}
-use Rattle.exploration.specs.declared.operation.Choice.{Choice}
+use Rattle.std.proofs.Common.{◌≡◌, ◌+◌, [], ◌∷◌, length, refl, length-append}
 use Rattle.exploration.proofs.Opening.{left-next, opens-after, possible-next}
 use Rattle.exploration.proofs.search.Search.go_on.Goals as goal
 

@@ -1,4 +1,4 @@
-use Rattle.std.proofs.Common.{◌≡◌, ◌+◌, ◌*◌, ◌-◌, ◌^◌, ◌<◌, ◌≤◌, suc, true, Bool, ℕ, List, [], ◌∷◌, ◌++◌, ◌∙◌, All, length, take, drop, get_or, refl, sym, ap, subst, max, arith}
+use Rattle.std.proofs.Common.{[]}
 use Rattle.exploration.proofs.Opening.{shows-take}
 use Rattle.exploration.proofs.search.Search.learn.Goals as goal
 

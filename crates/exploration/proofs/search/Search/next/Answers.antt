@@ -1,6 +1,6 @@
-use Rattle.std.proofs.Common.{◌≡◌, ◌+◌, ◌*◌, ◌-◌, ◌^◌, ◌<◌, ◌≤◌, suc, true, Bool, ℕ, List, [], ◌∷◌, ◌++◌, ◌∙◌, All, length, take, drop, get_or, refl, sym, ap, subst, max, Some, arith, length-append}
+use Rattle.std.proofs.Common.{Some, arith}
 use Rattle.std.proofs.lemmas.List.Elements.{All-pop}
-use Rattle.exploration.specs.Shown.{IsOpen, Possible, runs_left}
+use Rattle.exploration.specs.Shown.{IsOpen}
 use Rattle.exploration.proofs.Opening.{left-pop}
 use Rattle.exploration.proofs.search.Search.next.Goals as goal
 
