@@ -1,0 +1,4 @@
+pub mod Follows
+pub mod Lists
+pub mod Standing
+pub mod Told

@@ -1,0 +1,4 @@
+pub mod Followed
+pub mod State
+pub mod Places
+pub mod Parts
