@@ -3,8 +3,8 @@
 
 class Page {
   constructor(text) {
-    const entries = entriesOf(text);
-    this.journal = { entries, links: new Links(entries), states: new States(entries, null) };
+    const { before, entries } = pageOf(text);
+    this.journal = { entries, links: new Links(entries), states: new States(entries, before) };
     this.timeline = new Timeline(document.querySelector("canvas"), this.journal);
     this.shows = (entry, i) => this.passes(entry, i);
     this.timeline.shows = this.shows;

@@ -18,6 +18,6 @@ unfoldable pub lines_text : Past → Place → ℕ → List ℕ
 lines_text past from zero = []
 lines_text past from (suc k) = lines_text past from k ++ last_line (first (from + k + 1) past)
 
--- a page: between the two parts of its template the lines of so many records from the place `from` on
-abbrev pub page_text : List ℕ → List ℕ → Past → Place → ℕ → List ℕ
-page_text head tail past from count = head ++ (flat_map shielded (lines_text past from count) ++ tail)
+-- a page: between the two parts of its template the line of the state before, and the lines of so many records from the place `from` on
+abbrev pub page_text : List ℕ → List ℕ → List ℕ → Past → Place → ℕ → List ℕ
+page_text head tail before past from count = head ++ (flat_map shielded before ++ (flat_map shielded (lines_text past from count) ++ tail))

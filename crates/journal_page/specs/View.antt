@@ -1,10 +1,13 @@
 -- What is written of a journal that is viewed.
-use Rattle.std.specs.Prelude.{ℕ, ◌≡◌, ◌+◌, ◌-◌, ◌||◌, min, nat_lt, IsTrue, List, Option, if◌then◌else◌, length}
+use Rattle.std.specs.Prelude.{ℕ, ◌≡◌, ◌+◌, ◌-◌, ◌⊎◌, min, nat_lt, IsTrue, List, Option, codes, if◌then◌else◌, length}
 use Rattle.std.specs.Io.KnownBytes as known
 use Rattle.text_io.specs.Output.{AppendsTooLittle}
-use Rattle.mq_model.specs.Record.{Past}
+use Rattle.mq_model.specs.Record.{Past, first}
+use Rattle.mq_model.specs.Legality.{Legal}
 use Rattle.journal_format.specs.Fitting.{AllFit}
 use Rattle.journal_format.specs.Text.{journal_text}
+use Rattle.journal_state.specs.State.{state}
+use Rattle.journal_state.specs.declared.form.Form.TheVariants.{Json}
 use Rattle.journal_page.specs.Page.{page_text}
 
 -- the place after the last one up to `to`, of so many entries
@@ -19,28 +22,42 @@ first_viewed from to len = min from (end_viewed to len)
 abbrev pub count_viewed : ℕ → ℕ → ℕ → ℕ
 count_viewed from to len = end_viewed to len - first_viewed from to len
 
--- the page of these entries of a journal, between the head and the tail of a template
-abbrev pub page_within : List ℕ → List ℕ → ℕ → ℕ → Past → List ℕ
-page_within head tail from to past =
-    page_text head tail past (first_viewed from to (length past)) (count_viewed from to (length past))
+-- the line of the state after these records, or of none where they are not legal
+abbrev pub IsStateLine : Past → List ℕ → Type 0
+IsStateLine past line = (Legal past × (line ≡ state Json past)) ⊎ ((Legal past → ⊥) × (line ≡ codes "null\n"))
+
+-- the page of these entries of a journal, with the line of the state before them, between the head and the tail of a template
+abbrev pub page_within : List ℕ → List ℕ → List ℕ → ℕ → ℕ → Past → List ℕ
+page_within head tail before from to past =
+    page_text head tail before past (first_viewed from to (length past)) (count_viewed from to (length past))
 
 -- bytes are the text of a journal; known bytes have grown by the page of these entries of it
 pub record Views (bytes : List ℕ) (from to : ℕ) (head tail : List ℕ) (old new : Option (List ℕ)) : Type 0 where
   pub past : Past
   pub fits : AllFit past
   pub text : bytes ≡ journal_text past
-  pub written : known.Appends old new (page_within head tail from to past)
+  pub before : List ℕ
+  pub state : IsStateLine (first (first_viewed from to (length past)) past) before
+  pub written : known.Appends old new (page_within head tail before from to past)
 
 -- bytes are the text of a journal; known bytes have grown by a front part of such a page that lacks a byte or more
 pub record ViewsInPart (bytes : List ℕ) (from to : ℕ) (head tail : List ℕ) (old new : Option (List ℕ)) : Type 0 where
   pub past : Past
   pub fits : AllFit past
   pub text : bytes ≡ journal_text past
-  pub written : AppendsTooLittle old new (page_within head tail from to past)
+  pub before : List ℕ
+  pub state : IsStateLine (first (first_viewed from to (length past)) past) before
+  pub written : AppendsTooLittle old new (page_within head tail before from to past)
 
--- bytes are the text of a journal, of which these are more than a million entries, or a page of more than 25,000,000 bytes
+-- the page of these entries has more than 25,000,000 bytes
+pub record HasLongPage (past : Past) (from to : ℕ) (head tail : List ℕ) : Type 0 where
+  pub before : List ℕ
+  pub state : IsStateLine (first (first_viewed from to (length past)) past) before
+  pub long : IsTrue (nat_lt 25000000 (length (page_within head tail before from to past)))
+
+-- bytes are the text of a journal, of which these are more than a million entries, or entries whose page is too long
 pub record IsTooLong (bytes : List ℕ) (from to : ℕ) (head tail : List ℕ) : Type 0 where
   pub past : Past
   pub fits : AllFit past
   pub text : bytes ≡ journal_text past
-  pub many : IsTrue (nat_lt 1000000 (count_viewed from to (length past)) || nat_lt 25000000 (length (page_within head tail from to past)))
+  pub much : IsTrue (nat_lt 1000000 (count_viewed from to (length past))) ⊎ HasLongPage past from to head tail

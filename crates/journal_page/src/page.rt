@@ -8,11 +8,12 @@ use journal_format::line::line_of;
 use mq_model::journals::Journal;
 use std::alloc::{AllocError, Global};
 
-/// A page: between the head and the tail of a template the lines of so many entries from the place
-/// `from` on. No `<` of a line stands there as it is, so none of them ends the element that they
-/// stand in.
+/// A page: between the head and the tail of a template the line of the state before, and the lines
+/// of so many entries from the place `from` on. No `<` of a line stands there as it is, so none of
+/// them ends the element that they stand in.
 pub(crate) fn page_of(
     alloc: Global,
+    before: &[u8],
     journal: &Journal,
     from: u64,
     count: u64,
@@ -21,10 +22,11 @@ pub(crate) fn page_of(
 ) -> Result<Vec<u8>, AllocError>
     requires shown { from + count ≤ length journal.now.records }
     ensures { IfOk result (λ text. text.items ≡
-        page_text head.now tail.now journal.now.records from count) }
+        page_text head.now tail.now before.now journal.now.records from count) }
 {
     let mut text = Vec::new(alloc);
     text.extend_from_slice(head)?;
+    push_shielded(&mut text, before)?;
     push_lines(alloc, &mut text, journal, from, count)?;
     text.extend_from_slice(tail)?;
     Ok(text)

@@ -109,6 +109,13 @@ function entryOf(line) {
   };
 }
 
+// What a page shows: the state before its entries, in the first line, or null if none is known; and
+// the entries.
+function pageOf(text) {
+  const at = text.indexOf("\n");
+  return { before: JSON.parse(text.slice(0, at)), entries: entriesOf(text.slice(at + 1)) };
+}
+
 function entriesOf(text) {
   return text.split("\n").filter((line) => line !== "").map(entryOf);
 }
@@ -156,11 +163,31 @@ function emptyState() {
   return { entries: 0, queues: new Map(), processes: new Map() };
 }
 
+// Bytes that are written as hexadecimal digits, as a journal writes them.
+function textOf(bytes) {
+  const escaped = (it) => {
+    const b = parseInt(it, 16);
+    return b > 32 && b < 127 && b !== 37 ? String.fromCharCode(b) : `%${it.toUpperCase()}`;
+  };
+  return (bytes.match(/../g) || []).map(escaped).join("");
+}
+
+// The same the other way round.
+function bytesOf(text) {
+  const digits = (it) =>
+    it.length === 3 ? it.slice(1).toLowerCase() : it.charCodeAt(0).toString(16);
+  return (text.match(/%[0-9A-F]{2}|[^%]/g) || []).map(digits).join("");
+}
+
 // The state that `mqlog state --json` has written.
 function stateOf(json) {
   const state = emptyState();
+  const sent = ({ bytes, ...it }) => ({ ...it, text: textOf(bytes) });
   state.entries = json.entries;
-  for (const it of json.queues) state.queues.set(it.queue, { ...it });
+  for (const it of json.queues) {
+    const lists = { messages: it.messages.map(sent), senders: it.senders.map(sent) };
+    state.queues.set(it.queue, { ...it, ...lists });
+  }
   for (const it of json.processes) {
     const held = new Map(it.descriptors.map((h) => [h.descriptor, h]));
     state.processes.set(it.process, { ...it, held });
@@ -355,7 +382,7 @@ class States {
     if (!before && entries.length > 0) state.entries = entries[0].place;
     // The queue of each entry, and the names of all queues.
     this.queues = [];
-    this.names = new Map();
+    this.names = new Map([...state.queues].map(([q, it]) => [q, it.name]));
     for (let k = 0; k <= entries.length; k += 1) {
       if (k % this.apart === 0) this.kept.push(copyOf(state));
       if (k < entries.length) this.note(state, entries[k]);
@@ -386,13 +413,13 @@ function quoted(text) {
 }
 
 function messageJson(it) {
-  return `"priority":${it.priority},"length":${it.length},"text":${quoted(it.text)}}`;
+  return `"priority":${it.priority},"length":${it.length},"bytes":"${bytesOf(it.text)}"}`;
 }
 
 function registrationJson(n) {
   if (!n) return "null";
   return `{"place":${n.place},"process":${n.process},"descriptor":${n.descriptor},` +
-    `"value":${n.value}}`;
+    `"value":"${n.value}"}`;
 }
 
 function queueJson(it) {
@@ -410,8 +437,9 @@ function processJson(it) {
   const held = [...it.held.values()].sort((a, b) => a.descriptor - b.descriptor);
   const descriptors = held.map((h) => `{"descriptor":${h.descriptor},"queue":${h.queue},` +
     `"access":"${h.access}","nonblock":${h.nonblock}}`);
-  return `{"process":${it.process},"descriptors":[${descriptors}],"wait":${it.wait},` +
-    `"answered":${it.answered},"notices":[${it.notices}]}`;
+  const notices = it.notices.map((value) => `"${value}"`);
+  return `{"process":${it.process},"wait":${it.wait},"answered":${it.answered},` +
+    `"descriptors":[${descriptors}],"notices":[${notices}]}`;
 }
 
 // A state as `mqlog state --json` writes it.
@@ -425,7 +453,7 @@ function stateJson(state) {
 if (typeof module !== "undefined") {
   module.exports = {
     SENDS, RECEIVES, States, copyOf, emptyState, endedWait, entriesOf, entryOf, follow, isError,
-    named, queueOf, stateJson, taken,
+    named, pageOf, queueOf, stateJson, taken,
   };
 }
 
@@ -1125,8 +1153,8 @@ function entryPanel(page, i, before, after) {
 // The page: what is chosen, what is shown, and what keys and buttons do.
 class Page {
   constructor(text) {
-    const entries = entriesOf(text);
-    this.journal = { entries, links: new Links(entries), states: new States(entries, null) };
+    const { before, entries } = pageOf(text);
+    this.journal = { entries, links: new Links(entries), states: new States(entries, before) };
     this.timeline = new Timeline(document.querySelector("canvas"), this.journal);
     this.shows = (entry, i) => this.passes(entry, i);
     this.timeline.shows = this.shows;

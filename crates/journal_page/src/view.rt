@@ -1,10 +1,11 @@
 //! A journal, from its bytes to a page of it.
-ghost use Rattle.std.specs.Prelude.{◌≡◌, ◌≤◌, ◌+◌, ℕ, List, IsErrOf, Ok, Some, length, take};
+ghost use Rattle.std.specs.Prelude.{◌≡◌, ◌≤◌, ◌+◌, ℕ, List, IfOk, IsErrOf, Ok, Some, length, take};
+ghost use Rattle.mq_model.specs.Record.{first};
 ghost use Rattle.journal_format.specs.JournalFault.{IsAtFault};
 ghost use Rattle.journal_format.specs.Lines.{ReadsUpTo};
 ghost use Rattle.journal_format.specs.declared.fault.JournalFault.{JournalFault};
 ghost use Rattle.journal_format.specs.declared.fault.JournalFault.TheVariants.{BadLine};
-ghost use Rattle.journal_page.specs.View.{IsTooLong, Views, ViewsInPart, count_viewed, first_viewed};
+ghost use Rattle.journal_page.specs.View.{IsStateLine, IsTooLong, Views, ViewsInPart, count_viewed, first_viewed};
 ghost use Rattle.journal_page.specs.declared.view.Unviewed.TheVariants.{Output, Unread};
 ghost use Rattle.journal_page.specs.declared.view.Viewed.TheVariants.{TooLong, Written};
 
@@ -12,8 +13,10 @@ use crate::page::page_of;
 use journal_format::fault::JournalFault;
 use journal_format::input::read_input;
 use journal_format::lines::MOST_BYTES;
+use journal_state::{Form, first_entries, state_of};
 use mq_model::journals::Journal;
-use std::alloc::Global;
+use mq_state::replay::replay;
+use std::alloc::{AllocError, Global};
 use std::io::{Read, Write};
 use text_io::output::write_all;
 
@@ -53,8 +56,28 @@ fn cut(from: u64, to: u64, journal: &Journal) -> (u64, u64)
     (first, end - first)
 }
 
+// The line of the state after the first `k` entries, or of none where they are not legal.
+fn state_line(alloc: Global, journal: &Journal, k: u64) -> Result<Vec<u8>, AllocError>
+    requires { k ≤ length journal.now.records }
+    ensures { IfOk result (λ line. IsStateLine (first k journal.now.records) line.items) }
+{
+    let entries = first_entries(alloc, journal, k)?;
+    let found = replay(alloc, &entries)?;
+    match found {
+        None => {
+            let known = state_of(alloc, &entries, Form::Json)?;
+            Ok(known)
+        }
+        Some(_) => {
+            let none = Vec::from_slice(alloc, b"null\n")?;
+            Ok(none)
+        }
+    }
+}
+
 /// Reads a journal line by line, which need not be legal, and writes a page of its entries at the
-/// places from `from` up to and with `to`, by a template of these two parts.
+/// places from `from` up to and with `to`, by a template of these two parts. The page has the state
+/// before these entries, if those before them are legal.
 /// `JournalFault::BadLine`: a line is not that of an entry, or is too long for one, and this is the
 /// first one; no read was made after those that brought it. `JournalFault::Input`: a read failed.
 /// `Unviewed::Output`: a write failed, and of the page a front part is written that lacks a byte or
@@ -92,7 +115,11 @@ pub fn view_journal<R: Read, W: Write>(
     if count > MOST_VIEWED {
         return Ok(Viewed::TooLong);
     }
-    let page = match page_of(alloc, &journal, first, count, head, tail) {
+    let before = match state_line(alloc, &journal, first) {
+        Ok(before) => before,
+        Err(_) => return Err(Unviewed::Unread(JournalFault::NoMemory)),
+    };
+    let page = match page_of(alloc, &before, &journal, first, count, head, tail) {
         Ok(page) => page,
         Err(_) => return Err(Unviewed::Unread(JournalFault::NoMemory)),
     };
