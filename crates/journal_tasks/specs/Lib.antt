@@ -7,3 +7,4 @@ pub mod Task
 pub mod Verdict
 pub mod Window
 pub mod Judged
+pub mod State

@@ -3,10 +3,13 @@ use Rattle.std.specs.Prelude.{◌-◌, ◌^◌, ◌&&◌, Bool, true, false, Lis
 use Rattle.std.specs.Str.{bytes_eq}
 use Rattle.text_io.specs.Words.{◌>>=◌, Word, number_written}
 use Rattle.journal_tasks.specs.declared.task.Task.{Task}
-use Rattle.journal_tasks.specs.declared.task.Task.TheVariants.{Run, History, Check, Compact, Draw, View, Judge, Orders, Help}
+use Rattle.journal_tasks.specs.declared.task.Task.TheVariants.{Run, History, Check, Compact, Draw, View, State, Judge, Orders, Help}
 use Rattle.journal_tasks.specs.declared.every_order.Trial.{Trial}
 use Rattle.journal_tasks.specs.declared.judge.Question.{Question}
+use Rattle.journal_tasks.specs.declared.state.Wanted.{Wanted}
 use Rattle.journal_tasks.specs.declared.window.Window.{Window}
+use Rattle.journal_state.specs.declared.form.Form.{Form}
+use Rattle.journal_state.specs.declared.form.Form.TheVariants.{Text, Json}
 
 -- without an option: all places of a journal are shown
 abbrev pub all_places : Window
@@ -19,6 +22,10 @@ plain_question = record { journal = false; budget = 1000000 }
 -- the orders are tried within five million steps, and the report is written
 abbrev pub plain_trial : Trial
 plain_trial = record { journal = None; budget = 5000000 }
+
+-- the state after all entries is written, as text
+abbrev pub last_state : Wanted
+last_state = record { at = None; form = Text }
 
 -- one option: the first place, or the last
 abbrev pub window_from_or_to : Word → Word → Option Window
@@ -48,6 +55,24 @@ abbrev pub window_written : List Word → Option Window
 window_written (name ∷ place ∷ []) = window_from_or_to name place
 window_written (name ∷ place ∷ other ∷ second ∷ []) = window_from_and_to name place other second
 window_written words = None
+
+-- the state after so many entries, in a form
+abbrev pub state_at : Word → Form → Option Wanted
+state_at word form = do
+  at ← number_written 64 word
+  Some (record { at = Some at; form = form })
+
+-- which state the options of state ask for
+abbrev pub wanted_written : List Word → Option Wanted
+wanted_written (name ∷ []) =
+    if bytes_eq name (codes "--json") then Some (record { at = last_state.at; form = Json }) else None
+wanted_written (name ∷ word ∷ []) =
+    if bytes_eq name (codes "--at") then state_at word last_state.form else None
+wanted_written (name ∷ second ∷ third ∷ []) =
+    if bytes_eq name (codes "--at") && bytes_eq third (codes "--json") then state_at second Json
+    else (if bytes_eq name (codes "--json") && bytes_eq second (codes "--at") then state_at third Json
+    else None)
+wanted_written words = None
 
 -- a judgement with a journal, or without, within so many steps
 abbrev pub question_with : Bool → Word → Option Question
@@ -99,7 +124,7 @@ trial_written words = None
 -- the task of a name alone
 abbrev pub task_named : Word → Option Task
 task_named word =
-    if bytes_eq word (codes "run") then Some Run else (if bytes_eq word (codes "history") then Some History else (if bytes_eq word (codes "check") then Some Check else (if bytes_eq word (codes "compact") then Some Compact else (if bytes_eq word (codes "draw") then Some (Draw all_places) else (if bytes_eq word (codes "view") then Some (View all_places) else (if bytes_eq word (codes "judge") then Some (Judge plain_question) else (if bytes_eq word (codes "orders") then Some (Orders plain_trial) else (if bytes_eq word (codes "--help") then Some Help else None))))))))
+    if bytes_eq word (codes "run") then Some Run else (if bytes_eq word (codes "history") then Some History else (if bytes_eq word (codes "check") then Some Check else (if bytes_eq word (codes "compact") then Some Compact else (if bytes_eq word (codes "draw") then Some (Draw all_places) else (if bytes_eq word (codes "view") then Some (View all_places) else (if bytes_eq word (codes "state") then Some (State last_state) else (if bytes_eq word (codes "judge") then Some (Judge plain_question) else (if bytes_eq word (codes "orders") then Some (Orders plain_trial) else (if bytes_eq word (codes "--help") then Some Help else None)))))))))
 
 -- the task of a name with these options
 abbrev pub task_after : Word → List Word → Option Task
@@ -110,13 +135,16 @@ task_after word (option ∷ options) = if bytes_eq word (codes "draw") then (do
     else (if bytes_eq word (codes "view") then (do
       window ← window_written (option ∷ options)
       Some (View window))
+    else (if bytes_eq word (codes "state") then (do
+      wanted ← wanted_written (option ∷ options)
+      Some (State wanted))
     else (if bytes_eq word (codes "judge") then (do
       question ← question_written (option ∷ options)
       Some (Judge question))
     else (if bytes_eq word (codes "orders") then (do
       trial ← trial_written (option ∷ options)
       Some (Orders trial))
-    else None)))
+    else None))))
 
 -- the task of the words after the program's name
 abbrev pub task_written : List Word → Option Task

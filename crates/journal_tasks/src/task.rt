@@ -1,10 +1,12 @@
 //! What the program is asked to do.
 ghost use Rattle.std.specs.Prelude.{◌≡◌, map, string_bytes};
-ghost use Rattle.journal_tasks.specs.Task.{journal_within, question_written, task_after, task_named, task_written, trial_with_both, trial_with_one, trial_written, window_between, window_from_and_to, window_from_or_to, window_written};
+ghost use Rattle.journal_tasks.specs.Task.{journal_within, question_written, task_after, task_named, task_written, trial_with_both, trial_with_one, trial_written, wanted_written, window_between, window_from_and_to, window_from_or_to, window_written};
 
 use crate::every_order::{REPORT, Trial};
 use crate::judge::{PLAIN, Question};
+use crate::state::{LAST, Wanted};
 use crate::window::{WHOLE, Window};
+use journal_state::Form;
 use text_io::words::number;
 
 /// What the program is asked to do.
@@ -22,6 +24,8 @@ pub enum Task {
     Draw(Window),
     /// Writes a page of a journal.
     View(Window),
+    /// Writes the state after a journal or its first entries.
+    State(Wanted),
     /// Judges a concurrent history.
     Judge(Question),
     /// Tries every order of the calls of a script.
@@ -43,6 +47,8 @@ usage: mqlog TASK
          draw --from K begins with the entry at place K, draw --to L ends with that at place L, both in either order do both
   view   writes a page (HTML) of the journal on the standard input, which a browser shows and steps through, of at most 1000000
          entries and 25000000 bytes (status 1 if there are more): --from K and --to L as for draw
+  state  writes the state of the queues and processes after the journal on the standard input (status 1 if it is not legal):
+         state --at K after its first K entries, state --json for programs, both in either order do both
   judge  judges the concurrent history on the standard input: writes that it is possible, or its front part that is not (status 1),
          or that the budget was used up (status 5): judge --journal also writes a journal that explains it, judge --budget N
          takes at most N steps, both in either order do both
@@ -72,6 +78,8 @@ fn task_after(word: &[u8], options: &[String]) -> Option<Task>
         Some(Task::Draw(window_of(options)?))
     } else if word == b"view".as_slice() {
         Some(Task::View(window_of(options)?))
+    } else if word == b"state".as_slice() {
+        Some(Task::State(wanted_of(options)?))
     } else if word == b"judge".as_slice() {
         Some(Task::Judge(question_of(options)?))
     } else if word == b"orders".as_slice() {
@@ -97,6 +105,8 @@ fn task_named(word: &[u8]) -> Option<Task>
         Some(Task::Draw(WHOLE))
     } else if word == b"view".as_slice() {
         Some(Task::View(WHOLE))
+    } else if word == b"state".as_slice() {
+        Some(Task::State(LAST))
     } else if word == b"judge".as_slice() {
         Some(Task::Judge(PLAIN))
     } else if word == b"orders".as_slice() {
@@ -105,6 +115,39 @@ fn task_named(word: &[u8]) -> Option<Task>
         Some(Task::Help)
     } else {
         None
+    }
+}
+
+// Which state the options ask for.
+fn wanted_of(options: &[String]) -> Option<Wanted>
+    ensures { result ≡ wanted_written (map string_bytes options.now) }
+{
+    match options {
+        [name] if name.as_bytes() == b"--json".as_slice() => Some(Wanted {
+            at: LAST.at,
+            form: Form::Json,
+        }),
+        [name, place] if name.as_bytes() == b"--at".as_slice() => Some(Wanted {
+            at: Some(number(place.as_bytes())?),
+            form: LAST.form,
+        }),
+        [name, place, other]
+            if name.as_bytes() == b"--at".as_slice()
+                && other.as_bytes() == b"--json".as_slice() => {
+            Some(Wanted {
+                at: Some(number(place.as_bytes())?),
+                form: Form::Json,
+            })
+        }
+        [name, other, place]
+            if name.as_bytes() == b"--json".as_slice()
+                && other.as_bytes() == b"--at".as_slice() => {
+            Some(Wanted {
+                at: Some(number(place.as_bytes())?),
+                form: Form::Json,
+            })
+        }
+        _ => None,
     }
 }
 

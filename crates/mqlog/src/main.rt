@@ -7,8 +7,8 @@ mod tests;
 use fast_mutex::FastMutex;
 use journal_page::{HEAD, TAIL, Unviewed, Viewed, view_journal};
 use journal_tasks::{
-    Ending, LogFault, Question, Task, Trial, USAGE, Window, check_journal, compact_journal,
-    draw_journal, judge_history, record_history, record_script, task_of, try_orders,
+    Ending, LogFault, Question, Task, Trial, USAGE, Wanted, Window, check_journal, compact_journal,
+    draw_journal, judge_history, record_history, record_script, state_journal, task_of, try_orders,
 };
 use mq::Guarded;
 use script_runner::{Plain, RunFault};
@@ -29,6 +29,7 @@ fn main(rt: HostRuntime) -> ExitCode {
         Ok(Some(Task::Compact)) => compact(&rt, rt.alloc()),
         Ok(Some(Task::Draw(window))) => draw(&rt, rt.alloc(), window),
         Ok(Some(Task::View(window))) => view(&rt, rt.alloc(), window),
+        Ok(Some(Task::State(wanted))) => state(&rt, rt.alloc(), wanted),
         Ok(Some(Task::Judge(question))) => judge(&rt, rt.alloc(), question),
         Ok(Some(Task::Orders(trial))) => orders(&rt, rt.alloc(), trial),
         Ok(Some(Task::Help)) => help(&rt),
@@ -105,6 +106,18 @@ fn view(rt: &(impl Print + Eprint + Input), alloc: Global, window: Window) -> Ex
         }
         Err(Unviewed::Unread(fault)) => failed(rt, LogFault::from(fault)),
         Err(Unviewed::Output) => failed(rt, LogFault::Output),
+    }
+}
+
+fn state(rt: &(impl Print + Eprint + Input), alloc: Global, wanted: Wanted) -> ExitCode {
+    let (mut input, mut output) = (rt.reader(), io::writer(rt));
+    match state_journal(alloc, &mut input, &mut output, wanted) {
+        Ok(None) => ExitCode::SUCCESS,
+        Ok(Some(why)) => {
+            let _ = eprintln!(rt; "{why}");
+            ExitCode::from(1)
+        }
+        Err(fault) => failed(rt, fault),
     }
 }
 

@@ -17,6 +17,7 @@ mod overlapping;
 mod pictures;
 mod recorded;
 mod script_histories;
+mod states;
 
 // How the check of a text ended, and what it wrote.
 fn output_of(alloc: Global, mut text: &[u8]) -> (Result<Verdict, LogFault>, Vec<u8>) {

@@ -1,0 +1,53 @@
+-- The state after the first entries of a journal.
+use Rattle.std.specs.Prelude.{ℕ, ◌≡◌, ◌<◌, ◌≤◌, List, Option, None, Some, length}
+use Rattle.std.specs.Io.KnownBytes as known
+use Rattle.std.specs.Option.{unwrap_or}
+use Rattle.text_io.specs.Output.{AppendsTooLittle}
+use Rattle.mq_model.specs.Legality.{Legal, IsFirstIllegal}
+use Rattle.mq_model.specs.Record.{Past, first}
+use Rattle.journal_format.specs.Fitting.{AllFit}
+use Rattle.journal_format.specs.Text.{journal_text}
+use Rattle.journal_state.specs.State.{state}
+use Rattle.journal_tasks.specs.declared.state.NoState.{NoState}
+use Rattle.journal_tasks.specs.declared.state.NoState.TheVariants.{Beyond, Illegal}
+use Rattle.journal_tasks.specs.declared.state.Wanted.{Wanted}
+
+-- how many entries the state is wanted after: all of them where none is named
+abbrev pub count_wanted : Wanted → Past → ℕ
+count_wanted wanted past = unwrap_or wanted.at (length past)
+
+-- the entries that it is wanted after
+abbrev pub entries_wanted : Wanted → Past → Past
+entries_wanted wanted past = first (count_wanted wanted past) past
+
+-- why there is no state: the journal has fewer entries, or one of them is not legal
+abbrev pub LacksState : Wanted → Past → NoState → Type 0
+LacksState wanted past (Beyond len) = (len ≡ length past) × (length past < count_wanted wanted past)
+LacksState wanted past (Illegal place) = (count_wanted wanted past ≤ length past) × IsFirstIllegal (entries_wanted wanted past) place
+
+-- the state after these entries, which are legal
+pub record IsTextOf (wanted : Wanted) (past : Past) (text : List ℕ) : Type 0 where
+  pub count : count_wanted wanted past ≤ length past
+  pub legal : Legal (entries_wanted wanted past)
+  pub state : text ≡ state wanted.form (entries_wanted wanted past)
+
+-- known bytes have grown by that state; or are as they were and there is a reason
+abbrev pub IsTold : Wanted → Past → Option NoState → Option (List ℕ) → Option (List ℕ) → Type 0
+IsTold wanted past None old new = (text : List ℕ) × IsTextOf wanted past text × known.Appends old new text
+IsTold wanted past (Some why) old new = LacksState wanted past why × (new ≡ old)
+
+-- the same of the journal whose text these bytes are
+pub record Tells (bytes : List ℕ) (wanted : Wanted) (why : Option NoState) (old new : Option (List ℕ)) : Type 0 where
+  pub past : Past
+  pub fits : AllFit past
+  pub text : bytes ≡ journal_text past
+  pub told : IsTold wanted past why old new
+
+-- known bytes have grown by a front part of that state, which lacks a byte or more
+pub record TellsInPart (bytes : List ℕ) (wanted : Wanted) (old new : Option (List ℕ)) : Type 0 where
+  pub past : Past
+  pub fits : AllFit past
+  pub text : bytes ≡ journal_text past
+  pub whole : List ℕ
+  pub is_state : IsTextOf wanted past whole
+  pub written : AppendsTooLittle old new whole

@@ -1,0 +1,109 @@
+//! A journal, from its bytes to the state after its first entries.
+ghost use Rattle.std.specs.Prelude.{◌≡◌, ◌+◌, ℕ, List, IfOk, IsErrOf, MatchResult, Some, take};
+ghost use Rattle.journal_format.specs.JournalFault.{IsAtFault};
+ghost use Rattle.journal_format.specs.Lines.{ReadsUpTo};
+ghost use Rattle.journal_tasks.specs.State.{IsTextOf, LacksState, Tells, TellsInPart};
+ghost use Rattle.journal_tasks.specs.declared.fault.LogFault.TheVariants.{BadLine, Input, NoMemory, Output};
+
+use crate::fault::LogFault;
+use journal_format::input::read_input;
+use journal_format::lines::MOST_BYTES;
+use journal_state::{Form, first_entries, state_of};
+use mq_model::journals::Journal;
+use mq_state::replay::replay;
+use std::alloc::{AllocError, Global};
+use std::fmt;
+use std::io::{Read, Write};
+use text_io::output::write_all;
+
+/// Which state is wanted: that after so many entries, or after all, and in which form.
+#[derive(Clone, Copy, Debug, PartialEq, Eq)]
+pub struct Wanted {
+    pub at: Option<u64>,
+    pub form: Form,
+}
+
+/// The state after all entries, as text.
+pub const LAST: Wanted = Wanted {
+    at: None,
+    form: Form::Text,
+};
+
+/// Why a journal has no such state.
+#[derive(Clone, Copy, Debug, PartialEq, Eq)]
+pub enum NoState {
+    /// It has only so many entries.
+    Beyond(u64),
+    /// The entry at this place is the first that is not legal.
+    Illegal(u64),
+}
+
+impl fmt::Display for NoState {
+    fn fmt<W: fmt::Write>(&self, f: &mut fmt::Formatter<W>) -> fmt::Result {
+        match self {
+            NoState::Beyond(len) => write!(f, "the journal has {len} entries"),
+            NoState::Illegal(place) => {
+                write!(f, "entry {place} is not legal: mqlog check says why")
+            }
+        }
+    }
+}
+
+/// Reads a journal line by line, and writes the state after its first entries, which have to be
+/// legal. `None`: it is written; else nothing is written, and this is why.
+/// `LogFault::BadLine`: a line is not that of an entry, or is too long for one, and this is the
+/// first one; no read was made after those that brought it. `LogFault::Input`: a read failed.
+/// `LogFault::Output`: a write failed, and of the state a front part is written that lacks a byte or
+/// more. Of the others nothing is written.
+pub fn state_journal<R: Read, W: Write>(
+    alloc: Global,
+    input: &mut R,
+    output: &mut W,
+    wanted: Wanted,
+) -> Result<Option<NoState>, LogFault>
+    ensures done { (all : List ℕ) → R.remaining input.old ≡ Some all →
+        IfOk result (λ why. Tells (take (MOST_BYTES + 1) all) wanted why (W.contents output.old)
+        (W.contents output.new)) }
+    ensures bad_line { (all : List ℕ) (line : ℕ) → R.remaining input.old ≡ Some all →
+        IsErrOf result (BadLine line) → IsAtFault line (take (MOST_BYTES + 1) all) }
+    ensures soon { (line : ℕ) → IsErrOf result (BadLine line) →
+        ReadsUpTo line (R.remaining input.old) (R.remaining input.new) }
+    ensures output { (all : List ℕ) → R.remaining input.old ≡ Some all →
+        IsErrOf result Output → TellsInPart (take (MOST_BYTES + 1) all) wanted
+        (W.contents output.old) (W.contents output.new) }
+    ensures input { IsErrOf result Input → W.contents output.new ≡ W.contents output.old }
+    ensures no_memory { IsErrOf result NoMemory → W.contents output.new ≡ W.contents output.old }
+    ensures unwritten { (line : ℕ) → IsErrOf result (BadLine line) →
+        W.contents output.new ≡ W.contents output.old }
+{
+    let journal = read_input(alloc, input)?;
+    let told = text_of(alloc, &journal, wanted)?;
+    match told {
+        Ok(text) => {
+            write_all(output, text.as_slice())?;
+            Ok(None)
+        }
+        Err(why) => Ok(Some(why)),
+    }
+}
+
+// The text of the wanted state, or why there is none. The error is that memory was refused.
+fn text_of(
+    alloc: Global,
+    journal: &Journal,
+    wanted: Wanted,
+) -> Result<Result<Vec<u8>, NoState>, AllocError>
+    ensures { IfOk result (λ r. MatchResult r (λ text. IsTextOf wanted journal.now.records text.items)
+        (LacksState wanted journal.now.records)) }
+{
+    let len = journal.len();
+    let count = wanted.at.unwrap_or(len);
+    if count > len {
+        return Ok(Err(NoState::Beyond(len)));
+    }
+    let entries = first_entries(alloc, journal, count)?;
+    if let Some(departure) = replay(alloc, &entries)? {
+        return Ok(Err(NoState::Illegal(departure.place)));
+    }
+    Ok(Ok(state_of(alloc, &entries, wanted.form)?))
+}
