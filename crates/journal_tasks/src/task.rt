@@ -132,21 +132,21 @@ fn wanted_of(options: &[String]) -> Option<Wanted>
             form: LAST.form,
         }),
         [name, place, other]
-            if name.as_bytes() == b"--at".as_slice()
-                && other.as_bytes() == b"--json".as_slice() => {
-            Some(Wanted {
-                at: Some(number(place.as_bytes())?),
-                form: Form::Json,
-            })
-        }
+            if name.as_bytes() == b"--at".as_slice() && other.as_bytes() == b"--json".as_slice() =>
+            {
+                Some(Wanted {
+                    at: Some(number(place.as_bytes())?),
+                    form: Form::Json,
+                })
+            }
         [name, other, place]
-            if name.as_bytes() == b"--json".as_slice()
-                && other.as_bytes() == b"--at".as_slice() => {
-            Some(Wanted {
-                at: Some(number(place.as_bytes())?),
-                form: Form::Json,
-            })
-        }
+            if name.as_bytes() == b"--json".as_slice() && other.as_bytes() == b"--at".as_slice() =>
+            {
+                Some(Wanted {
+                    at: Some(number(place.as_bytes())?),
+                    form: Form::Json,
+                })
+            }
         _ => None,
     }
 }

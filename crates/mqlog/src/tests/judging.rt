@@ -294,7 +294,11 @@ static ILL_FORMED: [(&str, u64, IllFormed); 7] = [
     ),
     ("1 10 9 close 0 -> EBADF\n", 1, IllFormed::EndsFirst),
     ("1 0 10 open bc \"q\" -> fd 0\n", 1, IllFormed::BadName),
-    ("1 0 10 send 0 0 2 \"a\" -> EBADF\n", 1, IllFormed::BadLength),
+    (
+        "1 0 10 send 0 0 2 \"a\" -> EBADF\n",
+        1,
+        IllFormed::BadLength,
+    ),
     ("1 0 10 recv 0 8 \"a\" -> EBADF\n", 1, IllFormed::BadLength),
 ];
 
@@ -311,7 +315,14 @@ fn the_first_line_that_makes_a_history_ill_formed_is_named(rt: HostRuntime) {
 #[test]
 fn calls_that_touch_are_well_formed(rt: HostRuntime) {
     let history = "1 0 10 close 0 -> EBADF\n1 10 10 close 0 -> EBADF\n1 10 - close 0 ->\n";
-    is_judged(&rt, rt.alloc(), history, PLAIN, 0, "possible: 3 calls, 1 processes\n");
+    is_judged(
+        &rt,
+        rt.alloc(),
+        history,
+        PLAIN,
+        0,
+        "possible: 3 calls, 1 processes\n",
+    );
 }
 
 #[test]

@@ -33,8 +33,8 @@ returns-in_err-write_all-in-Ok-clause-output g c = λ all known failed.
       written = rw c.as_slice.ensures.value at c.in_err-write_all-in-Ok.ensures.failed;
     }
 
-pub returns-in_ok-write_all-in-Ok-clause-done : goal.returns-in_ok-write_all-in-Ok-clause-done
-returns-in_ok-write_all-in-Ok-clause-done g c = λ all known.
+pub returns-in-Ok-clause-done : goal.returns-in-Ok-clause-done
+returns-in-Ok-clause-done g c = λ all known.
     let found = c.in_ok-journal.ensures.found all known in
     record {
       past = c.in_ok-journal.journal.records;
@@ -43,8 +43,8 @@ returns-in_ok-write_all-in-Ok-clause-done g c = λ all known.
       told = (c.in-Ok.text.items, rw c.in-Ok.is at c.in_ok-told.ensures, rw c.as_slice.ensures.value at c.in_ok-write_all-in-Ok.ensures.whole);
     }
 
-pub returns-in-Err-clause-done : goal.returns-in-Err-clause-done
-returns-in-Err-clause-done g c = λ all known.
+pub returns-clause-done : goal.returns-clause-done
+returns-clause-done g c = λ all known.
     let found = c.in_ok-journal.ensures.found all known in
     record {
       past = c.in_ok-journal.journal.records;
