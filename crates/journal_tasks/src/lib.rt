@@ -24,7 +24,6 @@ pub use draw::draw_journal;
 pub use every_order::{Ending, REPORT, Trial, try_orders};
 pub use fault::LogFault;
 pub use history::record_history;
-pub use history_judge::well_formed::IllFormed;
 pub use judge::{PLAIN, Question, judge_history};
 pub use record::record_script;
 pub use state::{LAST, NoState, Wanted, state_journal};

@@ -3,7 +3,7 @@ use journal_format::fault::JournalFault;
 use journal_format::lines::MOST_LINE;
 use journal_format::text::{read_journal, write_journal};
 use journal_tasks::{
-    Counts, IllFormed, LogFault, Task, Verdict, WHOLE, Window, check_journal, draw_journal, task_of,
+    Counts, LogFault, Task, Verdict, WHOLE, Window, check_journal, draw_journal, task_of,
 };
 use mq::{Cause, Departure, Fault, Reply};
 use std::alloc::{AllocError, Global};
@@ -543,11 +543,6 @@ fn a_picture_has_a_mark_for_each_entry_shown(rt: HostRuntime) -> Result<(), Fail
 fn faults_have_their_texts_and_statuses(rt: HostRuntime) -> Result<(), Fail> {
     for (fault, text, status) in [
         (LogFault::BadLine(7), "line 7: no entry", 2),
-        (
-            LogFault::IllFormed(7, IllFormed::Overlaps),
-            "line 7: this call begins before an earlier one of its process ended",
-            2,
-        ),
         (LogFault::Input, "input fault", 3),
         (LogFault::Output, "output fault", 3),
         (LogFault::NoMemory, "no memory", 4),

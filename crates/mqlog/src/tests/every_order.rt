@@ -351,7 +351,7 @@ fn a_deadlock_of_one_order_in_many_is_found(rt: HostRuntime) {
         RARE_JOURNAL,
     );
     is_legal(&rt, rt.alloc(), RARE_JOURNAL);
-    let (outcome, _) = tried(rt.alloc(), RARE.as_bytes(), within(1000));
+    let (outcome, _) = tried(rt.alloc(), RARE.as_bytes(), within(20));
     assert_eq!(rt; outcome, Ok(Ending::OutOfBudget));
 }
 

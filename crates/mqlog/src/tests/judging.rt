@@ -1,6 +1,6 @@
 // Concurrent histories: what is said of them, and the journals that explain them.
 use super::{Endless, output_of};
-use journal_tasks::{IllFormed, LogFault, PLAIN, Question, Verdict, judge_history};
+use journal_tasks::{LogFault, PLAIN, Question, Verdict, judge_history};
 use std::alloc::Global;
 use std::process::Abort;
 
@@ -269,60 +269,6 @@ fn the_first_line_that_is_none_is_named(rt: HostRuntime) {
         assert_eq!(rt; outcome, Err(LogFault::BadLine(*line)), "{text}");
         assert!(rt; output.is_empty(), "{text}");
     }
-}
-
-// Histories that are ill-formed, the line that makes each so, and why.
-static ILL_FORMED: [(&str, u64, IllFormed); 7] = [
-    (
-        "1 0 - open bc \"/q\" ->\n\
-         1 20 30 close 0 -> EBADF\n",
-        2,
-        IllFormed::BehindPending,
-    ),
-    (
-        "1 0 10 close 0 -> EBADF\n\
-         2 5 30 close 0 -> EBADF\n\
-         1 9 20 close 1 -> EBADF\n",
-        3,
-        IllFormed::Overlaps,
-    ),
-    (
-        "1 20 30 close 0 -> EBADF\n\
-         1 0 10 close 0 -> EBADF\n",
-        2,
-        IllFormed::Overlaps,
-    ),
-    ("1 10 9 close 0 -> EBADF\n", 1, IllFormed::EndsFirst),
-    ("1 0 10 open bc \"q\" -> fd 0\n", 1, IllFormed::BadName),
-    (
-        "1 0 10 send 0 0 2 \"a\" -> EBADF\n",
-        1,
-        IllFormed::BadLength,
-    ),
-    ("1 0 10 recv 0 8 \"a\" -> EBADF\n", 1, IllFormed::BadLength),
-];
-
-#[test]
-fn the_first_line_that_makes_a_history_ill_formed_is_named(rt: HostRuntime) {
-    for (text, line, why) in &ILL_FORMED {
-        let (outcome, output) = judged(rt.alloc(), text.as_bytes(), PLAIN);
-        assert_eq!(rt; outcome, Err(LogFault::IllFormed(*line, *why)), "{text}");
-        assert!(rt; output.is_empty(), "{text}");
-    }
-}
-
-// A call may begin at the moment at which the one before it ended.
-#[test]
-fn calls_that_touch_are_well_formed(rt: HostRuntime) {
-    let history = "1 0 10 close 0 -> EBADF\n1 10 10 close 0 -> EBADF\n1 10 - close 0 ->\n";
-    is_judged(
-        &rt,
-        rt.alloc(),
-        history,
-        PLAIN,
-        0,
-        "possible: 3 calls, 1 processes\n",
-    );
 }
 
 #[test]
