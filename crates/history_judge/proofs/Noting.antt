@@ -5,16 +5,22 @@ use Rattle.std.proofs.lemmas.Bool.{and_parts, eqb-false}
 use Rattle.mq_model.specs.Limits.{most_processes}
 use Rattle.mq_model.proofs.Places.{split}
 use Rattle.histories.specs.Histories.{is_pending}
+use Rattle.histories.specs.declared.operation.Operation.{Operation}
 use Rattle.history_judge.specs.Processes.{AreOfProcesses, is_process}
-use Rattle.history_judge.specs.WellFormed.{end_by, fault_at, fault_behind, fault_of, has_pending, is_pending_by, latest_end}
+use Rattle.history_judge.specs.WellFormed.{LatestMoments, fault_at, fault_behind, fault_of, has_pending, is_pending_by, latest, latest_of, moment_by}
 use Rattle.history_judge.specs.declared.line.Called.{Called}
 
--- the tables have the latest end of each process and whether a call of it had not returned, of the
--- first n calls
-pub record AreNoted (calls : List Called) (n : ℕ) (latest : List ℕ) (pending : List Bool) : Type 0 where
-  pub count : length latest ≡ 33
+-- the table has the latest of these moments of each process, of the first n calls
+pub record AreLatest (calls : List Called) (n : ℕ) (moment : Operation → ℕ) (table : List ℕ) : Type 0 where
+  pub count : length table ≡ 33
+  pub each : (p : ℕ) → p < 33 → get_or table p 0 ≡ latest moment calls p n
+
+-- the tables have the latest moments of each process and whether a call of it had not returned, of
+-- the first n calls
+pub record AreNoted (calls : List Called) (n : ℕ) (begins ends : List ℕ) (pending : List Bool) : Type 0 where
+  pub begun : AreLatest calls n (λ o. o.begin) begins
+  pub ended : AreLatest calls n (λ o. o.end) ends
   pub same : length pending ≡ 33
-  pub ends : (p : ℕ) → p < 33 → get_or latest p 0 ≡ latest_end calls p n
   pub pends : (p : ℕ) → p < 33 → get_or pending p false ≡ has_pending calls p n
 
 get-other : {A : Type 0} (xs : List A) (i j : ℕ) (a d : A) → (j ≡ i → ⊥) → get_or (slice_set xs i a) j d ≡ get_or xs j d
@@ -38,30 +44,43 @@ or-false : (b : Bool) → (b || false) ≡ b
 or-false true = refl
 or-false false = refl
 
-noted : (calls : List Called) (n : ℕ) (c : Called) (latest : List ℕ) (pending : List Bool) (end : ℕ) (pends : Bool) → slice_get calls n ≡ Some c → c.process < 33 →
-    AreNoted calls n latest pending → end ≡ max (get_or latest c.process 0) c.operation.end → pends ≡ (get_or pending c.process false || is_pending c.operation.outcome) →
-    AreNoted calls (suc n) (slice_set latest c.process end) (slice_set pending c.process pends)
-noted calls n c latest pending end pends is few before end_is pends_is = record {
-  count = length-set latest c.process end ∙ before.count;
+latest-next : (calls : List Called) (n : ℕ) (c : Called) (moment : Operation → ℕ) (table : List ℕ) (at : ℕ) → slice_get calls n ≡ Some c → c.process < 33 →
+    AreLatest calls n moment table → at ≡ max (get_or table c.process 0) (moment c.operation) → AreLatest calls (suc n) moment (slice_set table c.process at)
+latest-next calls n c moment table at is few before at_is = record {
+  count = length-set table c.process at ∙ before.count;
+  each = λ p below. split (c.process == p)
+      (λ t. let same : c.process ≡ p = eqb-true _ _ t in
+      let here : get_or (slice_set table c.process at) p 0 ≡ at = subst (λ (k : ℕ). get_or (slice_set table c.process at) k 0 ≡ at) same (get-same table c.process at 0 (omega (arith, before.count))) in
+      let old : get_or table c.process 0 ≡ latest moment calls p n = before.each c.process few ∙ ap (λ (k : ℕ). latest moment calls k n) same in
+      let new : latest moment calls p (suc n) ≡ max (latest moment calls p n) (moment c.operation) = rw (is, t) refl in
+      here ∙ at_is ∙ ap (λ (k : ℕ). max k (moment c.operation)) old ∙ sym new)
+      (λ f. let ne : p ≡ c.process → ⊥ = λ e. eqb-false _ _ f (sym e) in
+      let new : latest moment calls p (suc n) ≡ max (latest moment calls p n) 0 = rw (is, f) refl in
+      get-other table c.process p at 0 ne ∙ before.each p below ∙ (let nothing : (k : ℕ) → k ≡ max k 0 = λ k. omega arith in nothing (latest moment calls p n)) ∙ sym new);
+}
+
+pends-next : (calls : List Called) (n : ℕ) (c : Called) (pending : List Bool) (pends : Bool) → slice_get calls n ≡ Some c → c.process < 33 → length pending ≡ 33 →
+    ((p : ℕ) → p < 33 → get_or pending p false ≡ has_pending calls p n) → pends ≡ (get_or pending c.process false || is_pending c.operation.outcome) →
+    (p : ℕ) → p < 33 → get_or (slice_set pending c.process pends) p false ≡ has_pending calls p (suc n)
+pends-next calls n c pending pends is few same before pends_is p below = split (c.process == p)
+    (λ t. let mine : c.process ≡ p = eqb-true _ _ t in
+    let here : get_or (slice_set pending c.process pends) p false ≡ pends = subst (λ (k : ℕ). get_or (slice_set pending c.process pends) k false ≡ pends) mine (get-same pending c.process pends false (omega (arith, same))) in
+    let old : get_or pending c.process false ≡ has_pending calls p n = before c.process few ∙ ap (λ (k : ℕ). has_pending calls k n) mine in
+    let new : has_pending calls p (suc n) ≡ (has_pending calls p n || is_pending c.operation.outcome) = rw (is, t) refl in
+    here ∙ pends_is ∙ ap (λ (b : Bool). b || is_pending c.operation.outcome) old ∙ sym new)
+    (λ f. let ne : p ≡ c.process → ⊥ = λ e. eqb-false _ _ f (sym e) in
+    let new : has_pending calls p (suc n) ≡ (has_pending calls p n || false) = rw (is, f) refl in
+    get-other pending c.process p pends false ne ∙ before p below ∙ sym (or-false (has_pending calls p n)) ∙ sym new)
+
+noted : (calls : List Called) (n : ℕ) (c : Called) (begins ends : List ℕ) (pending : List Bool) (begin end : ℕ) (pends : Bool) → slice_get calls n ≡ Some c → c.process < 33 →
+    AreNoted calls n begins ends pending → begin ≡ max (get_or begins c.process 0) c.operation.begin → end ≡ max (get_or ends c.process 0) c.operation.end →
+    pends ≡ (get_or pending c.process false || is_pending c.operation.outcome) →
+    AreNoted calls (suc n) (slice_set begins c.process begin) (slice_set ends c.process end) (slice_set pending c.process pends)
+noted calls n c begins ends pending begin end pends is few before begin_is end_is pends_is = record {
+  begun = latest-next calls n c (λ o. o.begin) begins begin is few before.begun begin_is;
+  ended = latest-next calls n c (λ o. o.end) ends end is few before.ended end_is;
   same = length-set pending c.process pends ∙ before.same;
-  ends = λ p below. split (c.process == p)
-      (λ t. let same : c.process ≡ p = eqb-true _ _ t in
-      let here : get_or (slice_set latest c.process end) p 0 ≡ end = subst (λ (k : ℕ). get_or (slice_set latest c.process end) k 0 ≡ end) same (get-same latest c.process end 0 (omega (arith, before.count))) in
-      let old : get_or latest c.process 0 ≡ latest_end calls p n = before.ends c.process few ∙ ap (λ (k : ℕ). latest_end calls k n) same in
-      let new : latest_end calls p (suc n) ≡ max (latest_end calls p n) c.operation.end = rw (is, t) refl in
-      here ∙ end_is ∙ ap (λ (k : ℕ). max k c.operation.end) old ∙ sym new)
-      (λ f. let ne : p ≡ c.process → ⊥ = λ e. eqb-false _ _ f (sym e) in
-      let new : latest_end calls p (suc n) ≡ max (latest_end calls p n) 0 = rw (is, f) refl in
-      get-other latest c.process p end 0 ne ∙ before.ends p below ∙ (let nothing : (k : ℕ) → k ≡ max k 0 = λ k. omega arith in nothing (latest_end calls p n)) ∙ sym new);
-  pends = λ p below. split (c.process == p)
-      (λ t. let same : c.process ≡ p = eqb-true _ _ t in
-      let here : get_or (slice_set pending c.process pends) p false ≡ pends = subst (λ (k : ℕ). get_or (slice_set pending c.process pends) k false ≡ pends) same (get-same pending c.process pends false (omega (arith, before.same))) in
-      let old : get_or pending c.process false ≡ has_pending calls p n = before.pends c.process few ∙ ap (λ (k : ℕ). has_pending calls k n) same in
-      let new : has_pending calls p (suc n) ≡ (has_pending calls p n || is_pending c.operation.outcome) = rw (is, t) refl in
-      here ∙ pends_is ∙ ap (λ (b : Bool). b || is_pending c.operation.outcome) old ∙ sym new)
-      (λ f. let ne : p ≡ c.process → ⊥ = λ e. eqb-false _ _ f (sym e) in
-      let new : has_pending calls p (suc n) ≡ (has_pending calls p n || false) = rw (is, f) refl in
-      get-other pending c.process p pends false ne ∙ before.pends p below ∙ sym (or-false (has_pending calls p n)) ∙ sym new);
+  pends = pends-next calls n c pending pends is few before.same before.pends pends_is;
 }
 
 one-each : {A : Type 0} (d : A) (n p : ℕ) → get_or (replicate n d) p d ≡ d
@@ -76,12 +95,13 @@ zeros p below = one-each 0 33 p
 pub falses : (p : ℕ) → p < 33 → get_or (replicate 33 false) p false ≡ false
 falses p below = one-each false 33 p
 
-pub noted-next : (calls : List Called) (n : ℕ) (c : Called) (latest : List ℕ) (pending : List Bool) (end : ℕ) (returned : Bool) → slice_get calls n ≡ Some c → c.process < 33 →
-    AreNoted calls n latest pending → end ≡ max (get_or latest c.process 0) c.operation.end → returned ≡ is_pending c.operation.outcome →
-    AreNoted calls (n + 1) (slice_set latest c.process end) (slice_set pending c.process (get_or pending c.process false || returned))
-noted-next calls n c latest pending end returned is below before end_is returned_is =
-    let next = noted calls n c latest pending end (get_or pending c.process false || returned) is below before end_is (ap (λ (b : Bool). get_or pending c.process false || b) returned_is) in
-    subst (λ (k : ℕ). AreNoted calls k (slice_set latest c.process end) (slice_set pending c.process (get_or pending c.process false || returned))) (sym (add-one n)) next
+pub noted-next : (calls : List Called) (n : ℕ) (c : Called) (begins ends : List ℕ) (pending : List Bool) (begin end : ℕ) (returned : Bool) → slice_get calls n ≡ Some c → c.process < 33 →
+    AreNoted calls n begins ends pending → begin ≡ max (get_or begins c.process 0) c.operation.begin → end ≡ max (get_or ends c.process 0) c.operation.end → returned ≡ is_pending c.operation.outcome →
+    AreNoted calls (n + 1) (slice_set begins c.process begin) (slice_set ends c.process end) (slice_set pending c.process (get_or pending c.process false || returned))
+noted-next calls n c begins ends pending begin end returned is below before begin_is end_is returned_is =
+    let pends = get_or pending c.process false || returned in
+    let next = noted calls n c begins ends pending begin end pends is below before begin_is end_is (ap (λ (b : Bool). get_or pending c.process false || b) returned_is) in
+    subst (λ (k : ℕ). AreNoted calls k (slice_set begins c.process begin) (slice_set ends c.process end) (slice_set pending c.process pends)) (sym (add-one n)) next
 
 -- a process of a call is one of 33
 pub few : (calls : List Called) (n : ℕ) (c : Called) → AreOfProcesses calls → slice_get calls n ≡ Some c → c.process < 33
@@ -99,9 +119,10 @@ few (d ∷ calls) (suc n) c all is =
     (λ f. let bad : false ≡ true = rw f at all in absurd (cc))
 
 -- what the tables say of a call
-pub latest-of : (calls : List Called) (n : ℕ) (c : Called) (latest : List ℕ) (pending : List Bool) → slice_get calls n ≡ Some c → c.process < 33 → AreNoted calls n latest pending →
-    fault_at calls n ≡ fault_behind (get_or pending c.process false) (get_or latest c.process 0) c
-latest-of calls n c latest pending is below noted =
+pub latest-of : (calls : List Called) (n : ℕ) (c : Called) (begins ends : List ℕ) (pending : List Bool) → slice_get calls n ≡ Some c → c.process < 33 → AreNoted calls n begins ends pending →
+    fault_at calls n ≡ fault_behind (get_or pending c.process false) (record { begin = get_or begins c.process 0; end = get_or ends c.process 0 }) c
+latest-of calls n c begins ends pending is below noted =
     ap (λ (o : Option Called). option_and_then (fault_of calls n) o) is
-    ∙ ap (λ (b : Bool). fault_behind b (latest_end calls c.process n) c) (sym (noted.pends c.process below))
-    ∙ ap (λ (k : ℕ). fault_behind (get_or pending c.process false) k c) (sym (noted.ends c.process below))
+    ∙ ap (λ (b : Bool). fault_behind b (latest_of calls c.process n) c) (sym (noted.pends c.process below))
+    ∙ ap (λ (k : ℕ). fault_behind (get_or pending c.process false) (record { begin = k; end = latest (λ o. o.end) calls c.process n }) c) (sym (noted.begun.each c.process below))
+    ∙ ap (λ (k : ℕ). fault_behind (get_or pending c.process false) (record { begin = get_or begins c.process 0; end = k }) c) (sym (noted.ended.each c.process below))

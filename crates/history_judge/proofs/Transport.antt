@@ -1,5 +1,5 @@
 -- What explains a history explains each that is seen alike.
-use Rattle.std.proofs.Common.{◌≡◌, ℕ, ◌+◌, ◌<◌, zero, suc, Bool, true, false, not, ◌&&◌, List, [], ◌∷◌, length, Option, Some, None, is_none, nat_lt, refl, ap, sym, ◌∙◌, subst, inl, inr, slice_get, get_or, Vec, ◌⊎◌}
+use Rattle.std.proofs.Common.{◌≡◌, ℕ, ◌+◌, ◌<◌, zero, suc, Bool, true, false, not, ◌&&◌, List, [], ◌∷◌, length, IfSome, Option, Some, None, is_none, nat_lt, refl, ap, sym, ◌∙◌, subst, inl, inr, slice_get, get_or, Vec, ◌⊎◌}
 use Rattle.std.specs.Option.{option_and_then, option_map}
 use Rattle.std.specs.declared.alloc.Global.{Global}
 use Rattle.std.proofs.lemmas.Option.{slice_get-map, slice_get_within, slice_get-get_or}
@@ -18,9 +18,11 @@ use Rattle.histories.specs.Histories.{Histories, are_through, completed, current
 use Rattle.histories.specs.Linearizations.{ComesFrom, IsCallOf, IsLinearization, IsWithdrawalOf}
 use Rattle.journal_format.specs.Text.{journal_text}
 use Rattle.histories.proofs.RealTime.{linearization-agrees}
+use Rattle.refutations.specs.Excess.{IsExcess}
+use Rattle.refutations.specs.declared.excess.Excess.{Excess}
 use Rattle.history_judge.specs.Text.{message_of, written_reply}
 use Rattle.history_judge.specs.Seen.{AreSameCalls, AreSameOperations, Seen, seen}
-use Rattle.history_judge.specs.Verdicts.{AreHistoriesOf, Explains, IsAnswer, IsExplainedBy, IsImpossible, UsesUp}
+use Rattle.history_judge.specs.Verdicts.{AreHistoriesOf, Explains, HasExcess, IsAnswer, IsExplainedBy, IsImpossible, UsesUp}
 use Rattle.history_judge.specs.declared.line.Called.{Called}
 use Rattle.history_judge.specs.declared.judgement.Answer.{Answer}
 use Rattle.history_judge.specs.declared.judgement.Answer.TheVariants as answer
@@ -231,6 +233,10 @@ explained-alike xs ys text same by = record {
 -- what uses up the budget with these calls does so with others that are seen alike
 pub uses-up-alike : (budget : ℕ) (xs ys : List Called) → AreSameCalls xs ys → UsesUp budget xs → UsesUp budget ys
 uses-up-alike budget xs ys same u = record { histories = u.histories; are = histories-alike xs ys same u.histories u.are; takes = u.takes }
+
+pub excess-alike : (xs ys : List Called) → AreSameCalls xs ys → (histories : Histories) → AreHistoriesOf xs histories → (found : Option Excess) → IfSome found (IsExcess histories) → IfSome found (HasExcess ys)
+excess-alike xs ys same histories are None is = is
+excess-alike xs ys same histories are (Some e) is = record { histories = histories; are = histories-alike xs ys same histories are; excess = is }
 
 pub answer-alike : (budget : ℕ) (xs ys : List Called) → AreSameCalls xs ys → (a : Answer) → IsAnswer budget xs a → IsAnswer budget ys a
 answer-alike budget xs ys same (answer.Possible journal) is = explained-alike xs ys journal.items same is

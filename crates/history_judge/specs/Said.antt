@@ -1,6 +1,8 @@
 -- What is said of a history.
-use Rattle.std.specs.Prelude.{ℕ, ◌+◌, ◌-◌, ◌^◌, Bool, min, List, [], ◌++◌, length, codes, if◌then◌else◌}
+use Rattle.std.specs.Prelude.{ℕ, ◌+◌, ◌-◌, ◌^◌, Bool, min, List, [], ◌++◌, length, Option, None, Some, codes, if◌then◌else◌}
 use Rattle.std.specs.Fmt.{decimal}
+use Rattle.journal_format.specs.Text.{payload_text}
+use Rattle.refutations.specs.declared.excess.Excess.{Excess}
 use Rattle.history_judge.specs.Text.{history_text}
 use Rattle.history_judge.specs.Processes.{process_count}
 use Rattle.history_judge.specs.declared.line.Called.{Called}
@@ -10,7 +12,7 @@ use Rattle.history_judge.specs.declared.judgement.Judgement.TheVariants.{Possibl
 -- the exit status
 abbrev pub status_of : Judgement → ℕ
 status_of (Possible journal) = 0
-status_of (Impossible call front is_shortest) = 1
+status_of (Impossible call front is_shortest excess) = 1
 status_of OutOfBudget = 5
 
 abbrev pub possible_line : ℕ → ℕ → List ℕ
@@ -20,16 +22,24 @@ possible_line calls processes =
 abbrev pub shortness : Bool → List ℕ
 shortness is_shortest = if is_shortest then [] else codes ", perhaps not the shortest"
 
-abbrev pub impossible_line : ℕ → ℕ → Bool → List ℕ
-impossible_line line calls is_shortest =
+-- a message that was received more often than it was sent, as a line of a history names it
+abbrev pub reason : Option Excess → List ℕ
+reason None = []
+reason (Some e) =
+    codes "; " ++ (decimal e.received ++ (codes " receives, " ++ (decimal e.sent ++
+    (codes " sends of " ++ (decimal e.prio ++ payload_text e.message.items)))))
+
+abbrev pub impossible_line : ℕ → ℕ → Bool → Option Excess → List ℕ
+impossible_line line calls is_shortest excess =
     codes "impossible: line " ++ (decimal line ++ (codes ", front part of " ++ (decimal calls ++
-    (codes " calls" ++ (shortness is_shortest ++ codes "\n")))))
+    (codes " calls" ++ (shortness is_shortest ++ (reason excess ++ codes "\n"))))))
 
 -- a line, and behind it the journal that explains the history, where it is asked for, or the front part that is impossible. The
 -- line of a call is counted from 1
 abbrev pub judgement_text : List Called → Bool → Judgement → List ℕ
 judgement_text calls with_journal (Possible journal) =
     possible_line (length calls) (process_count calls) ++ (if with_journal then journal.items else [])
-judgement_text calls with_journal (Impossible call front is_shortest) =
-    impossible_line (min (call + 1) (2 ^ 64 - 1)) (length front.items) is_shortest ++ history_text front.items
+judgement_text calls with_journal (Impossible call front is_shortest excess) =
+    impossible_line (min (call + 1) (2 ^ 64 - 1)) (length front.items) is_shortest excess ++
+    history_text front.items
 judgement_text calls with_journal OutOfBudget = codes "undecided: the budget was used up\n"

@@ -1,5 +1,5 @@
 -- What it is for a history to be possible, and what a judgement says of it.
-use Rattle.std.specs.Prelude.{◌≡◌, ℕ, ◌+◌, ◌-◌, ◌<◌, Bool, true, false, is_none, map, min, List, length, Some, Vec, slice_get}
+use Rattle.std.specs.Prelude.{◌≡◌, ℕ, ◌+◌, ◌-◌, ◌<◌, Bool, true, false, is_none, map, min, List, length, IfSome, Option, Some, Vec, slice_get}
 use Rattle.std.specs.List.{list_all}
 use Rattle.std.specs.declared.alloc.Global.{Global}
 use Rattle.mq_model.specs.Record.{Past}
@@ -9,6 +9,8 @@ use Rattle.histories.specs.Histories.{Histories, is_complete}
 use Rattle.histories.specs.Judgements.{TakesAllOrders}
 use Rattle.histories.specs.Linearizations.{IsLinearization}
 use Rattle.histories.specs.RealTime.{AgreesWithRealTime, EndInOrder}
+use Rattle.refutations.specs.Excess.{IsExcess}
+use Rattle.refutations.specs.declared.excess.Excess.{Excess}
 use Rattle.history_judge.specs.Seen.{AreSameCalls, AreSameOperations, seen_call}
 use Rattle.history_judge.specs.Processes.{operations_of, process_count}
 use Rattle.history_judge.specs.Descriptors.{no_numbers, renamed}
@@ -60,9 +62,15 @@ IsAnswer budget calls answer.OutOfBudget = UsesUp budget calls
 abbrev pub are_pending : List Called → Bool
 are_pending calls = list_all (λ c. is_none c.operation.reply) (map seen_call calls)
 
--- the front is an impossible front part. It ends with the return of the call, and the whole history with the last return. Where it is
+-- in the operations of these calls a message was received more often than it was sent
+pub record HasExcess (calls : List Called) (e : Excess) : Type 0 where
+  pub histories : Histories
+  pub are : AreHistoriesOf calls histories
+  pub excess : IsExcess histories e
+
+-- the front is an impossible front part, in which there is this excess, if one is given. It ends with the return of the call, and the whole history with the last return. Where it is
 -- the shortest the front part before it is possible, and where it may not be the budget was used up on the way, at a shorter one
-pub record IsImpossibleFront (budget : ℕ) (calls : List Called) (call : ℕ) (front : List Called) (is_shortest : Bool) : Type 0 where
+pub record IsImpossibleFront (budget : ℕ) (calls : List Called) (call : ℕ) (front : List Called) (is_shortest : Bool) (excess : Option Excess) : Type 0 where
   pub returns : List Return
   pub are : AreReturnsOf calls returns
   pub number : ℕ
@@ -71,10 +79,12 @@ pub record IsImpossibleFront (budget : ℕ) (calls : List Called) (call : ℕ) (
   pub of : call ≡ last.1
   pub part : AreSameCalls front (front_part calls returns number)
   pub impossible : IsImpossible (front_part calls returns number)
+  pub reason : IfSome excess (HasExcess (front_part calls returns number))
   pub shortest : is_shortest ≡ true → (before : ℕ) → before + 1 ≡ number → IsPossible (front_part calls returns before)
   pub unsure : is_shortest ≡ false → (before : ℕ) × (before < number) × UsesUp budget (front_part calls returns before)
 
 abbrev pub IsJudgement : ℕ → List Called → Judgement → Type 0
 IsJudgement budget calls (Possible journal) = IsExplainedBy calls journal.items
-IsJudgement budget calls (Impossible call front is_shortest) = IsImpossibleFront budget calls call front.items is_shortest
+IsJudgement budget calls (Impossible call front is_shortest excess) =
+    IsImpossibleFront budget calls call front.items is_shortest excess
 IsJudgement budget calls OutOfBudget = UsesUp budget calls

@@ -1,24 +1,35 @@
 -- Well-formed histories: each process makes its calls one after the other, and each call is given the
 -- bytes that it takes.
-use Rattle.std.specs.Prelude.{◌≡◌, ◌<◌, ◌+◌, ℕ, zero, suc, Bool, true, false, ◌&&◌, ◌||◌, ◌==◌, nat_lt, max, List, Option, Some, None, codes, slice_get, if◌then◌else◌}
+use Rattle.std.specs.Prelude.{◌≡◌, ◌<◌, ◌+◌, ℕ, zero, suc, Bool, true, false, not, ◌&&◌, ◌||◌, ◌==◌, nat_lt, max, List, Option, Some, None, codes, slice_get, if◌then◌else◌}
 use Rattle.std.specs.Option.{option_and_then}
 use Rattle.mq_model.specs.Legality.{is_payload}
 use Rattle.mq_model.specs.declared.entries.Call.{Call}
 use Rattle.mq_model.specs.declared.entries.Call.TheVariants.{MqOpen, MqUnlink}
 use Rattle.mq_model.specs.declared.entries.Reply.TheVariants.{Done}
 use Rattle.histories.specs.Histories.{is_pending}
+use Rattle.histories.specs.declared.operation.Operation.{Operation}
 use Rattle.history_judge.specs.declared.line.Called.{Called}
 use Rattle.history_judge.specs.declared.well_formed.IllFormed.{IllFormed}
 use Rattle.history_judge.specs.declared.well_formed.IllFormed.TheVariants.{BadLength, BadName, BehindPending, EndsFirst, Overlaps}
 
-abbrev pub end_by : ℕ → Option Called → ℕ
-end_by p None = 0
-end_by p (Some c) = if c.process == p then c.operation.end else 0
+abbrev pub moment_by : (Operation → ℕ) → ℕ → Option Called → ℕ
+moment_by moment p None = 0
+moment_by moment p (Some c) = if c.process == p then moment c.operation else 0
 
--- the latest moment at which one of the first n calls ended that process p made
-abbrev pub latest_end : List Called → ℕ → ℕ → ℕ
-latest_end calls p zero = 0
-latest_end calls p (suc n) = max (latest_end calls p n) (end_by p (slice_get calls n))
+-- the latest of these moments of those of the first n calls that process p made
+abbrev pub latest : (Operation → ℕ) → List Called → ℕ → ℕ → ℕ
+latest moment calls p zero = 0
+latest moment calls p (suc n) =
+    max (latest moment calls p n) (moment_by moment p (slice_get calls n))
+
+-- the latest moments at which calls of a process began and ended
+pub record LatestMoments : Type 0 where
+  pub begin : ℕ
+  pub end : ℕ
+
+abbrev pub latest_of : List Called → ℕ → ℕ → LatestMoments
+latest_of calls p n =
+    record { begin = latest (λ o. o.begin) calls p n; end = latest (λ o. o.end) calls p n }
 
 abbrev pub is_pending_by : ℕ → Option Called → Bool
 is_pending_by p None = false
@@ -34,18 +45,24 @@ takes_name (MqOpen flags attr) = true
 takes_name MqUnlink = true
 takes_name _ = false
 
--- why a call may not stand behind others of its process, of which the latest ended at `latest`, and
--- one had not returned if `pending`
-abbrev pub fault_behind : Bool → ℕ → Called → Option IllFormed
-fault_behind pending latest c =
+-- the operation begins before those ended, and not at once with them: the closes of an exit begin and
+-- end with it
+abbrev pub overlaps : LatestMoments → Operation → Bool
+overlaps before o =
+    nat_lt o.begin before.end && not (o.begin == before.begin && o.end == before.end)
+
+-- why a call may not stand behind others of its process, which began and ended at these moments at
+-- the latest, and of which one had not returned if `pending`
+abbrev pub fault_behind : Bool → LatestMoments → Called → Option IllFormed
+fault_behind pending before c =
     if pending then Some BehindPending
-    else (if nat_lt c.operation.begin latest then Some Overlaps
+    else (if overlaps before c.operation then Some Overlaps
     else (if nat_lt c.operation.end c.operation.begin then Some EndsFirst
     else (if is_payload c.operation.call Done c.operation.given.items then None
     else (if takes_name c.operation.call then Some BadName else Some BadLength))))
 
 abbrev pub fault_of : List Called → ℕ → Called → Option IllFormed
-fault_of calls n c = fault_behind (has_pending calls c.process n) (latest_end calls c.process n) c
+fault_of calls n c = fault_behind (has_pending calls c.process n) (latest_of calls c.process n) c
 
 -- why the call at an index, from 0, may not stand behind those before it
 abbrev pub fault_at : List Called → ℕ → Option IllFormed

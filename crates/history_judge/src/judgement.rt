@@ -1,11 +1,12 @@
 //! Whether a history is possible.
-ghost use Rattle.std.specs.Prelude.{◌≡◌, ◌≤◌, ◌<◌, IfOk, Ok, false, length, vec_len};
+ghost use Rattle.std.specs.Prelude.{◌≡◌, ◌≤◌, ◌<◌, IfOk, IfSome, Ok, false, length, vec_len};
 ghost use Rattle.history_judge.specs.Seen.{AreSameCalls};
 ghost use Rattle.history_judge.specs.Fronts.{front_part};
 ghost use Rattle.history_judge.specs.Processes.{AreOfProcesses};
-ghost use Rattle.history_judge.specs.Verdicts.{AreHistoriesOf, IsAnswer, IsImpossible, IsJudgement, are_pending};
+ghost use Rattle.history_judge.specs.Verdicts.{AreHistoriesOf, HasExcess, IsAnswer, IsImpossible, IsJudgement, are_pending};
 
 use crate::descriptors::rename;
+use crate::first_excess::first_excess;
 use crate::front::{front_of, returns_of, whole_of};
 use crate::hints::hints_of;
 use crate::line::Called;
@@ -14,6 +15,7 @@ use histories::judge::judge;
 use histories::linearizer::Linearizer;
 use histories::operation::Operation;
 use journal_format::text::write_journal;
+use refutations::excess::{Excess, find_excess};
 use schedules::search::Finding;
 use std::alloc::{AllocError, Global};
 
@@ -35,6 +37,10 @@ pub fn find_order(alloc: Global, calls: Vec<Called>, budget: u64) -> Result<Answ
     ensures returned { result ≡ Ok Answer.Impossible → are_pending calls.items ≡ false }
 {
     let histories = histories_of(alloc, calls)?;
+    if let Some(excess) = find_excess(alloc, &histories)? {
+        let _excess = excess;
+        return Ok(Answer::Impossible);
+    }
     let hints = hints_of(alloc, &histories)?;
     let mut linearizer = Linearizer::new(alloc, histories, hints)?;
     match judge(alloc, &mut linearizer, budget)? {
@@ -77,6 +83,8 @@ pub enum Judgement {
         front: Vec<Called>,
         /// What was seen until the return before it is possible.
         is_shortest: bool,
+        /// A message that was received more often than it was sent until then, if one is found.
+        excess: Option<Excess>,
     },
     /// The budget was used up before either was known.
     OutOfBudget,
@@ -104,12 +112,13 @@ fn shortest(alloc: Global, calls: &[Called], budget: u64) -> Result<Judgement, A
     ensures { IfOk result (IsJudgement budget calls.now) }
 {
     let returns = returns_of(alloc, calls)?;
+    let guess = first_excess(alloc, calls, &returns)?;
     // the front part `bad` is impossible, and those before `good` are not known to be. Behind the last return it is the whole history
     let mut good = 0;
     let mut bad = returns.len();
     let mut is_shortest = true;
     while good < bad {
-        let middle = good + (bad - good) / 2;
+        let middle = next_to_try(good, bad, guess);
         let answer = judge_front(alloc, calls, &returns, middle, budget)?;
         match answer {
             Answer::Impossible => bad = middle,
@@ -121,13 +130,51 @@ fn shortest(alloc: Global, calls: &[Called], budget: u64) -> Result<Judgement, A
         }
     }
     let front = front_part(alloc, calls, &returns, bad)?;
+    let excess = excess_in(alloc, calls, &returns, bad)?;
     let at = bad.min(returns.len().saturating_sub(1));
     let last = returns[at];
     Ok(Judgement::Impossible {
         call: last.1,
         front,
         is_shortest,
+        excess,
     })
+}
+
+// Which of the front parts from `good` on and before `bad` is judged next: the one that may be the
+// shortest with an excess, and if that is `bad` the one before, and else one in the middle.
+fn next_to_try(good: usize, bad: usize, guess: Option<usize>) -> usize
+    requires { good < bad }
+    ensures { (good ≤ result) × (result < bad) }
+{
+    match guess {
+        Some(guess) => {
+            if guess == bad {
+                bad - 1
+            } else if good <= guess && guess < bad {
+                guess
+            } else {
+                good + (bad - good) / 2
+            }
+        }
+        None => good + (bad - good) / 2,
+    }
+}
+
+// A message that was received more often than it was sent in the front part with a number, if one
+// is found.
+fn excess_in(
+    alloc: Global,
+    calls: &[Called],
+    returns: &Vec<(u64, usize)>,
+    number: usize,
+) -> Result<Option<Excess>, AllocError>
+    ensures { IfOk result (λ found.
+        IfSome found (HasExcess (front_part calls.now returns.now.items number))) }
+{
+    let front = front_part(alloc, calls, returns, number)?;
+    let histories = histories_of(alloc, front)?;
+    find_excess(alloc, &histories)
 }
 
 // The front part with a number: that until a return, or the whole history.

@@ -3,6 +3,7 @@
 
 pub mod contents;
 pub mod descriptors;
+mod first_excess;
 mod fitting;
 pub mod front;
 pub mod guide;

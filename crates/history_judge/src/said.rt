@@ -1,11 +1,13 @@
 //! What is said of a history.
-ghost use Rattle.std.specs.Prelude.{◌≡◌, IfOk, string_bytes};
-ghost use Rattle.history_judge.specs.Said.{impossible_line, judgement_text, possible_line, shortness, status_of};
+ghost use Rattle.std.specs.Prelude.{◌≡◌, IfOk, Some, string_bytes};
+ghost use Rattle.history_judge.specs.Said.{impossible_line, judgement_text, possible_line, reason, shortness, status_of};
 
 use crate::judgement::Judgement;
 use crate::line::Called;
 use crate::processes::process_count;
 use crate::text::write_history;
+use journal_format::payload::payload_text;
+use refutations::excess::Excess;
 use std::alloc::{AllocError, Global};
 
 // The line of a history that is possible.
@@ -26,17 +28,40 @@ fn shortness(is_shortest: bool) -> &'static str
     }
 }
 
+// A message that was received more often than it was sent.
+fn reason(alloc: Global, excess: &Option<Excess>) -> Result<String, AllocError>
+    ensures { IfOk result (λ text. string_bytes text ≡ reason excess.now) }
+{
+    match excess {
+        None => Ok(String::new(alloc)),
+        Some(excess) => excess_text(alloc, excess),
+    }
+}
+
+fn excess_text(alloc: Global, excess: &Excess) -> Result<String, AllocError>
+    ensures { IfOk result (λ text. string_bytes text ≡ reason (Some excess.now)) }
+{
+    let received = excess.received;
+    let sent = excess.sent;
+    let prio = excess.prio;
+    let message = payload_text(alloc, &excess.message)?;
+    format!(in alloc; "; {received} receives, {sent} sends of {prio}{message}")
+}
+
 // The line of a history that is not.
 fn impossible_line(
     alloc: Global,
     line: u64,
     calls: usize,
     is_shortest: bool,
+    excess: &Option<Excess>,
 ) -> Result<String, AllocError>
-    ensures { IfOk result (λ text. string_bytes text ≡ impossible_line line calls is_shortest) }
+    ensures { IfOk result (λ text.
+        string_bytes text ≡ impossible_line line calls is_shortest excess.now) }
 {
     let known = shortness(is_shortest);
-    format!(in alloc; "impossible: line {line}, front part of {calls} calls{known}\n")
+    let reason = reason(alloc, excess)?;
+    format!(in alloc; "impossible: line {line}, front part of {calls} calls{known}{reason}\n")
 }
 
 /// What is written of the judgement of a history: a line, and behind it the journal that explains it, where it is asked for, or the
@@ -63,9 +88,10 @@ pub fn judgement_text(
             call,
             front,
             is_shortest,
+            excess,
         } => {
             let number = (*call as u64).saturating_add(1);
-            let line = impossible_line(alloc, number, front.len(), *is_shortest)?;
+            let line = impossible_line(alloc, number, front.len(), *is_shortest, excess)?;
             text.extend_from_slice(line.as_bytes())?;
             let history = write_history(alloc, front)?;
             text.extend_from_slice(&history)?;

@@ -3,10 +3,10 @@
 ghost use Rattle.std.specs.Prelude.{◌≡◌, IfSome, None, Some, max};
 ghost use Rattle.histories.specs.Histories.{is_pending};
 ghost use Rattle.history_judge.specs.Processes.{AreOfProcesses};
-ghost use Rattle.history_judge.specs.WellFormed.{IsFirstFault, IsWellFormed, fault_behind, ill_formed_text, takes_name};
+ghost use Rattle.history_judge.specs.WellFormed.{IsFirstFault, IsWellFormed, fault_behind, ill_formed_text, overlaps, takes_name};
 
 use crate::line::Called;
-use histories::operation::Outcome;
+use histories::operation::{Operation, Outcome};
 use mq_model::entries::{Call, Reply};
 use mq_model::forms::is_payload;
 use mq_model::limits::PROCESSES;
@@ -17,7 +17,7 @@ use std::fmt;
 pub enum IllFormed {
     /// An earlier call of its process had not returned.
     BehindPending,
-    /// It begins before an earlier call of its process ended.
+    /// It begins before an earlier call of its process ended, and not at once with it.
     Overlaps,
     /// It ends before it begins.
     EndsFirst,
@@ -67,15 +67,23 @@ fn later(one: u64, other: u64) -> u64
     one.max(other)
 }
 
+// The operation begins before others of its process ended, of which the latest moments are these,
+// and not at once with them: the closes of an exit begin and end with it.
+fn overlaps(begin: u64, end: u64, operation: &Operation) -> bool
+    ensures { result ≡ overlaps (record { begin = begin; end = end }) operation.now }
+{
+    operation.begin < end && !(operation.begin == begin && operation.end == end)
+}
+
 // Why a call may not stand behind others of its process.
-fn fault_behind(pending: bool, latest: u64, called: &Called) -> Option<IllFormed>
-    ensures { result ≡ fault_behind pending latest called.now }
+fn fault_behind(pending: bool, begin: u64, end: u64, called: &Called) -> Option<IllFormed>
+    ensures { result ≡ fault_behind pending (record { begin = begin; end = end }) called.now }
 {
     let operation = &called.operation;
     if pending {
         return Some(IllFormed::BehindPending);
     }
-    if operation.begin < latest {
+    if overlaps(begin, end, operation) {
         return Some(IllFormed::Overlaps);
     }
     if operation.end < operation.begin {
@@ -97,15 +105,17 @@ pub fn first_fault(calls: &[Called]) -> Option<(u64, IllFormed)>
     ensures none { result ≡ None → IsWellFormed calls.now }
     ensures some { IfSome result (λ fault. IsFirstFault calls.now fault.0 fault.1) }
 {
-    let mut latest = [0u64; COUNT];
+    let mut begins = [0u64; COUNT];
+    let mut ends = [0u64; COUNT];
     let mut pending = [false; COUNT];
     for n in 0..calls.len() {
         let called = &calls[n];
         let p = called.process as usize;
-        if let Some(why) = fault_behind(pending[p], latest[p], called) {
+        if let Some(why) = fault_behind(pending[p], begins[p], ends[p], called) {
             return Some((n as u64 + 1, why));
         }
-        latest[p] = later(latest[p], called.operation.end);
+        begins[p] = later(begins[p], called.operation.begin);
+        ends[p] = later(ends[p], called.operation.end);
         pending[p] = pending[p] | is_pending(&called.operation.outcome);
     }
     None

@@ -1,4 +1,4 @@
-use Rattle.std.proofs.Common.{◌≡◌, [], true, false, ap, ◌∙◌, subst}
+use Rattle.std.proofs.Common.{◌≡◌, [], true, false, ap, ◌∙◌, subst, refl}
 use Rattle.mq_model.specs.Record.{Past}
 use Rattle.journal_format.specs.Text.{journal_text}
 use Rattle.histories.specs.Histories.{Histories, is_complete}
@@ -17,6 +17,16 @@ returns-in-Found-clause-answer c =
     explained c.args.calls.items c.in_ok-histories.histories.items past c.in_ok-journal-in-Found.journal.items c.in_ok-histories.ensures.are
     (subst (λ (h : Histories). IsLinearization h past × (is_complete h past ≡ true)) same found)
     (c.in_ok-journal-in-Found.ensures.text ∙ ap journal_text c.journal.ensures)
+
+pub returns-in-Some-clause-answer : goal.returns-in-Some-clause-answer
+returns-in-Some-clause-answer c =
+    let none = rw c.in-Some.is at c.in_ok-excess.ensures.none in
+    is-impossible c.args.calls.items c.in_ok-histories.histories.items c.in_ok-histories.ensures.are (none refl)
+
+pub returns-in-Some-clause-returned : goal.returns-in-Some-clause-returned
+returns-in-Some-clause-returned c is =
+    let none = rw c.in-Some.is at c.in_ok-excess.ensures.none in
+    not-pending c.args.calls.items c.in_ok-histories.histories.items c.in_ok-histories.ensures.are (none refl [] tt)
 
 pub returns-in-Nothing-clause-answer : goal.returns-in-Nothing-clause-answer
 returns-in-Nothing-clause-answer c =

@@ -1,4 +1,4 @@
-use Rattle.std.proofs.Common.{rules, arith, ◌≡◌, ◌≤◌, ◌<◌, ℕ, ◌+◌, ◌-◌, ◌/◌, true, false, Some, length, min, refl, sym, ◌∙◌, subst, slice_get}
+use Rattle.std.proofs.Common.{rules, arith, ◌≡◌, ◌≤◌, ◌<◌, ℕ, ◌+◌, ◌-◌, true, false, Some, length, min, refl, sym, ◌∙◌, subst, slice_get}
 use Rattle.std.proofs.lemmas.Grind.{common_steps}
 use Rattle.std.proofs.lemmas.Option.{slice_get_read}
 use Rattle.history_judge.specs.Fronts.{Return, front_part}
@@ -22,24 +22,26 @@ loop-good-init c =
 pub loop-good-preserved-after-answer : goal.loop-good-preserved-after-answer
 loop-good-preserved-after-answer c =
     let was = c.loop-good.invariant in let calls = c.args.calls.now in let returns = c.in_ok-returns.returns.items in
-    let middle : ℕ = c.loop-good.good + (c.loop-good.bad - c.loop-good.good) / 2 in
+    let middle : ℕ = c.next_to_try-middle.result in
+    let from : c.loop-good.good ≤ middle = c.next_to_try-middle.ensures.0 in
+    let to : middle < c.loop-good.bad = c.next_to_try-middle.ensures.1 in
     elim c.match-answer.branch [
       | in-Impossible w ↦ record {
-        order = omega (arith, w.good-is, w.bad-is, was.order);
-        within = omega (arith, w.bad-is, was.order, was.within);
+        order = omega (arith, w.good-is, w.bad-is, from);
+        within = omega (arith, w.bad-is, to, was.within);
         impossible = impossible-part c.args.budget calls returns middle c.match-answer.bad c.in_ok-answer.answer w.in-Impossible.is c.in_ok-answer.ensures w.bad-is;
         shortest = λ t before next. was.shortest (sym w.is_shortest-is ∙ t) before (next ∙ w.good-is);
         unsure = λ f. let old = was.unsure (sym w.is_shortest-is ∙ f) in let below = old.1 in (old.0, omega (arith, below, w.good-is), old.2);
       }
       | in-Possible w ↦ record {
-        order = omega (arith, w.good-is, w.bad-is, was.order);
+        order = omega (arith, w.good-is, w.bad-is, to);
         within = omega (arith, w.bad-is, was.within);
         impossible = subst (λ n. IsImpossible (front_part calls returns n)) (sym w.bad-is) was.impossible;
         shortest = λ t before next. possible-before c.args.budget calls returns middle c.in_ok-answer.answer _ w.in-Possible.is c.in_ok-answer.ensures before (next ∙ w.good-is);
-        unsure = λ f. let old = was.unsure (sym w.is_shortest-is ∙ f) in let below = old.1 in (old.0, omega (arith, below, was.order, w.good-is), old.2);
+        unsure = λ f. let old = was.unsure (sym w.is_shortest-is ∙ f) in let below = old.1 in (old.0, omega (arith, below, from, w.good-is), old.2);
       }
       | in-OutOfBudget w ↦ record {
-        order = omega (arith, w.good-is, w.bad-is, was.order);
+        order = omega (arith, w.good-is, w.bad-is, to);
         within = omega (arith, w.bad-is, was.within);
         impossible = subst (λ n. IsImpossible (front_part calls returns n)) (sym w.bad-is) was.impossible;
         shortest = λ t before next. absurd (let e : false ≡ true = sym w.is_shortest-is ∙ t in let no : ⊥ = cc in no);
@@ -50,24 +52,26 @@ loop-good-preserved-after-answer c =
 pub loop-good-preserved : goal.loop-good-preserved
 loop-good-preserved c =
     let was = c.loop-good.invariant in let calls = c.args.calls.now in let returns = c.in_ok-returns.returns.items in
-    let middle : ℕ = c.loop-good.good + (c.loop-good.bad - c.loop-good.good) / 2 in
+    let middle : ℕ = c.next_to_try-middle.result in
+    let from : c.loop-good.good ≤ middle = c.next_to_try-middle.ensures.0 in
+    let to : middle < c.loop-good.bad = c.next_to_try-middle.ensures.1 in
     elim c.match-answer.branch [
       | in-Impossible w ↦ record {
-        order = omega (arith, w.good-is, w.bad-is, was.order);
-        within = omega (arith, w.bad-is, was.order, was.within);
+        order = omega (arith, w.good-is, w.bad-is, from);
+        within = omega (arith, w.bad-is, to, was.within);
         impossible = impossible-part c.args.budget calls returns middle c.match-answer.bad c.in_ok-answer.answer w.in-Impossible.is c.in_ok-answer.ensures w.bad-is;
         shortest = λ t before next. was.shortest (sym w.is_shortest-is ∙ t) before (next ∙ w.good-is);
         unsure = λ f. let old = was.unsure (sym w.is_shortest-is ∙ f) in let below = old.1 in (old.0, omega (arith, below, w.good-is), old.2);
       }
       | in-Possible w ↦ record {
-        order = omega (arith, w.good-is, w.bad-is, was.order);
+        order = omega (arith, w.good-is, w.bad-is, to);
         within = omega (arith, w.bad-is, was.within);
         impossible = subst (λ n. IsImpossible (front_part calls returns n)) (sym w.bad-is) was.impossible;
         shortest = λ t before next. possible-before c.args.budget calls returns middle c.in_ok-answer.answer _ w.in-Possible.is c.in_ok-answer.ensures before (next ∙ w.good-is);
-        unsure = λ f. let old = was.unsure (sym w.is_shortest-is ∙ f) in let below = old.1 in (old.0, omega (arith, below, was.order, w.good-is), old.2);
+        unsure = λ f. let old = was.unsure (sym w.is_shortest-is ∙ f) in let below = old.1 in (old.0, omega (arith, below, from, w.good-is), old.2);
       }
       | in-OutOfBudget w ↦ record {
-        order = omega (arith, w.good-is, w.bad-is, was.order);
+        order = omega (arith, w.good-is, w.bad-is, to);
         within = omega (arith, w.bad-is, was.within);
         impossible = subst (λ n. IsImpossible (front_part calls returns n)) (sym w.bad-is) was.impossible;
         shortest = λ t before next. absurd (let e : false ≡ true = sym w.is_shortest-is ∙ t in let no : ⊥ = cc in no);
@@ -90,6 +94,7 @@ returns c =
       of = refl;
       part = c.in_ok-front.ensures;
       impossible = was.impossible;
+      reason = c.in_ok-excess.ensures;
       unsure = λ f. let old = was.unsure f in let below = old.1 in (old.0, omega (arith, below, was.order), old.2);
       shortest = λ t before next. was.shortest t before (let e : before + 1 ≡ c.loop-good.good = omega (arith, next, was.order) in e);
     }

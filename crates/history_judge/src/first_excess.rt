@@ -1,0 +1,79 @@
+//! Where a message may first have been received more often than it was sent.
+use crate::line::Called;
+use histories::operation::Outcome;
+use refutations::excess::may_have_sent;
+use std::alloc::{AllocError, Global};
+
+// A message with its priority.
+type Message<'h> = (u32, &'h [u8]);
+
+/// The number of the first front part in which a message may have been received more often than it
+/// was sent. A guess, by the calls of all processes in the order of their moments: whoever uses it
+/// judges that front part.
+pub fn first_excess(
+    alloc: Global,
+    calls: &[Called],
+    returns: &Vec<(u64, usize)>,
+) -> Result<Option<usize>, AllocError> {
+    let mut messages: Vec<Message> = Vec::new(alloc);
+    // begins of sends, and returns that take a message away
+    let mut events: Vec<(u64, bool, usize)> = Vec::new(alloc);
+    for (index, called) in calls.iter().enumerate() {
+        let operation = &called.operation;
+        if operation.call.is_send() {
+            messages.push(message_of(called))?;
+            events.push((operation.begin, false, index))?;
+        }
+        if takes_away(called) {
+            messages.push(message_of(called))?;
+            events.push((operation.end, true, index))?;
+        }
+    }
+    messages.sort()?;
+    messages.dedup();
+    events.sort()?;
+    let mut left = vec![in alloc; 0u64; messages.len()]?;
+    for (_, is_return, index) in &events {
+        if *index >= calls.len() {
+            return Ok(None);
+        }
+        let message = message_of(&calls[*index]);
+        let Ok(kind) = messages.binary_search(&message) else {
+            return Ok(None);
+        };
+        if kind >= left.len() {
+            return Ok(None);
+        }
+        if !*is_return {
+            left[kind] = left[kind].saturating_add(1);
+        } else if left[kind] == 0 {
+            return Ok(place_of(returns, *index));
+        } else {
+            left[kind] -= 1;
+        }
+    }
+    Ok(None)
+}
+
+// The return of a call takes away a message that may have been there: it was received, or its send
+// was refused.
+fn takes_away(called: &Called) -> bool {
+    match called.operation.outcome {
+        Outcome::Got { .. } => true,
+        _ => called.operation.call.is_send() && !may_have_sent(&called.operation.outcome),
+    }
+}
+
+// The message that a call received, and otherwise the one that it was given.
+fn message_of(called: &Called) -> Message {
+    let operation = &called.operation;
+    match &operation.outcome {
+        Outcome::Got { prio, message } => (*prio, message.as_slice()),
+        _ => (operation.call.priority(), operation.given.as_slice()),
+    }
+}
+
+// The place of the return of the call at an index.
+fn place_of(returns: &Vec<(u64, usize)>, index: usize) -> Option<usize> {
+    returns.iter().position(|one| one.1 == index)
+}

@@ -1,0 +1,4 @@
+pub mod Giving
+pub mod Totals
+pub mod Completing
+pub mod Refuting

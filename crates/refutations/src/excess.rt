@@ -1,0 +1,208 @@
+//! Messages that were received more often than they were sent.
+ghost use Rattle.std.specs.Prelude.{◌≡◌, ◌≤◌, IfOk, IfSome, IsSome, length, position};
+ghost use Rattle.std.specs.List.{count_by};
+ghost use Rattle.histories.specs.Histories.{is_pending};
+ghost use Rattle.refutations.specs.Excess.{HasNoOrder, IsExcess, has_got, may_have_sent, receives, returned, sends, times_received, times_sent};
+
+use histories::operation::{Operation, Outcome, is_timeout};
+use std::alloc::{AllocError, Global};
+
+/// A message that was received more often than it was sent.
+#[derive(Debug, Drop)]
+pub struct Excess {
+    pub prio: u32,
+    pub message: Vec<u8>,
+    /// How many receives returned it. One that stands behind a call of its process that had not
+    /// returned does not count.
+    pub received: u128,
+    /// How many calls may have sent it: sends that were not refused, and those whose deadline
+    /// passed, since they may have waited.
+    pub sent: u128,
+}
+
+fn is_pending(outcome: &Outcome) -> bool
+    ensures { result ≡ is_pending outcome.now }
+{
+    match outcome {
+        Outcome::Pending => true,
+        _ => false,
+    }
+}
+
+/// A send that came to this may have sent its message. One whose deadline passed may have waited.
+pub fn may_have_sent(outcome: &Outcome) -> bool
+    ensures { result ≡ may_have_sent outcome.now }
+{
+    match outcome {
+        Outcome::Refused(fault) => is_timeout(*fault),
+        _ => true,
+    }
+}
+
+fn sends(prio: u32, message: &[u8], operation: &Operation) -> bool
+    ensures { result ≡ sends prio message.now operation.now }
+{
+    operation.call.is_send()
+        && may_have_sent(&operation.outcome)
+        && operation.call.priority() == prio
+        && operation.given.as_slice() == message
+}
+
+fn has_got(prio: u32, message: &[u8], outcome: &Outcome) -> bool
+    ensures { result ≡ has_got prio message.now outcome.now }
+{
+    match outcome {
+        Outcome::Got {
+            prio: p,
+            message: m,
+        } => *p == prio && m.as_slice() == message,
+        _ => false,
+    }
+}
+
+// The first operation that had not returned.
+fn first_pending(operations: &[Operation]) -> Option<usize>
+    ensures first { result ≡ position (λ o. is_pending o.outcome) operations.now }
+    ensures room { IfSome result (λ place. place ≤ length operations.now) }
+{
+    operations
+        .iter()
+        .position(|operation| is_pending(&operation.outcome))
+}
+
+// The operations of a process that stand before the first that had not returned.
+fn returned(operations: &[Operation]) -> &[Operation]
+    ensures { result.now ≡ returned operations.now }
+{
+    match first_pending(operations) {
+        None => operations,
+        Some(place) => &operations[..place],
+    }
+}
+
+fn sends_in(prio: u32, message: &[u8], operations: &[Operation]) -> u64
+    ensures count { result ≡ count_by (sends prio message.now) operations.now }
+{
+    let mut count: u64 = 0;
+    for operation in operations {
+        if sends(prio, message, operation) {
+            count += 1;
+        }
+    }
+    count
+}
+
+fn receives_in(prio: u32, message: &[u8], operations: &[Operation]) -> u64
+    ensures count { result ≡ count_by (receives prio message.now) operations.now }
+{
+    let mut count: u64 = 0;
+    for operation in operations {
+        if has_got(prio, message, &operation.outcome) {
+            count += 1;
+        }
+    }
+    count
+}
+
+fn times_sent(prio: u32, message: &[u8], histories: &Vec<Vec<Operation>>) -> u128
+    ensures { result ≡ times_sent prio message.now histories.now.items }
+{
+    let mut count: u128 = 0;
+    for operations in histories {
+        count += u128::from(sends_in(prio, message, operations));
+    }
+    count
+}
+
+fn times_received(prio: u32, message: &[u8], histories: &Vec<Vec<Operation>>) -> u128
+    ensures { result ≡ times_received prio message.now histories.now.items }
+{
+    let mut count: u128 = 0;
+    for operations in histories {
+        count += u128::from(receives_in(prio, message, returned(operations)));
+    }
+    count
+}
+
+// A message that was sent or received, with its priority, and whether it was received.
+type Use<'h> = (u32, &'h [u8], bool);
+
+// The sends and the receives that count, those of one message side by side, its sends in front.
+fn uses_of(alloc: Global, histories: &Vec<Vec<Operation>>) -> Result<Vec<Use>, AllocError> {
+    let mut uses: Vec<Use> = Vec::new(alloc);
+    for operations in histories {
+        for operation in operations {
+            if operation.call.is_send() && may_have_sent(&operation.outcome) {
+                let prio = operation.call.priority();
+                uses.push((prio, operation.given.as_slice(), false))?;
+            }
+        }
+        for operation in returned(operations) {
+            if let Outcome::Got { prio, message } = &operation.outcome {
+                uses.push((*prio, message.as_slice(), true))?;
+            }
+        }
+    }
+    uses.sort()?;
+    Ok(uses)
+}
+
+// The first of these receives for which no send is left.
+fn suspect<'u, 'h>(uses: &'u Vec<Use<'h>>) -> Option<&'u Use<'h>> {
+    let mut left: u64 = 0;
+    let mut last: (u32, &[u8]) = (0, &[]);
+    for one in uses {
+        let (prio, message, is_received) = *one;
+        if last.0 != prio || last.1 != message {
+            left = 0;
+            last = (prio, message);
+        }
+        if !is_received {
+            left = left.saturating_add(1);
+        } else if left == 0 {
+            return Some(one);
+        } else {
+            left -= 1;
+        }
+    }
+    None
+}
+
+// The message with its counts, if it is one of those.
+fn excess_of(
+    alloc: Global,
+    prio: u32,
+    message: &[u8],
+    histories: &Vec<Vec<Operation>>,
+) -> Result<Option<Excess>, AllocError>
+    ensures { IfOk result (λ found. IfSome found (IsExcess histories.now.items)) }
+{
+    let received = times_received(prio, message, histories);
+    let sent = times_sent(prio, message, histories);
+    if sent >= received {
+        return Ok(None);
+    }
+    let message = message.to_vec(alloc)?;
+    Ok(Some(Excess {
+        prio,
+        message,
+        received,
+        sent,
+    }))
+}
+
+/// A message that was received more often than it was sent, if one is found. Such a history has no
+/// linearization.
+pub fn find_excess(
+    alloc: Global,
+    histories: &Vec<Vec<Operation>>,
+) -> Result<Option<Excess>, AllocError>
+    ensures is { IfOk result (λ found. IfSome found (IsExcess histories.now.items)) }
+    ensures none { IfOk result (λ found. IsSome found → HasNoOrder histories.now.items) }
+{
+    let uses = uses_of(alloc, histories)?;
+    match suspect(&uses) {
+        None => Ok(None),
+        Some((prio, message, _)) => excess_of(alloc, *prio, message, histories),
+    }
+}

@@ -1,0 +1,4 @@
+//! Local contradictions of a concurrent history, found without a search.
+#![tactic(auto)]
+
+pub mod excess;
