@@ -6,14 +6,17 @@ use Rattle.history_judge.specs.Fitting.{AllFit}
 use Rattle.history_judge.specs.Text.{history_text}
 use Rattle.history_judge.specs.Said.{judgement_text, status_of}
 use Rattle.history_judge.specs.Verdicts.{IsJudgement}
+use Rattle.history_judge.specs.WellFormed.{IsFirstFault, IsWellFormed}
+use Rattle.history_judge.specs.declared.well_formed.IllFormed.{IllFormed}
 use Rattle.history_judge.specs.declared.line.Called.{Called}
 use Rattle.history_judge.specs.declared.judgement.Judgement.{Judgement}
 
--- the bytes are the text of a history, whose calls are of processes from 1 to 32 and have numbers that fit, and this is a judgement
--- of it within so many steps
+-- the bytes are the text of a well-formed history, whose calls are of processes from 1 to 32 and
+-- have numbers that fit, and this is a judgement of it within so many steps
 pub record IsJudged (budget : ℕ) (bytes : List ℕ) (calls : List Called) (judgement : Judgement) : Type 0 where
   pub text : bytes ≡ history_text calls
   pub fits : AllFit calls
+  pub formed : IsWellFormed calls
   pub judges : IsJudgement budget calls judgement
 
 -- the status is that of a judgement of the bytes; known bytes have grown by its text
@@ -30,3 +33,11 @@ pub record StopsInJudgement (budget : ℕ) (bytes : List ℕ) (with_journal : Bo
   pub judgement : Judgement
   pub judged : IsJudged budget bytes calls judgement
   pub written : AppendsTooLittle old new (judgement_text calls with_journal judgement)
+
+-- the bytes are the text of a history that is ill-formed; the call in this line is the first that
+-- makes it so, and this is why
+pub record IsIllFormed (line : ℕ) (why : IllFormed) (bytes : List ℕ) : Type 0 where
+  pub calls : List Called
+  pub text : bytes ≡ history_text calls
+  pub fits : AllFit calls
+  pub first : IsFirstFault calls line why

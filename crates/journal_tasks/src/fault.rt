@@ -3,6 +3,7 @@ ghost use Rattle.std.specs.Prelude.{◌≡◌, Some};
 ghost use Rattle.journal_tasks.specs.LogFault.{exit_status, fault_text, of_journal_fault};
 ghost use Rattle.journal_tasks.specs.declared.fault.LogFault.TheVariants.{NoMemory, Output};
 
+use history_judge::well_formed::IllFormed;
 use journal_format::fault::JournalFault;
 use std::alloc::AllocError;
 use std::error::Error;
@@ -15,6 +16,8 @@ pub enum LogFault {
     /// This line, counted from 1, is the first that is not the line of an entry, or of a call of a
     /// history, or it is too long for one.
     BadLine(u64),
+    /// The call in this line, counted from 1, is the first that makes the history ill-formed.
+    IllFormed(u64, IllFormed),
     /// The journal could not be read.
     Input,
     /// The verdict could not be written.
@@ -29,7 +32,7 @@ impl LogFault {
         ensures { result ≡ exit_status self }
     {
         match self {
-            LogFault::BadLine(_) => 2,
+            LogFault::BadLine(_) | LogFault::IllFormed(_, _) => 2,
             LogFault::Input | LogFault::Output => 3,
             LogFault::NoMemory => 4,
         }
@@ -45,6 +48,7 @@ impl fmt::Display for LogFault {
                 let fault = JournalFault::BadLine(*line);
                 write!(f, "{fault}")
             }
+            LogFault::IllFormed(line, why) => write!(f, "line {line}: {why}"),
             LogFault::Input => f.write_str("input fault"),
             LogFault::Output => f.write_str("output fault"),
             LogFault::NoMemory => f.write_str("no memory"),

@@ -13,7 +13,6 @@ mod judge;
 mod moments;
 mod record;
 mod state;
-mod task;
 mod verdict;
 mod window;
 
@@ -24,9 +23,9 @@ pub use draw::draw_journal;
 pub use every_order::{Ending, REPORT, Trial, try_orders};
 pub use fault::LogFault;
 pub use history::record_history;
+pub use history_judge::well_formed::IllFormed;
 pub use judge::{PLAIN, Question, judge_history};
 pub use record::record_script;
 pub use state::{LAST, NoState, Wanted, state_journal};
-pub use task::{Task, USAGE, task_of};
 pub use verdict::Verdict;
 pub use window::{WHOLE, Window};

@@ -1,22 +1,66 @@
-//! Measures a workload of message queue calls, which one line of the standard input names.
+//! Measures a workload of message queue calls, which the arguments or a line of the standard input name.
 #![tactic(auto)]
 
 mod run;
 #[cfg(test)]
 mod tests;
 
+use bench_line::fault::BenchFault;
+use bench_line::line::write_usage;
 use run::run_line;
-use std::io;
+use std::alloc::AllocError;
+use std::io::{ErrorKind, Input, Print, Write};
 use std::process::ExitCode;
+use std::rt::Env;
+use std::sync::Wait;
+use std::thread::Threads;
+use std::time::{Clock, CpuClock};
+use std::{env, io};
+
+/// The version of the program, as the file VERSION has it.
+const VERSION: &str = "0.1.0";
 
 fn main(rt: HostRuntime) -> ExitCode {
-    let (mut input, mut output) = (rt.reader(), io::writer(&rt));
-    match run_line(&rt, rt.alloc(), &mut input, &mut output) {
+    match asked(&rt) {
         Ok(()) => ExitCode::SUCCESS,
         Err(fault) => {
-            // Nothing is left to do where this line cannot be written.
+            // Nothing is left to do if this cannot be written.
             let _ = eprintln!(rt; "{fault}");
             ExitCode::from(fault.status())
         }
+    }
+}
+
+// Measures what the arguments name, or if there are none what a line of the standard input names.
+fn asked(
+    rt: &(impl Env + AllocGlobal + Input + Print + Threads + Wait + Clock + CpuClock + Sync),
+) -> Result<(), BenchFault> {
+    let words: Vec<String> = match env::args(rt) {
+        Ok(words) => words.collect(rt.alloc())?,
+        Err(error) if error.kind() == ErrorKind::OutOfMemory => return Err(AllocError.into()),
+        Err(_) => return Err(BenchFault::Input),
+    };
+    let mut output = io::writer(rt);
+    match words.as_slice() {
+        [] | [_] => run_line(rt, rt.alloc(), &mut rt.reader(), &mut output),
+        [_, word] if word.as_str() == "--help" => help(rt, &mut output),
+        [_, word] if word.as_str() == "--version" => match println!(rt; "mqbench {VERSION}") {
+            Ok(()) => Ok(()),
+            Err(_) => Err(BenchFault::Output),
+        },
+        [_, line @ ..] => {
+            let line = line.join(rt.alloc(), " ")?;
+            run_line(rt, rt.alloc(), &mut line.as_bytes(), &mut output)
+        }
+    }
+}
+
+// The usage is of a line on the standard input: the same words may be arguments.
+fn help<W: Write>(rt: &impl Print, output: &mut W) -> Result<(), BenchFault> {
+    match println!(rt;
+        "mqbench WORKLOAD SIZES.. measures a workload, and mqbench alone one of a line:"
+    ) {
+        Ok(()) => Ok(write_usage(output)?),
+        Err(_) => Err(BenchFault::Output),
     }
 }

@@ -1,177 +1,260 @@
 // Journals and histories of message queue calls as text: of a script that is run, checked, drawn, and judged.
 #![tactic(auto)]
 
+mod command;
+mod task;
 #[cfg(test)]
 mod tests;
 
+use command::{Asked, asked_by, command};
 use fast_mutex::FastMutex;
 use journal_page::{HEAD, TAIL, Unviewed, Viewed, view_journal};
 use journal_tasks::{
-    Ending, LogFault, Question, Task, Trial, USAGE, Wanted, Window, check_journal, compact_journal,
-    draw_journal, judge_history, record_history, record_script, state_journal, task_of, try_orders,
+    Ending, LogFault, Question, Trial, Wanted, Window, check_journal, compact_journal,
+    draw_journal, judge_history, record_history, record_script, state_journal, try_orders,
 };
 use mq::Guarded;
 use script_runner::{Plain, RunFault};
 use std::alloc::{Alloc, Global};
-use std::io::{Eprint, ErrorKind, Input, Print};
+use std::fmt::Display;
+use std::io::{Eprint, ErrorKind, Input, Print, Read};
 use std::process::ExitCode;
-use std::rt::Env;
+use std::rt::{Env, Files};
 use std::sync::Wait;
 use std::thread::Threads;
 use std::time::Clock;
-use std::{env, io};
+use std::{env, fs, io};
+use task::Task;
 
 fn main(rt: HostRuntime) -> ExitCode {
-    match asked(&rt) {
-        Ok(Some(Task::Run)) => run(&rt, rt.alloc()),
-        Ok(Some(Task::History)) => history(&rt, rt.alloc()),
-        Ok(Some(Task::Check)) => check(&rt, rt.alloc()),
-        Ok(Some(Task::Compact)) => compact(&rt, rt.alloc()),
-        Ok(Some(Task::Draw(window))) => draw(&rt, rt.alloc(), window),
-        Ok(Some(Task::View(window))) => view(&rt, rt.alloc(), window),
-        Ok(Some(Task::State(wanted))) => state(&rt, rt.alloc(), wanted),
-        Ok(Some(Task::Judge(question))) => judge(&rt, rt.alloc(), question),
-        Ok(Some(Task::Orders(trial))) => orders(&rt, rt.alloc(), trial),
-        Ok(Some(Task::Help)) => help(&rt),
+    match words_of(&rt) {
+        Ok(Some(words)) => asked(&rt, words.as_slice()),
         Ok(None) => {
-            // Nothing is left to do where this cannot be written.
-            let _ = eprint!(rt; "{USAGE}");
+            // Nothing is left to do if this cannot be written.
+            let _ = eprintln!(rt; "the arguments are not text");
             ExitCode::from(2)
         }
-        Err(fault) => failed(&rt, fault),
+        Err(fault) => failed(&rt, None, fault),
     }
 }
 
-// The task that the command line asks for. One that is no text asks for nothing.
-fn asked(rt: &(impl Env + Alloc<A = Global>)) -> Result<Option<Task>, LogFault> {
+// The words of the command line, if they are text.
+fn words_of(rt: &(impl Env + Alloc<A = Global>)) -> Result<Option<Vec<String>>, LogFault> {
     match env::args(rt) {
-        Ok(words) => {
-            let words: Vec<String> = words.collect(rt.alloc())?;
-            Ok(task_of(words.as_slice()))
-        }
+        Ok(words) => Ok(Some(words.collect(rt.alloc())?)),
         Err(error) if error.kind() == ErrorKind::OutOfMemory => Err(LogFault::NoMemory),
         Err(_) => Ok(None),
     }
 }
 
-fn help(rt: &(impl Print + Eprint)) -> ExitCode {
-    match print!(rt; "{USAGE}") {
-        Ok(()) => ExitCode::SUCCESS,
-        Err(_) => failed(rt, LogFault::Output),
+// Does what the words ask for, or says what is wrong with them.
+fn asked(
+    rt: &(impl Print + Eprint + AllocGlobal + Threads + Wait + Clock + Sync + Input + Files),
+    words: &[String],
+) -> ExitCode {
+    let Ok(command) = command(rt.alloc()) else {
+        return failed(rt, None, LogFault::NoMemory);
+    };
+    let matches = match command.try_get_matches_from(words) {
+        Ok(matches) => matches,
+        Err(error) => return not_asked(rt, error),
+    };
+    match asked_by(&matches) {
+        None => ExitCode::from(2),
+        Some(asked) => match asked.file {
+            None => answer(rt, asked, &mut rt.reader()),
+            Some(path) => match fs::open(rt, path) {
+                Ok(mut file) => answer(rt, asked, &mut file),
+                Err(error) => not_opened(rt, path, &error),
+            },
+        },
     }
 }
 
-fn failed(rt: &impl Eprint, fault: LogFault) -> ExitCode {
-    let _ = eprintln!(rt; "{fault}");
+// Says what is wrong with the words, or the help or the version if they ask for that.
+fn not_asked(rt: &(impl Print + Eprint), error: clap::Error) -> ExitCode {
+    if error.kind() == clap::error::ErrorKind::OutOfMemory {
+        return failed(rt, None, LogFault::NoMemory);
+    }
+    match error.print(rt) {
+        Ok(()) => ExitCode::from(error.exit_code() as u8),
+        Err(_) => failed(rt, None, LogFault::Output),
+    }
+}
+
+// Does a task over what a file or the standard input has.
+fn answer<R: Read>(
+    rt: &(impl Print + Eprint + AllocGlobal + Threads + Wait + Clock + Sync),
+    asked: Asked<'_>,
+    input: &mut R,
+) -> ExitCode {
+    let Asked { task, file } = asked;
+    match task {
+        Task::Run => run(rt, file, input),
+        Task::History => history(rt, file, input),
+        Task::Check => check(rt, file, input),
+        Task::Compact => compact(rt, file, input),
+        Task::Draw(window) => draw(rt, file, input, window),
+        Task::View(window) => view(rt, file, input, window),
+        Task::State(wanted) => state(rt, file, input, wanted),
+        Task::Judge(question) => judge(rt, file, input, question),
+        Task::Orders(trial) => orders(rt, file, input, trial),
+    }
+}
+
+// Writes a line to the standard error, of the file that it is about, if it is about one.
+fn say<T: Display>(rt: &impl Eprint, file: Option<&str>, what: &T) {
+    // Nothing is left to do if this cannot be written.
+    let _ = match file {
+        None => eprintln!(rt; "{what}"),
+        Some(path) => eprintln!(rt; "{path}: {what}"),
+    };
+}
+
+fn not_opened(rt: &impl Eprint, path: &str, error: &io::Error) -> ExitCode {
+    say(rt, Some(path), error);
+    ExitCode::from(3)
+}
+
+fn failed(rt: &impl Eprint, file: Option<&str>, fault: LogFault) -> ExitCode {
+    say(rt, file, &fault);
     ExitCode::from(fault.status())
 }
 
-fn check(rt: &(impl Print + Eprint + Input), alloc: Global) -> ExitCode {
-    let (mut input, mut output) = (rt.reader(), io::writer(rt));
-    match check_journal(alloc, &mut input, &mut output) {
+fn stopped(rt: &impl Eprint, file: Option<&str>, fault: RunFault) -> ExitCode {
+    say(rt, file, &fault);
+    ExitCode::from(fault.status())
+}
+
+fn check<R: Read>(
+    rt: &(impl Print + Eprint + AllocGlobal),
+    file: Option<&str>,
+    input: &mut R,
+) -> ExitCode {
+    match check_journal(rt.alloc(), input, &mut io::writer(rt)) {
         Ok(verdict) => ExitCode::from(verdict.status()),
-        Err(fault) => failed(rt, fault),
+        Err(fault) => failed(rt, file, fault),
     }
 }
 
-fn compact(rt: &(impl Print + Eprint + Input), alloc: Global) -> ExitCode {
-    let (mut input, mut output) = (rt.reader(), io::writer(rt));
-    match compact_journal(alloc, &mut input, &mut output) {
+fn compact<R: Read>(
+    rt: &(impl Print + Eprint + AllocGlobal),
+    file: Option<&str>,
+    input: &mut R,
+) -> ExitCode {
+    match compact_journal(rt.alloc(), input, &mut io::writer(rt)) {
         Ok(None) => ExitCode::SUCCESS,
         Ok(Some(why)) => {
-            let _ = eprintln!(rt; "{why}");
+            say(rt, file, &why);
             ExitCode::from(1)
         }
-        Err(fault) => failed(rt, fault),
+        Err(fault) => failed(rt, file, fault),
     }
 }
 
-fn draw(rt: &(impl Print + Eprint + Input), alloc: Global, window: Window) -> ExitCode {
-    let (mut input, mut output) = (rt.reader(), io::writer(rt));
-    match draw_journal(alloc, &mut input, &mut output, window) {
+fn draw<R: Read>(
+    rt: &(impl Print + Eprint + AllocGlobal),
+    file: Option<&str>,
+    input: &mut R,
+    window: Window,
+) -> ExitCode {
+    match draw_journal(rt.alloc(), input, &mut io::writer(rt), window) {
         Ok(()) => ExitCode::SUCCESS,
-        Err(fault) => failed(rt, fault),
+        Err(fault) => failed(rt, file, fault),
     }
 }
 
-fn view(rt: &(impl Print + Eprint + Input), alloc: Global, window: Window) -> ExitCode {
-    let (mut input, mut output) = (rt.reader(), io::writer(rt));
+fn view<R: Read>(
+    rt: &(impl Print + Eprint + AllocGlobal),
+    file: Option<&str>,
+    input: &mut R,
+    window: Window,
+) -> ExitCode {
     let (head, tail) = (HEAD.as_bytes(), TAIL.as_bytes());
     let (from, to) = (window.from, window.to);
-    match view_journal(alloc, &mut input, &mut output, from, to, head, tail) {
+    match view_journal(rt.alloc(), input, &mut io::writer(rt), from, to, head, tail) {
         Ok(Viewed::Written) => ExitCode::SUCCESS,
         Ok(Viewed::TooLong) => {
-            let _ = eprintln!(rt; "too long for a page: cut a window by --from K and --to L");
+            let what = "too long for a page: cut a window by --from K and --to L";
+            say(rt, file, &what);
             ExitCode::from(1)
         }
-        Err(Unviewed::Unread(fault)) => failed(rt, LogFault::from(fault)),
-        Err(Unviewed::Output) => failed(rt, LogFault::Output),
+        Err(Unviewed::Unread(fault)) => failed(rt, file, LogFault::from(fault)),
+        Err(Unviewed::Output) => failed(rt, file, LogFault::Output),
     }
 }
 
-fn state(rt: &(impl Print + Eprint + Input), alloc: Global, wanted: Wanted) -> ExitCode {
-    let (mut input, mut output) = (rt.reader(), io::writer(rt));
-    match state_journal(alloc, &mut input, &mut output, wanted) {
+fn state<R: Read>(
+    rt: &(impl Print + Eprint + AllocGlobal),
+    file: Option<&str>,
+    input: &mut R,
+    wanted: Wanted,
+) -> ExitCode {
+    match state_journal(rt.alloc(), input, &mut io::writer(rt), wanted) {
         Ok(None) => ExitCode::SUCCESS,
         Ok(Some(why)) => {
-            let _ = eprintln!(rt; "{why}");
+            say(rt, file, &why);
             ExitCode::from(1)
         }
-        Err(fault) => failed(rt, fault),
+        Err(fault) => failed(rt, file, fault),
     }
 }
 
-fn judge(rt: &(impl Print + Eprint + Input), alloc: Global, question: Question) -> ExitCode {
-    let (mut input, mut output) = (rt.reader(), io::writer(rt));
-    match judge_history(alloc, &mut input, &mut output, question) {
-        Ok(status) => ExitCode::from(status),
-        Err(fault) => failed(rt, fault),
-    }
-}
-
-fn run(
-    rt: &(impl Print + Eprint + Input + Threads + Wait + Clock + Sync),
-    alloc: Global,
+fn judge<R: Read>(
+    rt: &(impl Print + Eprint + AllocGlobal),
+    file: Option<&str>,
+    input: &mut R,
+    question: Question,
 ) -> ExitCode {
-    let (mut input, mut output) = (rt.reader(), io::writer(rt));
+    match judge_history(rt.alloc(), input, &mut io::writer(rt), question) {
+        Ok(status) => ExitCode::from(status),
+        Err(fault) => failed(rt, file, fault),
+    }
+}
+
+fn run<R: Read>(
+    rt: &(impl Print + Eprint + AllocGlobal + Threads + Wait + Clock + Sync),
+    file: Option<&str>,
+    input: &mut R,
+) -> ExitCode {
     let outcome = record_script::<FastMutex<Guarded>, _, _, _, _>(
         rt,
-        alloc,
-        &mut input,
-        &mut output,
+        rt.alloc(),
+        input,
+        &mut io::writer(rt),
         &Plain,
     );
     match outcome {
         Ok(()) => ExitCode::SUCCESS,
-        Err(fault) => stopped(rt, fault),
+        Err(fault) => stopped(rt, file, fault),
     }
 }
 
-fn history(
-    rt: &(impl Print + Eprint + Input + Threads + Wait + Clock + Sync),
-    alloc: Global,
+fn history<R: Read>(
+    rt: &(impl Print + Eprint + AllocGlobal + Threads + Wait + Clock + Sync),
+    file: Option<&str>,
+    input: &mut R,
 ) -> ExitCode {
-    let (mut input, mut output) = (rt.reader(), io::writer(rt));
-    match record_history::<FastMutex<Guarded>, _, _, _>(rt, alloc, &mut input, &mut output) {
+    let mut output = io::writer(rt);
+    match record_history::<FastMutex<Guarded>, _, _, _>(rt, rt.alloc(), input, &mut output) {
         Ok(()) => ExitCode::SUCCESS,
-        Err(fault) => stopped(rt, fault),
+        Err(fault) => stopped(rt, file, fault),
     }
 }
 
-fn orders(rt: &(impl Print + Eprint + Input), alloc: Global, trial: Trial) -> ExitCode {
-    let (mut input, mut output) = (rt.reader(), io::writer(rt));
-    match try_orders(alloc, &mut input, &mut output, trial) {
+fn orders<R: Read>(
+    rt: &(impl Print + Eprint + AllocGlobal),
+    file: Option<&str>,
+    input: &mut R,
+    trial: Trial,
+) -> ExitCode {
+    match try_orders(rt.alloc(), input, &mut io::writer(rt), trial) {
         Ok(ending) => {
             if ending == Ending::NoSuch {
-                let _ = eprintln!(rt; "no outcome of this number");
+                say(rt, file, &"no outcome of this number");
             }
             ExitCode::from(ending.status())
         }
-        Err(fault) => stopped(rt, fault),
+        Err(fault) => stopped(rt, file, fault),
     }
-}
-
-fn stopped(rt: &impl Eprint, fault: RunFault) -> ExitCode {
-    let _ = eprintln!(rt; "{fault}");
-    ExitCode::from(fault.status())
 }

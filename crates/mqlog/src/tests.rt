@@ -3,7 +3,7 @@ use journal_format::fault::JournalFault;
 use journal_format::lines::MOST_LINE;
 use journal_format::text::{read_journal, write_journal};
 use journal_tasks::{
-    Counts, LogFault, Task, Verdict, WHOLE, Window, check_journal, draw_journal, task_of,
+    Counts, IllFormed, LogFault, Verdict, WHOLE, Window, check_journal, draw_journal,
 };
 use mq::{Cause, Departure, Fault, Reply};
 use std::alloc::{AllocError, Global};
@@ -11,6 +11,7 @@ use std::io;
 use std::io::{Error, ErrorKind, Read, Write};
 use std::test::Fail;
 
+mod commands;
 mod every_order;
 mod judging;
 mod overlapping;
@@ -419,79 +420,6 @@ fn reads_and_writes_that_fail_end_the_check(rt: HostRuntime) {
     }
 }
 
-#[test]
-fn one_word_is_a_task(rt: HostRuntime) -> Result<(), Fail> {
-    for (word, task) in [
-        ("run", Some(Task::Run)),
-        ("history", Some(Task::History)),
-        ("check", Some(Task::Check)),
-        ("--help", Some(Task::Help)),
-        ("draw", Some(Task::Draw(WHOLE))),
-        ("view", Some(Task::View(WHOLE))),
-        ("draws", None),
-        ("", None),
-    ] {
-        let program = String::from_str(rt.alloc(), "mqlog")?;
-        let word = String::from_str(rt.alloc(), word)?;
-        assert_eq!(rt; task_of(&[program, word]), task);
-    }
-    assert_eq!(rt; task_of(&[]), None);
-    Ok(())
-}
-
-// Options of draw, and what they ask for.
-static OPTIONS: [(&[&str], Option<Window>); 10] = [
-    (
-        &["--from", "3"],
-        Some(Window {
-            from: 3,
-            to: u64::MAX,
-        }),
-    ),
-    (&["--to", "4"], Some(Window { from: 0, to: 4 })),
-    (
-        &["--from", "3", "--to", "4"],
-        Some(Window { from: 3, to: 4 }),
-    ),
-    (
-        &["--to", "4", "--from", "3"],
-        Some(Window { from: 3, to: 4 }),
-    ),
-    (&["--from", "4", "--from", "3"], None),
-    (&["--to", "4", "--to", "3"], None),
-    (&["--from"], None),
-    (&["--from", "x"], None),
-    (&["--from", "18446744073709551616"], None),
-    (&["--from", "1", "--to"], None),
-];
-
-// The words of a command line.
-fn words_of(alloc: Global, task: &str, options: &[&str]) -> Result<Vec<String>, AllocError> {
-    let mut words = Vec::new(alloc);
-    words.push(String::from_str(alloc, "mqlog")?)?;
-    words.push(String::from_str(alloc, task)?)?;
-    for option in options {
-        words.push(String::from_str(alloc, option)?)?;
-    }
-    Ok(words)
-}
-
-#[test]
-fn draw_and_view_have_options_and_check_has_none(rt: HostRuntime) -> Result<(), Fail> {
-    for (options, window) in OPTIONS {
-        for task in ["draw", "view", "check"] {
-            let words = words_of(rt.alloc(), task, options)?;
-            let wanted = match window {
-                Some(window) if task == "draw" => Some(Task::Draw(window)),
-                Some(window) if task == "view" => Some(Task::View(window)),
-                _ => None,
-            };
-            assert_eq!(rt; task_of(words.as_slice()), wanted);
-        }
-    }
-    Ok(())
-}
-
 // Windows, and how many of the twenty entries they show.
 static SHOWN: [(Window, usize); 7] = [
     (WHOLE, 20),
@@ -543,6 +471,11 @@ fn a_picture_has_a_mark_for_each_entry_shown(rt: HostRuntime) -> Result<(), Fail
 fn faults_have_their_texts_and_statuses(rt: HostRuntime) -> Result<(), Fail> {
     for (fault, text, status) in [
         (LogFault::BadLine(7), "line 7: no entry", 2),
+        (
+            LogFault::IllFormed(7, IllFormed::Overlaps),
+            "line 7: this call begins before an earlier one of its process ended",
+            2,
+        ),
         (LogFault::Input, "input fault", 3),
         (LogFault::Output, "output fault", 3),
         (LogFault::NoMemory, "no memory", 4),

@@ -1,6 +1,6 @@
 // Every order of the calls of a script: what is written of them, and the journals that lead to it.
-use super::{Narrow, OneByOne, output_of, words_of};
-use journal_tasks::{Ending, REPORT, Task, Trial, Verdict, task_of, try_orders};
+use super::{Narrow, OneByOne, output_of};
+use journal_tasks::{Ending, REPORT, Trial, Verdict, try_orders};
 use script_runner::RunFault;
 use std::alloc::{AllocError, Global};
 use std::process::Abort;
@@ -449,57 +449,4 @@ fn endings_have_their_statuses(rt: HostRuntime) {
     ] {
         assert_eq!(rt; ending.status(), status);
     }
-}
-
-// Options of orders, and what they ask for.
-static OPTIONS: [(&[&str], Option<Trial>); 12] = [
-    (&[], Some(REPORT)),
-    (
-        &["--journal", "3"],
-        Some(Trial {
-            journal: Some(3),
-            budget: REPORT.budget,
-        }),
-    ),
-    (
-        &["--budget", "7"],
-        Some(Trial {
-            journal: None,
-            budget: 7,
-        }),
-    ),
-    (
-        &["--journal", "3", "--budget", "7"],
-        Some(Trial {
-            journal: Some(3),
-            budget: 7,
-        }),
-    ),
-    (
-        &["--budget", "7", "--journal", "3"],
-        Some(Trial {
-            journal: Some(3),
-            budget: 7,
-        }),
-    ),
-    (&["--journal"], None),
-    (&["--budget"], None),
-    (&["--journal", "x"], None),
-    (&["--budget", "18446744073709551616"], None),
-    (&["--budget", "1", "--budget", "2"], None),
-    (&["--journal", "1", "--journal", "2"], None),
-    (&["--journal", "1", "--budget"], None),
-];
-
-#[test]
-fn orders_has_two_options(rt: HostRuntime) -> Result<(), Fail> {
-    for (options, trial) in &OPTIONS {
-        let words = words_of(rt.alloc(), "orders", options)?;
-        let wanted = match *trial {
-            Some(trial) => Some(Task::Orders(trial)),
-            None => None,
-        };
-        assert_eq!(rt; task_of(words.as_slice()), wanted);
-    }
-    Ok(())
 }

@@ -1,6 +1,6 @@
 // Concurrent histories: what is said of them, and the journals that explain them.
 use super::{Endless, output_of};
-use journal_tasks::{LogFault, PLAIN, Question, Verdict, judge_history};
+use journal_tasks::{IllFormed, LogFault, PLAIN, Question, Verdict, judge_history};
 use std::alloc::Global;
 use std::process::Abort;
 
@@ -41,7 +41,7 @@ static TURNED: [(&str, &str, &str); 8] = [
          1 20 40 send 3 4 2 \"hi\" -> ok\n\
          2 0 15 open bc limits 2 8 \"/q\" -> fd 7\n\
          2 30 50 recv 7 8 -> got 4 \"ho\"\n",
-        "impossible: line 4, front part of 4 calls\n",
+        "impossible: line 4, front part of 4 calls; 1 receives, 0 sends of 4 \"ho\"\n",
     ),
     // Another priority, seen by a receive that returned before its send did.
     (
@@ -53,7 +53,7 @@ static TURNED: [(&str, &str, &str); 8] = [
          1 20 60 send 3 4 2 \"hi\" -> ok\n\
          2 0 15 open bc limits 2 8 \"/q\" -> fd 7\n\
          2 30 50 recv 7 8 -> got 5 \"hi\"\n",
-        "impossible: line 4, front part of 4 calls\n",
+        "impossible: line 4, front part of 4 calls; 1 receives, 0 sends of 5 \"hi\"\n",
     ),
     // EAGAIN, which overlaps the send, and where a message lay.
     (
@@ -82,7 +82,7 @@ static TURNED: [(&str, &str, &str); 8] = [
          2 60 90 recv 3 8 -> got 4 \"hi\"\n\
          3 0 15 open b \"/q\" -> fd 3\n\
          3 60 80 recv 3 8 -> got 4 \"hi\"\n",
-        "impossible: line 4, front part of 6 calls\n",
+        "impossible: line 4, front part of 6 calls; 2 receives, 1 sends of 4 \"hi\"\n",
     ),
     // Messages of one priority out of order: their sends overlap, and do not.
     (
@@ -126,7 +126,7 @@ static TURNED: [(&str, &str, &str); 8] = [
          2 0 15 open b \"/q\" -> fd 3\n\
          2 20 40 recv 3 8 -> got 1 \"a\"\n\
          2 50 - recv 3 8 ->\n",
-        "impossible: line 4, front part of 3 calls\n",
+        "impossible: line 4, front part of 3 calls; 1 receives, 0 sends of 1 \"a\"\n",
     ),
     // A timed receive that timed out: of an empty queue, and where a message lay.
     (
@@ -155,7 +155,7 @@ static EARLY: (&str, &str) = (
      1 40 50 close 3 -> ok\n\
      2 25 35 open b \"/q\" -> fd 3\n\
      2 36 37 close 3 -> ok\n",
-    "impossible: line 2, front part of 3 calls\n\
+    "impossible: line 2, front part of 3 calls; 1 receives, 0 sends of 0\n\
      1 0 10 open bc limits 2 8 \"/q\" -> fd 3\n\
      1 20 30 recv 3 8 -> got 0\n\
      2 25 - open b \"/q\" ->\n",
@@ -212,13 +212,28 @@ const WITHOUT_STEPS: Question = Question {
 #[test]
 fn a_budget_is_used_up(rt: HostRuntime) {
     let undecided = "undecided: the budget was used up\n";
-    for (possible, impossible, _) in &TURNED {
+    for (possible, impossible, said) in &TURNED {
         is_judged(&rt, rt.alloc(), possible, WITHOUT_STEPS, 5, undecided);
-        is_judged(&rt, rt.alloc(), impossible, WITHOUT_STEPS, 5, undecided);
+        if !said.as_bytes().contains(&b';') {
+            is_judged(&rt, rt.alloc(), impossible, WITHOUT_STEPS, 5, undecided);
+        }
     }
 }
 
-// Sixteen calls of four processes, all of which overlap, in 63,063,000 orders. What the last one received nobody sent.
+#[test]
+fn a_message_that_nobody_sent_is_found_without_steps(rt: HostRuntime) {
+    let (_, impossible, _) = &TURNED[0];
+    is_judged(
+        &rt,
+        rt.alloc(),
+        impossible,
+        WITHOUT_STEPS,
+        1,
+        "impossible: ",
+    );
+}
+
+// Sixteen calls of four processes, all of which overlap, in 63,063,000 orders. The last one found more messages than were sent.
 static OVERLAPPING: &str = "1 0 10 open bc limits 20 8 \"/q\" -> fd 3\n\
      2 20 30 open b \"/q\" -> fd 3\n\
      3 20 30 open b \"/q\" -> fd 3\n\
@@ -238,7 +253,7 @@ static OVERLAPPING: &str = "1 0 10 open bc limits 20 8 \"/q\" -> fd 3\n\
      4 100 200 send 3 0 1 \"a\" -> ok\n\
      4 100 200 send 3 0 1 \"a\" -> ok\n\
      4 100 200 send 3 0 1 \"a\" -> ok\n\
-     4 100 200 recv 3 8 -> got 1 \"a\"\n";
+     4 100 200 getattr 3 -> attr 0 20 8 16\n";
 
 const FEW_STEPS: Question = Question {
     journal: false,
@@ -269,6 +284,67 @@ fn the_first_line_that_is_none_is_named(rt: HostRuntime) {
         assert_eq!(rt; outcome, Err(LogFault::BadLine(*line)), "{text}");
         assert!(rt; output.is_empty(), "{text}");
     }
+}
+
+// Histories that are ill-formed, the line that makes each so, and why.
+static ILL_FORMED: [(&str, u64, IllFormed); 8] = [
+    (
+        "1 0 - open bc \"/q\" ->\n\
+         1 20 30 close 0 -> EBADF\n",
+        2,
+        IllFormed::BehindPending,
+    ),
+    (
+        "1 0 10 close 0 -> EBADF\n\
+         2 5 30 close 0 -> EBADF\n\
+         1 9 20 close 1 -> EBADF\n",
+        3,
+        IllFormed::Overlaps,
+    ),
+    (
+        "1 20 30 close 0 -> EBADF\n\
+         1 0 10 close 0 -> EBADF\n",
+        2,
+        IllFormed::Overlaps,
+    ),
+    (
+        "1 10 20 close 0 -> EBADF\n\
+         1 10 19 close 0 -> EBADF\n",
+        2,
+        IllFormed::Overlaps,
+    ),
+    ("1 10 9 close 0 -> EBADF\n", 1, IllFormed::EndsFirst),
+    ("1 0 10 open bc \"q\" -> fd 0\n", 1, IllFormed::BadName),
+    (
+        "1 0 10 send 0 0 2 \"a\" -> EBADF\n",
+        1,
+        IllFormed::BadLength,
+    ),
+    ("1 0 10 recv 0 8 \"a\" -> EBADF\n", 1, IllFormed::BadLength),
+];
+
+#[test]
+fn the_first_line_that_makes_a_history_ill_formed_is_named(rt: HostRuntime) {
+    for (text, line, why) in &ILL_FORMED {
+        let (outcome, output) = judged(rt.alloc(), text.as_bytes(), PLAIN);
+        assert_eq!(rt; outcome, Err(LogFault::IllFormed(*line, *why)), "{text}");
+        assert!(rt; output.is_empty(), "{text}");
+    }
+}
+
+// A call may begin at the moment at which the one before it ended, or begin and end with it.
+#[test]
+fn calls_that_touch_are_well_formed(rt: HostRuntime) {
+    let history = "1 0 10 close 0 -> EBADF\n1 10 20 close 0 -> EBADF\n\
+                   1 10 20 close 0 -> EBADF\n1 20 - close 0 ->\n";
+    is_judged(
+        &rt,
+        rt.alloc(),
+        history,
+        PLAIN,
+        0,
+        "possible: 4 calls, 1 processes\n",
+    );
 }
 
 #[test]

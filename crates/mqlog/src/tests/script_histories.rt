@@ -112,11 +112,11 @@ static SENT: (&str, &str) = (
 static TURNED: [(&str, &str); 5] = [
     (
         "2 9 10 recv 0 8 -> got 1 \"c\"\n2 11 12 recv 0 8 -> got 1 \"b\"\n",
-        "impossible: line 5, front part of 5 calls\n",
+        "impossible: line 5, front part of 5 calls; 1 receives, 0 sends of 1 \"c\"\n",
     ),
     (
         "2 9 10 recv 0 8 -> got 2 \"a\"\n2 11 12 recv 0 8 -> got 1 \"b\"\n",
-        "impossible: line 5, front part of 5 calls\n",
+        "impossible: line 5, front part of 5 calls; 1 receives, 0 sends of 2 \"a\"\n",
     ),
     (
         "2 9 10 recv 0 8 -> got 1 \"a\"\n2 11 12 recv 0 8 -> EAGAIN\n",
@@ -124,7 +124,7 @@ static TURNED: [(&str, &str); 5] = [
     ),
     (
         "2 9 10 recv 0 8 -> got 1 \"a\"\n2 11 12 recv 0 8 -> got 1 \"a\"\n",
-        "impossible: line 6, front part of 6 calls\n",
+        "impossible: line 6, front part of 6 calls; 2 receives, 1 sends of 1 \"a\"\n",
     ),
     (
         "2 9 10 recv 0 8 -> got 1 \"b\"\n2 11 12 recv 0 8 -> got 1 \"a\"\n",

@@ -1,7 +1,7 @@
 //! States after journals: in both forms, and journals that have none.
-use super::{Fail, RUN, words_of};
+use super::{Fail, RUN};
 use journal_state::Form;
-use journal_tasks::{LAST, LogFault, NoState, Task, Wanted, state_journal, task_of};
+use journal_tasks::{LAST, LogFault, NoState, Wanted, state_journal};
 use std::alloc::{AllocError, Global};
 use std::process::Abort;
 use std::rt::HostRuntime;
@@ -164,54 +164,4 @@ fn a_journal_without_such_a_state_is_refused(rt: HostRuntime) {
     }
     // what comes after the entries need not be legal
     tells(&rt, rt.alloc(), illegal, Some(0), Form::Text, STATES[0].1);
-}
-
-// Options of state, and what they ask for.
-static OPTIONS: [(&[&str], Option<Wanted>); 9] = [
-    (&[], Some(LAST)),
-    (
-        &["--at", "3"],
-        Some(Wanted {
-            at: Some(3),
-            form: Form::Text,
-        }),
-    ),
-    (
-        &["--json"],
-        Some(Wanted {
-            at: None,
-            form: Form::Json,
-        }),
-    ),
-    (
-        &["--at", "3", "--json"],
-        Some(Wanted {
-            at: Some(3),
-            form: Form::Json,
-        }),
-    ),
-    (
-        &["--json", "--at", "3"],
-        Some(Wanted {
-            at: Some(3),
-            form: Form::Json,
-        }),
-    ),
-    (&["--at"], None),
-    (&["--at", "x"], None),
-    (&["--json", "--json"], None),
-    (&["--at", "3", "--at", "3"], None),
-];
-
-#[test]
-fn options_say_which_state(rt: HostRuntime) -> Result<(), Fail> {
-    for (options, wanted) in OPTIONS {
-        let words = words_of(rt.alloc(), "state", options)?;
-        let task = match wanted {
-            Some(wanted) => Some(Task::State(wanted)),
-            None => None,
-        };
-        assert_eq!(rt; task_of(words.as_slice()), task);
-    }
-    Ok(())
 }

@@ -1,0 +1,173 @@
+//! The command line: the tasks, their options, and the file that a task reads.
+
+use crate::task::{Options, Task, task_named};
+use clap::{Arg, ArgAction, ArgMatches, Command, value_parser};
+use std::alloc::{AllocError, Global};
+
+/// The version of the program, as the file VERSION has it.
+const VERSION: &str = "0.1.0";
+
+const STATUSES: &str = "\
+Exit status:
+  0  done
+  1  not legal, not linearizable, or not there: the task says which
+  2  a line is malformed, or the arguments are wrong
+  3  a read or a write failed
+  4  memory was refused
+  5  run, history: the script is deadlocked; orders: an interleaving deadlocks;
+     judge: the budget was used up
+  6  orders: the budget was used up, and no deadlock was found";
+
+/// The command line as `clap` describes it.
+pub fn command<'a>(alloc: Global) -> Result<Command<'a>, AllocError> {
+    Command::new(alloc, "mqlog")
+        .version(VERSION)
+        .about("Writes, checks, draws, searches and judges journals of message queue calls")
+        .after_help(STATUSES)
+        .subcommand_required(true)
+        .subcommand(task(alloc, "run", "Runs a script, and writes its journal")?)?
+        .subcommand(task(
+            alloc,
+            "history",
+            "Runs a script, and writes the history of its calls",
+        )?)?
+        .subcommand(task(
+            alloc,
+            "check",
+            "Says whether a journal is legal, or names its first entry that is not",
+        )?)?
+        .subcommand(task(
+            alloc,
+            "compact",
+            "Writes a short journal that leaves the same state",
+        )?)?
+        .subcommand(windowed(
+            alloc,
+            "draw",
+            "Writes a picture (SVG) of a journal, of at most 2000 entries",
+        )?)?
+        .subcommand(windowed(
+            alloc,
+            "view",
+            "Writes a page (HTML) that steps through a journal of at most 1000000 entries",
+        )?)?
+        .subcommand(state(alloc)?)?
+        .subcommand(judge(alloc)?)?
+        .subcommand(orders(alloc)?)
+}
+
+// A task that reads a file.
+fn task<'a>(alloc: Global, name: &'a str, about: &'a str) -> Result<Command<'a>, AllocError> {
+    let file = Arg::new(alloc, "FILE").help("The file to read; none, or -, for standard input");
+    Command::new(alloc, name).about(about).arg(file)
+}
+
+// An option with a number.
+fn number<'a>(alloc: Global, name: &'a str, letter: &'a [&'a str], help: &'a str) -> Arg<'a> {
+    Arg::new(alloc, name)
+        .long(name)
+        .value_names(letter)
+        .value_parser(value_parser!(u64))
+        .help(help)
+}
+
+// An option without a value.
+fn flag<'a>(alloc: Global, id: &'a str, name: &'a str, help: &'a str) -> Arg<'a> {
+    Arg::new(alloc, id)
+        .long(name)
+        .action(ArgAction::SetTrue)
+        .help(help)
+}
+
+// A task that shows a part of a journal.
+fn windowed<'a>(alloc: Global, name: &'a str, about: &'a str) -> Result<Command<'a>, AllocError> {
+    task(alloc, name, about)?
+        .arg(number(alloc, "from", &["K"], "The first entry that is shown"))?
+        .arg(number(alloc, "to", &["L"], "The last entry that is shown"))
+}
+
+fn state<'a>(alloc: Global) -> Result<Command<'a>, AllocError> {
+    task(
+        alloc,
+        "state",
+        "Writes the queues and processes as a journal leaves them",
+    )?
+    .arg(number(
+        alloc,
+        "at",
+        &["K"],
+        "The state after the first K entries, in place of all",
+    ))?
+    .arg(flag(alloc, "json", "json", "Writes JSON"))
+}
+
+fn judge<'a>(alloc: Global) -> Result<Command<'a>, AllocError> {
+    task(
+        alloc,
+        "judge",
+        "Says whether a history is linearizable, or which prefix of it is not",
+    )?
+    .arg(flag(
+        alloc,
+        "explained",
+        "journal",
+        "Also writes a journal that explains the history",
+    ))?
+    .arg(number(
+        alloc,
+        "budget",
+        &["N"],
+        "Takes at most N steps, in place of 1000000",
+    ))
+}
+
+fn orders<'a>(alloc: Global) -> Result<Command<'a>, AllocError> {
+    task(
+        alloc,
+        "orders",
+        "Tries every interleaving of a script's calls, and writes what they lead to",
+    )?
+    .arg(number(
+        alloc,
+        "journal",
+        &["K"],
+        "Writes a journal that leads to outcome or deadlock K, in place of the report",
+    ))?
+    .arg(number(
+        alloc,
+        "budget",
+        &["N"],
+        "Takes at most N steps, in place of 5000000",
+    ))
+}
+
+/// A task, and the file that it reads in place of the standard input.
+#[derive(Clone, Copy, Debug, PartialEq, Eq)]
+pub struct Asked<'a> {
+    pub task: Task,
+    pub file: Option<&'a str>,
+}
+
+/// What the words ask for.
+pub fn asked_by<'a>(matches: &ArgMatches<'a>) -> Option<Asked<'a>> {
+    let (name, given) = matches.subcommand()?;
+    let task = task_named(name, options_of(given))?;
+    let file = match given.get_str("FILE") {
+        Some("-") => None,
+        file => file,
+    };
+    Some(Asked { task, file })
+}
+
+// The options that a task was given.
+fn options_of(matches: &ArgMatches<'_>) -> Options {
+    Options {
+        from: matches.get_one::<u64>("from"),
+        to: matches.get_one::<u64>("to"),
+        at: matches.get_one::<u64>("at"),
+        journal: matches.get_one::<u64>("journal"),
+        budget: matches.get_one::<u64>("budget"),
+        json: matches.get_flag("json"),
+        explained: matches.get_flag("explained"),
+    }
+}

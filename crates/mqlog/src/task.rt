@@ -1,0 +1,101 @@
+//! The tasks, as the name of one and its options ask for them.
+ghost use Rattle.std.specs.Prelude.{◌≡◌};
+ghost use Rattle.mqlog.specs.Task.{task_named, trial_of, question_of, wanted_of, window_of};
+
+use journal_state::Form;
+use journal_tasks::{LAST, PLAIN, Question, REPORT, Trial, WHOLE, Wanted, Window};
+
+/// What the program is asked to do.
+#[derive(Clone, Copy, Debug, PartialEq, Eq)]
+pub enum Task {
+    /// Runs a script and writes its journal.
+    Run,
+    /// Runs a script and writes the history of its calls.
+    History,
+    /// Checks a journal.
+    Check,
+    /// Writes a short journal in place of a long one.
+    Compact,
+    /// Writes a picture of a journal.
+    Draw(Window),
+    /// Writes a page of a journal.
+    View(Window),
+    /// Writes the state after a journal or its first entries.
+    State(Wanted),
+    /// Checks whether a concurrent history is linearizable.
+    Judge(Question),
+    /// Tries every interleaving of the calls of a script.
+    Orders(Trial),
+}
+
+/// What options were given: a number each, or whether.
+#[derive(Clone, Copy, Debug, PartialEq, Eq)]
+pub struct Options {
+    pub from: Option<u64>,
+    pub to: Option<u64>,
+    pub at: Option<u64>,
+    pub journal: Option<u64>,
+    pub budget: Option<u64>,
+    pub json: bool,
+    /// A journal that explains a history is asked for.
+    pub explained: bool,
+}
+
+/// The task of a name with options, if it is the name of one.
+pub fn task_named(name: &str, options: Options) -> Option<Task>
+    ensures { result ≡ task_named name.now options }
+{
+    let task = match name {
+        "run" => Task::Run,
+        "history" => Task::History,
+        "check" => Task::Check,
+        "compact" => Task::Compact,
+        "draw" => Task::Draw(window_of(options)),
+        "view" => Task::View(window_of(options)),
+        "state" => Task::State(wanted_of(options)),
+        "judge" => Task::Judge(question_of(options)),
+        "orders" => Task::Orders(trial_of(options)),
+        _ => return None,
+    };
+    Some(task)
+}
+
+// The part of a journal that is shown.
+fn window_of(options: Options) -> Window
+    ensures { result ≡ window_of options }
+{
+    Window {
+        from: options.from.unwrap_or(WHOLE.from),
+        to: options.to.unwrap_or(WHOLE.to),
+    }
+}
+
+// Which state is written, and how.
+fn wanted_of(options: Options) -> Wanted
+    ensures { result ≡ wanted_of options }
+{
+    Wanted {
+        at: options.at,
+        form: if options.json { Form::Json } else { LAST.form },
+    }
+}
+
+// How a history is checked.
+fn question_of(options: Options) -> Question
+    ensures { result ≡ question_of options }
+{
+    Question {
+        journal: options.explained,
+        budget: options.budget.unwrap_or(PLAIN.budget),
+    }
+}
+
+// How the interleavings are tried.
+fn trial_of(options: Options) -> Trial
+    ensures { result ≡ trial_of options }
+{
+    Trial {
+        journal: options.journal,
+        budget: options.budget.unwrap_or(REPORT.budget),
+    }
+}

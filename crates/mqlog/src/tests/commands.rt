@@ -1,0 +1,142 @@
+// The command line: what words ask for, and which are refused.
+use crate::command::{Asked, asked_by, command};
+use crate::task::Task;
+use clap::error::ErrorKind;
+use journal_state::Form;
+use journal_tasks::{LAST, PLAIN, Question, REPORT, Trial, WHOLE, Wanted, Window};
+use std::alloc::{AllocError, Global};
+use std::test::Fail;
+
+// The task and the file that these words ask for, or the kind of the error.
+fn asked<'a>(
+    alloc: Global,
+    words: &'a [&'a str],
+) -> Result<Result<(Task, Option<&'a str>), ErrorKind>, AllocError> {
+    match command(alloc)?.try_get_matches_from(words) {
+        Ok(matches) => match asked_by(&matches) {
+            Some(Asked { task, file }) => Ok(Ok((task, file))),
+            None => Ok(Err(ErrorKind::InvalidSubcommand)),
+        },
+        Err(error) => Ok(Err(error.kind())),
+    }
+}
+
+// Command lines, with the task and the file that they ask for.
+static ASKED: [(&[&str], Task, Option<&str>); 16] = [
+    (&["mqlog", "run"], Task::Run, None),
+    (&["mqlog", "run", "a.script"], Task::Run, Some("a.script")),
+    (&["mqlog", "history"], Task::History, None),
+    (&["mqlog", "check"], Task::Check, None),
+    (&["mqlog", "check", "-"], Task::Check, None),
+    (
+        &["mqlog", "check", "--", "--from"],
+        Task::Check,
+        Some("--from"),
+    ),
+    (&["mqlog", "compact", "j"], Task::Compact, Some("j")),
+    (&["mqlog", "draw"], Task::Draw(WHOLE), None),
+    (
+        &["mqlog", "draw", "--to", "4", "j", "--from", "3"],
+        Task::Draw(Window { from: 3, to: 4 }),
+        Some("j"),
+    ),
+    (
+        &["mqlog", "view", "--from=3"],
+        Task::View(Window {
+            from: 3,
+            to: u64::MAX,
+        }),
+        None,
+    ),
+    (&["mqlog", "state"], Task::State(LAST), None),
+    (
+        &["mqlog", "state", "j", "--json", "--at", "3"],
+        Task::State(Wanted {
+            at: Some(3),
+            form: Form::Json,
+        }),
+        Some("j"),
+    ),
+    (&["mqlog", "judge"], Task::Judge(PLAIN), None),
+    (
+        &["mqlog", "judge", "--budget", "7", "--journal"],
+        Task::Judge(Question {
+            journal: true,
+            budget: 7,
+        }),
+        None,
+    ),
+    (&["mqlog", "orders"], Task::Orders(REPORT), None),
+    (
+        &["mqlog", "orders", "s", "--budget", "7", "--journal", "3"],
+        Task::Orders(Trial {
+            journal: Some(3),
+            budget: 7,
+        }),
+        Some("s"),
+    ),
+];
+
+// Command lines that ask for no task, with the kind of what is said of them.
+static NOT_ASKED: [(&[&str], ErrorKind); 18] = [
+    (&["mqlog"], ErrorKind::MissingSubcommand),
+    (&["mqlog", ""], ErrorKind::InvalidSubcommand),
+    (&["mqlog", "draws"], ErrorKind::InvalidSubcommand),
+    (&["mqlog", "--help"], ErrorKind::DisplayHelp),
+    (&["mqlog", "orders", "--help"], ErrorKind::DisplayHelp),
+    (&["mqlog", "help", "orders"], ErrorKind::DisplayHelp),
+    (&["mqlog", "--version"], ErrorKind::DisplayVersion),
+    (
+        &["mqlog", "check", "--from", "3"],
+        ErrorKind::UnknownArgument,
+    ),
+    (&["mqlog", "check", "a", "b"], ErrorKind::UnknownArgument),
+    (
+        &["mqlog", "draw", "--from", "4", "--from", "3"],
+        ErrorKind::ArgumentConflict,
+    ),
+    (&["mqlog", "draw", "--to"], ErrorKind::InvalidValue),
+    (
+        &["mqlog", "view", "--from", "x"],
+        ErrorKind::ValueValidation,
+    ),
+    (
+        &["mqlog", "view", "--from", "18446744073709551616"],
+        ErrorKind::ValueValidation,
+    ),
+    (
+        &["mqlog", "state", "--json", "--json"],
+        ErrorKind::ArgumentConflict,
+    ),
+    (
+        &["mqlog", "state", "--at", "-1"],
+        ErrorKind::UnknownArgument,
+    ),
+    (
+        &["mqlog", "judge", "--journal", "--journal"],
+        ErrorKind::ArgumentConflict,
+    ),
+    (&["mqlog", "orders", "--journal"], ErrorKind::InvalidValue),
+    (
+        &["mqlog", "orders", "--budget", ""],
+        ErrorKind::ValueValidation,
+    ),
+];
+
+#[test]
+fn words_ask_for_a_task_with_its_options_in_any_order_and_a_file(
+    rt: HostRuntime,
+) -> Result<(), Fail> {
+    for (words, task, file) in ASKED {
+        assert_eq!(rt; asked(rt.alloc(), words)?, Ok((task, file)));
+    }
+    Ok(())
+}
+
+#[test]
+fn other_words_are_refused_by_their_kind(rt: HostRuntime) -> Result<(), Fail> {
+    for (words, kind) in NOT_ASKED {
+        assert_eq!(rt; asked(rt.alloc(), words)?, Err(kind), "{words:?}");
+    }
+    Ok(())
+}
