@@ -1,11 +1,15 @@
 /* Random calls of five processes have the same answers, and write the same, on a system that stores
- * its journal and on one that stores none: usage: alike RUNS, each of 80 calls. */
+ * its journal and on one that stores none; and, after the first calls, on two that go on from that
+ * journal and from a short one in its place: usage: alike RUNS, each of 110 calls. */
 #include <yakyrombe.h>
 
 #include <stdio.h>
+#include <stdlib.h>
 #include <string.h>
 
-enum { PROCESSES = 5, CALLS = 80, NAMES = 3, MOST_BYTES = 40 };
+enum { PROCESSES = 5, CALLS = 110, FIRST_CALLS = 60, NAMES = 3, MOST_BYTES = 40 };
+
+enum { STORED, UNSTORED, RESUMED, SHORT, SYSTEMS };
 
 typedef enum call {
     OPEN,
@@ -152,45 +156,84 @@ static bool same(const outcome *x, const outcome *y)
            !memcmp(x->buf, y->buf, sizeof x->buf);
 }
 
-/* One run. The counts are of the calls that were done, of those that waited, and of those served.
- */
+/* The stored system goes on in two others. */
+static bool resume(yak_process (*systems)[PROCESSES], unsigned long *shortened)
+{
+    char *text = 0;
+    size_t len = 0;
+    uint64_t line;
+    FILE *to = open_memstream(&text, &len);
+    const bool is_written = to != 0 && yak_write_journal(systems[STORED], to) == YAK_DONE;
+    const uint8_t *journal = (const uint8_t *)text;
+    const bool resumed =
+        is_written && yak_resume(systems[RESUMED], PROCESSES, journal, len, &line) == YAK_DONE &&
+        yak_resume_short(systems[SHORT], PROCESSES, journal, len, &line) == YAK_DONE;
+    if (to != 0)
+        fclose(to);
+    free(text);
+    if (resumed) {
+        uint8_t none[1];
+        *shortened += yak_entry(systems[SHORT], FIRST_CALLS / 2, none, 0, &len) == YAK_NO_ENTRY;
+    }
+    return resumed;
+}
+
+/* One call on each of so many systems. The counts are of the calls that were done, of those that
+ * waited, and of those served. */
+static bool make_all(yak_process (*systems)[PROCESSES], int count, const asked *a,
+                     unsigned long *counts)
+{
+    const outcome first = make(systems[STORED], a);
+    bool alike = true;
+    for (int i = 1; i < count; ++i) {
+        const outcome other = make(systems[i], a);
+        if (!same(&first, &other)) {
+            printf("kind %d on system %d: %u and %u\n", (int)a->call, i, (unsigned)first.answer,
+                   (unsigned)other.answer);
+            alike = false;
+        }
+    }
+    counts[0] += first.answer == YAK_DONE;
+    counts[1] += first.answer == YAK_WAITS && a->call != COLLECT && a->call != ANSWERED;
+    counts[2] += first.answer == YAK_DONE && a->call == COLLECT;
+    return alike;
+}
+
+/* One run. The last count is of the journals that became shorter by half. */
 static bool run(unsigned long *counts)
 {
     static const yak_process empty = YAK_PROCESS_EMPTY;
-    yak_process stored[PROCESSES], unstored[PROCESSES];
+    yak_process systems[SYSTEMS][PROCESSES];
     bool alike = true;
-    for (unsigned p = 0; p < PROCESSES; ++p)
-        stored[p] = unstored[p] = empty;
-    if (yak_new(stored, PROCESSES) != YAK_DONE || yak_unstored(unstored, PROCESSES) != YAK_DONE)
+    for (unsigned i = 0; i < SYSTEMS * PROCESSES; ++i)
+        systems[i / PROCESSES][i % PROCESSES] = empty;
+    if (yak_new(systems[STORED], PROCESSES) != YAK_DONE ||
+        yak_unstored(systems[UNSTORED], PROCESSES) != YAK_DONE)
         return false;
     for (int64_t i = 0; i < CALLS && alike; ++i) {
         const asked a = any_call(i / 4, i < 2 * PROCESSES);
-        const outcome x = make(stored, &a), y = make(unstored, &a);
-        alike = same(&x, &y);
-        counts[0] += x.answer == YAK_DONE;
-        counts[1] += x.answer == YAK_WAITS && a.call != COLLECT && a.call != ANSWERED;
-        counts[2] += x.answer == YAK_DONE && a.call == COLLECT;
-        if (!alike)
-            printf("call %d of kind %d: %u and %u\n", (int)i, (int)a.call, (unsigned)x.answer,
-                   (unsigned)y.answer);
+        if (i == FIRST_CALLS && !resume(systems, &counts[3]))
+            return false;
+        alike = make_all(systems, i < FIRST_CALLS ? RESUMED : SYSTEMS, &a, counts);
     }
     /* Also the waits that are open. */
-    return yak_finish(stored, PROCESSES, 0, 0) == YAK_DONE &&
-           yak_finish(unstored, PROCESSES, 0, 0) == YAK_DONE && alike;
+    for (int i = 0; i < SYSTEMS && alike; ++i)
+        alike = yak_finish(systems[i], PROCESSES, 0, 0) == YAK_DONE;
+    return alike;
 }
 
 int main(int count, char **words)
 {
     const unsigned long runs = count > 1 ? strtoul(words[1], 0, 10) : 1000;
-    unsigned long counts[3] = {0, 0, 0};
+    unsigned long counts[4] = {0, 0, 0, 0};
     for (unsigned long i = 0; i < runs; ++i)
         if (!run(counts)) {
             printf("run %lu: not alike\n", i);
             return 1;
         }
-    if (counts[0] < 10 * runs || counts[1] < runs || counts[2] < runs / 2) {
-        printf("too little happened: %lu done, %lu waited, %lu collected\n", counts[0], counts[1],
-               counts[2]);
+    if (counts[0] < 10 * runs || counts[1] < runs || counts[2] < runs / 2 || counts[3] < runs / 4) {
+        printf("too little happened: %lu done, %lu waited, %lu collected, %lu shorter\n", counts[0],
+               counts[1], counts[2], counts[3]);
         return 1;
     }
     puts("all alike");

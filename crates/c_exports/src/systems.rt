@@ -2,11 +2,13 @@
 ghost use Rattle.std.specs.Prelude.{◌≡◌, true, false, Some, None};
 ghost use Rattle.c_handles.specs.Handles.{process_in};
 ghost use Rattle.c_handles.specs.Codes.{freed_code};
+ghost use Rattle.c_handles.specs.Resumes.{Resumes};
 ghost use Rattle.c_handles.specs.Systems.{Makes};
+ghost use Rattle.mq_equivalence.specs.Equivalence.{Equivalent};
 
 use c_handles::handle::Handle;
 use c_handles::numbers::{DONE, EMPTY};
-use c_handles::system;
+use c_handles::{resuming, system};
 use std::alloc::Global;
 
 /// Makes a system with as many processes as there are handles, 1 to 32 of them and all empty, and puts its processes into them, in
@@ -40,6 +42,35 @@ pub extern "C" fn yak_unstored(alloc: Global, processes: &mut [Handle]) -> u32
     ensures { Makes None false processes.old processes.new result }
 {
     system::unstored(alloc, processes)
+}
+
+/// Makes a system as `yak_new` that goes on from the journal whose text this is, as if its calls had been made on the system. If the journal
+/// is refused, the line is written that is the reason.
+#[unsafe(no_mangle)]
+pub extern "C" fn yak_resume(
+    alloc: Global,
+    processes: &mut [Handle],
+    text: &[u8],
+    line: &mut u64,
+) -> u32
+    ensures { Resumes (λ written past. past ≡ written) text.now processes.old processes.new line.old
+        line.new result }
+{
+    resuming::resume(alloc, processes, text, line)
+}
+
+/// The same, with a short journal in place of this one, after which the queues reply alike. If a wait is answered and not collected, it
+/// begins with the journal itself.
+#[unsafe(no_mangle)]
+pub extern "C" fn yak_resume_short(
+    alloc: Global,
+    processes: &mut [Handle],
+    text: &[u8],
+    line: &mut u64,
+) -> u32
+    ensures { Resumes Equivalent text.now processes.old processes.new line.old line.new result }
+{
+    resuming::resume_short(alloc, processes, text, line)
 }
 
 /// Empties a handle: 0, or 18 where it was empty. Its process is lost: what it holds stays held, and where it was on its way into the lock it can keep all others

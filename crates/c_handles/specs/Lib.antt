@@ -6,4 +6,5 @@ pub mod Codes
 pub mod Endings
 pub mod Openings
 pub mod Systems
+pub mod Resumes
 pub mod Readings

@@ -5,10 +5,12 @@
 #![tactic(auto)]
 
 pub mod handle;
+pub mod journals;
 pub mod member;
 pub mod numbers;
 pub mod reading;
 pub mod requests;
+pub mod resuming;
 pub mod seal;
 pub mod standing;
 pub mod system;

@@ -37,16 +37,16 @@ impl Member {
     ghost use Rattle.c_handles.specs.Standings.{ticket_of};
     ghost use Rattle.c_handles.specs.Tries.{Tries, TriesWith};
 
-    /// A new process with its queues.
-    pub fn new(mq: Arc<FastMq, Global>, process: FastProcess) -> Member
+    /// A process at rest with its queues, and until when its open wait waits.
+    pub fn new(mq: Arc<FastMq, Global>, process: FastProcess, until: Option<Deadline>) -> Member
         requires made { process.lock ≡ arc_value mq }
-        requires new { process.left ≡ [] }
+        requires deadline { until ≡ wait_deadline process.left process.number }
         ensures { ticket_of result.standing ≡ process }
     {
         Member {
             mq,
             standing: at_rest(process),
-            until: None,
+            until,
         }
     }
 

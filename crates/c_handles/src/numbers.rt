@@ -46,6 +46,15 @@ pub const GOES_ON: u32 = 26;
 /// The system's journal is not stored, and so can't be read.
 pub const UNSTORED: u32 = 27;
 
+/// A line of the text is not that of an entry. (28 is of the functions in C over this library.)
+pub const BAD_LINE: u32 = 29;
+
+/// An entry of the journal is not legal.
+pub const ILLEGAL: u32 = 30;
+
+/// An entry of the journal is of a process above the number of handles.
+pub const FOREIGN: u32 = 31;
+
 /// The number of what a call gave that is done or refused.
 pub fn done(tried: Option<Tried<Result<(), Fault>>>) -> u32
     ensures { result ≡ code_of given_code tried }

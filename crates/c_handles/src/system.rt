@@ -8,15 +8,18 @@ ghost use Rattle.mq.specs.Calls.{bounds_in, stored_in};
 ghost use Rattle.c_handles.specs.Standings.{ticket_of};
 ghost use Rattle.c_handles.specs.Handles.{process_in};
 ghost use Rattle.c_handles.specs.Codes.{freed_code};
-ghost use Rattle.c_handles.specs.Systems.{Makes, is_empty};
+ghost use Rattle.c_handles.specs.Systems.{Fills, HandsOut, IsDeadlineOf, Makes, is_empty};
 
 use crate::handle::Handle;
 use crate::member::Member;
 use crate::numbers::{DONE, EMPTY, FULL};
-use mq::{FastMq, FastProcess, Fault};
+use mq::{Deadline, FastMq, FastProcess, Fault};
 use mq_model::limits::PROCESSES;
 use std::alloc::Global;
 use std::sync::Arc;
+
+/// Until when the open wait of each process waits, that of process p at index p.
+pub(crate) type Deadlines = [Option<Deadline>; 33];
 
 /// Makes a system with as many processes as there are handles, 1 to 32 of them and all empty, and puts its processes into them, in
 /// their order.
@@ -30,7 +33,7 @@ pub fn new(alloc: Global, processes: &mut [Handle]) -> u32
         return FULL;
     }
     match FastMq::new(alloc, n) {
-        Ok((mq, made)) => hand_out(alloc, mq, made, processes),
+        Ok((mq, made)) => hand_out_new(alloc, mq, made, processes),
         Err(fault) => fault.number(),
     }
 }
@@ -48,7 +51,7 @@ pub fn bounded(alloc: Global, processes: &mut [Handle], entries: u64, bytes: u64
         return FULL;
     }
     match FastMq::bounded(alloc, n, entries, bytes) {
-        Ok((mq, made)) => hand_out(alloc, mq, made, processes),
+        Ok((mq, made)) => hand_out_new(alloc, mq, made, processes),
         Err(fault) => fault.number(),
     }
 }
@@ -64,7 +67,7 @@ pub fn unstored(alloc: Global, processes: &mut [Handle]) -> u32
         return FULL;
     }
     match FastMq::unstored(alloc, n) {
-        Ok((mq, made)) => hand_out(alloc, mq, made, processes),
+        Ok((mq, made)) => hand_out_new(alloc, mq, made, processes),
         Err(fault) => fault.number(),
     }
 }
@@ -81,14 +84,15 @@ pub fn free(alloc: Global, process: &mut Handle) -> u32
     }
 }
 
-fn are_empty(processes: &[Handle]) -> bool
+/// Whether the handles are all empty.
+pub(crate) fn are_empty(processes: &[Handle]) -> bool
     ensures { result ≡ list_all is_empty processes.now }
 {
     processes.iter().all(|process| process.is_empty())
 }
 
-// How many handles there are, where it is 1 to 32.
-fn count_of(processes: &[Handle]) -> Option<u32>
+/// How many handles there are, where it is 1 to 32.
+pub(crate) fn count_of(processes: &[Handle]) -> Option<u32>
     ensures some { IfSome result (λ n. (n ≡ length processes.now) × (1 ≤ n) × (n ≤ 32)) }
     ensures none { result ≡ None → (length processes.now ≡ 0) ⊎ (32 < length processes.now) }
 {
@@ -99,17 +103,36 @@ fn count_of(processes: &[Handle]) -> Option<u32>
 }
 
 // Puts the processes of a new system into the handles.
-fn hand_out(alloc: Global, mq: FastMq, made: Vec<FastProcess>, processes: &mut [Handle]) -> u32
+fn hand_out_new(alloc: Global, mq: FastMq, made: Vec<FastProcess>, processes: &mut [Handle]) -> u32
     requires empty { list_all is_empty processes.old ≡ true }
-    requires some { 1 ≤ length processes.old }
+    requires few { length processes.old ≤ 32 }
     requires count { mq.count ≡ length processes.old }
     requires made { made.items ≡ tickets_from mq 1 (length processes.old) }
-    ensures { Makes (bounds_in mq.fixed) (stored_in mq.fixed) processes.old processes.new result }
+    ensures { Fills (bounds_in mq.fixed) (stored_in mq.fixed) [] processes.old
+        processes.new result }
+{
+    let deadlines = [None; 33];
+    hand_out(alloc, mq, made, &deadlines, processes)
+}
+
+/// Puts the processes of a system into the handles, with the deadlines of their open waits.
+pub(crate) fn hand_out(
+    alloc: Global,
+    mq: FastMq,
+    made: Vec<FastProcess>,
+    deadlines: &Deadlines,
+    processes: &mut [Handle],
+) -> u32
+    requires empty { list_all is_empty processes.old ≡ true }
+    requires count { length made.items ≡ length processes.old }
+    requires made { All (λ p. p.lock ≡ mq) made.items }
+    requires deadlines { All (IsDeadlineOf deadlines.now) made.items }
+    ensures { HandsOut made.items processes.old processes.new result }
 {
     let Ok(mq) = Arc::new(alloc, mq) else {
         return Fault::NoMemory.number();
     };
-    let Ok(members) = members_of(alloc, &mq, made) else {
+    let Ok(members) = members_of(alloc, &mq, made, deadlines) else {
         return Fault::NoMemory.number();
     };
     fill(processes, members);
@@ -121,9 +144,10 @@ fn members_of(
     alloc: Global,
     mq: &Arc<FastMq, Global>,
     made: Vec<FastProcess>,
+    deadlines: &Deadlines,
 ) -> Result<Vec<Box<Member>>, Fault>
     requires made { All (λ p. p.lock ≡ arc_value mq.now) made.items }
-    requires new { All (λ p. p.left ≡ []) made.items }
+    requires deadlines { All (IsDeadlineOf deadlines.now) made.items }
     ensures ok { IfOk result (λ members. map (λ b. ticket_of b.value.standing) members.items ≡
         made.items) }
 {
@@ -134,7 +158,8 @@ fn members_of(
         let Ok(mq) = Arc::try_clone(mq) else {
             return Err(Fault::NoMemory);
         };
-        let Ok(member) = Box::new(alloc, Member::new(mq, process)) else {
+        let until = deadlines[process.number() as usize];
+        let Ok(member) = Box::new(alloc, Member::new(mq, process, until)) else {
             return Err(Fault::NoMemory);
         };
         members.push(member).unwrap();

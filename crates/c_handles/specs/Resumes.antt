@@ -1,0 +1,57 @@
+-- Systems that begin with a journal.
+use Rattle.std.specs.Prelude.{ℕ, ◌≡◌, ◌<◌, ◌+◌, ◌⊎◌, true, List, length, IfSome, None}
+use Rattle.mq_model.specs.Record.{Past, record_at}
+use Rattle.mq_model.specs.Legality.{IsFirstIllegal}
+use Rattle.journal_format.specs.Fitting.{AllFit}
+use Rattle.journal_format.specs.JournalFault.{StopsAt}
+use Rattle.journal_format.specs.Text.{journal_text}
+use Rattle.c_handles.specs.declared.handle.Handle.{Handle}
+use Rattle.c_handles.specs.Systems.{Fills, HasNoPlace}
+
+-- the text is that of this journal, of which nothing is lost in it
+pub record IsTextOf (past : Past) (text : List ℕ) : Type 0 where
+  pub fits : AllFit past
+  pub text_is : text ≡ journal_text past
+
+-- the line, counted from 1, is that of the first entry that is not legal
+pub record IsIllegalAt (past : Past) (line : ℕ) : Type 0 where
+  pub place : ℕ
+  pub line_is : line ≡ place + 1
+  pub illegal : IsFirstIllegal past place
+
+-- the line, counted from 1, is that of an entry of a process above n
+pub record IsForeignAt (n : ℕ) (past : Past) (line : ℕ) : Type 0 where
+  pub place : ℕ
+  pub line_is : line ≡ place + 1
+  pub there : place < length past
+  pub foreign : IfSome (record_at past place) (λ r. n < r.entry.process)
+
+-- no system of n processes goes on from this journal: an entry is not legal, 30, or of a process above n, 31
+abbrev pub IsNoStart : ℕ → Past → ℕ → ℕ → Type 0
+IsNoStart n past line code = ((code ≡ 30) × IsIllegalAt past line) ⊎ ((code ≡ 31) × IsForeignAt n past line)
+
+-- the same of the journal of a text
+pub record TextIsNoStart (n : ℕ) (text : List ℕ) (line code : ℕ) : Type 0 where
+  pub past : Past
+  pub of_text : IsTextOf past text
+  pub no_start : IsNoStart n past line code
+
+-- why no system goes on from this text in these handles, with the line before and after: a line of it is not that of an entry, 29, or
+-- another reason
+abbrev pub IsRefused : List ℕ → List Handle → ℕ → ℕ → ℕ → Type 0
+IsRefused text handles line after code =
+    (HasNoPlace handles code × (after ≡ line)) ⊎ ((code ≡ 11) × (after ≡ line)) ⊎ ((code ≡ 29) × StopsAt after text)
+    ⊎ TextIsNoStart (length handles) text after code
+
+-- a system was made that begins with a journal that is what this says of the one whose text it is
+pub record GoesOn (begins : Past → Past → Type 0) (text : List ℕ) (old new : List Handle) (code : ℕ) : Type 0 where
+  pub written : Past
+  pub of_text : IsTextOf written text
+  pub past : Past
+  pub begun : begins written past
+  pub fills : Fills None true past old new code
+
+-- the making of a system that begins so, with the line before and after
+abbrev pub Resumes : (Past → Past → Type 0) → List ℕ → List Handle → List Handle → ℕ → ℕ → ℕ → Type 0
+Resumes begins text old new line after code =
+    (GoesOn begins text old new code × (after ≡ line)) ⊎ (IsRefused text old line after code × (new ≡ old))

@@ -1,0 +1,171 @@
+//! The making of a system that begins with a journal.
+ghost use Rattle.std.specs.Prelude.{◌≡◌, ◌≤◌, ◌<◌, ◌⊎◌, true, None, Some, ℕ, length, slice_get, IfOk, IfErr};
+ghost use Rattle.std.specs.List.{list_all};
+ghost use Rattle.mq_model.specs.Waits.{wait_deadline};
+ghost use Rattle.mq_equivalence.specs.Equivalence.{Equivalent};
+ghost use Rattle.c_handles.specs.Resumes.{IsNoStart, IsRefused, IsTextOf, Resumes};
+ghost use Rattle.c_handles.specs.Systems.{Fills, is_empty};
+
+use crate::handle::Handle;
+use crate::journals::{equivalent_short, wait_deadline};
+use crate::numbers::{BAD_LINE, FOREIGN, FULL, ILLEGAL};
+use crate::system::{Deadlines, are_empty, count_of, hand_out};
+use journal_format::fault::JournalFault;
+use journal_format::text::read_journal;
+use mq::{Deadline, FastMq, Fault};
+use mq_equivalence::equivalence_is_reflexive;
+use mq_model::journals::Journal;
+use mq_state::books::Books;
+use mq_state::replay::Misfit;
+use mq_state::rewriting::Unwritten;
+use std::alloc::{AllocError, Global};
+
+/// Makes a system as [`new`](crate::system::new) that goes on from the journal whose text this is, as if its calls had been made on the
+/// system. If the journal is refused, the line is written that is the reason.
+pub fn resume(alloc: Global, processes: &mut [Handle], text: &[u8], line: &mut u64) -> u32
+    ensures { Resumes (λ written past. past ≡ written) text.now processes.old processes.new line.old
+        line.new result }
+{
+    match begun(alloc, processes, text, line) {
+        Ok(books) => hand_over(alloc, books, processes),
+        Err(code) => code,
+    }
+}
+
+/// The same, with a short journal in place of this one, after which the queues reply alike. If a wait is answered and not collected, it
+/// begins with the journal itself.
+pub fn resume_short(alloc: Global, processes: &mut [Handle], text: &[u8], line: &mut u64) -> u32
+    ensures { Resumes Equivalent text.now processes.old processes.new line.old line.new result }
+{
+    match begun(alloc, processes, text, line) {
+        Ok(books) => match shortened(alloc, books) {
+            Ok(books) => hand_over(alloc, books, processes),
+            Err(_) => Fault::NoMemory.number(),
+        },
+        Err(code) => code,
+    }
+}
+
+// The queues, for these handles, that go on from the journal whose text this is; or the number of why there are none.
+fn begun(alloc: Global, processes: &[Handle], text: &[u8], line: &mut u64) -> Result<Books, u32>
+    ensures text { IfOk result (λ books. IsTextOf books.records text.now) }
+    ensures count { IfOk result (λ books. (books.n ≡ length processes.now) × (1 ≤ books.n) ×
+        (books.n ≤ 32)) }
+    ensures stored { IfOk result (λ books. (books.bounds ≡ None) × (books.stored ≡ true)) }
+    ensures empty { IfOk result (λ books. list_all is_empty processes.now ≡ true) }
+    ensures same { IfOk result (λ books. line.new ≡ line.old) }
+    ensures refused { IfErr result (λ code.
+        IsRefused text.now processes.now line.old line.new code) }
+{
+    let Some(n) = count_of(processes) else {
+        return Err(Fault::Invalid.number());
+    };
+    if !are_empty(processes) {
+        return Err(FULL);
+    }
+    match read_journal(alloc, text) {
+        Ok(journal) => stocked(alloc, n, journal, line),
+        Err(JournalFault::BadLine(bad)) => {
+            *line = bad;
+            Err(BAD_LINE)
+        }
+        Err(JournalFault::Input) => unreachable!(),
+        Err(JournalFault::NoMemory) => Err(Fault::NoMemory.number()),
+    }
+}
+
+// The queues of n processes that go on from a journal; or the number of why there are none.
+fn stocked(alloc: Global, n: u32, journal: Journal, line: &mut u64) -> Result<Books, u32>
+    requires { (1 ≤ n) × (n ≤ 32) }
+    ensures records { IfOk result (λ books. books.records ≡ journal.records) }
+    ensures count { IfOk result (λ books. books.n ≡ n) }
+    ensures stored { IfOk result (λ books. (books.bounds ≡ None) × (books.stored ≡ true)) }
+    ensures same { IfOk result (λ books. line.new ≡ line.old) }
+    ensures refused { IfErr result (λ code. ((code ≡ 11) × (line.new ≡ line.old)) ⊎
+        IsNoStart n journal.records line.new code) }
+{
+    match Books::resume(alloc, n, journal) {
+        Ok(books) => Ok(books),
+        Err(refused) => {
+            let count = refused.journal.len();
+            match refused.why {
+                Misfit::NoMemory => Err(Fault::NoMemory.number()),
+                Misfit::Illegal(departure) => {
+                    prove!(departure.place < count);
+                    *line = departure.place + 1;
+                    Err(ILLEGAL)
+                }
+                Misfit::Foreign(place) => {
+                    prove!(place < count);
+                    *line = place + 1;
+                    Err(FOREIGN)
+                }
+            }
+        }
+    }
+}
+
+// The queues after a short journal in place of theirs, or after theirs, where there is none. The error is that memory was refused.
+fn shortened(alloc: Global, books: Books) -> Result<Books, AllocError>
+    requires count { (1 ≤ books.n) × (books.n ≤ 32) }
+    requires stored { (books.bounds ≡ None) × (books.stored ≡ true) }
+    ensures short { IfOk result (λ short. Equivalent books.records short.records) }
+    ensures count { IfOk result (λ short. short.n ≡ books.n) }
+    ensures stored { IfOk result (λ short. (short.bounds ≡ None) × (short.stored ≡ true)) }
+{
+    equivalence_is_reflexive();
+    match equivalent_short(alloc, &books) {
+        Ok(short) => match Books::resume(alloc, books.processes(), short) {
+            Ok(short) => Ok(short),
+            Err(refused) => match refused.why {
+                Misfit::NoMemory => Err(AllocError),
+                _ => Ok(books),
+            },
+        },
+        Err(Unwritten::NoMemory) => Err(AllocError),
+        Err(_) => Ok(books),
+    }
+}
+
+// Puts the processes of the system over these queues into the handles.
+fn hand_over(alloc: Global, books: Books, processes: &mut [Handle]) -> u32
+    requires empty { list_all is_empty processes.old ≡ true }
+    requires count { books.n ≡ length processes.old }
+    requires few { (1 ≤ books.n) × (books.n ≤ 32) }
+    requires stored { books.stored ≡ true }
+    ensures { Fills books.bounds true books.records processes.old processes.new result }
+{
+    let deadlines = deadlines_of(&books);
+    match FastMq::resume(alloc, books) {
+        Ok((mq, made)) => hand_out(alloc, mq, made, &deadlines, processes),
+        Err((_, fault)) => fault.number(),
+    }
+}
+
+// Until when the open wait of each process waits, that of process p at index p.
+fn deadlines_of(books: &Books) -> Deadlines
+    requires { books.now.stored ≡ true }
+    ensures { (p : ℕ) → p < 33 →
+        slice_get result p ≡ Some (wait_deadline books.now.records p) }
+{
+    let mut deadlines = [None; 33];
+    for process in 0..33 {
+        deadlines[process as usize] = deadline_of(books, process);
+    }
+    deadlines
+}
+
+// Until when the open wait of a process waits, where it has one with a deadline.
+#[tactic(auto, using(crate::proofs::Members::no_room, crate::proofs::Members::deadline_whole))]
+fn deadline_of(books: &Books, process: u32) -> Option<Deadline>
+    requires { books.now.stored ≡ true }
+    ensures { result ≡ wait_deadline books.now.records process }
+{
+    match books.waiting(process) {
+        None => None,
+        Some(_) => {
+            let journal = books.journal();
+            wait_deadline(journal, journal.len(), process)
+        }
+    }
+}
