@@ -190,6 +190,8 @@ int mq_close(mqd_t mqdes)
             program_here->me->numbers[mqdes - FIRST] = (uint8_t)(d + 1);
         answered = program_note_answers(program_home_of(d));
     }
+    if (d < DESCRIPTIONS && program_here->me->numbers[mqdes - FIRST] == 0)
+        program_drop_poll(d);
     program_leave_waking(answered);
     explored_gave(answer, 0);
     return result(answer);
@@ -297,6 +299,8 @@ static __attribute__((noinline)) uint32_t go_on(uint32_t d, const request *asked
         answered = program_note_answers(process != HOME ? process : program_home_of(d));
         if (answer == YAK_DONE && the_program.tables.registered != 0)
             program_collect_notices(d, &found);
+        if (answer == YAK_DONE && the_program.polls != 0)
+            program_tell_polls(d);
         warns = program_is_to_warn();
         program_leave_waking(answered);
     }
@@ -340,6 +344,7 @@ static inline __attribute__((always_inline)) uint32_t make(const char *call, boo
             log_message(is_send, d, bytes, len, prio);
         if (__builtin_expect(answer == YAK_DONE && the_program.until_large >= 0 &&
                                  (the_program.tables.registered | the_program.stranded |
+                                  the_program.polls |
                                   the_program.processes[program_home_of(d)].answered) == 0,
                              1)) {
             program_leave();

@@ -21,7 +21,8 @@ enum {
 };
 
 /* The kinds of steps: the word of the protocol with the engine, and the call that a report names,
- * without and with a deadline. */
+ * without and with a deadline. For the engine a look at memory is one at the attributes of a queue,
+ * and a change is one of them: two looks commute, and nothing else on one object does. */
 #define YAK_KINDS(X)                                                              \
     X(NONE, "none", "nothing", "nothing")                                         \
     X(START, "start", "its start", "its start")                                   \
@@ -56,7 +57,11 @@ enum {
     X(BARRIER, "barrier", "pthread_barrier_wait", "pthread_barrier_wait")         \
     X(ONCE, "once", "pthread_once", "pthread_once")                               \
     X(FUTEXWAIT, "futexwait", "FUTEX_WAIT", "FUTEX_WAIT")                         \
-    X(FUTEXWAKE, "futexwake", "FUTEX_WAKE", "FUTEX_WAKE")
+    X(FUTEXWAKE, "futexwake", "FUTEX_WAKE", "FUTEX_WAKE")                         \
+    X(LOAD, "getattr", "an atomic load", "an atomic load")                        \
+    X(STORE, "setattr", "an atomic store", "an atomic store")                     \
+    X(READ, "getattr", "a read", "a read")                                        \
+    X(WRITE, "setattr", "a write", "a write")
 
 typedef enum yak_kind {
 #define YAK_KIND(name, word, call, timed_call) STEP_##name,
@@ -68,6 +73,17 @@ typedef enum yak_kind {
 /* Of a step: it has a deadline; it is a try, or its description does not block; it never blocks,
  * since its arguments are wrong. */
 enum { YAK_TIMED = 1, YAK_TRY = 2, YAK_NEVER_BLOCKS = 4 };
+
+/* The word of a kind of steps. */
+static inline const char *yak_kind_word(unsigned kind)
+{
+    static const char *const words[] = {
+#define YAK_KIND(name, word, call, timed_call) word,
+        YAK_KINDS(YAK_KIND)
+#undef YAK_KIND
+    };
+    return words[kind % STEP_KINDS];
+}
 
 /* The call of a step. A wait for a condition has a mutex in `arg`, and one by futex has none. */
 static inline const char *yak_call_name(unsigned kind, unsigned flags, uint32_t arg)
@@ -103,7 +119,8 @@ typedef enum yak_end {
     YAK_END_DEADLOCK,
     YAK_END_STEPS, /* too many */
     YAK_END_UNFIT, /* a thread that was to go on could not */
-    YAK_END_SLEPT  /* all that can go on are asleep */
+    YAK_END_SLEPT, /* all that can go on are asleep */
+    YAK_END_RACE   /* two accesses to memory that nothing orders */
 } yak_end;
 
 typedef struct yak_record {

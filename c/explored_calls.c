@@ -140,20 +140,25 @@ static uint32_t queue_object(const char *name, uint32_t room)
     return ++all->objects;
 }
 
+static void meet_queue(machine_queue *it, const uint8_t *name, size_t len, int64_t room)
+{
+    char text[YAK_OBJECT_NAME] = {0};
+    memcpy(text, name, len < sizeof text ? len : sizeof text - 1);
+    it->room = room;
+    it->current = 0;
+    it->object = queue_object(text, (uint32_t)room);
+    if (the_machine.made < MACHINE_MADE)
+        the_machine.made_queue[the_machine.made++] = it->object;
+}
+
 void explored_queue(unsigned slot, const uint8_t *name, size_t len, const yak_opening *opening)
 {
     machine_queue *it = &the_machine.queues[slot];
-    char text[YAK_OBJECT_NAME] = {0};
-    if (!machine_decides() || len >= sizeof text)
+    if (!machine_decides())
         return;
-    memcpy(text, name, len);
     /* Without limits a queue has those of Linux's. */
-    it->room = opening->limited ? opening->maxmsg : 10;
     it->msgsize = opening->limited ? opening->msgsize : 8192;
-    it->current = 0;
-    it->object = queue_object(text, (uint32_t)it->room);
-    if (the_machine.made < MACHINE_MADE)
-        the_machine.made_queue[the_machine.made++] = it->object;
+    meet_queue(it, name, len, opening->limited ? opening->maxmsg : 10);
 }
 
 void explored_number(unsigned number, uint32_t d)
@@ -165,4 +170,101 @@ void explored_number(unsigned number, uint32_t d)
     /* A call on the number that came before would have failed. */
     if (before != 0)
         machine_also(STEP_OPEN, before);
+}
+
+/* Whether the journal has an entry at a place. */
+static bool has_entry(uint64_t place)
+{
+    uint8_t none = 0;
+    uint32_t answer;
+    size_t len;
+    int at;
+    if (program_enter_aside(&at) != 0)
+        return false;
+    READ(answer, yak_proved_entry(&the_program.processes[HOME], place, &none, 0, &len));
+    program_unlock(at);
+    return answer == YAK_SHORT;
+}
+
+uint64_t explored_entries(uint64_t before)
+{
+    if (program_at == 0 || !the_program.is_ready || !the_program.is_stored)
+        return before;
+    while (has_entry(before))
+        ++before;
+    return before;
+}
+
+/* ---- calls by handles ----
+ *
+ * The crate for Rust tells of its calls by these (bindings/rust/src/explored.rs), and keeps what
+ * the machine knows of a queue. */
+
+bool yak_explored_decides(void)
+{
+    return machine_decides();
+}
+
+static yak_kind kind_of(const char *word)
+{
+    unsigned kind = 0;
+    while (kind < STEP_KINDS && strcmp(yak_kind_word(kind), word) != 0)
+        ++kind;
+    return (yak_kind)(kind % STEP_KINDS);
+}
+
+/* A queue was created. */
+void yak_explored_queue(machine_queue *it, const uint8_t *name, size_t len, int64_t room)
+{
+    if (machine_decides())
+        meet_queue(it, name, len, room);
+}
+
+/* Parks in front of a call on a queue, or on a name if there is none. */
+void yak_explored_call(const char *word, const machine_queue *queue)
+{
+    machine_op op;
+    if (!machine_decides())
+        return;
+    op = machine_op_on(kind_of(word), 0, 0);
+    op.object = queue != 0 ? queue->object : names_object();
+    machine_act(&op);
+}
+
+/* Parks in front of a send or a receive until it can be made, or its deadline passes; `flags` are
+ * those of a step. */
+void yak_explored_transfer(bool is_send, machine_queue *queue, uint32_t prio, uint32_t flags,
+                           const struct timespec *until)
+{
+    machine_op op;
+    if (!machine_decides())
+        return;
+    op = machine_op_on(is_send ? STEP_SEND : STEP_RECEIVE, 0, until);
+    op.object = queue->object;
+    op.arg = is_send ? prio : 0;
+    op.flags |= flags;
+    op.with = flags == 0 ? queue : 0;
+    machine_act(&op);
+}
+
+/* The step that runs did something to another queue too. */
+void yak_explored_also(const char *word, const machine_queue *queue)
+{
+    machine_also(kind_of(word), queue->object);
+}
+
+/* What a call returned: 0 or an error, and a value that others can see. */
+void yak_explored_gave(int error, uint32_t value)
+{
+    machine_gave(error, value);
+}
+
+void yak_explored_moved(bool is_send, machine_queue *queue, int error, const uint8_t *bytes,
+                        size_t len)
+{
+    if (!machine_decides())
+        return;
+    if (error == 0)
+        queue->current += is_send ? 1 : -1;
+    machine_gave(error, error == 0 ? hash_of(bytes, len) : 0);
 }

@@ -22,6 +22,8 @@ void explored_moved(bool is_send, uint32_t d, uint32_t answer, const uint8_t *by
 /* Inside the lock: a queue was created, and a descriptor was given. */
 void explored_queue(unsigned slot, const uint8_t *name, size_t len, const yak_opening *opening);
 void explored_number(unsigned number, uint32_t d);
+/* How many entries the stored journal has, of which so many were there before. */
+uint64_t explored_entries(uint64_t before);
 
 #pragma GCC visibility pop
 

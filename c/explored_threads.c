@@ -386,9 +386,14 @@ int pthread_barrier_wait(pthread_barrier_t *barrier)
 
 int pthread_once(pthread_once_t *once, void (*begin)(void))
 {
+    int error;
     if (machine_decides())
         machine_acts(STEP_ONCE, once, 0);
-    return find_pthread_once()(once, begin);
+    error = find_pthread_once()(once, begin);
+    /* What was done once comes before what follows the others' calls. */
+    if (the_machine.sees_memory && machine_decides())
+        machine_also(STEP_ONCE, machine_object(once, STEP_ONCE));
+    return error;
 }
 
 /* ---- futexes, by which Rust's threads wait ---- */

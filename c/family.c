@@ -270,6 +270,8 @@ static void bury(unsigned number)
         }
     the_program.stranded -= it->stranded;
     it->stranded = 0;
+    the_program.polls -= it->polls;
+    it->polls = 0;
     it->due_count = 0;
     atomic_store(&it->state, OWNER_FREE);
 }
@@ -292,11 +294,13 @@ void program_mend(void)
 {
     notices found = {0};
     the_program.stranded = 0;
+    the_program.polls = 0;
     for (unsigned i = 0; i < the_program.owners_used; ++i) {
         owner *it = &the_program.owners[i];
         if (atomic_load(&it->state) == OWNER_FREE)
             continue;
         the_program.stranded += it->stranded;
+        the_program.polls += it->polls;
         for (unsigned n = 0; n < NUMBERS; ++n)
             if (it->numbers[n] != 0 &&
                 the_program.tables.descriptions[it->numbers[n] - 1].made == 0)
@@ -310,6 +314,7 @@ void program_mend(void)
         program_release((unsigned)__builtin_ctz(left));
     /* A message may have come whose notice was not taken. */
     program_collect_notices(DESCRIPTIONS, &found);
+    program_tell_polls(DESCRIPTIONS);
     program_sweep();
     ++the_program.opens; /* no number is given twice */
 }
@@ -328,6 +333,7 @@ static owner *take_place(void)
             it->pid = getpid();
             it->stranded = 0;
             it->own_threads = 0;
+            it->polls = 0;
             it->due_count = 0;
             memset(it->numbers, 0, sizeof it->numbers);
             if (i >= the_program.owners_used)
@@ -468,7 +474,7 @@ static void make_place(void)
     atomic_store(&coming->is_made, 0);
     atomic_store(&coming->state, OWNER_COMING);
     the_program.arena.openings += !the_program.is_logged;
-    if (program_has_thread_notices())
+    if (program_has_thread_notices() || program_has_polls())
         program_begin_notifier();
 }
 
@@ -542,6 +548,7 @@ static void forget(void)
     program_own_wait.number = 0;
     program_waits = 0;
     program_forget_notices();
+    program_forget_polls();
 }
 
 /* The child has its place, unless it comes too late. */

@@ -2,6 +2,8 @@
  */
 #define _GNU_SOURCE
 #include "machine.h"
+#include "explored_calls.h"
+#include "races.h"
 
 #include <limits.h>
 #include <linux/futex.h>
@@ -25,6 +27,8 @@ bool machine_decides(void)
 {
     if (!the_machine.is_on || number_here == HAS_LEFT)
         return false;
+    if (number_here == 0 && the_machine.is_inner)
+        return false;
     if (number_here == 0)
         stop("there is a thread that was not started by pthread_create");
     return true;
@@ -35,23 +39,14 @@ seat *machine_seat(void)
     return &the_machine.seats[number_here - 1];
 }
 
+unsigned machine_number(void)
+{
+    return number_here;
+}
+
 static unsigned number_of(const seat *it)
 {
     return (unsigned)(it - the_machine.seats) + 1;
-}
-
-static bool is_before(const struct timespec *one, const struct timespec *other)
-{
-    return one->tv_sec != other->tv_sec ? one->tv_sec < other->tv_sec
-                                        : one->tv_nsec < other->tv_nsec;
-}
-
-uint64_t machine_random(void)
-{
-    the_machine.random ^= the_machine.random << 13;
-    the_machine.random ^= the_machine.random >> 7;
-    the_machine.random ^= the_machine.random << 17;
-    return the_machine.random;
 }
 
 /* ---- objects ---- */
@@ -115,12 +110,29 @@ void machine_also(yak_kind kind, uint32_t object)
         the_machine.touches_all = true;
     else
         touch(object);
+    if (!the_machine.sees_memory || kind == STEP_READ || kind == STEP_WRITE)
+        return;
+    if (kind == STEP_CREATE)
+        races_create(number_here, object);
+    else
+        races_step(number_here, object);
 }
 
 void machine_gave(int error, uint32_t value)
 {
     if (machine_decides() && the_machine.is_noted)
         note((yak_record){.what = YAK_GAVE, .object = (uint32_t)error, .arg = value});
+}
+
+void machine_note_entries(void)
+{
+    uint64_t count;
+    if (the_machine.threads == 0 || number_here == 0 || number_here == HAS_LEFT)
+        return;
+    count = explored_entries(the_machine.entries);
+    for (; the_machine.entries < count; ++the_machine.entries)
+        dprintf(the_machine.threads, "%llu %u %u\n", (unsigned long long)the_machine.entries,
+                number_here, the_machine.steps);
 }
 
 /* ---- who can go on ---- */
@@ -250,8 +262,8 @@ static unsigned first_late(const uint8_t *able)
     unsigned first = YAK_SEATS;
     for (unsigned i = 0; i < the_machine.used; ++i)
         if (able[i] == YAK_LATE &&
-            (first == YAK_SEATS ||
-             is_before(&the_machine.seats[i].op.until, &the_machine.seats[first].op.until)))
+            (first == YAK_SEATS || simulation_is_before(&the_machine.seats[i].op.until,
+                                                        &the_machine.seats[first].op.until)))
             first = i;
     return first;
 }
@@ -359,10 +371,10 @@ static bool is_awake(const uint8_t *able, unsigned i)
 
 static unsigned at_random(const uint8_t *able, unsigned awake, unsigned *variant)
 {
-    unsigned left = (unsigned)(machine_random() % awake), i = 0;
+    unsigned left = (unsigned)(simulation_number(&the_machine.random) % awake), i = 0;
     while (!is_awake(able, i) || left-- != 0)
         ++i;
-    *variant = (unsigned)(machine_random() % variants(&the_machine.seats[i]));
+    *variant = (unsigned)(simulation_number(&the_machine.random) % variants(&the_machine.seats[i]));
     return i;
 }
 
@@ -438,13 +450,18 @@ static void begin_step(seat *it, unsigned able, unsigned variant)
     the_machine.touches_names =
         op->kind == STEP_OPEN || op->kind == STEP_CLOSE || op->kind == STEP_UNLINK;
     if (it->is_late) {
-        if (is_before(&the_machine.now, &op->until))
+        if (simulation_is_before(&the_machine.now, &op->until))
             the_machine.now = op->until;
         machine_also(STEP_SLEEP, machine_clock_object());
     }
     if (!is_local(op->kind) || it->is_late)
         the_machine.last = number_of(it) - 1;
     it->state = SEAT_RUNS;
+    if (!the_machine.sees_memory)
+        return;
+    races_step(number_of(it), op->object);
+    if (op->kind == STEP_JOIN)
+        races_join(number_of(it), op->arg);
 }
 
 static void note_choice(const seat *it, unsigned variant)
@@ -461,6 +478,7 @@ static seat *choose(void)
     uint8_t able[YAK_SEATS] = {0};
     unsigned parked = 0, variant, local, chosen;
     seat *it;
+    machine_note_entries();
     wake_sleepers();
     for (unsigned i = 0; i < the_machine.used; ++i)
         parked += the_machine.seats[i].state == SEAT_PARKED;
@@ -498,6 +516,7 @@ static bool goes_on_alone(seat *it)
 {
     if (ability(it) != YAK_CAN)
         return false;
+    machine_note_entries();
     the_machine.is_noted = false;
     if (it->op.kind >= STEP_OPEN && it->op.kind <= STEP_NOTIFY) {
         note(record_of(it, YAK_AT, YAK_CAN));
@@ -533,7 +552,9 @@ machine_op machine_op_on(yak_kind kind, const void *at, const struct timespec *u
     machine_op op = {.kind = kind, .object = machine_object(at, kind), .at = at};
     if (until != 0) {
         const bool is_moment = until->tv_nsec >= 0 && until->tv_nsec < 1000000000;
-        op.flags = is_moment && is_before(&the_machine.now, until) ? YAK_TIMED : YAK_TRY;
+        /* Whether a deadline is to come depends on those that have passed. */
+        machine_also(STEP_CLOCK, machine_clock_object());
+        op.flags = is_moment && simulation_is_before(&the_machine.now, until) ? YAK_TIMED : YAK_TRY;
         op.until = *until;
     }
     return op;
@@ -581,6 +602,19 @@ void machine_drop_seat(void)
     the_machine.seats[--the_machine.used].state = SEAT_FREE;
 }
 
+/* The stack of a thread may have been that of another. */
+static void forget_stack(void)
+{
+    pthread_attr_t attr;
+    void *from;
+    size_t size;
+    if (pthread_getattr_np(pthread_self(), &attr) != 0)
+        return;
+    if (pthread_attr_getstack(&attr, &from, &size) == 0)
+        races_forget((uintptr_t)from, size);
+    pthread_attr_destroy(&attr);
+}
+
 void machine_sit_down(seat *it, bool is_first)
 {
     number_here = number_of(it);
@@ -589,6 +623,8 @@ void machine_sit_down(seat *it, bool is_first)
     pthread_setspecific(the_machine.key, &the_machine);
     if (!is_first)
         await_turn(it);
+    if (the_machine.sees_memory && !is_first)
+        forget_stack();
 }
 
 void machine_leave(void)
@@ -603,10 +639,7 @@ void machine_leave(void)
 
 struct timespec machine_later(const struct timespec *time)
 {
-    struct timespec it = the_machine.now;
-    it.tv_sec += time->tv_sec + (it.tv_nsec + time->tv_nsec) / 1000000000;
-    it.tv_nsec = (it.tv_nsec + time->tv_nsec) % 1000000000;
-    return it;
+    return simulation_later(&the_machine.now, time);
 }
 
 /* ---- the end of a run ---- */
@@ -662,6 +695,7 @@ static void note_holder(const seat *it)
 /* Writes the end of the trace. From here on nobody parks. */
 static void end_trace(yak_end why)
 {
+    machine_note_entries();
     for (unsigned i = 0; i < the_machine.used; ++i) {
         const seat *it = &the_machine.seats[i];
         if (it->state != SEAT_PARKED)

@@ -1,5 +1,6 @@
 /* machine.h: the machine of libyakyrombe-explore, which runs the threads of a program one at a
- * time. It stands in the place of seed_machine.c, under the names that the other files of c call.
+ * time. It stands in the place of that of seeds (seed_machine.h), under the names that the other
+ * files of c call.
  *
  * A thread that comes to an operation that others can see parks in front of it. The thread that
  * parks chooses who goes on: by the choices that are asked for, and then by a rule. What was
@@ -10,6 +11,7 @@
 #define YAKYROMBE_MACHINE_H
 
 #include "explore.h"
+#include "simulation.h"
 #include "the_program.h"
 
 #include <time.h>
@@ -56,9 +58,11 @@ typedef struct machine_queue {
 } machine_queue;
 
 typedef struct machine {
-    bool is_on;    /* it decides, and time is simulated */
-    bool chooses;  /* there has been a second thread */
-    bool is_noted; /* the step that runs is in the trace */
+    bool is_on;       /* it decides, and time is simulated */
+    bool is_inner;    /* a part of the program is explored, and its other threads are not known */
+    bool sees_memory; /* the program tells of its accesses to memory (explored_memory.c) */
+    bool chooses;     /* there has been a second thread */
+    bool is_noted;    /* the step that runs is in the trace */
     bool is_direct;
     pid_t process;
     int link; /* to yak-explore */
@@ -72,6 +76,8 @@ typedef struct machine {
     bool touches_all, touches_names;
     void (*write)(void *with, FILE *to);
     void *with;
+    int threads; /* the file for the threads of the journal's entries, or 0 */
+    uint64_t entries;
     machine_queue queues[QUEUES];
     uint32_t number_queue[NUMBERS]; /* the queue that a descriptor had at last */
     unsigned made;                  /* queues that were created */
@@ -88,8 +94,9 @@ extern machine the_machine;
 
 /* Whether the machine decides about this thread. */
 bool machine_decides(void);
-/* The seat of this thread. */
+/* The seat of this thread, and its number. */
 seat *machine_seat(void);
+unsigned machine_number(void);
 /* The number of an object at an address. */
 uint32_t machine_object(const void *at, yak_kind kind);
 /* An operation on an object. A deadline may be null. */
@@ -124,14 +131,35 @@ void machine_quit(int status) __attribute__((noreturn));
 /* A futex call of the system itself. */
 long machine_futex(uint32_t *word, int how, uint32_t value);
 
+/* ---- for the crate for Rust, which is another library (machine_server.c, explored_calls.c) ----
+ */
+
+#pragma GCC visibility push(default)
+
+/* The calling thread is the first of each run. If yak-explore asks for runs, this returns in a
+ * child for each. False if the machine was not to wait for this. */
+bool yak_explored_begin(void);
+bool yak_explored_decides(void);
+void yak_explored_queue(machine_queue *it, const uint8_t *name, size_t len, int64_t room);
+void yak_explored_call(const char *word, const machine_queue *queue);
+void yak_explored_transfer(bool is_send, machine_queue *queue, uint32_t prio, uint32_t flags,
+                           const struct timespec *until);
+void yak_explored_also(const char *word, const machine_queue *queue);
+void yak_explored_gave(int error, uint32_t value);
+void yak_explored_moved(bool is_send, machine_queue *queue, int error, const uint8_t *bytes,
+                        size_t len);
+
+#pragma GCC visibility pop
+
 /* ---- between the files of the machine ---- */
 
 /* Writes the journal where the environment asks for it. Nobody else runs any more. */
 void machine_keep_journal(void);
+/* Writes which entries this thread has made since somebody did this, by its last step. */
+void machine_note_entries(void);
 
 /* Reads YAK_SCHEDULE. */
 void machine_read_schedule(const char *text, yak_explored *to);
-uint64_t machine_random(void);
 void machine_end_run(yak_end why, int status) __attribute__((noreturn));
 
 #pragma GCC visibility pop

@@ -2,6 +2,7 @@
 #define _GNU_SOURCE
 #include "machine.h"
 
+#include <dirent.h>
 #include <fcntl.h>
 #include <limits.h>
 #include <stdlib.h>
@@ -10,6 +11,8 @@
 #include <sys/syscall.h>
 #include <sys/wait.h>
 #include <unistd.h>
+
+enum { FIRST_FILE = 200 };
 
 /* A child without what pthread_atfork asks for; since version 2.34 of the GNU C library. */
 extern pid_t _Fork(void) __attribute__((weak));
@@ -68,11 +71,8 @@ static void read_choice(const char *word, yak_explored *to)
 
 static void read_seed(const char *word, yak_explored *to)
 {
-    char *end;
-    errno = 0;
-    to->seed = strtoull(word, &end, 10);
     to->is_random = true;
-    if (*word < '0' || *word > '9' || *end != 0 || errno != 0)
+    if (!simulation_read_seed(word, &to->seed))
         stop_at(word);
 }
 
@@ -103,17 +103,14 @@ static void end_program(int status, void *unused)
 }
 
 /* From here on there are choices. The end of the program is a step, before what was asked for at
- * its end up to here. From 0 the generator would give 0 for ever. */
+ * its end up to here. */
 static void begin_run(void)
 {
     const yak_explored *all = the_machine.shared;
-    const uint64_t x = (all->seed + 1) * 0x9E3779B97F4A7C15u;
     the_machine.chooses = true;
     the_machine.first = the_machine.steps;
     on_exit(end_program, 0);
-    the_machine.random = x != 0 ? x : 1;
-    for (int i = 0; i < 20; ++i)
-        machine_random();
+    the_machine.random = simulation_state(all->seed);
     for (uint32_t i = 0; i < all->sleepers && i < YAK_MOST_SLEEPS; ++i) {
         seat *it = &the_machine.seats[(all->sleeper[i].thread - 1) % YAK_SEATS];
         if (it->asleep < MACHINE_ASLEEP)
@@ -199,6 +196,7 @@ static void meet_explorer(const char *files)
 /* A run that ends by a signal leaves its journal too. All other threads are parked. */
 static void crash(int number)
 {
+    machine_note_entries();
     the_machine.is_on = false;
     machine_keep_journal();
     raise(number);
@@ -212,9 +210,24 @@ static void keep_journal_at_crash(void)
         sigaction(crashes[i], &action, 0);
 }
 
+/* Opens the file for the threads of the entries, far from the files that the program opens. */
+static void open_threads(void)
+{
+    const char *path = getenv("YAK_THREADS");
+    int file;
+    if (path == 0 || *path == 0)
+        return;
+    file = open(path, O_WRONLY | O_CREAT | O_TRUNC | O_CLOEXEC, 0666);
+    the_machine.threads = fcntl(file, F_DUPFD_CLOEXEC, FIRST_FILE);
+    if (the_machine.threads < 0)
+        stop("the file that YAK_THREADS names can't be written");
+    close(file);
+}
+
 static void begin_alone(const char *schedule)
 {
     keep_journal_at_crash();
+    open_threads();
     the_machine.shared = mmap(0, sizeof(yak_explored), PROT_READ | PROT_WRITE,
                               MAP_PRIVATE | MAP_ANONYMOUS | MAP_NORESERVE, -1, 0);
     if (the_machine.shared == MAP_FAILED)
@@ -233,17 +246,11 @@ static void take_turn(void)
 {
 }
 
-static __attribute__((constructor)) void begin(void)
+/* The calling thread is the first. */
+static void begin_machine(void)
 {
     static const yak_turns_ turns = {.turn = take_turn, .now = now};
-    const char *schedule = getenv("YAK_SCHEDULE"), *files = getenv("YAK_EXPLORE");
-    if (files != 0)
-        meet_explorer(files);
-    else if (schedule != 0)
-        begin_alone(schedule);
-    else
-        return;
-    the_machine.now.tv_sec = 1000000000;
+    the_machine.now.tv_sec = SIMULATION_BEGIN;
     pthread_key_create(&the_machine.key, end_thread);
     pthread_atfork(0, 0, in_child);
     the_machine.process = getpid();
@@ -254,6 +261,69 @@ static __attribute__((constructor)) void begin(void)
     /* Also a program that never has a second thread has a run. */
     on_exit(end_program, 0);
     yak_follow_(&turns);
+}
+
+static __attribute__((constructor)) void begin(void)
+{
+    const char *schedule = getenv("YAK_SCHEDULE"), *files = getenv("YAK_EXPLORE");
+    if (files != 0)
+        meet_explorer(files);
+    else if (schedule != 0)
+        begin_alone(schedule);
+    else
+        return;
+    the_machine.is_inner = getenv("YAK_MODEL") != 0;
+    if (!the_machine.is_inner)
+        begin_machine();
+}
+
+/* Whether a thread of the program runs, by its number. */
+static bool runs(long tid)
+{
+    char path[64], text[512], *end;
+    FILE *from;
+    size_t len;
+    snprintf(path, sizeof path, "/proc/self/task/%ld/stat", tid);
+    if ((from = fopen(path, "re")) == 0)
+        return false;
+    len = fread(text, 1, sizeof text - 1, from);
+    fclose(from);
+    text[len] = 0;
+    /* The state stands behind the name, which may have any bytes. */
+    end = strrchr(text, ')');
+    return end != 0 && strncmp(end, ") R", 3) == 0;
+}
+
+static bool others_run(void)
+{
+    const long here = syscall(SYS_gettid);
+    bool any = false;
+    DIR *tasks = opendir("/proc/self/task");
+    if (tasks == 0)
+        return false;
+    for (struct dirent *it; (it = readdir(tasks)) != 0;)
+        any = any || (it->d_name[0] != '.' && atol(it->d_name) != here && runs(atol(it->d_name)));
+    closedir(tasks);
+    return any;
+}
+
+/* A thread that runs may hold locks of the system, which would stay locked in a child: so the
+ * others are given a second to sleep. */
+static void await_others(void)
+{
+    const struct timespec pause = {.tv_nsec = 1000000};
+    for (int i = 0; i < 1000 && others_run(); ++i)
+        nanosleep(&pause, 0);
+}
+
+bool yak_explored_begin(void)
+{
+    if (!the_machine.is_inner || the_machine.is_on)
+        return false;
+    await_others();
+    begin_machine();
+    machine_begin_choices();
+    return true;
 }
 
 /* ---- what the other files of c call ---- */

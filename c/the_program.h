@@ -140,6 +140,7 @@ typedef struct owner {
     uint32_t stranded;
     uint32_t own_threads;  /* threads of the library */
     _Atomic uint32_t bell; /* on which its notifier sleeps */
+    uint32_t polls;        /* how many descriptors for poll it has */
     uint64_t due[DUE];     /* serials of its notices that a thread of its own is to take */
     unsigned due_count;
 } owner;
@@ -202,6 +203,7 @@ typedef struct program {
     unsigned closes; /* how often a description was closed */
     uint64_t serials;
     uint32_t stranded; /* how many calls wait without a helper */
+    uint32_t polls;    /* how many descriptors for poll there are, of all processes */
     yak_process processes[PROCESSES];
     tables tables;
     bool nonblock[DESCRIPTIONS];
@@ -508,6 +510,20 @@ void program_begin_notifier(void);
 bool program_has_thread_notices(void);
 /* In a child there is nothing of that. */
 void program_forget_notices(void);
+/* Wakes the thread of the library in another process. */
+void program_ring(owner *to);
+
+/* ---- descriptors for poll (polls.c), all inside the lock ---- */
+
+/* Raises or lowers those of the queue of a description, or with DESCRIPTIONS of all queues: those
+ * of this process; those of all processes. */
+void program_renew_polls(uint32_t d);
+void program_tell_polls(uint32_t d);
+/* Whether this process has one. In a child there is none. */
+bool program_has_polls(void);
+void program_forget_polls(void);
+/* Ends that of a description, if there is one. */
+void program_drop_poll(uint32_t d);
 
 /* ---- the processes of the machine (family.c) ---- */
 

@@ -7,7 +7,7 @@
 #include <time.h>
 
 /* The constants of waiting. Behind each stands the line of the proved library that has the same
- * one, as FILE: LINE; tools/pages compares the two. */
+ * one, as FILE: LINE; checks/pages compares the two. */
 enum {
     /* The bell on which a process sleeps until its wait is answered is this word and its number. */
     YAK_ANSWER_BELL_ = 32, /* fast_mutex/src/bells.rt: process.saturating_add(32) */

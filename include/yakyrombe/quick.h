@@ -58,7 +58,7 @@ YAK_INLINE_ uint32_t yak_quick_receive_(yak_process *process, uint32_t d, uint8_
                : yak_receive_on_(process, d, buf, len, message, answer);
 }
 
-/* The library has functions of these names too, which the compiler takes where it does not inline.
+/* The library has functions of these names too, which the compiler takes if it does not inline.
  */
 #ifndef YAK_DEFINES_CALLS_
 extern inline __attribute__((gnu_inline)) uint32_t

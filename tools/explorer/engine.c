@@ -165,7 +165,7 @@ static void put_thread(FILE *to, const yak_record *it)
     putc_unlocked(' ', to);
     put_number(to, it->thread);
     putc_unlocked(':', to);
-    fputs_unlocked(kind_word(it->kind), to);
+    fputs_unlocked(yak_kind_word(it->kind), to);
     putc_unlocked(':', to);
     put_number(to, it->object);
     putc_unlocked(':', to);
@@ -200,7 +200,7 @@ static const yak_record *put_records(FILE *to, const yak_record *at, const yak_r
         fprintf(to, "chose %u %u\n", at->thread, at->variants);
         break;
     case YAK_ALSO:
-        fprintf(to, "also %s %u\n", kind_word(at->kind), at->object);
+        fprintf(to, "also %s %u\n", yak_kind_word(at->kind), at->object);
         break;
     case YAK_GAVE:
         fprintf(to, "gave %u %u\n", at->object, at->arg);
@@ -213,7 +213,9 @@ static const yak_record *put_records(FILE *to, const yak_record *at, const yak_r
 
 static const char *word_of_end(const run *it)
 {
-    static const char *const words[] = {"done", "done", "deadlock", "steps", "unfit", "slept"};
+    /* After a race the others' steps are missing, as after a signal. */
+    static const char *const words[] = {"done",  "done",  "deadlock", "steps",
+                                        "unfit", "slept", "died"};
     if (it->is_hung)
         return "hung";
     if (it->end <= YAK_END_DONE && WIFSIGNALED(it->status))

@@ -49,9 +49,10 @@ void program_start(program *it, const options *options);
 void program_run(program *it, run *result);
 void program_stop(program *it);
 /* Runs the program once without the server, by YAK_SCHEDULE: its status, or -1 if it was killed
- * since it took too long. What it prints goes to a file, and its journal to another. */
+ * since it took too long. What it prints goes to a file, its journal to another, and the threads of
+ * the journal's entries to a third. */
 int program_run_alone(const program *it, const char *schedule, const char *printed,
-                      const char *journal);
+                      const char *journal, const char *threads);
 
 /* ---- the search engine (engine.c) ---- */
 
@@ -123,7 +124,6 @@ void ask_for(const outcome *it, yak_explored *to);
 /* The name of an object in a report. */
 const char *object_name(const yak_explored *of, uint32_t object, char *text, size_t size);
 const char *call_name(const yak_record *of);
-const char *kind_word(unsigned kind);
 
 /* ---- the report (report.c) ---- */
 

@@ -8,16 +8,6 @@
 #include <string.h>
 #include <sys/wait.h>
 
-const char *kind_word(unsigned kind)
-{
-    static const char *const words[] = {
-#define YAK_KIND(name, word, call, timed_call) word,
-        YAK_KINDS(YAK_KIND)
-#undef YAK_KIND
-    };
-    return words[kind % STEP_KINDS];
-}
-
 const char *call_name(const yak_record *of)
 {
     return yak_call_name(of->kind, of->flags, of->arg);
@@ -44,6 +34,9 @@ static const char *noun_of(const yak_object *it)
         [STEP_FUTEXWAIT] = "futex",
         [STEP_FUTEXWAKE] = "futex",
         [STEP_CLOCK] = "the clock",
+        [STEP_LOAD] = "memory",
+        [STEP_STORE] = "memory",
+        [STEP_WRITE] = "memory",
         [STEP_OPEN] = "the names of queues",
         [STEP_UNLINK] = "the names of queues",
     };
@@ -207,6 +200,8 @@ static char *describe(const yak_explored *of, const run *result)
         write_waits(to, of);
     } else if (result->end == YAK_END_STEPS) {
         fprintf(to, "more than %u steps\n", of->most_steps);
+    } else if (result->end == YAK_END_RACE) {
+        fprintf(to, "data race\n%s", result->printed);
     } else if (WIFSIGNALED(result->status)) {
         fprintf(to, "signal %d (%s)\n%s", WTERMSIG(result->status),
                 strsignal(WTERMSIG(result->status)), result->printed);

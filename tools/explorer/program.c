@@ -34,6 +34,7 @@ static void set_library(const program *it)
     setenv("LD_PRELOAD", value, 1);
     unsetenv("YAK_SEED");
     unsetenv("YAK_JOURNAL");
+    unsetenv("YAK_THREADS");
     unsetenv("YAK_SCHEDULE");
     unsetenv("YAK_REPORT");
     unsetenv("YAK_REPORT_SIGNAL");
@@ -162,7 +163,7 @@ void program_stop(program *it)
 /* ---- a run without it ---- */
 
 int program_run_alone(const program *it, const char *schedule, const char *printed,
-                      const char *journal)
+                      const char *journal, const char *threads)
 {
     int status = 0;
     pid_t child;
@@ -175,6 +176,7 @@ int program_run_alone(const program *it, const char *schedule, const char *print
         set_library(it);
         setenv("YAK_SCHEDULE", schedule, 1);
         setenv("YAK_JOURNAL", journal, 1);
+        setenv("YAK_THREADS", threads, 1);
         become(it);
     }
     for (unsigned tries = 0; child > 0 && tries < ALONE * 200; ++tries) {

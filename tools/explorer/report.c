@@ -168,7 +168,7 @@ static void make_folder(const char *path)
 static void write_folder(const char *folder, const outcome *of, program *it)
 {
     char *schedule = schedule_of(of, it->options->is_last), *printed = path_in(folder, "output"),
-         *journal = path_in(folder, "journal");
+         *journal = path_in(folder, "journal"), *threads = path_in(folder, "threads");
     FILE *to;
     run again;
     make_folder(folder);
@@ -181,11 +181,12 @@ static void write_folder(const char *folder, const outcome *of, program *it)
     write_lanes(to, it->shared, of);
     fclose(to);
     free(again.printed);
-    if (program_run_alone(it, schedule, printed, journal) == 0)
+    if (program_run_alone(it, schedule, printed, journal, threads) == 0)
         fprintf(stderr, "yak-explore: %s: outside the explorer this run did not fail\n", folder);
     free(schedule);
     free(printed);
     free(journal);
+    free(threads);
 }
 
 void write_folders(const outcomes *all, program *it)

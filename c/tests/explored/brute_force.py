@@ -1,5 +1,5 @@
 #!/usr/bin/env python3
-"""A search engine for yak-explore that tries all interleavings, for tools/explored to compare with.
+"""A search engine for yak-explore that tries all interleavings, for checks/explored to compare with.
 
 It goes depth first over the threads that each step showed as able to run, and reads of a trace nothing else. It makes no random runs.
 """

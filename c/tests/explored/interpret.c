@@ -1,6 +1,6 @@
 /* interpret ROOM WORD..: a thread for each word, which makes the operations of its letters, each on
  * the object of the digit behind it. Prints what each thread was told, and what the queues hold.
- * tools/explored makes such words at random. */
+ * checks/explored makes such words at random. */
 #include "short.h"
 
 #include <semaphore.h>

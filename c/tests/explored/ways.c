@@ -1,5 +1,5 @@
 /* ways WAY: two or three threads that wait for one another in one of the ways that the explorer
- * knows. tools/explored says how each can end. */
+ * knows. checks/explored says how each can end. */
 #include "short.h"
 
 #include <errno.h>
