@@ -20,6 +20,8 @@ fn main() {
             println!("cargo:rerun-if-changed={}", folder.join(LIBRARY).display());
             println!("cargo:rustc-link-search=native={}", folder.display());
             println!("cargo:rustc-link-lib=static=yakyrombe");
+            // Where the feature `model` looks for yak-explore.
+            println!("cargo:rustc-env=YAKYROMBE_FOLDER={}", folder.display());
         }
         Err(why) => {
             eprintln!("{why}");
@@ -45,7 +47,7 @@ fn find() -> Result<PathBuf, String> {
     let [lib, above] = own.map(|it| it.display().to_string());
     Err(format!(
         "{LIBRARY} is not there. One of these helps:\n\
-         - unpack a release of Yakyrombe, or build it by tools/c_library at the top of its \
+         - unpack a release of Yakyrombe, or build it by checks/c_library at the top of its \
          repository, and name its folder lib: \
          {FOLDER}=/path/to/lib cargo build\n\
          - install it (make install), so that `pkg-config --modversion yakyrombe` says {}\n\

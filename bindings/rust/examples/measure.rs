@@ -1,4 +1,4 @@
-//! `pair N` and `crowd P N`, as `tools/peers/yak_queue.c` has them: what an operation costs from
+//! `pair N` and `crowd P N`, as `experiments/peers/yak_queue.c` has them: what an operation costs from
 //! Rust. Behind `unstored` no journal is stored.
 
 use std::env;

@@ -1,5 +1,6 @@
 //! Why calls fail.
 
+use crate::process::refusal;
 use crate::raw::{answer, errno_of};
 use std::fmt;
 use std::io;
@@ -149,6 +150,81 @@ impl TryFrom<io::Error> for Error {
     /// The error of the same number, or what was given if no call fails with that.
     fn try_from(error: io::Error) -> Result<Error, io::Error> {
         Error::try_from(&error).map_err(|()| error)
+    }
+}
+
+/// Why no system goes on from a journal ([`System::resume`](crate::System::resume)). Lines count
+/// from 1.
+///
+/// `?` makes an [`Error`] of it: [`Invalid`](Error::Invalid) if a line is to blame.
+///
+/// ```
+/// use yakyrombe::{Error, Journal, ResumeError, System};
+///
+/// let never = Journal::from("0 1 close 0 -> ok\n");
+/// let refused = System::resume(&never).unwrap_err();
+/// assert_eq!(refused, ResumeError::Illegal(1));
+/// assert_eq!(refused.to_string(), "line 1 is not legal");
+/// assert_eq!(Error::from(refused), Error::Invalid);
+/// ```
+#[derive(Clone, Copy, Debug, PartialEq, Eq, PartialOrd, Ord, Hash)]
+#[non_exhaustive]
+pub enum ResumeError {
+    /// This line is not that of an entry.
+    BadLine(u64),
+    /// The entry of this line is not legal: no queues have it there.
+    Illegal(u64),
+    /// The entry of this line is of a process above the number of processes.
+    Foreign(u64),
+    /// The journal is not to blame: [`Invalid`](Error::Invalid) if there are not 1 to 32
+    /// processes, or [`NoMemory`](Error::NoMemory).
+    Refused(Error),
+}
+
+impl ResumeError {
+    /// What the library returned, with the line that it wrote.
+    pub(crate) fn of_answer(number: u32, line: u64) -> ResumeError {
+        match number {
+            answer::BAD_LINE => ResumeError::BadLine(line),
+            answer::ILLEGAL => ResumeError::Illegal(line),
+            answer::FOREIGN => ResumeError::Foreign(line),
+            number => ResumeError::Refused(refusal(number)),
+        }
+    }
+}
+
+impl fmt::Display for ResumeError {
+    fn fmt(&self, to: &mut fmt::Formatter<'_>) -> fmt::Result {
+        match self {
+            ResumeError::BadLine(line) => write!(to, "line {line} is not that of an entry"),
+            ResumeError::Illegal(line) => write!(to, "line {line} is not legal"),
+            ResumeError::Foreign(line) => write!(to, "line {line} is of a process too many"),
+            ResumeError::Refused(error) => error.fmt(to),
+        }
+    }
+}
+
+impl std::error::Error for ResumeError {
+    fn source(&self) -> Option<&(dyn std::error::Error + 'static)> {
+        match self {
+            ResumeError::Refused(error) => Some(error),
+            _ => None,
+        }
+    }
+}
+
+impl From<Error> for ResumeError {
+    fn from(error: Error) -> ResumeError {
+        ResumeError::Refused(error)
+    }
+}
+
+impl From<ResumeError> for Error {
+    fn from(error: ResumeError) -> Error {
+        match error {
+            ResumeError::Refused(error) => error,
+            _ => Error::Invalid,
+        }
     }
 }
 

@@ -141,6 +141,9 @@
 //! # }
 //! ```
 //!
+//! A system may go on from the journal of another ([`System::resume`]), or from a short one in its
+//! place ([`Journal::compacted`]): to come back to a state, or to try several ways from there.
+//!
 //! # Errors
 //!
 //! Any call may also fail with [`NoMemory`](Error::NoMemory) in a system without bounds and with
@@ -157,25 +160,47 @@
 #![deny(missing_docs)]
 
 mod error;
+#[cfg(feature = "model")]
+mod explored;
 #[cfg(feature = "futures")]
 mod futures;
 mod holder;
 mod iter;
+mod journal;
+#[cfg(feature = "model")]
+mod model;
 mod options;
 mod process;
 mod queue;
 #[allow(missing_docs)]
 mod raw;
+#[cfg(feature = "model")]
+pub mod sync;
 mod system;
 mod time;
 
-pub use error::{Error, Refused};
+/// As [`std::thread`]: the starts, ends, joins, parks and sleeps of its threads are steps of a
+/// [`model`](crate::model()).
+#[cfg(feature = "model")]
+pub mod thread {
+    pub use std::thread::*;
+}
+
+pub use error::{Error, Refused, ResumeError};
 #[cfg(feature = "futures")]
 pub use futures::{ReceiveFuture, SendFuture};
 pub use holder::Holder;
 pub use iter::{Iter, TryIter};
-pub use options::{Attr, Journal, Message, OpenOptions, Received, Room};
+pub use journal::Journal;
+#[cfg(feature = "model")]
+pub use model::{model, Model};
+pub use options::{Attr, Message, OpenOptions, Received, Room};
 pub use process::Process;
 pub use queue::Queue;
 pub use system::{Builder, System, MOST_PROCESSES};
 pub use time::{Clock, Deadline, Monotonic, VirtualClock};
+
+#[cfg(feature = "model")]
+use explored::Handle;
+#[cfg(not(feature = "model"))]
+use raw::Handle;

@@ -1,7 +1,6 @@
 //! What a queue is opened by, and what a call tells of it.
 
 use crate::raw::{Attributes, Opening};
-use std::fmt;
 use std::ops::Deref;
 
 /// What an open asks for: the access, whether it may create the queue, and the limits of a new one.
@@ -220,54 +219,4 @@ pub struct Room {
     pub entries: u64,
     /// Bytes of names and messages.
     pub bytes: u64,
-}
-
-/// The journal of a system as text, a line an entry, the oldest first.
-///
-/// ```
-/// use yakyrombe::{OpenOptions, System};
-///
-/// # fn main() -> Result<(), yakyrombe::Error> {
-/// let (_, [process]) = System::builder().journal(true).build_array()?;
-/// let queue = process.open("/q", OpenOptions::write().create())?;
-/// queue.close()?;
-/// assert_eq!(
-///     process.journal()?.lines().collect::<Vec<_>>(),
-///     ["0 1 open wc \"/q\" -> fd 0 created", "1 1 close 0 -> ok"]
-/// );
-/// # Ok(())
-/// # }
-/// ```
-#[derive(Clone, Debug, Default, PartialEq, Eq, PartialOrd, Ord, Hash)]
-pub struct Journal(pub(crate) String);
-
-impl Journal {
-    /// The text, which `mqlog check` and `mqlog draw` read.
-    #[must_use]
-    pub fn as_str(&self) -> &str {
-        &self.0
-    }
-
-    /// The lines of the entries, as `0 1 open bc "/q" -> fd 0 created`.
-    pub fn lines(&self) -> std::str::Lines<'_> {
-        self.0.lines()
-    }
-}
-
-impl AsRef<str> for Journal {
-    fn as_ref(&self) -> &str {
-        &self.0
-    }
-}
-
-impl From<Journal> for String {
-    fn from(journal: Journal) -> String {
-        journal.0
-    }
-}
-
-impl fmt::Display for Journal {
-    fn fmt(&self, to: &mut fmt::Formatter<'_>) -> fmt::Result {
-        to.write_str(&self.0)
-    }
 }

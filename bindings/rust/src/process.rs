@@ -1,11 +1,13 @@
 //! Processes and their calls.
 
 use crate::error::Error;
-use crate::options::{Journal, OpenOptions, Room};
+use crate::journal::{push_entry, string_of, text_of, Journal, Left};
+use crate::options::{OpenOptions, Room};
 use crate::queue::Queue;
-use crate::raw::{answer, Handle, Message, Moment, RoomLeft};
+use crate::raw::{answer, Message, Moment, RoomLeft};
 use crate::system::System;
 use crate::time::Limit;
+use crate::Handle;
 use std::cell::Cell;
 use std::fmt;
 use std::time::Duration;
@@ -64,6 +66,8 @@ struct Inner {
     wait: Cell<Option<OpenWait>>,
     /// The descriptors, as bits, that are to be closed as soon as the open wait has ended.
     unclosed: Cell<u32>,
+    /// Those that a journal left open, and that no queue has yet.
+    left: Cell<u32>,
 }
 
 /// An open wait of a process.
@@ -86,8 +90,14 @@ impl OpenWait {
 }
 
 impl Process {
-    pub(crate) fn new(handle: Handle, system: System) -> Process {
-        Process(Box::new(Inner { handle, system, wait: Cell::new(None), unclosed: Cell::new(0) }))
+    pub(crate) fn new(handle: Handle, system: System, left: Left) -> Process {
+        Process(Box::new(Inner {
+            handle,
+            system,
+            wait: Cell::new(left.wait),
+            unclosed: Cell::new(0),
+            left: Cell::new(left.held),
+        }))
     }
 
     #[inline]
@@ -123,6 +133,46 @@ impl Process {
         Ok(Queue::open(self, name, options)?)
     }
 
+    /// The queue that the process has open under this descriptor since the journal from which its
+    /// system goes on ([`System::resume`]); each is given once. [`Queue::resumed`] gives one that
+    /// owns the process.
+    ///
+    /// ```
+    /// use std::task::Poll;
+    /// use yakyrombe::{Error, OpenOptions, System};
+    ///
+    /// # fn main() -> Result<(), Error> {
+    /// let (_, [one, two]) = System::builder().journal(true).build_array()?;
+    /// let options = OpenOptions::read_write().create().limits(1, 8);
+    /// let (here, there) = (one.open("/q", options)?, two.open("/q", options)?);
+    /// assert!(here.start_receive(&mut [0; 8])?.is_pending());
+    /// let saved = two.journal()?;
+    ///
+    /// let (_, processes) = System::resume(&saved)?;
+    /// let (here, there) = (processes[0].resumed(0)?, processes[1].resumed(0)?);
+    /// assert_eq!(processes[0].resumed(0).unwrap_err(), Error::BadDescriptor);
+    /// there.send(b"now", 0)?;
+    /// let mut buf = [0; 8];
+    /// assert!(matches!(here.collect_receive(&mut buf)?, Poll::Ready(_)));
+    /// assert_eq!(&buf[..3], b"now");
+    /// # Ok(())
+    /// # }
+    /// ```
+    ///
+    /// # Errors
+    /// [`BadDescriptor`](Error::BadDescriptor) if there is none.
+    pub fn resumed(&self, descriptor: u32) -> Result<Queue<&Process>, Error> {
+        Ok(Queue::resumed(self, descriptor)?)
+    }
+
+    /// Whether a journal left the descriptor open, and this is the first question for it.
+    pub(crate) fn take_left(&self, d: u32) -> bool {
+        let left = self.0.left.get();
+        let bit = 1_u32.checked_shl(d).unwrap_or(0);
+        self.0.left.set(left & !bit);
+        left & bit != 0
+    }
+
     /// Takes the name off a queue, which lasts until nobody has it open (`mq_unlink`).
     ///
     /// # Errors
@@ -151,7 +201,9 @@ impl Process {
     /// [`JournalFull`](Error::JournalFull) if the journal has no room for a close: those before it
     /// are made. [`Waiting`](Error::Waiting).
     pub fn exit(&mut self) -> Result<(), Error> {
-        done(self.handle().exit())
+        done(self.handle().exit())?;
+        self.0.left.set(0);
+        Ok(())
     }
 
     /// Whether the process has an open wait, which one of its queues has started.
@@ -198,8 +250,8 @@ impl Process {
     /// [`Unstored`](Error::Unstored); [`NoMemory`](Error::NoMemory), also in a system with bounds.
     pub fn entry(&self, place: u64) -> Result<Option<String>, Error> {
         let mut line = Vec::new();
-        let is_there = self.push_entry(place, &mut line)?;
-        Ok(is_there.then(|| text_of(line)))
+        let is_there = push_entry(self.handle(), place, &mut line)?;
+        Ok(is_there.then(|| string_of(line)))
     }
 
     /// The stored journal as text, up to the last entry that is there when it comes to it.
@@ -207,32 +259,7 @@ impl Process {
     /// # Errors
     /// As of [`entry`](Process::entry).
     pub fn journal(&self) -> Result<Journal, Error> {
-        let mut text = Vec::new();
-        let mut place = 0;
-        while self.push_entry(place, &mut text)? {
-            place += 1;
-        }
-        Ok(Journal(text_of(text)))
-    }
-
-    /// Appends the line of an entry to the text, or is false if there is none.
-    fn push_entry(&self, place: u64, text: &mut Vec<u8>) -> Result<bool, Error> {
-        let front = text.len();
-        let mut len = 64;
-        loop {
-            text.try_reserve(len).map_err(|_| Error::NoMemory)?;
-            text.resize(front + len, 0);
-            let answer = self.handle().entry(place, &mut text[front..], &mut len);
-            text.truncate(front + len);
-            match answer {
-                answer::SHORT => {}
-                answer::NO_ENTRY => {
-                    text.truncate(front);
-                    return Ok(false);
-                }
-                answer => return done(answer).map(|()| true),
-            }
-        }
+        text_of(self.handle())
     }
 }
 
@@ -282,7 +309,12 @@ impl Process {
 
     /// Ends the open wait: if it is not answered it is withdrawn, and this returns `TIMED_OUT`.
     pub(crate) fn withdraw(&self, wait: &OpenWait, buf: &mut [u8], message: &mut Message) -> u32 {
-        self.ended(self.handle().end_wait(buf, message, wait.until()))
+        // A wait without a deadline, which only a journal leaves, ends if it is answered.
+        let answer = match self.handle().end_wait(buf, message, wait.until()) {
+            answer::EARLY => self.handle().collect(buf, message),
+            answer => answer,
+        };
+        self.ended(answer)
     }
 
     /// Waits until the open wait is answered, or its deadline has passed by the clock of the
@@ -309,9 +341,9 @@ impl Process {
     }
 
     /// Notes that the open wait has ended, unless the answer is that the buffer is too short for
-    /// its end.
+    /// its end, or that it has no deadline, as only a wait of a journal has none.
     fn ended(&self, answer: u32) -> u32 {
-        if answer != answer::SHORT {
+        if answer != answer::SHORT && answer != answer::WAITS {
             self.0.wait.set(None);
             let unclosed = self.0.unclosed.take();
             for d in (0..u32::BITS).filter(|d| unclosed & 1 << d != 0) {
@@ -376,10 +408,6 @@ impl fmt::Debug for Process {
     fn fmt(&self, to: &mut fmt::Formatter<'_>) -> fmt::Result {
         to.debug_struct("Process").field("number", &self.number()).finish_non_exhaustive()
     }
-}
-
-fn text_of(line: Vec<u8>) -> String {
-    String::from_utf8(line).expect("the text of a journal is ASCII")
 }
 
 #[inline]

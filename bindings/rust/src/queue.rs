@@ -5,8 +5,9 @@ use crate::holder::Holder;
 use crate::iter::{Iter, TryIter};
 use crate::options::{Attr, Message, OpenOptions, Received};
 use crate::process::{done, refusal, OpenWait, Process};
-use crate::raw::{self, answer, Attributes, Handle};
+use crate::raw::{self, answer, Attributes};
 use crate::time::{Deadline, Limit};
+use crate::Handle;
 use std::cell::Cell;
 use std::fmt;
 use std::task::Poll;
@@ -111,8 +112,24 @@ impl<P: Holder> Queue<P> {
         if let Err(error) = done(holder.borrow().handle().open(name.as_ref(), &options.0, &mut d)) {
             return Err(Refused { holder, error });
         }
+        Ok(Queue::of(holder, d))
+    }
+
+    /// The queue that the process has open under this descriptor since the journal from which its
+    /// system goes on, as [`Process::resumed`] gives it for a reference.
+    ///
+    /// # Errors
+    /// [`BadDescriptor`](Error::BadDescriptor) if there is none, with the holder.
+    pub fn resumed(holder: P, descriptor: u32) -> Result<Queue<P>, Refused<P>> {
+        if !holder.borrow().take_left(descriptor) {
+            return Err(Refused { holder, error: Error::BadDescriptor });
+        }
+        Ok(Queue::of(holder, descriptor))
+    }
+
+    fn of(holder: P, d: u32) -> Queue<P> {
         let (msgsize, scratch, kept) = (Cell::default(), Cell::default(), Cell::default());
-        Ok(Queue { holder: Some(holder), d, msgsize, scratch, kept })
+        Queue { holder: Some(holder), d, msgsize, scratch, kept }
     }
 
     /// Closes the queue (`mq_close`), and gives back what held its process. Unlike a drop it says
@@ -517,7 +534,9 @@ impl<P: Holder> Queue<P> {
     /// The longest message that the queue takes.
     pub(crate) fn msgsize(&self) -> Result<usize, Error> {
         if self.msgsize.get() == 0 {
-            self.msgsize.set(self.attr()?.msgsize);
+            let mut found = Attributes::default();
+            done(self.handle().limits(self.d, &mut found))?;
+            self.msgsize.set(Attr::of(&found).msgsize);
         }
         Ok(self.msgsize.get())
     }
@@ -549,7 +568,8 @@ impl<P: Holder> Queue<P> {
     /// Ends the open wait of this queue in any case: it is withdrawn, unless it is answered
     /// already. It is true if it was withdrawn; then a send has sent nothing. It is false if
     /// there was none, or if it was answered: then a send is done, and the next receive by this
-    /// queue gives the message of a receive.
+    /// queue gives the message of a receive. It is false too, and the wait stays, if a journal has
+    /// it without a deadline, as one that a program in C wrote.
     pub fn cancel(&self) -> bool {
         let Some(wait) = self.process().wait_of(self.d) else { return false };
         let (mut bytes, mut message) = (vec![0; wait.len], raw::Message::default());

@@ -1,5 +1,5 @@
 //! The functions of the library, as `include/yakyrombe.h` declares them. All `unsafe` of the crate
-//! is here.
+//! is here, and in `machine` below.
 //!
 //! What the header asks of a program is kept so:
 //! - a [`Handle`] begins as zeros, its fields are private to this module, and it is neither `Clone`
@@ -11,6 +11,9 @@
 //!   length, and is never null. What is written is borrowed mutably, so it overlaps nothing else.
 //!   The fields of a handle are reached only through a pointer to them.
 #![allow(unsafe_code)]
+
+#[cfg(feature = "model")]
+pub mod machine;
 
 use std::cell::UnsafeCell;
 use std::ffi::c_void;
@@ -29,6 +32,9 @@ pub mod answer {
     pub const NO_NOTICE: u32 = 23;
     pub const NO_ENTRY: u32 = 25;
     pub const UNSTORED: u32 = 27;
+    pub const BAD_LINE: u32 = 29;
+    pub const ILLEGAL: u32 = 30;
+    pub const FOREIGN: u32 = 31;
 }
 
 /// What a system stores of its journal.
@@ -93,6 +99,9 @@ pub struct Moment {
 /// `yak_clock`.
 type Clock = unsafe extern "C" fn() -> Moment;
 
+/// `yak_line`.
+type Line = unsafe extern "C" fn(with: *mut c_void, text: *const u8, len: usize);
+
 /// `yak_process`: a process as the library keeps it for its caller.
 #[allow(dead_code)]
 #[repr(C)]
@@ -120,6 +129,26 @@ extern "C" {
     fn yak_new(processes: *mut Fields, count: usize) -> u32;
     fn yak_bounded(processes: *mut Fields, count: usize, entries: u64, bytes: u64) -> u32;
     fn yak_unstored(processes: *mut Fields, count: usize) -> u32;
+    fn yak_resume(
+        processes: *mut Fields,
+        count: usize,
+        journal: *const u8,
+        len: usize,
+        line: *mut u64,
+    ) -> u32;
+    fn yak_resume_short(
+        processes: *mut Fields,
+        count: usize,
+        journal: *const u8,
+        len: usize,
+        line: *mut u64,
+    ) -> u32;
+    fn yak_finish(
+        processes: *mut Fields,
+        count: usize,
+        line: Option<Line>,
+        with: *mut c_void,
+    ) -> u32;
     fn yak_free(process: *mut Fields) -> u32;
     fn yak_open(
         process: *mut Fields,
@@ -215,12 +244,17 @@ impl Handle {
         }))
     }
 
-    /// Handles of the processes of a new system, process 1 first, or the number of the error.
-    pub fn of_system(count: usize, storage: Storage) -> Result<Vec<Handle>, u32> {
+    /// So many empty handles, and a pointer to the first: a handle is its fields, and nothing else.
+    fn some(count: usize) -> (Vec<Handle>, *mut Fields) {
         let mut handles = Vec::new();
         handles.resize_with(count, Handle::empty);
-        // A handle is its fields, and nothing else.
         let first = handles.as_mut_ptr().cast::<Fields>();
+        (handles, first)
+    }
+
+    /// Handles of the processes of a new system, process 1 first, or the number of the error.
+    pub fn of_system(count: usize, storage: Storage) -> Result<Vec<Handle>, u32> {
+        let (handles, first) = Handle::some(count);
         let made = match storage {
             // SAFETY: `first` points to `count` handles, each empty. For none it is dangling,
             // aligned, and not used.
@@ -237,6 +271,28 @@ impl Handle {
         } else {
             Err(made)
         }
+    }
+
+    /// The same of a system that goes on from a journal, or from a short one in its place; beside
+    /// the number of the error the line that is to blame.
+    pub fn resumed(count: usize, journal: &[u8], short: bool) -> Result<Vec<Handle>, (u32, u64)> {
+        let (handles, first) = Handle::some(count);
+        let by = if short { yak_resume_short } else { yak_resume };
+        let mut line = 0;
+        // SAFETY: as of `of_system`; `journal` has so many bytes, and `line` is borrowed.
+        let made = unsafe { by(first, count, journal.as_ptr(), journal.len(), &mut line) };
+        if made == answer::DONE {
+            Ok(handles)
+        } else {
+            Err((made, line))
+        }
+    }
+
+    /// Empties handles of one system, also if their processes have open waits.
+    pub fn finish(mut handles: Vec<Handle>) {
+        let (first, count) = (handles.as_mut_ptr().cast::<Fields>(), handles.len());
+        // SAFETY: `first` points to `count` handles. No function for lines is given.
+        unsafe { yak_finish(first, count, None, null_mut()) };
     }
 
     /// The number of its process, from 1.
@@ -281,6 +337,11 @@ impl Handle {
     pub fn getattr(&self, d: u32, attributes: &mut Attributes) -> u32 {
         // SAFETY: `attributes` was borrowed.
         unsafe { yak_getattr(self.0.get(), d, attributes) }
+    }
+
+    /// As `getattr`, for the limits alone.
+    pub fn limits(&self, d: u32, attributes: &mut Attributes) -> u32 {
+        self.getattr(d, attributes)
     }
 
     pub fn setattr(&self, d: u32, nonblock: bool, before: &mut Attributes) -> u32 {
@@ -424,9 +485,15 @@ impl Handle {
 
 impl Drop for Handle {
     fn drop(&mut self) {
-        // A `Process` that is dropped ends its wait before, so the library does not refuse this.
-        // SAFETY: the handle was borrowed, and an empty one stays as it is.
-        unsafe { yak_free(self.0.get()) };
+        // A `Process` that is dropped ends its wait before, but for one without a deadline, which it
+        // has from a journal: then the library refuses to free it, and ends it as a whole system.
+        // SAFETY: the handle was borrowed, and an empty one stays as it is. No function for lines is
+        // given.
+        unsafe {
+            if yak_free(self.0.get()) == answer::WAITING {
+                yak_finish(self.0.get(), 1, None, null_mut());
+            }
+        }
     }
 }
 

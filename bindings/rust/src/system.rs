@@ -1,9 +1,11 @@
 //! Systems, and how they are made.
 
-use crate::error::Error;
+use crate::error::{Error, ResumeError};
+use crate::journal::{Journal, Left};
 use crate::process::{refusal, Process};
-use crate::raw::{Handle, Moment, Storage};
+use crate::raw::{Moment, Storage};
 use crate::time::{moment_now, Clock, OwnClock};
+use crate::Handle;
 use std::fmt;
 use std::hash::{Hash, Hasher};
 use std::sync::Arc;
@@ -48,6 +50,37 @@ impl System {
     /// Begins to make a system. Without more it has one process, no stored journal, and real time.
     pub fn builder() -> Builder {
         Builder::default()
+    }
+
+    /// A system that goes on from a journal, with as many processes as that has, and with a stored
+    /// journal. Its queues, notices and open waits are as the calls of the journal leave them.
+    /// [`Process::resumed`] gives the queues that a process has open.
+    ///
+    /// ```
+    /// use yakyrombe::{Error, OpenOptions, System};
+    ///
+    /// # fn main() -> Result<(), Error> {
+    /// let (_, [process]) = System::builder().journal(true).build_array()?;
+    /// let queue = process.open("/q", OpenOptions::read_write().create().limits(8, 8))?;
+    /// queue.send(b"saved", 0)?;
+    /// let saved = process.journal()?;
+    /// // Two ways from there:
+    /// for answer in [b"yes", b"no!"] {
+    ///     let (_, processes) = System::resume(&saved)?;
+    ///     let queue = processes[0].resumed(0)?;
+    ///     queue.send(answer, 1)?;
+    ///     assert_eq!(&*queue.receive_vec()?, answer);
+    ///     assert_eq!(&*queue.receive_vec()?, b"saved");
+    /// }
+    /// # Ok(())
+    /// # }
+    /// ```
+    ///
+    /// # Errors
+    /// The line that is to blame; [`NoMemory`](Error::NoMemory).
+    pub fn resume(journal: &Journal) -> Result<(System, Vec<Process>), ResumeError> {
+        let count = journal.process_count().clamp(1, MOST_PROCESSES);
+        System::builder().processes(count).resume(journal)
     }
 
     /// How many processes it was made with.
@@ -178,6 +211,28 @@ impl Builder {
             return Err(Error::Invalid);
         }
         let handles = Handle::of_system(self.processes, self.storage).map_err(refusal)?;
+        let left = vec![Left::default(); self.processes];
+        Ok(self.with(handles, left))
+    }
+
+    /// As [`build`](Builder::build), for a system that goes on from a journal ([`System::resume`]),
+    /// with as many processes as were asked for. Its journal is stored, without bounds. The clock
+    /// should not be before the moments of the journal.
+    ///
+    /// # Errors
+    /// The line that is to blame; [`Invalid`](Error::Invalid) if there are not 1 to 32 processes;
+    /// [`NoMemory`](Error::NoMemory).
+    pub fn resume(self, journal: &Journal) -> Result<(System, Vec<Process>), ResumeError> {
+        if self.processes > MOST_PROCESSES {
+            return Err(Error::Invalid.into());
+        }
+        let handles = Handle::resumed(self.processes, journal.as_str().as_bytes(), false)
+            .map_err(|(answer, line)| ResumeError::of_answer(answer, line))?;
+        let left = journal.left(self.processes);
+        Ok(self.journal(true).with(handles, left))
+    }
+
+    fn with(self, handles: Vec<Handle>, left: Vec<Left>) -> (System, Vec<Process>) {
         let shared = Shared {
             count: self.processes,
             is_stored: self.storage != Storage::Nothing,
@@ -186,9 +241,9 @@ impl Builder {
             wakers: crate::futures::Wakers::default(),
         };
         let system = System { shared: Arc::new(shared) };
-        let processes =
-            handles.into_iter().map(|handle| Process::new(handle, system.clone())).collect();
-        Ok((system, processes))
+        let new = |(handle, left)| Process::new(handle, system.clone(), left);
+        let processes = handles.into_iter().zip(left).map(new).collect();
+        (system, processes)
     }
 
     /// As [`build`](Builder::build), with as many processes as the array has.

@@ -159,7 +159,11 @@ fn a_clock_of_the_program_is_moved_by_another_thread() {
         clock.0.fetch_add(1, SeqCst);
     }
     assert!(!waiter.is_finished());
-    clock.0.fetch_add(10, SeqCst);
+    // On a busy machine the wait may have begun late.
+    while !waiter.is_finished() {
+        clock.0.fetch_add(10, SeqCst);
+        thread::sleep(MILLI);
+    }
     assert_eq!(waiter.join().unwrap(), Err(Error::TimedOut));
 }
 
