@@ -1,7 +1,8 @@
 /* Threads that call the system's message queues at random, so that their history can be recorded
-   and judged (tools/histories). usage: crowd SEED THREADS CALLS [forked] Each thread opens the one
-   queue twice, once without waiting, and makes that many calls. The same seed makes the same calls,
-   in whatever order their threads come to them. With the fourth word each is a forked child. */
+   and judged (checks/histories). usage: crowd SEED THREADS CALLS [forked|shared] Each thread opens
+   the one queue twice, once without waiting, and makes that many calls. The same seed makes the
+   same calls, in whatever order their threads come to them. With `forked` each is a forked child;
+   with `shared` all use the descriptors that the main thread has opened. */
 #define _GNU_SOURCE
 #include <errno.h>
 #include <fcntl.h>
@@ -21,6 +22,8 @@ enum { MOST_THREADS = 31, MESSAGE = 16 };
 
 static char name[64];
 static unsigned long seed, threads, calls;
+static bool is_shared;
+static mqd_t waiting, hurrying; /* the shared descriptors */
 static pthread_barrier_t *start;
 
 /* The next number of a thread, by xorshift. */
@@ -74,20 +77,30 @@ static void call(mqd_t waits, mqd_t hurries, uint64_t *state, unsigned long thre
     }
 }
 
+static void open_both(mqd_t *waits, mqd_t *hurries)
+{
+    *waits = mq_open(name, O_RDWR);
+    *hurries = mq_open(name, O_RDWR | O_NONBLOCK);
+    if (*waits == (mqd_t)-1 || *hurries == (mqd_t)-1) {
+        perror("mq_open");
+        exit(1);
+    }
+}
+
 static void *work(void *number)
 {
     unsigned long thread = (unsigned long)(uintptr_t)number;
     uint64_t state = (seed + 1) * 0x9E3779B97F4A7C15u ^ (thread + 1) * 0xBF58476D1CE4E5B9u;
-    mqd_t waits = mq_open(name, O_RDWR), hurries = mq_open(name, O_RDWR | O_NONBLOCK);
-    if (waits == (mqd_t)-1 || hurries == (mqd_t)-1) {
-        perror("mq_open");
-        exit(1);
-    }
+    mqd_t waits = waiting, hurries = hurrying;
+    if (!is_shared)
+        open_both(&waits, &hurries);
     pthread_barrier_wait(start);
     for (unsigned long place = 0; place < calls; place++)
         call(waits, hurries, &state, thread, place);
-    mq_close(waits);
-    mq_close(hurries);
+    if (!is_shared) {
+        mq_close(waits);
+        mq_close(hurries);
+    }
     return NULL;
 }
 
@@ -124,7 +137,8 @@ int main(int count, char **words)
     struct mq_attr limits = {.mq_maxmsg = 4, .mq_msgsize = MESSAGE};
     pthread_barrierattr_t shared;
     bool forked = count == 5 && !strcmp(words[4], "forked");
-    if (count != 4 && !forked)
+    is_shared = count == 5 && !strcmp(words[4], "shared");
+    if (count != 4 && !forked && !is_shared)
         return 2;
     seed = strtoul(words[1], NULL, 10);
     threads = strtoul(words[2], NULL, 10);
@@ -143,6 +157,8 @@ int main(int count, char **words)
     pthread_barrierattr_init(&shared);
     pthread_barrierattr_setpshared(&shared, PTHREAD_PROCESS_SHARED);
     pthread_barrier_init(start, &shared, (unsigned)threads);
+    if (is_shared)
+        open_both(&waiting, &hurrying);
     int failed = run(forked);
     mq_unlink(name);
     mq_close(first);

@@ -1,14 +1,15 @@
 /* Writes the calls of a program to the system's message queues, each with the moments at which it
    began and ended, as a concurrent history (docs/formats.md). It is preloaded: LD_PRELOAD. Each
    thread that calls, of each process that the program forks, is a process of the history, numbered
-   in the order of their first calls. The lines of a process go to a file of its own in RECORD_ROOM,
-   of which tools/record makes one history: a line with a dash for its end is written when the call
-   begins, and the whole line when it returns.
+   in the order of their first calls. The lines of a thread go to a file of its own in RECORD_ROOM,
+   which is named by the system's numbers of the parent, the process and the thread. tools/record
+   makes one history of them: a line with a dash for its end is written when the call begins, and
+   the whole line when it returns.
 
    The program may pass pointers and lengths that the system refuses. So the recorder passes them on
    as they are. It reads what they point to through the kernel before the call, and directly only
-   what a call that succeeded has used. A send that was refused has no message in its line, unless
-   its deadline passed: it may have waited, and a wait has its message. */
+   what a call that succeeded has used. The line of a send that was refused lacks its message if
+   that can't be read. */
 #define _GNU_SOURCE
 #include <dlfcn.h>
 #include <errno.h>
@@ -38,7 +39,8 @@ static int file_of_thread(void)
     if (room >= 0 && owner == me)
         return room;
     char name[4096];
-    snprintf(name, sizeof name, "%s/%d", getenv("RECORD_ROOM"), (int)me);
+    snprintf(name, sizeof name, "%s/%d.%d.%d", getenv("RECORD_ROOM"), (int)getppid(), (int)getpid(),
+             (int)me);
     room = open(name, O_WRONLY | O_CREAT | O_APPEND | O_CLOEXEC, 0600);
     owner = me;
     return room;
@@ -307,7 +309,7 @@ static int sent(uint64_t began, struct line *call, int status, const char *messa
     int error = errno;
     if (!status)
         quote(call, message, len);
-    else if (error == ETIMEDOUT)
+    else
         quote_message(call, message, len);
     errno = error;
     return done(began, call, status);
