@@ -10,7 +10,7 @@
 #
 # BINDIR, LIBDIR, LIBEXECDIR, INCLUDEDIR, MANDIR, DOCDIR and COMPLETIONSDIR are as usual. What is
 # proved has to be built before: ./test builds all of it. With PROGRAMS= no program is installed, and
-# only tools/c_library has to be run before.
+# only checks/c_library has to be run before.
 CC ?= cc
 INSTALL ?= install
 CFLAGS ?= -O2 -g
@@ -34,6 +34,7 @@ ENGINEDIR = $(LIBEXECDIR)/yakyrombe
 MANUAL = $(PROGRAMS:%=%.1) $(TOOLS:%=yak-%.1) yak-explore.1
 COMPLETIONS = $(filter mqlog,$(PROGRAMS))
 DOCS = $(wildcard docs/*)
+EXAMPLES = $(wildcard examples/c/*.c)
 # Where the tools find the libraries, from their own folder.
 NEAR = $(shell realpath -m --relative-to='$(BINDIR)' '$(LIBDIR)')
 ENGINE_NEAR = $(shell realpath -m --relative-to='$(BINDIR)' '$(ENGINEDIR)')
@@ -51,7 +52,7 @@ $(LIB)/$(RECORDER): tools/recorder/record.c
 install: $(foreach it,$(PROGRAMS),crates/$(it)/out/$(it)) $(LIB)/$(RECORDER)
 	$(MAKE) -C c install LIB='$(LIB)'
 	$(INSTALL) -d $(DESTDIR)$(BINDIR) $(DESTDIR)$(LIBDIR) $(DESTDIR)$(MANDIR)/man1 \
-	  $(DESTDIR)$(DOCDIR)/docs $(DESTDIR)$(COMPLETIONSDIR)
+	  $(DESTDIR)$(DOCDIR)/docs $(DESTDIR)$(DOCDIR)/examples/c $(DESTDIR)$(COMPLETIONSDIR)
 	for program in $(PROGRAMS); do \
 	  $(INSTALL) -m 755 crates/$$program/out/$$program $(DESTDIR)$(BINDIR) || exit 1; \
 	done
@@ -72,6 +73,7 @@ install: $(foreach it,$(PROGRAMS),crates/$(it)/out/$(it)) $(LIB)/$(RECORDER)
 	$(INSTALL) -m 644 $(MANUAL:%=man/%) $(DESTDIR)$(MANDIR)/man1
 	$(INSTALL) -m 644 README.md CHANGELOG.md $(DESTDIR)$(DOCDIR)
 	$(INSTALL) -m 644 $(DOCS) $(DESTDIR)$(DOCDIR)/docs
+	$(INSTALL) -m 644 $(EXAMPLES) $(DESTDIR)$(DOCDIR)/examples/c
 	for program in $(COMPLETIONS); do \
 	  $(INSTALL) -m 644 tools/completions/$$program $(DESTDIR)$(COMPLETIONSDIR) || exit 1; \
 	done
@@ -81,8 +83,10 @@ uninstall:
 	  $(DESTDIR)$(BINDIR)/yak-explore $(DESTDIR)$(ENGINEDIR)/mqexplore \
 	  $(DESTDIR)$(LIBDIR)/$(RECORDER) $(MANUAL:%=$(DESTDIR)$(MANDIR)/man1/%) \
 	  $(COMPLETIONS:%=$(DESTDIR)$(COMPLETIONSDIR)/%) \
-	  $(DESTDIR)$(DOCDIR)/README.md $(DESTDIR)$(DOCDIR)/CHANGELOG.md $(DOCS:%=$(DESTDIR)$(DOCDIR)/%)
-	for folder in $(DESTDIR)$(DOCDIR)/docs $(DESTDIR)$(DOCDIR) $(DESTDIR)$(ENGINEDIR); do \
+	  $(DESTDIR)$(DOCDIR)/README.md $(DESTDIR)$(DOCDIR)/CHANGELOG.md \
+	  $(DOCS:%=$(DESTDIR)$(DOCDIR)/%) $(EXAMPLES:%=$(DESTDIR)$(DOCDIR)/%)
+	for folder in $(DESTDIR)$(DOCDIR)/docs $(DESTDIR)$(DOCDIR)/examples/c \
+	  $(DESTDIR)$(DOCDIR)/examples $(DESTDIR)$(DOCDIR) $(DESTDIR)$(ENGINEDIR); do \
 	  [ ! -d $$folder ] || rmdir --ignore-fail-on-non-empty $$folder; \
 	done
 	$(MAKE) -C c uninstall LIB='$(LIB)'
