@@ -1,5 +1,6 @@
 //! A guess at the slot of a place, and at a vacant slot, which nothing vouches for: who asks looks whether it is so.
 
+use crate::classes::CLASSES;
 use std::alloc::{AllocError, Global};
 
 /// No slot.
@@ -22,13 +23,13 @@ const NOTHING: Note = Note {
     key: NOBODY,
 };
 
-/// Notes, each near to where its place hashes to, and the vacant slots.
+/// Notes, each near to where its place hashes to, and the first vacant slot of each class. Each
+/// vacant slot has the next one of its class.
 #[derive(Debug, Drop)]
 pub struct Index {
     // as many as a power of two
     notes: Vec<Note>,
-    // the next to be used last
-    vacant: Vec<usize>,
+    vacant: [usize; CLASSES],
 }
 
 impl Index {
@@ -36,7 +37,7 @@ impl Index {
     pub fn new(alloc: Global) -> Index {
         Index {
             notes: Vec::new(alloc),
-            vacant: Vec::new(alloc),
+            vacant: [NOBODY; CLASSES],
         }
     }
 
@@ -69,31 +70,30 @@ impl Index {
 
     /// For how many slots there is room.
     pub fn slots(&self) -> usize {
-        self.vacant.capacity()
+        self.notes.len() / 4
     }
 
-    /// The vacant slot to look at first, which is looked at no more.
+    /// The vacant slot of a class to look at first.
     #[inline(always)]
-    pub fn take_vacant(&mut self) -> usize {
-        match self.vacant.pop() {
-            Some(key) => key,
-            None => NOBODY,
+    pub fn first_vacant(&self, class: usize) -> usize {
+        if class < CLASSES {
+            self.vacant[class]
+        } else {
+            NOBODY
         }
     }
 
-    /// This slot is vacant.
+    /// This slot is the one to look at first among the vacant ones of its class.
     #[inline(always)]
-    pub fn put_vacant(&mut self, key: usize) {
-        if self.vacant.len() < self.vacant.capacity() {
-            self.vacant.push_reserved(key);
+    pub fn set_vacant(&mut self, class: usize, key: usize) {
+        if class < CLASSES {
+            self.vacant[class] = key;
         }
     }
 
     /// No notes, with room for those of that many slots, a power of two. If it is refused, the notes stay.
     pub fn grow(&mut self, alloc: Global, slots: usize) -> Result<(), AllocError> {
-        let vacant = Vec::with_capacity(alloc, slots)?;
         self.notes = vec![in alloc; NOTHING; slots.wrapping_mul(4)]?;
-        self.vacant = vacant;
         Ok(())
     }
 }

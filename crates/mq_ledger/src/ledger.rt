@@ -78,6 +78,27 @@ impl Ledger {
         }
     }
 
+    /// Makes room for the messages of the queue that the next entry creates, so many of this size, and for those of the calls in which
+    /// so many processes wait. A stored journal has it entry by entry.
+    pub fn prepay(
+        &mut self,
+        messages: usize,
+        size: usize,
+        processes: usize,
+    ) -> Result<(), AllocError>
+        ensures records { self.new.records ≡ self.old.records }
+        ensures entry_room { self.old.entry_room ≤ self.new.entry_room }
+        ensures byte_room { self.old.byte_room ≤ self.new.byte_room }
+        ensures stored { self.new.stored ≡ self.old.stored }
+        ensures succeeds { self.old.stored ≡ true → IsOk result }
+        ensures keeps { (k : ℕ) → CanRead self.old k → CanRead self.new k }
+    {
+        match &mut self.kind {
+            Kind::Stored(_) => Ok(()),
+            Kind::Unstored(unstored) => unstored.prepay(messages, size, processes),
+        }
+    }
+
     /// Adds an entry with its payload, made on queue q, after all others, in room that was reserved. Takes no memory.
     #[inline(always)]
     pub fn push(&mut self, entry: Entry, payload: &[u8], q: u64)

@@ -2,8 +2,10 @@
 //! which no code keeps.
 #![tactic(auto)]
 
+mod classes;
 pub mod history;
 mod index;
 pub mod ledger;
+mod paid;
 mod slots;
 pub mod unstored;

@@ -1,5 +1,5 @@
 //! The slots of what is kept: each has what is kept of one entry, or is vacant.
-ghost use Rattle.std.specs.Prelude.{◌≡◌, ◌≢◌, ◌+◌, ◌-◌, ◌<◌, ◌≤◌, ◌∷◌, ◌↔◌, [], ℕ, Option, Some, None, IsTrue, IfSome, OnOk, IsOk, length, is_none, slice_index_or, slice_set, vec_len, vec_capacity};
+ghost use Rattle.std.specs.Prelude.{◌≡◌, ◌≢◌, ◌+◌, ◌-◌, ◌<◌, ◌≤◌, ◌∷◌, ◌↔◌, [], ℕ, Option, Some, None, IsTrue, IfOk, IfSome, OnOk, IsOk, length, is_none, slice_index_or, slice_set, vec_len, vec_capacity};
 ghost use Rattle.mq_ledger.specs.Kept.{Kept};
 ghost use Rattle.mq_ledger.specs.Keeping.{AreTrue, places_of, vacant_in, HasMoreVacant, Forgets};
 ghost use Rattle.mq_ledger.specs.Seen.{HasPlace};
@@ -7,6 +7,7 @@ ghost use Rattle.mq_laws.specs.Needed.{home_of};
 ghost use Rattle.mq_model.specs.Messages.{priority_given};
 ghost use Rattle.mq_model.specs.Record.{Record, Past};
 
+use crate::classes::{CLASSES, GROWING, room_of};
 use crate::index::{Index, Note, PROBES};
 use std::alloc::{AllocError, Global};
 use std::marker::Model;
@@ -22,6 +23,9 @@ pub struct Slot {
     home: Option<u64>,
     prio: u32,
     bytes: Vec<u8>,
+    class: usize,
+    // the vacant slot of its class to look at after it, if it is vacant
+    next: usize,
 }
 
 impl Model for Slot {
@@ -36,16 +40,18 @@ impl Model for Slot {
 }
 
 impl Slot {
-    /// A slot that is vacant.
-    fn vacant(alloc: Global) -> Slot
-        ensures { result ≡ None }
+    /// A slot of a class that is vacant, before the next one.
+    fn vacant(alloc: Global, class: usize, next: usize) -> Result<Slot, AllocError>
+        ensures { IfOk result (λ slot. slot ≡ None) }
     {
-        Slot {
+        Ok(Slot {
             place: NOWHERE,
             home: None,
             prio: 0,
-            bytes: Vec::new(alloc),
-        }
+            bytes: Vec::with_capacity(alloc, room_of(class))?,
+            class,
+            next,
+        })
     }
 
     /// Whether the slot is vacant.
@@ -66,7 +72,7 @@ impl Slot {
     }
 
     /// Whether what the slot keeps is lost with a queue.
-    fn is_lost_with(&self, queue: u64) -> bool
+    pub fn is_lost_with(&self, queue: u64) -> bool
         ensures { IsTrue result → (x : Kept) → self.now ≡ Some x → x.home ≡ Some queue }
     {
         self.home == Some(queue)
@@ -96,11 +102,24 @@ impl Slot {
         &self.bytes
     }
 
+    // Its class.
     #[inline(always)]
-    fn vacate(&mut self)
+    fn class(&self) -> usize {
+        self.class
+    }
+
+    // The vacant slot of its class to look at after it, if it is vacant.
+    #[inline(always)]
+    fn next(&self) -> usize {
+        self.next
+    }
+
+    #[inline(always)]
+    fn vacate(&mut self, next: usize)
         ensures { self.new ≡ None }
     {
         self.place = NOWHERE;
+        self.next = next;
     }
 
     // Keeps this of an entry. The payload goes into the slot's buffer, or if that is too small into the next one, and then the
@@ -259,15 +278,42 @@ fn search(slots: &[Slot], place: u64) -> Option<usize>
     None
 }
 
-// A vacant slot, perhaps this one.
+// The vacant slot of a class to look at first, which is looked at no more.
 #[inline(always)]
-fn vacant_slot(slots: &[Slot], hint: usize) -> usize
+fn take_vacant(slots: &[Slot], index: &mut Index, class: usize) -> usize {
+    let key = index.first_vacant(class);
+    if key < slots.len() {
+        index.set_vacant(class, slots[key].next());
+    }
+    key
+}
+
+// A vacant slot, of this class if there is one.
+#[inline(always)]
+fn vacant_slot(slots: &[Slot], index: &mut Index, class: usize) -> usize
     requires { 0 < vacant_in slots.now }
     ensures within { result < length slots.now }
     ensures vacant { slice_index_or slots.now result None ≡ None }
 {
-    if hint < slots.len() && slots[hint].is_vacant() {
-        return hint;
+    let key = take_vacant(slots, index, class);
+    if key < slots.len() && slots[key].is_vacant() {
+        return key;
+    }
+    vacant_elsewhere(slots, index)
+}
+
+// A vacant slot of any class.
+#[inline(never)]
+fn vacant_elsewhere(slots: &[Slot], index: &mut Index) -> usize
+    requires { 0 < vacant_in slots.now }
+    ensures within { result < length slots.now }
+    ensures vacant { slice_index_or slots.now result None ≡ None }
+{
+    for class in 0..CLASSES {
+        let key = take_vacant(slots, index, class);
+        if key < slots.len() && slots[key].is_vacant() {
+            return key;
+        }
     }
     first_vacant(slots)
 }
@@ -287,7 +333,7 @@ fn first_vacant(slots: &[Slot]) -> usize
     unreachable!()
 }
 
-/// Keeps this of the entry at a place in a vacant slot, of which there are some.
+/// Keeps this of the entry at a place in a vacant slot, of which there are some: in one of this class, if there is one.
 #[inline(always)]
 pub fn put(
     slots: &mut Vec<Slot>,
@@ -297,6 +343,7 @@ pub fn put(
     home: Option<u64>,
     next: &mut Vec<u8>,
     payload: &[u8],
+    class: usize,
 ) -> usize
     requires place { place < NOWHERE }
     requires vacant { 0 < vacant_in slots.old.items }
@@ -313,7 +360,7 @@ pub fn put(
     ensures empty { vec_len next.new ≡ 0 }
     ensures none { payload.now ≡ [] → next.new ≡ next.old }
 {
-    let key = vacant_slot(slots, index.take_vacant());
+    let key = vacant_slot(slots, index, class);
     note(slots, index, place, key);
     slots[key].occupy(place, prio, home, next, payload);
     key
@@ -325,8 +372,9 @@ pub fn vacate(slots: &mut Vec<Slot>, index: &mut Index, key: usize)
     requires { key < length slots.old.items }
     ensures { slots.new.items ≡ slice_set slots.old.items key None }
 {
-    slots[key].vacate();
-    index.put_vacant(key);
+    let class = slots[key].class();
+    slots[key].vacate(index.first_vacant(class));
+    index.set_vacant(class, key);
 }
 
 /// Vacates the slots of the entries that are lost with a queue.
@@ -370,24 +418,25 @@ pub fn make_room(
     if wanted <= *vacant {
         return Ok(());
     }
-    grow(alloc, slots, index, vacant, wanted)
+    grow(alloc, slots, index, vacant, wanted, GROWING)
 }
 
-// The same, by slots that are added.
+/// Adds so many slots of a class.
 #[inline(never)]
-fn grow(
+pub fn grow(
     alloc: Global,
     slots: &mut Vec<Slot>,
     index: &mut Index,
     vacant: &mut usize,
     wanted: usize,
+    class: usize,
 ) -> Result<(), AllocError>
     requires { vacant.old ≡ vacant_in slots.old.items }
     ensures added { HasMoreVacant slots.old.items slots.new.items vacant.old vacant.new }
     ensures room { OnOk result (wanted ≤ vacant.new) }
 {
     for added in 0..wanted {
-        add_vacant(alloc, slots, index, vacant)?;
+        add_vacant(alloc, slots, index, vacant, class)?;
     }
     if index.slots() < slots.len() {
         reindex(alloc, slots, index)?;
@@ -395,20 +444,22 @@ fn grow(
     Ok(())
 }
 
-// Adds a slot.
+// Adds a slot of a class.
 fn add_vacant(
     alloc: Global,
     slots: &mut Vec<Slot>,
     index: &mut Index,
     vacant: &mut usize,
+    class: usize,
 ) -> Result<(), AllocError>
     requires { vacant.old ≡ vacant_in slots.old.items }
     ensures added { HasMoreVacant slots.old.items slots.new.items vacant.old vacant.new }
     ensures one { OnOk result (vacant.new ≡ vacant.old + 1) }
 {
-    slots.push(Slot::vacant(alloc))?;
+    let slot = Slot::vacant(alloc, class, index.first_vacant(class))?;
+    slots.push(slot)?;
     *vacant += 1;
-    index.put_vacant(slots.len() - 1);
+    index.set_vacant(class, slots.len() - 1);
     Ok(())
 }
 
@@ -422,11 +473,14 @@ fn reindex(alloc: Global, slots: &[Slot], index: &mut Index) -> Result<(), Alloc
     }
     index.grow(alloc, room.wrapping_mul(2))?;
     for key in 0..slots.len() {
-        if slots[key].is_vacant() {
-            index.put_vacant(key);
-        } else {
+        if !slots[key].is_vacant() {
             note(slots, index, slots[key].place(), key);
         }
     }
     Ok(())
+}
+
+/// How many slots of a class there are.
+pub fn count_of(slots: &[Slot], class: usize) -> usize {
+    slots.iter().filter(|slot| slot.class() == class).count()
 }

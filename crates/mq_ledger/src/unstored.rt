@@ -7,8 +7,10 @@ ghost use Rattle.mq_model.specs.Record.{Record, Past, record_at};
 ghost use Rattle.mq_ledger.specs.Seen.{HasPlace};
 ghost use Rattle.mq_laws.specs.Needed.{is_kept, ended_by, ended_last, home, home_of, GoesTo};
 
+use crate::classes::{self, CLASSES, GROWING, NAME};
 use crate::history::History;
 use crate::index::Index;
+use crate::paid::Paid;
 use crate::slots::{self, Slot};
 use mq_model::entries::{Call, Entry, Reply};
 use std::alloc::{AllocError, Global};
@@ -32,6 +34,8 @@ pub struct Unstored {
     last: usize,
     // the buffer for the next payload
     next: Vec<u8>,
+    // for which messages there are slots of their own
+    paid: Paid,
 }
 
 impl Model for Unstored {
@@ -98,6 +102,7 @@ impl Unstored {
             ended: None,
             last: 0,
             next: Vec::new(alloc),
+            paid: Paid::new(alloc),
         }
     }
 
@@ -154,9 +159,16 @@ impl Unstored {
         self.len += 1;
     }
 
-    // Adds an entry that is kept, of this priority and lost with this queue, and ends none.
+    // Adds an entry that is kept, of this priority and lost with this queue, and ends none, in a slot of this class if there is one.
     #[inline(always)]
-    fn add_kept(&mut self, entry: &Entry, payload: &[u8], prio: u32, home: Option<u64>)
+    fn add_kept(
+        &mut self,
+        entry: &Entry,
+        payload: &[u8],
+        prio: u32,
+        home: Option<u64>,
+        class: usize,
+    )
         requires room { 0 < self.old.entry_room }
         requires bytes { length payload.now ≤ self.old.byte_room }
         requires ended { ended_by entry.now.reply ≡ None }
@@ -179,6 +191,7 @@ impl Unstored {
             home,
             &mut self.next,
             payload,
+            class,
         );
         self.vacant -= 1;
         self.ended = None;
@@ -204,7 +217,7 @@ impl Unstored {
     }
 
     #[inline(never)]
-    fn keep(&mut self, entry: &Entry, payload: &[u8], prio: u32, home: Option<u64>)
+    fn keep(&mut self, entry: &Entry, payload: &[u8], prio: u32, home: Option<u64>, class: usize)
         requires room { 0 < self.old.entry_room }
         requires bytes { length payload.now ≤ self.old.byte_room }
         requires ended { ended_by entry.now.reply ≡ None }
@@ -220,7 +233,7 @@ impl Unstored {
             HasPlace self.old.places k → HasPlace self.new.places k }
     {
         self.drop_ended();
-        self.add_kept(entry, payload, prio, home);
+        self.add_kept(entry, payload, prio, home, class);
     }
 
     /// Makes room for that many more entries and payload bytes.
@@ -298,10 +311,80 @@ impl Unstored {
     {
         if is_kept(entry.call, entry.reply) {
             let home = home_of(entry.reply, self.len, q);
-            self.keep(&entry, payload, entry.call.priority(), home);
+            let class = self.class_of(entry.reply, q);
+            self.keep(&entry, payload, entry.call.priority(), home, class);
         } else {
             self.pass(&entry, payload, ended_by(entry.reply));
         }
+    }
+
+    // The class of slots for an entry that is kept and made on queue q.
+    #[inline(always)]
+    fn class_of(&self, reply: Reply, q: u64) -> usize {
+        if self.paid.is_nothing() {
+            return GROWING;
+        }
+        match reply {
+            Reply::Opened { .. } => classes::class_of_names(),
+            _ => self.paid.class_for(q),
+        }
+    }
+
+    // Whether the latest queue that was paid for was created, and exists.
+    fn is_latest_there(&self) -> bool {
+        let Some(queue) = self.paid.latest() else {
+            return false;
+        };
+        match slots::find(&self.slots, &self.index, self.last, queue) {
+            Some(key) if key < self.slots.len() => self.slots[key].is_lost_with(queue),
+            _ => false,
+        }
+    }
+
+    /// Makes slots for the messages of the queue that the next entry creates, so many of this size, and for those of the calls in
+    /// which so many processes wait. Until the queue exists no longer, its messages take no memory.
+    #[inline(never)]
+    pub fn prepay(
+        &mut self,
+        messages: usize,
+        size: usize,
+        processes: usize,
+    ) -> Result<(), AllocError>
+        ensures records { self.new.records ≡ self.old.records }
+        ensures entry_room { self.old.entry_room ≤ self.new.entry_room }
+        ensures byte_room { self.old.byte_room ≤ self.new.byte_room }
+        ensures keeps { (k : ℕ) → HasPlace self.old.places k → HasPlace self.new.places k }
+    {
+        let exists = self.is_latest_there();
+        self.paid
+            .expect(exists, self.len, messages, size, processes)?;
+        for class in 0..CLASSES {
+            self.make_slots(class)?;
+        }
+        let bytes = size.max(NAME);
+        if bytes > self.next.capacity() {
+            self.next.reserve(bytes)?;
+        }
+        Ok(())
+    }
+
+    // Makes the slots of a class that are paid for and are not there.
+    fn make_slots(&mut self, class: usize) -> Result<(), AllocError>
+        ensures records { self.new.records ≡ self.old.records }
+        ensures entry_room { self.old.entry_room ≤ self.new.entry_room }
+        ensures byte_room { self.new.byte_room ≡ self.old.byte_room }
+        ensures keeps { (k : ℕ) → HasPlace self.old.places k → HasPlace self.new.places k }
+    {
+        let owed = self.paid.owed(class);
+        let wanted = owed.saturating_sub(slots::count_of(&self.slots, class));
+        slots::grow(
+            self.alloc,
+            &mut self.slots,
+            &mut self.index,
+            &mut self.vacant,
+            wanted,
+            class,
+        )
     }
 
     /// The priority of the message that was sent at a place, if that entry is kept.
@@ -368,5 +451,6 @@ impl Unstored {
             HasPlace self.old.places k → HasPlace self.new.places k }
     {
         slots::forget(&mut self.slots, &mut self.index, queue, &mut self.vacant);
+        self.paid.forget(queue);
     }
 }

@@ -13,5 +13,5 @@ returns-in_err-push-clause-added c =
 pub returns-clause-added : goal.returns-clause-added
 returns-clause-added c =
     subst (λ (xs : List (Option Kept)). HasMoreVacant c.args.slots.now.items xs c.args.vacant.now (c.args.vacant.now + 1))
-    (sym (c.in_ok-push.ensures.items ∙ ap (λ (o : Option Kept). c.args.slots.now.items ++ o ∷ []) c.vacant.ensures))
+    (sym (c.in_ok-push.ensures.items ∙ ap (λ (o : Option Kept). c.args.slots.now.items ++ o ∷ []) c.in_ok-slot.ensures))
     (more-vacant c.args.slots.now.items c.args.vacant.now c.requires)

@@ -1,0 +1,121 @@
+//! What the queues of a prepaid system have paid for.
+
+use crate::classes::{self, GROWING};
+use std::alloc::{AllocError, Global};
+
+/// The messages for which a queue has slots.
+#[derive(Clone, Copy, Debug)]
+struct Share {
+    queue: u64,
+    class: usize,
+    messages: usize,
+}
+
+/// The shares of queues that exist, and of the latest for which there was room. That one may not
+/// have been created.
+#[derive(Debug, Drop)]
+pub struct Paid {
+    shares: Vec<Share>,
+    latest: Option<Share>,
+    // how many processes may wait
+    processes: usize,
+}
+
+/// How many slots more than one for each process a call may need: for its two entries, and for one
+/// that has ended and not left its slot yet.
+const SPARE: usize = 3;
+
+impl Paid {
+    /// Nothing is paid for.
+    pub fn new(alloc: Global) -> Paid {
+        Paid {
+            shares: Vec::new(alloc),
+            latest: None,
+            processes: 0,
+        }
+    }
+
+    /// The latest queue that was paid for.
+    pub fn latest(&self) -> Option<u64> {
+        match self.latest {
+            Some(share) => Some(share.queue),
+            None => None,
+        }
+    }
+
+    /// Notes the share of the queue that an entry may create. The latest before it exists, or not.
+    pub fn expect(
+        &mut self,
+        exists: bool,
+        queue: u64,
+        messages: usize,
+        size: usize,
+        processes: usize,
+    ) -> Result<(), AllocError> {
+        if let Some(share) = self.latest {
+            if exists {
+                self.shares.push(share)?;
+            }
+        }
+        self.processes = processes;
+        self.latest = Some(Share {
+            queue,
+            class: classes::class_of(size),
+            messages,
+        });
+        Ok(())
+    }
+
+    /// How many slots of a class the queues need: of the messages of each, of what each process
+    /// waits for, and of names.
+    pub fn owed(&self, class: usize) -> usize {
+        if class == GROWING {
+            return self.processes.saturating_add(SPARE);
+        }
+        let mut messages: usize = 0;
+        let mut queues: usize = 0;
+        for share in self.shares.iter().chain(self.latest.iter()) {
+            if share.class == class {
+                messages = messages.saturating_add(share.messages);
+                queues = queues.saturating_add(1);
+            }
+        }
+        if queues > 0 {
+            messages = messages.saturating_add(self.processes);
+        }
+        if class == classes::class_of_names() {
+            messages = messages.saturating_add(self.shares.len()).saturating_add(1);
+        }
+        messages
+    }
+
+    /// A queue exists no longer.
+    pub fn forget(&mut self, queue: u64) {
+        self.shares.retain(|share| share.queue != queue);
+        if self.latest() == Some(queue) {
+            self.latest = None;
+        }
+    }
+
+    /// Whether nothing is paid for.
+    #[inline(always)]
+    pub fn is_nothing(&self) -> bool {
+        self.processes == 0
+    }
+
+    /// The class of slots for the messages of a queue.
+    #[inline(never)]
+    pub fn class_for(&self, queue: u64) -> usize {
+        if let Some(share) = self.latest {
+            if share.queue == queue {
+                return share.class;
+            }
+        }
+        for share in &self.shares {
+            if share.queue == queue {
+                return share.class;
+            }
+        }
+        GROWING
+    }
+}
