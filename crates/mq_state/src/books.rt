@@ -76,7 +76,23 @@ impl Books {
     {
         let shelf = Shelf {
             journal: Ledger::stored(empty_journal(alloc, bounds)?),
-            tables: Tables::new(alloc, n, bounds)?,
+            tables: Tables::new(alloc, n, bounds, false)?,
+        };
+        Ok(Books {
+            shelf: Box::new(alloc, shelf)?,
+        })
+    }
+
+    fn start_unstored(alloc: Global, n: u32, is_prepaid: bool) -> Result<Books, AllocError>
+        requires { (1 ≤ n) × (n ≤ 32) }
+        ensures empty { IfOk result (λ b. b.records ≡ []) }
+        ensures processes { IfOk result (λ b. b.n ≡ n) }
+        ensures bounds { IfOk result (λ b. b.bounds ≡ None) }
+        ensures stored { IfOk result (λ b. b.stored ≡ false) }
+    {
+        let shelf = Shelf {
+            journal: Ledger::unstored(Unstored::new(alloc)),
+            tables: Tables::new(alloc, n, None, is_prepaid)?,
         };
         Ok(Books {
             shelf: Box::new(alloc, shelf)?,
@@ -117,13 +133,20 @@ impl Books {
         ensures bounds { IfOk result (λ b. b.bounds ≡ None) }
         ensures stored { IfOk result (λ b. b.stored ≡ false) }
     {
-        let shelf = Shelf {
-            journal: Ledger::unstored(Unstored::new(alloc)),
-            tables: Tables::new(alloc, n, None)?,
-        };
-        Ok(Books {
-            shelf: Box::new(alloc, shelf)?,
-        })
+        Books::start_unstored(alloc, n, false)
+    }
+
+    /// The same, but an open that creates a queue also takes the memory that later calls on it need: for as many messages of the greatest
+    /// size as it may hold, for one more for each process, which waits to send it or to collect it, and for notices. The open replies
+    /// `Refused(NoMemory)` where that can't be had. Then no send, receive, notify, collect or withdrawal takes memory, as tests show.
+    pub fn prepaid(alloc: Global, n: u32) -> Result<Books, AllocError>
+        requires { (1 ≤ n) × (n ≤ 32) }
+        ensures empty { IfOk result (λ b. b.records ≡ []) }
+        ensures processes { IfOk result (λ b. b.n ≡ n) }
+        ensures bounds { IfOk result (λ b. b.bounds ≡ None) }
+        ensures stored { IfOk result (λ b. b.stored ≡ false) }
+    {
+        Books::start_unstored(alloc, n, true)
     }
 
     /// The queues of n processes after the calls of a journal, which goes on with their calls, as if they had been made here. Refused where
@@ -519,7 +542,7 @@ fn empty_shelf(alloc: Global, n: u32) -> Result<Box<Shelf>, AllocError>
 {
     let shelf = Shelf {
         journal: Ledger::stored(Journal::new(alloc)),
-        tables: Tables::new(alloc, n, None)?,
+        tables: Tables::new(alloc, n, None, false)?,
     };
     Ok(Box::new(alloc, shelf)?)
 }

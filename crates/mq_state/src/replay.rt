@@ -80,7 +80,7 @@ pub fn replay(alloc: Global, journal: &Journal) -> Result<Option<Departure>, All
     ensures legal { IfOk result (λ found. (found ≡ None) ↔ Legal journal.now.records) }
     ensures departure { IfOk result (λ found. IfSome found (IsDeparture journal.now.records)) }
 {
-    let mut tables = Tables::new(alloc, PROCESSES, None)?;
+    let mut tables = Tables::new(alloc, PROCESSES, None, false)?;
     for place in 0..journal.len() {
         let past = Prefix::first(journal, place);
         let (entry, payload) = journal.record(place);

@@ -43,9 +43,14 @@ pub struct Tables {
     // the orders of queues to come, where the tables have bounds
     spares: Vec<Slots>,
     pub(crate) inboxes: Vec<Inbox>,
+    // an open takes the memory that later calls on its queue need
+    pub(crate) is_prepaid: bool,
     // at which index the queue of a place was found last, by the remainder of the place. It may be wrong
     hints: [u8; HINTS],
 }
+
+/// For how many notices of each process prepaid tables have room: for one from each queue, and as many that it has not taken.
+const PREPAID_NOTICES: usize = 128;
 
 /// How many hints there are.
 const HINTS: usize = 64;
@@ -56,8 +61,14 @@ impl Tables {
     ghost use Rattle.mq_state.specs.WaitBits.{KnowWaits};
     ghost use Rattle.mq_state.specs.Pool.{IsPooled};
 
-    /// The tables of n processes that have nothing, with no queue. With bounds they have room for all that the bounds allow.
-    pub fn new(alloc: Global, n: u32, bounds: Option<Bounds>) -> Result<Tables, AllocError>
+    /// The tables of n processes that have nothing, with no queue. With bounds they have room for all that the bounds allow, and
+    /// prepaid ones for the notices that each process may leave.
+    pub fn new(
+        alloc: Global,
+        n: u32,
+        bounds: Option<Bounds>,
+        is_prepaid: bool,
+    ) -> Result<Tables, AllocError>
         requires { n ≤ 32 }
         ensures empty { IfOk result (λ t. (t.n ≡ n) ×
             TablesMirror [] t.n t.owners.items t.queues.items t.inboxes.items ×
@@ -72,7 +83,8 @@ impl Tables {
         let count = n as usize + 1;
         let owners = free_owners(alloc, count)?;
         let calls = vec![in alloc; Call::Collect; count]?;
-        let inboxes = notices::empty(alloc, count, notice_room(bounds)?)?;
+        let room = notice_room(bounds)?.max(if is_prepaid { PREPAID_NOTICES } else { 0 });
+        let inboxes = notices::empty(alloc, count, room)?;
         let orders = order_count(bounds);
         let queues = Vec::with_capacity(alloc, orders)?;
         let spares = queues::spare_orders(alloc, orders)?;
@@ -86,6 +98,7 @@ impl Tables {
             queues,
             spares,
             inboxes,
+            is_prepaid,
             hints: [0; HINTS],
         })
     }

@@ -41,7 +41,7 @@ impl Trail {
     {
         Ok(Trail {
             journal: Journal::new(alloc),
-            tables: Tables::new(alloc, PROCESSES, None)?,
+            tables: Tables::new(alloc, PROCESSES, None, false)?,
         })
     }
 

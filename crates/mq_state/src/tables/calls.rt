@@ -309,7 +309,8 @@ impl Tables {
         let q = self.entry_queue(&past, p, call, given);
         let most = payload_of(call, plain, given).len();
         let kept = payload_of(call, reply, given).len();
-        if let Err(fault) = self.make_room(journal, entries_needed(call), most, kept) {
+        let entries = entries_needed(call);
+        if let Err(fault) = self.make_room_for(journal, call, reply, entries, most, kept) {
             return Answer::refused(fault);
         }
         if self.make_notice_room(p, call, reply).is_err() {
@@ -518,6 +519,71 @@ impl Tables {
                 }
             }
             _ => Ok(None),
+        }
+    }
+
+    // The same, and the room that a prepaid system makes at a call.
+    fn make_room_for(
+        &self,
+        journal: &mut Ledger,
+        call: Call,
+        reply: Reply,
+        entries: usize,
+        most: usize,
+        bytes: usize,
+    ) -> Result<(), Fault>
+        requires kept { IsKeptBy journal.old self.now }
+        requires few { entries ≤ 2 }
+        requires slice { most < 2 ^ 63 }
+        requires within { bytes ≤ most }
+        ensures records { journal.new.records ≡ journal.old.records }
+        ensures kept { IsKeptBy journal.new self.now }
+        ensures room { OnOk result ((waits_count self.now.owners.items + entries ≤
+            journal.new.entry_room) × (bytes ≤ journal.new.byte_room)) }
+        ensures full { IsRoomRefused self.now.bounds
+            (length journal.old.records + open_waits journal.old.records + entries)
+            (payload_bytes journal.old.records + most) result }
+        ensures same { result ≡ Err Fault.JournalFull → journal.new ≡ journal.old }
+        ensures no_less { journal.old.byte_room ≤ journal.new.byte_room }
+        ensures enough { is_send call ≡ true → bytes ≤ journal.old.byte_room →
+            journal.new.byte_room ≡ journal.old.byte_room }
+        ensures stored { journal.new.stored ≡ journal.old.stored }
+    {
+        self.make_room(journal, entries, most, bytes)?;
+        match self.prepay(journal, call, reply) {
+            Ok(()) => Ok(()),
+            Err(_) => Err(Fault::NoMemory),
+        }
+    }
+
+    // Takes the memory for the messages of the queue that an open creates, if the system is prepaid.
+    fn prepay(&self, journal: &mut Ledger, call: Call, reply: Reply) -> Result<(), AllocError>
+        requires kept { IsKeptBy journal.old self.now }
+        ensures records { journal.new.records ≡ journal.old.records }
+        ensures kept { IsKeptBy journal.new self.now }
+        ensures entry_room { journal.old.entry_room ≤ journal.new.entry_room }
+        ensures byte_room { journal.old.byte_room ≤ journal.new.byte_room }
+        ensures stored { journal.new.stored ≡ journal.old.stored }
+        ensures memory { OnErr result (self.now.bounds ≡ None) }
+        ensures sends { is_send call ≡ true → journal.new ≡ journal.old }
+    {
+        if !self.is_prepaid || self.bounds.is_some() {
+            return Ok(());
+        }
+        match (call, reply) {
+            (
+                Call::MqOpen { .. },
+                Reply::Opened {
+                    d: _,
+                    created: true,
+                },
+            ) => {
+                let attr = ladder::attributes_given(call);
+                let messages = usize::try_from(attr.maxmsg).unwrap_or(0);
+                let size = usize::try_from(attr.msgsize).unwrap_or(0);
+                journal.prepay(messages, size, self.n as usize)
+            }
+            _ => Ok(()),
         }
     }
 

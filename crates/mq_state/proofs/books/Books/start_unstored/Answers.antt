@@ -2,7 +2,7 @@ use Rattle.std.proofs.Common.{◌≡◌, [], arith, sym, ◌∙◌, subst}
 use Rattle.mq_state.specs.Kept.{IsWhole}
 use Rattle.mq_state.specs.declared.books.Shelf.{Shelf}
 use Rattle.mq_state.proofs.Reachable.{none-needed}
-use Rattle.mq_state.proofs.books.Books.unstored.Goals as goal
+use Rattle.mq_state.proofs.books.Books.start_unstored.Goals as goal
 
 pub invariant_of-result : goal.invariant_of-result
 invariant_of-result c =
