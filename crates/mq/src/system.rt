@@ -189,6 +189,30 @@ impl<L: Look<Guarded>> Mq<L> {
         }
     }
 
+    /// The same, but an open that creates a queue also takes the memory that later calls on it need (see [`Books::prepaid`]). Then no
+    /// send, receive, notify, collect or withdrawal takes memory, as tests show. `Invalid` if n is not from 1 to 32, else `NoMemory` if an
+    /// allocation was refused.
+    pub fn prepaid(alloc: Global, n: u32) -> Result<(Mq<L>, Vec<Process<L>>), Fault>
+        ensures invalid { ((1 ≤ n) × (n ≤ 32)) ⊎ (result ≡ Err Invalid) }
+        ensures faults { IfErr result (λ e. (e ≡ NoMemory) ⊎
+            ((e ≡ Invalid) × ((n ≡ 0) ⊎ (32 < n)))) }
+        ensures count { IfOk result (λ r. r.0.count ≡ n) }
+        ensures bounds { IfOk result (λ r. bounds_in r.0.fixed ≡ None) }
+        ensures stored { IfOk result (λ r. stored_in r.0.fixed ≡ false) }
+        ensures processes { IfOk result (λ r. r.1.items ≡ tickets_from r.0 1 n) }
+    {
+        if n == 0 || n > PROCESSES {
+            return Err(Fault::Invalid);
+        }
+        let Ok(books) = Books::prepaid(alloc, n) else {
+            return Err(Fault::NoMemory);
+        };
+        match Mq::over(alloc, n, books) {
+            Ok(system) => Ok(system),
+            Err(_) => Err(Fault::NoMemory),
+        }
+    }
+
     /// Whether the journal is stored.
     pub fn is_stored(&self) -> bool
         ensures { result ≡ stored_in self.now.fixed }
