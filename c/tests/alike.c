@@ -1,7 +1,10 @@
 /* Random calls of five processes have the same answers, and write the same, on a system that stores
- * its journal and on one that stores none; and, after the first calls, on two that go on from that
- * journal and from a short one in its place: usage: alike RUNS, each of 110 calls. */
+ * its journal, on one that stores none, and on one that is prepaid, on which only an open takes
+ * memory; and, after the first calls, on two that go on from that journal and from a short one in
+ * its place: usage: alike RUNS, each of 110 calls. */
 #include <yakyrombe.h>
+
+#include "../memory.h"
 
 #include <stdio.h>
 #include <stdlib.h>
@@ -9,7 +12,7 @@
 
 enum { PROCESSES = 5, CALLS = 110, FIRST_CALLS = 60, NAMES = 3, MOST_BYTES = 40 };
 
-enum { STORED, UNSTORED, RESUMED, SHORT, SYSTEMS };
+enum { STORED, UNSTORED, PREPAID, RESUMED, SHORT, SYSTEMS };
 
 typedef enum call {
     OPEN,
@@ -52,6 +55,27 @@ typedef struct outcome {
     uint64_t notice;
     uint8_t buf[MOST_BYTES];
 } outcome;
+
+/* How often the library asked for memory. */
+static unsigned long requests;
+
+rattle_tried rattle_alloc(size_t size, size_t align)
+{
+    ++requests;
+    return rattle_tried_with(malloc(size != 0 ? size : align));
+}
+
+rattle_tried rattle_realloc(void *p, size_t kept, size_t size, size_t align)
+{
+    (void)kept;
+    ++requests;
+    return rattle_tried_with(realloc(p, size != 0 ? size : align));
+}
+
+void rattle_dealloc(void *p)
+{
+    free(p);
+}
 
 static uint64_t state = 88172645463325252u;
 
@@ -186,7 +210,12 @@ static bool make_all(yak_process (*systems)[PROCESSES], int count, const asked *
     const outcome first = make(systems[STORED], a);
     bool alike = true;
     for (int i = 1; i < count; ++i) {
+        const unsigned long before = requests;
         const outcome other = make(systems[i], a);
+        if (i == PREPAID && a->call != OPEN && requests != before) {
+            printf("kind %d takes memory, prepaid\n", (int)a->call);
+            alike = false;
+        }
         if (!same(&first, &other)) {
             printf("kind %d on system %d: %u and %u\n", (int)a->call, i, (unsigned)first.answer,
                    (unsigned)other.answer);
@@ -208,7 +237,8 @@ static bool run(unsigned long *counts)
     for (unsigned i = 0; i < SYSTEMS * PROCESSES; ++i)
         systems[i / PROCESSES][i % PROCESSES] = empty;
     if (yak_new(systems[STORED], PROCESSES) != YAK_DONE ||
-        yak_unstored(systems[UNSTORED], PROCESSES) != YAK_DONE)
+        yak_unstored(systems[UNSTORED], PROCESSES) != YAK_DONE ||
+        yak_prepaid(systems[PREPAID], PROCESSES) != YAK_DONE)
         return false;
     for (int64_t i = 0; i < CALLS && alike; ++i) {
         const asked a = any_call(i / 4, i < 2 * PROCESSES);

@@ -44,6 +44,15 @@ pub extern "C" fn yak_unstored(alloc: Global, processes: &mut [Handle]) -> u32
     system::unstored(alloc, processes)
 }
 
+/// The same, but an open that creates a queue also takes the memory that later calls on it need. Then no send, receive, notify, collect or
+/// withdrawal takes memory.
+#[unsafe(no_mangle)]
+pub extern "C" fn yak_prepaid(alloc: Global, processes: &mut [Handle]) -> u32
+    ensures { Makes None false processes.old processes.new result }
+{
+    system::prepaid(alloc, processes)
+}
+
 /// Makes a system as `yak_new` that goes on from the journal whose text this is, as if its calls had been made on the system. If the journal
 /// is refused, the line is written that is the reason.
 #[unsafe(no_mangle)]

@@ -72,6 +72,22 @@ pub fn unstored(alloc: Global, processes: &mut [Handle]) -> u32
     }
 }
 
+/// The same, but an open that creates a queue also takes the memory that later calls on it need.
+pub fn prepaid(alloc: Global, processes: &mut [Handle]) -> u32
+    ensures { Makes None false processes.old processes.new result }
+{
+    let Some(n) = count_of(processes) else {
+        return Fault::Invalid.number();
+    };
+    if !are_empty(processes) {
+        return FULL;
+    }
+    match FastMq::prepaid(alloc, n) {
+        Ok((mq, made)) => hand_out_new(alloc, mq, made, processes),
+        Err(fault) => fault.number(),
+    }
+}
+
 /// Empties a handle: `DONE`, or `EMPTY` where it was. Its process is lost: what it holds stays held, and where it was on its way into the lock it can keep all others
 /// out for good.
 pub fn free(alloc: Global, process: &mut Handle) -> u32
