@@ -42,11 +42,19 @@ pub mod answer {
 pub enum Storage {
     #[default]
     Nothing,
+    /// Nothing, and an open takes the memory that later calls need.
+    Prepaid,
     All,
     Bounded {
         entries: u64,
         bytes: u64,
     },
+}
+
+impl Storage {
+    pub fn is_stored(self) -> bool {
+        matches!(self, Storage::All | Storage::Bounded { .. })
+    }
 }
 
 /// `yak_opening`.
@@ -129,6 +137,7 @@ extern "C" {
     fn yak_new(processes: *mut Fields, count: usize) -> u32;
     fn yak_bounded(processes: *mut Fields, count: usize, entries: u64, bytes: u64) -> u32;
     fn yak_unstored(processes: *mut Fields, count: usize) -> u32;
+    fn yak_prepaid(processes: *mut Fields, count: usize) -> u32;
     fn yak_resume(
         processes: *mut Fields,
         count: usize,
@@ -259,6 +268,8 @@ impl Handle {
             // SAFETY: `first` points to `count` handles, each empty. For none it is dangling,
             // aligned, and not used.
             Storage::Nothing => unsafe { yak_unstored(first, count) },
+            // SAFETY: the same.
+            Storage::Prepaid => unsafe { yak_prepaid(first, count) },
             // SAFETY: the same.
             Storage::All => unsafe { yak_new(first, count) },
             // SAFETY: the same.

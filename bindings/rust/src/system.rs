@@ -194,6 +194,17 @@ impl Builder {
         self
     }
 
+    /// Without a stored journal, for real-time use: an open that creates a queue also takes the
+    /// memory for as many messages as it may hold, each of the greatest size, and one for each
+    /// process; or it fails with [`NoMemory`](Error::NoMemory). After it no send, receive, notify
+    /// or timed call on the queue takes memory, while each process leaves at most 64 notices.
+    ///
+    /// This replaces an earlier [`journal`](Builder::journal) or [`bounded`](Builder::bounded).
+    pub fn prepaid(mut self) -> Builder {
+        self.storage = Storage::Prepaid;
+        self
+    }
+
     /// With a clock of the program. Deadlines of its calls are measured by it; those that are an
     /// [`Instant`](std::time::Instant) are of real time.
     pub fn clock(mut self, clock: impl Clock + 'static) -> Builder {
@@ -235,7 +246,7 @@ impl Builder {
     fn with(self, handles: Vec<Handle>, left: Vec<Left>) -> (System, Vec<Process>) {
         let shared = Shared {
             count: self.processes,
-            is_stored: self.storage != Storage::Nothing,
+            is_stored: self.storage.is_stored(),
             clock: self.clock,
             #[cfg(feature = "futures")]
             wakers: crate::futures::Wakers::default(),
