@@ -194,10 +194,10 @@ impl Builder {
         self
     }
 
-    /// Without a stored journal, for real-time use: an open that creates a queue also takes the
-    /// memory for as many messages as it may hold, each of the greatest size, and one for each
-    /// process; or it fails with [`NoMemory`](Error::NoMemory). After it no send, receive, notify
-    /// or timed call on the queue takes memory, while each process leaves at most 64 notices.
+    /// Without a stored journal, for real-time use. An open that creates a queue also takes the
+    /// memory for all its messages, each of the greatest size, and for one of each process; or it
+    /// fails with [`NoMemory`](Error::NoMemory). No other call of the library takes memory, while
+    /// each process leaves at most 64 notices. Messages with bytes of their own still do.
     ///
     /// This replaces an earlier [`journal`](Builder::journal) or [`bounded`](Builder::bounded).
     pub fn prepaid(mut self) -> Builder {
