@@ -199,6 +199,21 @@ impl Builder {
     /// fails with [`NoMemory`](Error::NoMemory). No other call of the library takes memory, while
     /// each process leaves at most 64 notices. Messages with bytes of their own still do.
     ///
+    /// ```
+    /// use yakyrombe::{OpenOptions, System};
+    ///
+    /// # fn main() -> Result<(), yakyrombe::Error> {
+    /// let (_, [process]) = System::builder().prepaid().build_array()?;
+    /// let queue = process.open("/q", OpenOptions::read_write().create().limits(8, 64))?;
+    /// let mut buf = [0; 64];
+    /// for round in 0..1_000u32 {
+    ///     queue.send(&[7; 64], round % 4)?;
+    ///     assert_eq!(queue.receive(&mut buf)?.len, 64);
+    /// }
+    /// # Ok(())
+    /// # }
+    /// ```
+    ///
     /// This replaces an earlier [`journal`](Builder::journal) or [`bounded`](Builder::bounded).
     pub fn prepaid(mut self) -> Builder {
         self.storage = Storage::Prepaid;

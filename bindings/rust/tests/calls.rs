@@ -55,6 +55,8 @@ fn the_last_word_on_the_journal_counts() {
     assert_eq!(is_stored(System::builder().bounded(7, 7)), (true, 7));
     assert_eq!(is_stored(System::builder().bounded(7, 7).journal(true)), (true, u64::MAX));
     assert_eq!(is_stored(System::builder().bounded(7, 7).journal(false)), (false, u64::MAX));
+    assert_eq!(is_stored(System::builder().bounded(7, 7).prepaid()), (false, u64::MAX));
+    assert_eq!(is_stored(System::builder().prepaid().journal(true)), (true, u64::MAX));
     assert_eq!(is_stored(System::builder().journal(false).bounded(7, 7)), (true, 7));
 }
 
