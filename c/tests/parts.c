@@ -1,8 +1,5 @@
 /* A program of ten files that include the headers and define nothing for them. Each file is this
- * one, compiled with a PART of its own from 0 to 9. Part 3 is written for an earlier release. */
-#if PART == 3
-#define YAKYROMBE_IMPLEMENTATION
-#endif
+ * one, compiled with a PART of its own from 0 to 9. */
 #include <mqueue.h>
 #include <yakyrombe.h>
 
@@ -13,14 +10,11 @@
 uint32_t NAMED(send_, PART)(yak_process *process);
 uint32_t NAMED(send_, PART)(yak_process *process)
 {
-    static const yak_opening opening = {10, 8, 2, true, false, false, true};
+    static const yak_opening opening = {
+        .maxmsg = 10, .msgsize = 8, .access = 2, .create = true, .limited = true};
     static const uint8_t name[] = {'/', 'q'}, byte[] = {'0' + PART};
     uint32_t answer, d;
-#if PART == 3
-    YAK_TRY(answer, process, yak_open(process, name, sizeof name, &opening, &d));
-#else
     answer = yak_open(process, name, sizeof name, &opening, &d);
-#endif
     return answer != YAK_DONE ? answer : yak_send(process, d, byte, sizeof byte, PART);
 }
 
