@@ -10,7 +10,7 @@ static int asked;
 /* A clock that moves on by a second each time it is asked. */
 static yak_moment steps(void)
 {
-    const yak_moment now = {++asked, 0};
+    const yak_moment now = {.sec = ++asked};
     return now;
 }
 
@@ -46,7 +46,7 @@ static bool ends_by(yak_clock *clock, uint32_t d)
 /* The clock of the program is at its sixth second after some sleeps. */
 static bool ends_by_steps(uint32_t d)
 {
-    const yak_moment until = {6, 0}, bad = {6, 1000000000}, past = {0, 0};
+    const yak_moment until = {.sec = 6}, bad = {.sec = 6, .nsec = 1000000000}, past = {0};
     yak_message message;
     uint8_t buf[8];
     asked = 0;
@@ -145,7 +145,8 @@ static bool ends_at_its_own(uint32_t d)
 
 int main(void)
 {
-    static const yak_opening opening = {1, 8, 2, true, false, false, true};
+    static const yak_opening opening = {
+        .maxmsg = 1, .msgsize = 8, .access = 2, .create = true, .limited = true};
     static const uint8_t name[] = {'/', 'q'};
     uint32_t d, other;
     if (yak_new(processes, 2) != YAK_DONE ||

@@ -35,7 +35,7 @@ static void *sends(void *of)
     uint32_t places[PRIOS] = {0};
     for (long i = 0; i < each; ++i) {
         const uint32_t prio = (uint32_t)(i * 7 + sender) % PRIOS;
-        const message it = {sender, prio, places[prio]++};
+        const message it = {.sender = sender, .prio = prio, .place = places[prio]++};
         WANT(mq_send(queue, (const char *)&it, sizeof it, prio) == 0);
     }
     return 0;

@@ -159,7 +159,7 @@ static long resident(void)
 static taken look(void)
 {
     struct rusage usage;
-    taken it = {resident(), 0};
+    taken it = {.resident = resident()};
     WANT(getrusage(RUSAGE_SELF, &usage) == 0);
     it.faults = usage.ru_minflt;
     return it;

@@ -12,7 +12,8 @@ typedef struct box {
     uint32_t last;
 } box;
 
-static const yak_opening OPENING = {BOXES, sizeof(box *), 2, true, false, false, true};
+static const yak_opening OPENING = {
+    .maxmsg = BOXES, .msgsize = sizeof(box *), .access = 2, .create = true, .limited = true};
 static const uint8_t NAME[] = {'/', 'b', 'o', 'x'};
 static yak_process processes[1 + THREADS];
 static uint32_t failed[1 + THREADS];

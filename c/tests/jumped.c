@@ -128,8 +128,8 @@ static void *kick_when_it_waits(void *of)
  * beside it. */
 static void leave_receive(bool is_timed, int beside)
 {
-    struct timespec until = {time(0) + 3600, 0};
-    kick it = {pthread_self(), beside + 1};
+    struct timespec until = {.tv_sec = time(0) + 3600};
+    kick it = {.thread = pthread_self(), .waits = beside + 1};
     pthread_t kicks;
     char buf[8];
     atomic_store(&waiter, 0);

@@ -147,7 +147,7 @@ static pthread_t begin_other(const struct timespec *until)
 static void beside(void)
 {
     pthread_t threads[IN_ORDER], one;
-    struct timespec until = {1, 1000000000};
+    struct timespec until = {.tv_sec = 1, .tv_nsec = 1000000000};
     struct sigaction action;
     void *ended;
     char buf[8];

@@ -54,7 +54,7 @@ static void *send_more(void *of)
 
 static void *receive_timed(void *of)
 {
-    struct timespec until = {time(0) + 3600, 0};
+    struct timespec until = {.tv_sec = time(0) + 3600};
     char buf[8];
     (void)of;
     atomic_store(&numbers[2], (long)syscall(SYS_gettid));

@@ -23,7 +23,7 @@ typedef struct journal {
 } journal;
 
 static yak_process processes[PROCESSES];
-static const yak_moment EARLY = {1, 0}, LATE = {100, 0};
+static const yak_moment EARLY = {.sec = 1}, LATE = {.sec = 100};
 
 /* Ends the program where it does not hold. */
 #define WANT(what)                                            \
@@ -67,7 +67,8 @@ void rattle_dealloc(void *p)
 
 static uint32_t open_queue(int p, const char *name, int64_t maxmsg, bool creates)
 {
-    const yak_opening opening = {maxmsg, MSGSIZE, 2, creates, false, false, true};
+    const yak_opening opening = {
+        .maxmsg = maxmsg, .msgsize = MSGSIZE, .access = 2, .create = creates, .limited = true};
     uint32_t d = UINT32_MAX;
     const uint32_t answer =
         yak_open(&processes[p], (const uint8_t *)name, strlen(name), &opening, &d);
@@ -151,7 +152,7 @@ static void third_is_served(void)
 /* That of process 4 is over at its deadline, and not before. */
 static void fourth_is_late(void)
 {
-    static const yak_moment before = {99, 999999999};
+    static const yak_moment before = {.sec = 99, .nsec = 999999999};
     yak_message message;
     uint8_t buf[MSGSIZE];
     WANT(yak_collect(&processes[3], buf, 0, &message) == YAK_SHORT);
@@ -210,7 +211,7 @@ static void all_goes_on(resumes *by, journal from)
 static void none_is_new(resumes *by)
 {
     uint64_t line = 77;
-    const journal none = {(char *)&line, 0};
+    const journal none = {.text = (char *)&line};
     WANT(resume(by, none, PROCESSES, &line) == YAK_DONE && line == 77);
     WANT(open_queue(4, "/q", 1, true) == 0);
     finish();
@@ -228,13 +229,13 @@ static void is_refused_so(resumes *by, journal from, size_t count, uint32_t answ
 
 static void text_is_refused(resumes *by, const char *text, uint32_t answer, uint64_t at)
 {
-    const journal from = {(char *)text, strlen(text)};
+    const journal from = {.text = (char *)text, .len = strlen(text)};
     is_refused_so(by, from, PROCESSES, answer, at);
 }
 
 static void journals_are_refused(resumes *by, journal from)
 {
-    const journal cut = {from.text, from.len - 1};
+    const journal cut = {.text = from.text, .len = from.len - 1};
     uint64_t entries = 0, line = 77;
     for (size_t i = 0; i < from.len; ++i)
         entries += from.text[i] == '\n';

@@ -59,7 +59,7 @@ static struct timespec after(long milliseconds)
 
 static void pause_for(long milliseconds)
 {
-    struct timespec t = {milliseconds / 1000, milliseconds % 1000 * 1000000};
+    struct timespec t = {.tv_sec = milliseconds / 1000, .tv_nsec = milliseconds % 1000 * 1000000};
     nanosleep(&t, 0);
 }
 

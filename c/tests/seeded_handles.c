@@ -8,7 +8,8 @@
 
 #include <string.h>
 
-static const yak_opening OPENING = {1, 8, 2, true, false, false, true};
+static const yak_opening OPENING = {
+    .maxmsg = 1, .msgsize = 8, .access = 2, .create = true, .limited = true};
 static const uint8_t NAMES[2][2] = {{'/', 'l'}, {'/', 'r'}};
 static yak_process processes[3];
 static bool has_deadlines;

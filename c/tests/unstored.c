@@ -7,7 +7,8 @@
 
 enum { MESSAGES = 20000, DEPTH = 10 };
 
-static const yak_opening OPENING = {DEPTH, sizeof(uint32_t), 2, true, false, false, true};
+static const yak_opening OPENING = {
+    .maxmsg = DEPTH, .msgsize = sizeof(uint32_t), .access = 2, .create = true, .limited = true};
 static const uint8_t NAME[] = {'/', 'q'};
 static yak_process processes[2];
 

@@ -171,7 +171,7 @@ static void handles(yak_process *two)
     static const uint8_t name[] = {'/', 'h'};
     static const yak_opening opening = {1, 4, 2, true, false, false, true};
     yak_process empty = YAK_PROCESS_EMPTY, many[33], *one = &two[0], *other = &two[1];
-    yak_moment past = {0, 0}, never = {INT64_MAX, 0}, now = {5, 0};
+    yak_moment past = {0}, never = {.sec = INT64_MAX}, now = {.sec = 5};
     yak_message message = {0, 0};
     yak_attributes attr = {0, 0, 0, false};
     uint8_t buf[4];
