@@ -36,9 +36,6 @@ ssize_t mq_receive(mqd_t mqdes, char *buf, size_t len, unsigned *prio);
 ssize_t mq_timedreceive(mqd_t mqdes, char *buf, size_t len, unsigned *prio,
                         const struct timespec *until);
 
-/* The last moment of all, which stands for the deadline of a call without one. */
-static const yak_moment NEVER = {.sec = INT64_MAX, .nsec = 999999999};
-
 static int fails(int error)
 {
     errno = error;
@@ -148,7 +145,7 @@ static mqd_t open_queue(const char *name, int oflag, const struct mq_attr *attr)
     program_leave();
     if (error != 0)
         return fails(error);
-    explored_gave(answer, 0);
+    explored_gave(yak_errno(answer), 0);
     return answer == YAK_DONE ? FIRST + (mqd_t)number : result(answer);
 }
 
@@ -193,7 +190,7 @@ int mq_close(mqd_t mqdes)
     if (d < DESCRIPTIONS && program_here->me->numbers[mqdes - FIRST] == 0)
         program_drop_poll(d);
     program_leave_waking(answered);
-    explored_gave(answer, 0);
+    explored_gave(yak_errno(answer), 0);
     return result(answer);
 }
 
@@ -214,7 +211,7 @@ int mq_unlink(const char *name)
     program_mirror_all((const uint8_t *)name, len);
     answer = did_unlink(HOME, (const uint8_t *)name, len);
     program_leave();
-    explored_gave(answer, 0);
+    explored_gave(yak_errno(answer), 0);
     return result(answer);
 }
 
@@ -256,7 +253,7 @@ static int exchange(mqd_t mqdes, const struct mq_attr *set, struct mq_attr *befo
             the_program.nonblock[d] = (set->mq_flags & O_NONBLOCK) != 0;
     }
     program_leave();
-    explored_gave(answer, (uint32_t)attributes.curmsgs);
+    explored_gave(yak_errno(answer), (uint32_t)attributes.curmsgs);
     return fill(answer, &attributes, before);
 }
 
@@ -282,11 +279,29 @@ int mq_notify(mqd_t mqdes, const struct sigevent *event)
     return error != 0 ? fails(error) : result(answer);
 }
 
+static bool is_done(outcome it)
+{
+    return it.fate == ANSWERED && it.answer == YAK_DONE;
+}
+
+static int error_of(outcome it)
+{
+    switch (it.fate) {
+    case ANSWERED:
+        return yak_errno(it.answer);
+    case REFUSED:
+        return it.error;
+    default:
+        return EINTR;
+    }
+}
+
 /* What is left of a send or a receive that the home has tried: a wait, the wakes and notices for
  * others, and a warning. Leaves the lock. */
-static __attribute__((noinline)) uint32_t go_on(uint32_t d, const request *asked,
-                                                yak_message *message, uint32_t answer)
+static __attribute__((noinline)) outcome go_on(uint32_t d, const request *asked,
+                                               yak_message *message, uint32_t answer)
 {
+    outcome end = {.answer = answer};
     unsigned process = HOME;
     uint32_t answered = 0;
     int cancelling = -1;
@@ -294,12 +309,12 @@ static __attribute__((noinline)) uint32_t go_on(uint32_t d, const request *asked
     notices found;
     found.count = 0;
     if (answer == YAK_AGAIN && !the_program.nonblock[d])
-        answer = program_wait(&process, d, asked, message, &cancelling);
-    if (answer != YAK_LOST && answer != YAK_ANEW && answer != YAK_TORN) {
+        end = program_wait(&process, d, asked, message, &cancelling);
+    if (end.fate < LOST) {
         answered = program_note_answers(process != HOME ? process : program_home_of(d));
-        if (answer == YAK_DONE && the_program.tables.registered != 0)
+        if (is_done(end) && the_program.tables.registered != 0)
             program_collect_notices(d, &found);
-        if (answer == YAK_DONE && the_program.polls != 0)
+        if (is_done(end) && the_program.polls != 0)
             program_tell_polls(d);
         warns = program_is_to_warn();
         program_leave_waking(answered);
@@ -310,18 +325,19 @@ static __attribute__((noinline)) uint32_t go_on(uint32_t d, const request *asked
         program_warn();
     if (cancelling != -1)
         pthread_setcancelstate(cancelling, 0);
-    if (answer == YAK_CANCELLED)
+    if (end.fate == CANCELLED)
         pthread_testcancel();
-    return answer;
+    return end;
 }
 
-/* A send or a receive. */
-static inline __attribute__((always_inline)) uint32_t make(const char *call, bool is_send,
-                                                           mqd_t mqdes, uint8_t *bytes, size_t len,
-                                                           uint32_t prio, yak_message *message,
-                                                           const struct timespec *until)
+/* A send or a receive: 0, or -1 with errno. */
+static inline __attribute__((always_inline)) int make(const char *call, bool is_send, mqd_t mqdes,
+                                                      uint8_t *bytes, size_t len, uint32_t prio,
+                                                      yak_message *message,
+                                                      const struct timespec *until)
 {
     yak_moment moment = {0};
+    outcome end;
     uint32_t answer, d;
     int error;
     /* A pointer that is no good is met outside the lock. */
@@ -331,10 +347,8 @@ static inline __attribute__((always_inline)) uint32_t make(const char *call, boo
     }
     explored_transfer(is_send, mqdes, len, prio, until);
     do {
-        if ((error = program_enter()) != 0) {
-            errno = error;
-            return YAK_REFUSED;
-        }
+        if ((error = program_enter()) != 0)
+            return fails(error);
         if (__builtin_expect(the_program.is_logged, false) &&
             the_program.tables.helpers != the_program.tables.idle && program_has_dead_waiter())
             program_sweep();
@@ -348,35 +362,25 @@ static inline __attribute__((always_inline)) uint32_t make(const char *call, boo
                                   the_program.processes[program_home_of(d)].answered) == 0,
                              1)) {
             program_leave();
-            explored_moved(is_send, d, answer, bytes, is_send ? len : message->len);
-            return YAK_DONE;
+            explored_moved(is_send, d, 0, bytes, is_send ? len : message->len);
+            return 0;
         } else {
             const request asked = {
                 .call = call,
                 .number = mqdes,
                 .is_send = is_send,
                 .is_timed = until != 0,
-                .until = until != 0 ? moment : NEVER,
+                .until = until != 0 ? moment : program_never,
                 .bytes = bytes,
                 .len = len,
                 .prio = prio,
             };
-            answer = go_on(d, &asked, message, answer);
+            end = go_on(d, &asked, message, answer);
         }
-    } while (answer == YAK_ANEW);
-    explored_moved(is_send, d, answer, bytes, is_send ? len : message->len);
-    return answer;
-}
-
-static int last_result(uint32_t answer)
-{
-    if (answer == YAK_DONE)
-        return 0;
-    if (answer == YAK_REFUSED)
-        return -1;
-    if (answer == YAK_TORN)
-        return fails(ENOTRECOVERABLE);
-    return fails(answer >= YAK_INTERRUPTED ? EINTR : yak_errno(answer));
+    } while (end.fate == ANEW);
+    error = error_of(end);
+    explored_moved(is_send, d, error, bytes, is_send ? len : message->len);
+    return error != 0 ? fails(error) : 0;
 }
 
 /* No message is longer than MOST_BYTES, so a longer buffer is one of that length, and a longer
@@ -395,8 +399,8 @@ static inline __attribute__((always_inline)) int send_until(const char *call, mq
     pthread_testcancel();
     if (bytes == 0 && len != 0)
         return fails(EFAULT);
-    return last_result(make(call, true, mqdes, (uint8_t *)(uintptr_t)(len != 0 ? bytes : ""),
-                            at_most(len, MOST_BYTES + 1), prio, &message, until));
+    return make(call, true, mqdes, (uint8_t *)(uintptr_t)(len != 0 ? bytes : ""),
+                at_most(len, MOST_BYTES + 1), prio, &message, until);
 }
 
 int mq_send(mqd_t mqdes, const char *bytes, size_t len, unsigned prio)
@@ -420,8 +424,8 @@ static inline __attribute__((always_inline)) ssize_t receive_until(const char *c
     pthread_testcancel();
     if (buf == 0 && len != 0)
         return fails(EFAULT);
-    if (last_result(make(call, false, mqdes, len != 0 ? (uint8_t *)buf : &none,
-                         at_most(len, MOST_BYTES), 0, &message, until)) != 0)
+    if (make(call, false, mqdes, len != 0 ? (uint8_t *)buf : &none, at_most(len, MOST_BYTES), 0,
+             &message, until) != 0)
         return -1;
     if (prio != 0)
         *prio = message.prio;

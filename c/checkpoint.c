@@ -36,12 +36,8 @@ static size_t name_of(unsigned slot, char *name)
 
 static bool is_taken(const char *name, size_t len)
 {
-    for (unsigned i = 0; i < QUEUES; ++i) {
-        const queue *it = &the_program.tables.queues[i];
-        if (it->is_there && it->is_bound && it->len == len && memcmp(it->name, name, len) == 0)
-            return true;
-    }
-    return false;
+    const unsigned slot = log_queue((const uint8_t *)name, len);
+    return log_is_named(&the_program.tables.queues[slot], (const uint8_t *)name, len);
 }
 
 /* Chooses a number for those names that no queue has. */
@@ -56,8 +52,6 @@ static void choose_names(void)
 
 /* ---- what is there, taken out of the system ---- */
 
-static const yak_moment last_of_all = {.sec = INT64_MAX, .nsec = 999999999};
-
 /* Ends the open waits: what was answered is kept, and the rest is withdrawn, to be begun again. */
 static bool end_waits(void)
 {
@@ -70,9 +64,9 @@ static bool end_waits(void)
             continue;
         if (kept == 0)
             return false;
-        MADE(answer,
-             yak_proved_end_wait(&the_program.processes[process], it->is_send ? &none : kept,
-                                 it->is_send ? 0 : (size_t)MOST_BYTES, &it->message, &last_of_all));
+        MADE(answer, yak_proved_end_wait(
+                         &the_program.processes[process], it->is_send ? &none : kept,
+                         it->is_send ? 0 : (size_t)MOST_BYTES, &it->message, &program_never));
         it->has_ended = answer == YAK_DONE;
         if (answer != YAK_DONE && answer != YAK_TIMEDOUT)
             return false;

@@ -81,17 +81,10 @@ void explored_transfer(bool is_send, int mqdes, size_t len, unsigned prio,
     machine_act(&op);
 }
 
-static int error_of(uint32_t answer)
-{
-    if (answer == YAK_DONE)
-        return 0;
-    return answer >= YAK_INTERRUPTED ? EINTR : yak_errno(answer);
-}
-
-void explored_gave(uint32_t answer, uint32_t value)
+void explored_gave(int error, uint32_t value)
 {
     if (program_place == OUTSIDE)
-        machine_gave(error_of(answer), value);
+        machine_gave(error, value);
 }
 
 static uint32_t hash_of(const uint8_t *bytes, size_t len)
@@ -102,13 +95,13 @@ static uint32_t hash_of(const uint8_t *bytes, size_t len)
     return it;
 }
 
-void explored_moved(bool is_send, uint32_t d, uint32_t answer, const uint8_t *bytes, size_t len)
+void explored_moved(bool is_send, uint32_t d, int error, const uint8_t *bytes, size_t len)
 {
     if (!machine_decides())
         return;
-    if (answer == YAK_DONE && d < DESCRIPTIONS)
+    if (error == 0 && d < DESCRIPTIONS)
         the_machine.queues[the_program.tables.descriptions[d].queue].current += is_send ? 1 : -1;
-    explored_gave(answer, answer == YAK_DONE ? hash_of(bytes, len) : 0);
+    explored_gave(error, error == 0 ? hash_of(bytes, len) : 0);
 }
 
 /* How often the name was given in this run. */

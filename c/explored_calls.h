@@ -16,9 +16,9 @@ void explored_names(yak_kind kind);
 void explored_call(yak_kind kind, int mqdes);
 void explored_transfer(bool is_send, int mqdes, size_t len, unsigned prio,
                        const struct timespec *until);
-/* After it: what it returned, with a value that others can see. */
-void explored_gave(uint32_t answer, uint32_t value);
-void explored_moved(bool is_send, uint32_t d, uint32_t answer, const uint8_t *bytes, size_t len);
+/* After it: 0 or its error, with a value that others can see. */
+void explored_gave(int error, uint32_t value);
+void explored_moved(bool is_send, uint32_t d, int error, const uint8_t *bytes, size_t len);
 /* Inside the lock: a queue was created, and a descriptor was given. */
 void explored_queue(unsigned slot, const uint8_t *name, size_t len, const yak_opening *opening);
 void explored_number(unsigned number, uint32_t d);
@@ -29,57 +29,13 @@ uint64_t explored_entries(uint64_t before);
 
 #else
 
-static inline void explored_names(yak_kind kind)
-{
-    (void)kind;
-}
-
-static inline void explored_call(yak_kind kind, int mqdes)
-{
-    (void)kind;
-    (void)mqdes;
-}
-
-static inline void explored_transfer(bool is_send, int mqdes, size_t len, unsigned prio,
-                                     const struct timespec *until)
-{
-    (void)is_send;
-    (void)mqdes;
-    (void)len;
-    (void)prio;
-    (void)until;
-}
-
-static inline void explored_gave(uint32_t answer, uint32_t value)
-{
-    (void)answer;
-    (void)value;
-}
-
-static inline void explored_moved(bool is_send, uint32_t d, uint32_t answer, const uint8_t *bytes,
-                                  size_t len)
-{
-    (void)is_send;
-    (void)d;
-    (void)answer;
-    (void)bytes;
-    (void)len;
-}
-
-static inline void explored_queue(unsigned slot, const uint8_t *name, size_t len,
-                                  const yak_opening *opening)
-{
-    (void)slot;
-    (void)name;
-    (void)len;
-    (void)opening;
-}
-
-static inline void explored_number(unsigned number, uint32_t d)
-{
-    (void)number;
-    (void)d;
-}
+#define explored_names(kind) ((void)0)
+#define explored_call(kind, mqdes) ((void)0)
+#define explored_transfer(is_send, mqdes, len, prio, until) ((void)0)
+#define explored_gave(error, value) ((void)0)
+#define explored_moved(is_send, d, error, bytes, len) ((void)0)
+#define explored_queue(slot, name, len, opening) ((void)0)
+#define explored_number(number, d) ((void)0)
 
 #endif
 

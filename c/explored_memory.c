@@ -111,35 +111,20 @@ void __tsan_func_exit(void)
 {
 }
 
-#define ACCESS(size)                            \
-    void __tsan_read##size(void *at)            \
-    {                                           \
-        see(false, false, at, size, CODE);      \
-    }                                           \
-    void __tsan_write##size(void *at)           \
-    {                                           \
-        see(true, false, at, size, CODE);       \
-    }                                           \
-    void __tsan_unaligned_read##size(void *at)  \
-    {                                           \
-        see(false, false, at, size, CODE);      \
-    }                                           \
-    void __tsan_unaligned_write##size(void *at) \
-    {                                           \
-        see(true, false, at, size, CODE);       \
-    }                                           \
-    void __tsan_volatile_read##size(void *at)   \
-    {                                           \
-        see(false, false, at, size, CODE);      \
-    }                                           \
-    void __tsan_volatile_write##size(void *at)  \
-    {                                           \
-        see(true, false, at, size, CODE);       \
-    }                                           \
-    void __tsan_read_write##size(void *at)      \
-    {                                           \
-        see(true, false, at, size, CODE);       \
+#define LOOK(name, size, writes)            \
+    void __tsan_##name##size(void *at)      \
+    {                                       \
+        see(writes, false, at, size, CODE); \
     }
+
+#define ACCESS(size)                  \
+    LOOK(read, size, false)           \
+    LOOK(write, size, true)           \
+    LOOK(unaligned_read, size, false) \
+    LOOK(unaligned_write, size, true) \
+    LOOK(volatile_read, size, false)  \
+    LOOK(volatile_write, size, true)  \
+    LOOK(read_write, size, true)
 
 ACCESS(1)
 ACCESS(2)
@@ -191,56 +176,51 @@ void *__tsan_memset(void *to, int with, size_t size)
 /* ---- atomics, each of which is sequentially consistent ---- */
 
 #define SEQ __ATOMIC_SEQ_CST
+/* The turn of the operation of a function below. */
+#define TURN(kind) ((void)order, act(kind, at, sizeof *at, CODE))
 
 #define FETCH(bits, type, what)                                                      \
     type __tsan_atomic##bits##_fetch_##what(volatile type *at, type with, int order) \
     {                                                                                \
-        (void)order;                                                                 \
-        act(STEP_STORE, at, sizeof(type), CODE);                                     \
+        TURN(STEP_STORE);                                                            \
         return __atomic_fetch_##what(at, with, SEQ);                                 \
     }
 
 #define ATOMIC(bits, type)                                                                        \
     type __tsan_atomic##bits##_load(const volatile type *at, int order)                           \
     {                                                                                             \
-        (void)order;                                                                              \
-        act(STEP_LOAD, at, sizeof(type), CODE);                                                   \
+        TURN(STEP_LOAD);                                                                          \
         return __atomic_load_n(at, SEQ);                                                          \
     }                                                                                             \
     void __tsan_atomic##bits##_store(volatile type *at, type with, int order)                     \
     {                                                                                             \
-        (void)order;                                                                              \
-        act(STEP_STORE, at, sizeof(type), CODE);                                                  \
+        TURN(STEP_STORE);                                                                         \
         __atomic_store_n(at, with, SEQ);                                                          \
     }                                                                                             \
     type __tsan_atomic##bits##_exchange(volatile type *at, type with, int order)                  \
     {                                                                                             \
-        (void)order;                                                                              \
-        act(STEP_STORE, at, sizeof(type), CODE);                                                  \
+        TURN(STEP_STORE);                                                                         \
         return __atomic_exchange_n(at, with, SEQ);                                                \
     }                                                                                             \
     int __tsan_atomic##bits##_compare_exchange_strong(volatile type *at, type *expected,          \
                                                       type with, int order, int other)            \
     {                                                                                             \
-        (void)order;                                                                              \
         (void)other;                                                                              \
-        act(STEP_STORE, at, sizeof(type), CODE);                                                  \
+        TURN(STEP_STORE);                                                                         \
         return __atomic_compare_exchange_n(at, expected, with, false, SEQ, SEQ);                  \
     }                                                                                             \
     int __tsan_atomic##bits##_compare_exchange_weak(volatile type *at, type *expected, type with, \
                                                     int order, int other)                         \
     {                                                                                             \
-        (void)order;                                                                              \
         (void)other;                                                                              \
-        act(STEP_STORE, at, sizeof(type), CODE);                                                  \
+        TURN(STEP_STORE);                                                                         \
         return __atomic_compare_exchange_n(at, expected, with, false, SEQ, SEQ);                  \
     }                                                                                             \
     type __tsan_atomic##bits##_compare_exchange_val(volatile type *at, type expected, type with,  \
                                                     int order, int other)                         \
     {                                                                                             \
-        (void)order;                                                                              \
         (void)other;                                                                              \
-        act(STEP_STORE, at, sizeof(type), CODE);                                                  \
+        TURN(STEP_STORE);                                                                         \
         __atomic_compare_exchange_n(at, &expected, with, false, SEQ, SEQ);                        \
         return expected;                                                                          \
     }                                                                                             \

@@ -244,12 +244,11 @@ bool program_is_held(uint32_t d)
 static void end_waits_of(unsigned number)
 {
     static uint8_t room[MOST_BYTES];
-    static const yak_moment last = {.sec = INT64_MAX, .nsec = 999999999};
     yak_message message;
     for (unsigned process = 0; process < PROCESSES; ++process) {
         const pending *it = &the_program.tables.waits[process];
         if (it->is_open && it->owner == number) {
-            did_end(process, room, it->is_send ? 0 : sizeof room, &message, &last);
+            did_end(process, room, it->is_send ? 0 : sizeof room, &message, &program_never);
             program_release(process);
         }
     }

@@ -84,14 +84,19 @@ void log_message(bool is_send, uint32_t d, const uint8_t *bytes, size_t len, uin
 
 /* ---- what a call does to the tables ---- */
 
+bool log_is_named(const queue *it, const uint8_t *name, size_t len)
+{
+    return it->is_there && it->is_bound && it->len == len && memcmp(it->name, name, len) == 0;
+}
+
 unsigned log_queue(const uint8_t *name, size_t len)
 {
+    const queue *all = the_program.tables.queues;
     unsigned room = 0;
     for (unsigned i = 0; i < QUEUES; ++i) {
-        const queue *it = &the_program.tables.queues[i];
-        if (it->is_there && it->is_bound && it->len == len && memcmp(it->name, name, len) == 0)
+        if (log_is_named(&all[i], name, len))
             return i;
-        if (!it->is_there && the_program.tables.queues[room].is_there)
+        if (!all[i].is_there && all[room].is_there)
             room = i;
     }
     return room;
@@ -167,7 +172,7 @@ static void apply_unlink(const uint8_t *name, size_t len)
 {
     const unsigned slot = log_queue(name, len);
     queue *it = &the_program.tables.queues[slot];
-    if (!it->is_there || !it->is_bound || it->len != len || memcmp(it->name, name, len) != 0)
+    if (!log_is_named(it, name, len))
         return;
     it->is_bound = false;
     settle(slot);

@@ -70,6 +70,8 @@ void log_message(bool is_send, uint32_t d, const uint8_t *bytes, size_t len, uin
  * null if the log has no room. */
 char *log_write(unsigned log, char *at, record it, const void *own, size_t own_size,
                 const void *bytes);
+/* Whether a queue is there and has this name. */
+bool log_is_named(const queue *it, const uint8_t *name, size_t len);
 /* The slot for a queue of this name: that of the bound one, or a free one. */
 unsigned log_queue(const uint8_t *name, size_t len);
 

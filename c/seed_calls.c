@@ -5,12 +5,16 @@
 #include <errno.h>
 #include <signal.h>
 
+/* What a call returns: ours by the machine, and that of the system in a thread that it does not
+ * know. */
+#define BY_SEED(name, ours, ...) (yak_seed_is_known_(#name) ? (ours) : YAK_REAL(name)(__VA_ARGS__))
+
 /* ---- threads ---- */
 
 int yak_seed_create(pthread_t *thread, const pthread_attr_t *attr, void *(*run)(void *), void *with)
 {
-    return yak_seed_is_known_("pthread_create") ? yak_seed_start_(thread, attr, run, with)
-                                                : YAK_REAL(pthread_create)(thread, attr, run, with);
+    return BY_SEED(pthread_create, yak_seed_start_(thread, attr, run, with), thread, attr, run,
+                   with);
 }
 
 int yak_seed_yield(void)
@@ -67,15 +71,13 @@ static int lock_until(const char *call, pthread_mutex_t *mutex, const struct tim
 
 int yak_seed_lock(pthread_mutex_t *mutex)
 {
-    return yak_seed_is_known_("pthread_mutex_lock") ? lock_until("pthread_mutex_lock", mutex, 0)
-                                                    : YAK_REAL(pthread_mutex_lock)(mutex);
+    return BY_SEED(pthread_mutex_lock, lock_until("pthread_mutex_lock", mutex, 0), mutex);
 }
 
 int yak_seed_timedlock(pthread_mutex_t *mutex, const struct timespec *until)
 {
-    return yak_seed_is_known_("pthread_mutex_timedlock")
-               ? lock_until("pthread_mutex_timedlock", mutex, until)
-               : YAK_REAL(pthread_mutex_timedlock)(mutex, until);
+    return BY_SEED(pthread_mutex_timedlock, lock_until("pthread_mutex_timedlock", mutex, until),
+                   mutex, until);
 }
 
 int yak_seed_trylock(pthread_mutex_t *mutex)
@@ -112,16 +114,13 @@ static int cond_wait_until(pthread_cond_t *cond, pthread_mutex_t *mutex,
 
 int yak_seed_cond_wait(pthread_cond_t *cond, pthread_mutex_t *mutex)
 {
-    return yak_seed_is_known_("pthread_cond_wait") ? cond_wait_until(cond, mutex, 0)
-                                                   : YAK_REAL(pthread_cond_wait)(cond, mutex);
+    return BY_SEED(pthread_cond_wait, cond_wait_until(cond, mutex, 0), cond, mutex);
 }
 
 int yak_seed_cond_timedwait(pthread_cond_t *cond, pthread_mutex_t *mutex,
                             const struct timespec *until)
 {
-    return yak_seed_is_known_("pthread_cond_timedwait")
-               ? cond_wait_until(cond, mutex, until)
-               : YAK_REAL(pthread_cond_timedwait)(cond, mutex, until);
+    return BY_SEED(pthread_cond_timedwait, cond_wait_until(cond, mutex, until), cond, mutex, until);
 }
 
 int yak_seed_cond_signal(pthread_cond_t *cond)
@@ -159,16 +158,14 @@ static int rwlock_until(const char *call, pthread_rwlock_t *lock, bool is_writer
 
 int yak_seed_rdlock(pthread_rwlock_t *lock)
 {
-    return yak_seed_is_known_("pthread_rwlock_rdlock")
-               ? rwlock_until("pthread_rwlock_rdlock", lock, false, 0)
-               : YAK_REAL(pthread_rwlock_rdlock)(lock);
+    return BY_SEED(pthread_rwlock_rdlock, rwlock_until("pthread_rwlock_rdlock", lock, false, 0),
+                   lock);
 }
 
 int yak_seed_wrlock(pthread_rwlock_t *lock)
 {
-    return yak_seed_is_known_("pthread_rwlock_wrlock")
-               ? rwlock_until("pthread_rwlock_wrlock", lock, true, 0)
-               : YAK_REAL(pthread_rwlock_wrlock)(lock);
+    return BY_SEED(pthread_rwlock_wrlock, rwlock_until("pthread_rwlock_wrlock", lock, true, 0),
+                   lock);
 }
 
 int yak_seed_tryrdlock(pthread_rwlock_t *lock)
@@ -185,16 +182,14 @@ int yak_seed_trywrlock(pthread_rwlock_t *lock)
 
 int yak_seed_timedrdlock(pthread_rwlock_t *lock, const struct timespec *until)
 {
-    return yak_seed_is_known_("pthread_rwlock_timedrdlock")
-               ? rwlock_until("pthread_rwlock_timedrdlock", lock, false, until)
-               : YAK_REAL(pthread_rwlock_timedrdlock)(lock, until);
+    return BY_SEED(pthread_rwlock_timedrdlock,
+                   rwlock_until("pthread_rwlock_timedrdlock", lock, false, until), lock, until);
 }
 
 int yak_seed_timedwrlock(pthread_rwlock_t *lock, const struct timespec *until)
 {
-    return yak_seed_is_known_("pthread_rwlock_timedwrlock")
-               ? rwlock_until("pthread_rwlock_timedwrlock", lock, true, until)
-               : YAK_REAL(pthread_rwlock_timedwrlock)(lock, until);
+    return BY_SEED(pthread_rwlock_timedwrlock,
+                   rwlock_until("pthread_rwlock_timedwrlock", lock, true, until), lock, until);
 }
 
 int yak_seed_rwunlock(pthread_rwlock_t *lock)
@@ -231,13 +226,12 @@ static int sem_until(const char *call, sem_t *sem, const struct timespec *until)
 
 int yak_seed_sem_wait(sem_t *sem)
 {
-    return yak_seed_is_known_("sem_wait") ? sem_until("sem_wait", sem, 0) : YAK_REAL(sem_wait)(sem);
+    return BY_SEED(sem_wait, sem_until("sem_wait", sem, 0), sem);
 }
 
 int yak_seed_sem_timedwait(sem_t *sem, const struct timespec *until)
 {
-    return yak_seed_is_known_("sem_timedwait") ? sem_until("sem_timedwait", sem, until)
-                                               : YAK_REAL(sem_timedwait)(sem, until);
+    return BY_SEED(sem_timedwait, sem_until("sem_timedwait", sem, until), sem, until);
 }
 
 int yak_seed_sem_trywait(sem_t *sem)
@@ -260,37 +254,34 @@ int yak_seed_sem_post(sem_t *sem)
 #ifdef __GLIBC__
 int yak_seed_clocklock(pthread_mutex_t *mutex, clockid_t clock, const struct timespec *until)
 {
-    return yak_seed_is_known_("pthread_mutex_clocklock")
-               ? lock_until("pthread_mutex_clocklock", mutex, until)
-               : YAK_REAL(pthread_mutex_clocklock)(mutex, clock, until);
+    return BY_SEED(pthread_mutex_clocklock, lock_until("pthread_mutex_clocklock", mutex, until),
+                   mutex, clock, until);
 }
 
 int yak_seed_cond_clockwait(pthread_cond_t *cond, pthread_mutex_t *mutex, clockid_t clock,
                             const struct timespec *until)
 {
-    return yak_seed_is_known_("pthread_cond_clockwait")
-               ? cond_wait_until(cond, mutex, until)
-               : YAK_REAL(pthread_cond_clockwait)(cond, mutex, clock, until);
+    return BY_SEED(pthread_cond_clockwait, cond_wait_until(cond, mutex, until), cond, mutex, clock,
+                   until);
 }
 
 int yak_seed_clockrdlock(pthread_rwlock_t *lock, clockid_t clock, const struct timespec *until)
 {
-    return yak_seed_is_known_("pthread_rwlock_clockrdlock")
-               ? rwlock_until("pthread_rwlock_clockrdlock", lock, false, until)
-               : YAK_REAL(pthread_rwlock_clockrdlock)(lock, clock, until);
+    return BY_SEED(pthread_rwlock_clockrdlock,
+                   rwlock_until("pthread_rwlock_clockrdlock", lock, false, until), lock, clock,
+                   until);
 }
 
 int yak_seed_clockwrlock(pthread_rwlock_t *lock, clockid_t clock, const struct timespec *until)
 {
-    return yak_seed_is_known_("pthread_rwlock_clockwrlock")
-               ? rwlock_until("pthread_rwlock_clockwrlock", lock, true, until)
-               : YAK_REAL(pthread_rwlock_clockwrlock)(lock, clock, until);
+    return BY_SEED(pthread_rwlock_clockwrlock,
+                   rwlock_until("pthread_rwlock_clockwrlock", lock, true, until), lock, clock,
+                   until);
 }
 
 int yak_seed_sem_clockwait(sem_t *sem, clockid_t clock, const struct timespec *until)
 {
-    return yak_seed_is_known_("sem_clockwait") ? sem_until("sem_clockwait", sem, until)
-                                               : YAK_REAL(sem_clockwait)(sem, clock, until);
+    return BY_SEED(sem_clockwait, sem_until("sem_clockwait", sem, until), sem, clock, until);
 }
 #endif
 

@@ -257,6 +257,9 @@ static inline unsigned program_owner_number(void)
     return (unsigned)(program_here->me - the_program.owners);
 }
 
+/* The last moment of all, which stands for the deadline of a call without one. */
+static const yak_moment program_never = {.sec = INT64_MAX, .nsec = 999999999};
+
 /* What a registration of this process has that others can't use. */
 typedef struct own_part {
     uint64_t serial; /* of the registration; 0 if there is none */
@@ -471,24 +474,31 @@ uint8_t *program_kept(unsigned process);
 uint32_t program_note_answers(unsigned process);
 void program_wake_them(uint32_t answered);
 
-/* Beside what the library returns, of a wait: YAK_LOST if its thread is in a child now, which a
- * handler forked, and the call fails with EINTR there; YAK_ANEW if the handler restarts calls, and
- * the call is to begin anew there; YAK_TORN if the system can't be made again. Then the lock is not
- * held. */
-enum {
-    YAK_INTERRUPTED = 100,
-    YAK_CANCELLED = 101,
-    YAK_REFUSED = 102,
-    YAK_LOST = 103,
-    YAK_ANEW = 104,
-    YAK_TORN = 105
-};
+/* What becomes of a send or a receive. */
+typedef enum fate {
+    ANSWERED,    /* the library has answered it */
+    INTERRUPTED, /* its wait was, by a handler: EINTR */
+    CANCELLED,
+    WITHDRAWN, /* its wait was, by a call of a handler: it is begun again */
+    /* Of these the lock is not held: */
+    LOST,   /* its thread is in a child now, which a handler forked: EINTR there */
+    ANEW,   /* the same if the handler restarts calls: it is to begin anew there */
+    REFUSED /* `error` says why */
+} fate;
+
+typedef struct outcome {
+    fate fate;
+    union {
+        uint32_t answer; /* of the library, if ANSWERED */
+        int error;       /* if REFUSED */
+    };
+} outcome;
 
 /* Makes a call that the home would wait in, by the process that is written then, and waits until it
- * is answered. The lock is held before and after it, and not while it sleeps. After a wait
- * cancellation is disabled, and its state from before is written. */
-uint32_t program_wait(unsigned *process, uint32_t d, const request *asked, yak_message *message,
-                      int *cancelling);
+ * is answered. The lock is held before it, not while it sleeps, and after it but for what `fate`
+ * says. After a wait cancellation is disabled, and its state from before is written. */
+outcome program_wait(unsigned *process, uint32_t d, const request *asked, yak_message *message,
+                     int *cancelling);
 /* Ends the open wait of this thread for another call of the thread; inside the lock. ENOMEM if it
  * stays open. */
 int program_end_own_wait(void);
