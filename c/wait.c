@@ -34,7 +34,8 @@ _Thread_local yak_process *yak_attached;
 /* ---- the sleep and the wake-up ---- */
 
 #if defined __linux__ && defined FUTEX_32
-/* A sleep that a handler with SA_RESTART does not end: -1 with ENOSYS before Linux 5.16. */
+/* A sleep with a deadline that a handler with SA_RESTART does not end: -1 with ENOSYS before Linux
+ * 5.16. Without a deadline FUTEX_WAIT begins again by itself. */
 static long sleep_and_restart(yak_word_ word, uint32_t value, const yak_sleep_ *sleep)
 {
     static bool is_missing;
@@ -62,7 +63,7 @@ int yak_sleep_on_(yak_word_ word, uint32_t value, const yak_sleep_ *sleep)
                     (sleep->clock == CLOCK_REALTIME ? FUTEX_CLOCK_REALTIME : 0);
     long slept;
 #ifdef FUTEX_32
-    if (sleep->restarts &&
+    if (sleep->restarts && sleep->until != 0 &&
         ((slept = sleep_and_restart(word, value, sleep)) >= 0 || errno != ENOSYS))
         return slept < 0 && errno == EINTR ? EINTR : 0;
 #endif

@@ -41,7 +41,7 @@ typedef struct yak_word_ {
 } yak_word_;
 
 /* Until when a sleep lasts at the most, by a clock of the system; null for no end. If `restarts`, a
- * signal handler with SA_RESTART does not end it (from Linux 5.16 on). */
+ * signal handler with SA_RESTART does not end it (with an end from Linux 5.16 on). */
 typedef struct yak_sleep_ {
     const struct timespec *until;
     clockid_t clock;
