@@ -69,7 +69,7 @@ install: $(foreach it,$(PROGRAMS),crates/$(it)/out/$(it)) $(LIB)/$(RECORDER)
 	  $(INSTALL) -d $(DESTDIR)$(ENGINEDIR) && \
 	  $(INSTALL) -m 755 $$engine $(DESTDIR)$(ENGINEDIR) || exit 1; \
 	done
-	$(INSTALL) -m 755 $(LIB)/$(RECORDER) $(DESTDIR)$(LIBDIR)
+	$(INSTALL) -m 644 $(LIB)/$(RECORDER) $(DESTDIR)$(LIBDIR)
 	$(INSTALL) -m 644 $(MANUAL:%=man/%) $(DESTDIR)$(MANDIR)/man1
 	$(INSTALL) -m 644 README.md CHANGELOG.md $(DESTDIR)$(DOCDIR)
 	$(INSTALL) -m 644 $(DOCS) $(DESTDIR)$(DOCDIR)/docs

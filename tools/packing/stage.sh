@@ -28,7 +28,8 @@ install_to_room() {
   mkdir "$room/lib"
   cp lib/libyakyrombe.a "$room/lib"
   make -s install DESTDIR="$room/tree" PREFIX="$prefix" LIBDIR="$libraries" LIB="$room/lib" \
-    CFLAGS="-O2 -g -ffile-prefix-map=$PWD=. -ffile-prefix-map=$room=." >&2
+    CFLAGS="-O2 -g -ffile-prefix-map=$PWD=. -ffile-prefix-map=$room=." \
+    LDFLAGS="-Wl,-z,relro,-z,now" >&2
   logic=$(logic_of "$room/tree$libraries/libyakyrombe.a")
   [ -n "$logic" ] || stop "lib/libyakyrombe.a does not say by which logic it was proved"
   grep -q "logic ${logic:0:16}" README.md || stop "README.md does not name the logic $logic"
