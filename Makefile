@@ -1,8 +1,7 @@
 # make                                     says this
 # make install PREFIX=/usr/local DESTDIR=  installs the programs, the tools yak-run, yak-seeds,
 #                                          yak-explore and yak-record, the libraries and headers for
-#                                          C, the manual, the pages, and the completion of mqlog for
-#                                          bash
+#                                          C, the manual, the pages, and the completion for bash
 # make uninstall PREFIX=/usr/local         removes what install has put there
 # make dist                                writes dist/yakyrombe-VERSION-linux-x86_64.tar.gz
 # make deb                                 writes Debian packages into dist
@@ -32,9 +31,13 @@ RECORDER = libyakyrombe-record.so
 ENGINE = $(wildcard crates/mqexplore/out/mqexplore)
 ENGINEDIR = $(LIBEXECDIR)/yakyrombe
 MANUAL = $(PROGRAMS:%=%.1) $(TOOLS:%=yak-%.1) yak-explore.1
-COMPLETIONS = $(filter mqlog,$(PROGRAMS))
+COMPLETED = $(filter mqbench,$(PROGRAMS)) $(TOOLS:%=yak-%) yak-explore
+COMPLETIONS = $(filter mqlog,$(PROGRAMS)) $(COMPLETED)
 DOCS = $(wildcard docs/*)
 EXAMPLES = $(wildcard examples/c/*.c)
+JOURNALS = $(wildcard examples/journals/*.journal)
+# What mqlog makes of them.
+PAGES = $(if $(filter mqlog,$(PROGRAMS)),$(JOURNALS:.journal=.html))
 # Where the tools find the libraries, from their own folder.
 NEAR = $(shell realpath -m --relative-to='$(BINDIR)' '$(LIBDIR)')
 ENGINE_NEAR = $(shell realpath -m --relative-to='$(BINDIR)' '$(ENGINEDIR)')
@@ -52,7 +55,8 @@ $(LIB)/$(RECORDER): tools/recorder/record.c
 install: $(foreach it,$(PROGRAMS),crates/$(it)/out/$(it)) $(LIB)/$(RECORDER)
 	$(MAKE) -C c install LIB='$(LIB)'
 	$(INSTALL) -d $(DESTDIR)$(BINDIR) $(DESTDIR)$(LIBDIR) $(DESTDIR)$(MANDIR)/man1 \
-	  $(DESTDIR)$(DOCDIR)/docs $(DESTDIR)$(DOCDIR)/examples/c $(DESTDIR)$(COMPLETIONSDIR)
+	  $(DESTDIR)$(DOCDIR)/docs $(DESTDIR)$(DOCDIR)/examples/c $(DESTDIR)$(COMPLETIONSDIR) \
+	  $(DESTDIR)$(DOCDIR)/examples/journals
 	for program in $(PROGRAMS); do \
 	  $(INSTALL) -m 755 crates/$$program/out/$$program $(DESTDIR)$(BINDIR) || exit 1; \
 	done
@@ -74,8 +78,16 @@ install: $(foreach it,$(PROGRAMS),crates/$(it)/out/$(it)) $(LIB)/$(RECORDER)
 	$(INSTALL) -m 644 README.md CHANGELOG.md $(DESTDIR)$(DOCDIR)
 	$(INSTALL) -m 644 $(DOCS) $(DESTDIR)$(DOCDIR)/docs
 	$(INSTALL) -m 644 $(EXAMPLES) $(DESTDIR)$(DOCDIR)/examples/c
-	for program in $(COMPLETIONS); do \
+	$(INSTALL) -m 644 $(JOURNALS) $(JOURNALS:.journal=.svg) $(DESTDIR)$(DOCDIR)/examples/journals
+	for page in $(PAGES); do \
+	  crates/mqlog/out/mqlog view "$${page%.html}.journal" > $(DESTDIR)$(DOCDIR)/$$page && \
+	  chmod 644 $(DESTDIR)$(DOCDIR)/$$page || exit 1; \
+	done
+	for program in $(filter mqlog,$(PROGRAMS)); do \
 	  $(INSTALL) -m 644 tools/completions/$$program $(DESTDIR)$(COMPLETIONSDIR) || exit 1; \
+	done
+	for program in $(COMPLETED); do \
+	  $(INSTALL) -m 644 tools/completions/tools $(DESTDIR)$(COMPLETIONSDIR)/$$program || exit 1; \
 	done
 
 uninstall:
@@ -84,9 +96,11 @@ uninstall:
 	  $(DESTDIR)$(LIBDIR)/$(RECORDER) $(MANUAL:%=$(DESTDIR)$(MANDIR)/man1/%) \
 	  $(COMPLETIONS:%=$(DESTDIR)$(COMPLETIONSDIR)/%) \
 	  $(DESTDIR)$(DOCDIR)/README.md $(DESTDIR)$(DOCDIR)/CHANGELOG.md \
-	  $(DOCS:%=$(DESTDIR)$(DOCDIR)/%) $(EXAMPLES:%=$(DESTDIR)$(DOCDIR)/%)
+	  $(DOCS:%=$(DESTDIR)$(DOCDIR)/%) $(EXAMPLES:%=$(DESTDIR)$(DOCDIR)/%) \
+	  $(JOURNALS:%=$(DESTDIR)$(DOCDIR)/%) $(JOURNALS:%.journal=$(DESTDIR)$(DOCDIR)/%.svg) \
+	  $(JOURNALS:%.journal=$(DESTDIR)$(DOCDIR)/%.html)
 	for folder in $(DESTDIR)$(DOCDIR)/docs $(DESTDIR)$(DOCDIR)/examples/c \
-	  $(DESTDIR)$(DOCDIR)/examples $(DESTDIR)$(DOCDIR) $(DESTDIR)$(ENGINEDIR); do \
+	  $(DESTDIR)$(DOCDIR)/examples/journals $(DESTDIR)$(DOCDIR)/examples $(DESTDIR)$(DOCDIR) $(DESTDIR)$(ENGINEDIR); do \
 	  [ ! -d $$folder ] || rmdir --ignore-fail-on-non-empty $$folder; \
 	done
 	$(MAKE) -C c uninstall LIB='$(LIB)'
