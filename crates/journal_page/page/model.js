@@ -23,10 +23,30 @@ function entryOf(line) {
 }
 
 // What a page shows: the state before its entries, in the first line, or null if none is known; and
-// the entries.
+// the entries. Or, if the first line is the answer of `mqlog judge`, that, and the journal that
+// explains a history, or the prefix that none explains.
 function pageOf(text) {
   const at = text.indexOf("\n");
-  return { before: JSON.parse(text.slice(0, at)), entries: entriesOf(text.slice(at + 1)) };
+  const [first, rest] = [text.slice(0, at), text.slice(at + 1)];
+  if (first.startsWith("possible: ")) {
+    return { said: first, before: null, entries: entriesOf(rest) };
+  }
+  if (/^(impossible|undecided): /.test(first)) return { said: first, calls: callsOf(rest) };
+  return { before: JSON.parse(first), entries: entriesOf(rest) };
+}
+
+// Notes the thread and the step of each entry, by lines PLACE THREAD STEP. It returns what is wrong
+// with the lines, or null.
+function noteThreads(entries, text) {
+  const start = entries.length > 0 ? entries[0].place : 0;
+  const lines = text.split("\n").filter((line) => line !== "");
+  for (const [k, line] of lines.entries()) {
+    const words = /^(\d+) (\d+) (\d+)$/.exec(line);
+    if (!words) return `Line ${k + 1} of the threads is malformed: ${line}`;
+    const entry = entries[Number(words[1]) - start];
+    if (entry) Object.assign(entry, { thread: Number(words[2]), step: Number(words[3]) });
+  }
+  return null;
 }
 
 function entriesOf(text) {
@@ -366,6 +386,6 @@ function stateJson(state) {
 if (typeof module !== "undefined") {
   module.exports = {
     SENDS, RECEIVES, States, copyOf, emptyState, endedWait, entriesOf, entryOf, follow, isError,
-    named, pageOf, queueOf, stateJson, taken,
+    named, noteThreads, pageOf, queueOf, stateJson, taken,
   };
 }

@@ -2,19 +2,40 @@
 "use strict";
 
 class Page {
-  constructor(text) {
-    const { before, entries } = pageOf(text);
-    this.journal = { entries, links: new Links(entries), states: new States(entries, before) };
-    this.timeline = new Timeline(document.querySelector("canvas"), this.journal);
-    this.shows = (entry, i) => this.passes(entry, i);
-    this.timeline.shows = this.shows;
+  constructor(parts) {
+    const dark = window.matchMedia("(prefers-color-scheme: dark)").matches;
+    document.documentElement.dataset.theme = dark ? "dark" : "light";
+    this.load(parts);
+    this.timeline.shows = (entry, i) => this.passes(entry, i);
     this.fillFilters();
     this.listen();
+  }
+
+  // Shows a journal.
+  load({ said, before, entries }) {
+    const wrong = noteThreads(entries, document.querySelector("#threads").textContent);
+    this.wrong = wrong || "";
+    this.entries = entries;
+    this.journal = { entries, links: new Links(entries), states: new States(entries, before) };
+    this.timeline = new Timeline(document.querySelector("canvas"), this.journal);
     const { start } = this.journal.links;
     const last = start + entries.length - 1;
     const title = entries.length === 0 ? "The journal is empty" : `Entries ${start} to ${last}`;
-    document.querySelector("#title").textContent = title;
+    this.input("title").textContent = said ? `${title}, which explain a history` : title;
+    const found = findingsOf(this.journal);
+    const steps = said ? [{ text: `mqlog judge: ${said}` }, ...found] : found;
+    if (steps.length > 0) {
+      this.input("findings").replaceChildren(...storyList(this, "What stands out", steps));
+    }
     this.choose(0);
+  }
+
+  nameOf(i) {
+    return `entry ${this.entries[i].place}`;
+  }
+
+  entryAt(x) {
+    return this.timeline.entryAt(x);
   }
 
   input(name) {
@@ -22,14 +43,15 @@ class Page {
   }
 
   fillFilters() {
-    const { entries, states } = this.journal;
+    const { entries } = this;
     const fill = (name, values) => {
       this.input(name).append(new Option("all", ""));
       for (const [value, text] of values) this.input(name).append(new Option(text, value));
     };
     const numbers = [...new Set(entries.map((it) => it.process))].sort((a, b) => a - b);
     fill("process", numbers.map((it) => [it, it]));
-    fill("queue", [...states.names].map(([q, name]) => [q, `${q} ${name}`]));
+    const queues = this.journal ? [...this.journal.states.names] : [];
+    fill("queue", queues.map(([q, name]) => [q, `${q} ${name}`]));
     fill("call", [...new Set(entries.map((it) => it.call))].sort().map((it) => [it, it]));
   }
 
@@ -53,7 +75,7 @@ class Page {
 
   // The next entry from here, forward or back, that the filters and a test let through.
   next(step, test = () => true) {
-    const { entries } = this.journal;
+    const { entries } = this;
     for (let i = this.timeline.chosen + step; i >= 0 && i < entries.length; i += step) {
       if (this.passes(entries[i], i) && test(entries[i])) return i;
     }
@@ -73,7 +95,7 @@ class Page {
     const message = messageAt(this.journal, i);
     this.timeline.story = new Set(message === null ? [] : [message - this.journal.links.start]);
     this.input("entry").replaceChildren(...entryPanel(this, i, before, after));
-    this.input("state").replaceChildren(element("h2", "State"), stateTable(before, after));
+    this.input("state").replaceChildren(element("h2", "State"), ...stateTable(before, after));
     this.timeline.reveal(i);
     this.draw();
   }
@@ -85,7 +107,8 @@ class Page {
       this.waiting = false;
       this.timeline.draw();
       const note = "Too many entries are shown for arrows: zoom in.";
-      this.input("note").textContent = this.timeline.tooMany ? note : "";
+      this.input("note").textContent = this.wrong || (this.timeline.tooMany ? note : "");
+      this.input("note").className = this.wrong ? "grave" : "";
     });
   }
 
@@ -95,18 +118,18 @@ class Page {
       this.read = null;
       this.draw();
     }));
-    const middle = () => this.timeline.x(this.timeline.chosen);
+    const middle = () => this.timeline.width / 2;
     const buttons = {
       back: () => this.choose(this.next(-1)), on: () => this.choose(this.next(1)),
       in: () => this.zoom(1.5, middle()), out: () => this.zoom(1 / 1.5, middle()),
       theme: () => this.turnTheme(),
     };
-    for (const [name, act] of Object.entries(buttons)) this.input(name).addEventListener("click", act);
+    for (const [name, act] of Object.entries(buttons)) {
+      this.input(name).addEventListener("click", act);
+    }
     document.addEventListener("keydown", (event) => this.key(event, buttons));
     window.addEventListener("resize", () => this.draw());
     this.listenToPointer(this.timeline.canvas);
-    const dark = window.matchMedia("(prefers-color-scheme: dark)").matches;
-    document.documentElement.dataset.theme = dark ? "dark" : "light";
   }
 
   turnTheme() {
@@ -135,7 +158,7 @@ class Page {
       this.draw();
     });
     canvas.addEventListener("pointerup", (event) => {
-      if (held && !held.moved) this.choose(this.timeline.entryAt(event.offsetX));
+      if (held && !held.moved) this.choose(this.entryAt(event.offsetX, event.offsetY));
       held = null;
     });
     canvas.addEventListener("wheel", (event) => {
@@ -152,9 +175,9 @@ class Page {
     if (event.key === "Escape") event.target.blur();
     if (event.key === "Enter" && event.target.id === "find") this.choose(this.next(1));
     if (typing || event.ctrlKey || event.metaKey || event.altKey) return;
-    const { entries } = this.journal;
+    const { entries } = this;
     const chosen = entries[this.timeline.chosen];
-    const same = (it) => !event.shiftKey || it.process === chosen.process;
+    const same = (it) => !event.shiftKey || laneName(it) === laneName(chosen);
     const acts = {
       ArrowLeft: () => this.choose(this.next(-1, same)),
       ArrowRight: () => this.choose(this.next(1, same)),
@@ -167,5 +190,3 @@ class Page {
     if (chosen) acts[event.key]();
   }
 }
-
-new Page(document.querySelector("#journal").textContent);

@@ -10,6 +10,33 @@ const CALLS = {
   withdraw: "withdraws its wait, whose deadline has passed",
 };
 
+const FAULTS = {
+  EAGAIN: "the call would have to wait, and its descriptor is nonblocking",
+  EBADF: "the descriptor is not open for this", EBUSY: "a process is registered already",
+  EEXIST: "the queue exists already", EINVAL: "an argument is not valid",
+  EMFILE: "the process has no free descriptor", EMSGSIZE: "the length does not fit the queue",
+  ENAMETOOLONG: "the name is too long", ENOENT: "no queue has this name",
+  ENOSPC: "there is no room for another queue", ETIMEDOUT: "the deadline has passed",
+};
+
+// What an entry's reply says.
+function replyText(entry) {
+  const { reply, got } = entry;
+  const full = SENDS.has(entry.call) ? "the queue is full" : "the queue is empty";
+  const texts = {
+    queued: "the message is put into the queue", waits: `${full}, so it waits`,
+    handed: `the message goes to the receive ${got[0]}, which waited`,
+    got: `it gets message ${got[0]}`, collected: `entry ${got[0]} served it`,
+    withdrawn: `of entry ${got[0]}`,
+    fd: `as descriptor ${got[0]}${got[1] ? ", and creates it" : ""}`,
+    notice: got[0] === "none" ? "there is none" : `its value is ${got[0]}`,
+  };
+  const text = texts[reply] || FAULTS[reply];
+  const admitted = named(entry, "admitted");
+  const more = admitted === null ? "" : `, and the send ${admitted}, which waited, is admitted`;
+  return text ? `: ${text}${more}` : more;
+}
+
 // The rows of a state: each has a key, by which it is found again, and a text.
 function rowsOf(state) {
   const rows = [];
@@ -26,7 +53,10 @@ function rowsOf(state) {
       add(`q${it.queue}r${w.place}`, `  process ${w.process} waits to receive since ${w.place}`);
     }
     const n = it.registration;
-    if (n) add(`q${it.queue}n`, `  process ${n.process} is registered since ${n.place}: ${n.value}`);
+    if (n) {
+      const text = `  process ${n.process} is registered since ${n.place}, with value ${n.value}`;
+      add(`q${it.queue}n`, text);
+    }
   }
   for (const it of [...state.processes.values()].sort((a, b) => a.process - b.process)) {
     rows.push(...processRows(it));
@@ -62,7 +92,7 @@ function sideBySide(before, after) {
   const rows = [];
   const done = new Set();
   const push = (key) => {
-    if (!done.has(key)) rows.push([old.get(key), now.get(key)]);
+    if (!done.has(key)) rows.push({ key, old: old.get(key), now: now.get(key) });
     done.add(key);
   };
   let k = 0;
@@ -86,30 +116,77 @@ function cell(text, other, mark, className) {
   return element("td", `${mark} ${text}`, { className });
 }
 
+const MOST_ROWS = 40;
+
+// The queue or the process that a row is of.
+function groupOf(key) {
+  return /^[qp]\d+/.exec(key)[0];
+}
+
+// The states before and after side by side. Of long ones the queues and processes that stay as they
+// were stand behind a line.
 function stateTable(before, after) {
+  const rows = sideBySide(rowsOf(before), rowsOf(after));
+  const changed = new Set(rows.filter((it) => it.old !== it.now).map((it) => groupOf(it.key)));
+  const shown = rows.length <= MOST_ROWS ? rows : rows.filter((it) => changed.has(groupOf(it.key)));
+  const parts = [tableOf(shown)];
+  if (shown.length < rows.length) {
+    const rest = rows.filter((it) => !changed.has(groupOf(it.key)));
+    const groups = [...new Set(rest.map((it) => groupOf(it.key)))];
+    const queues = groups.filter((it) => it.startsWith("q")).length;
+    const processes = groups.length - queues;
+    const text = `${counted(queues, "queue")} and ${processes} ` +
+      `${processes === 1 ? "process" : "processes"} stay as they were`;
+    parts.push(folded(text, () => tableOf(rest), false));
+  }
+  return parts;
+}
+
+function tableOf(rows) {
   const table = document.createElement("table");
   const head = table.insertRow();
-  head.append(element("th", "before: \u2212 is gone or was other"), element("th", "after: + is new"));
-  for (const [old, now] of sideBySide(rowsOf(before), rowsOf(after))) {
+  head.append(element("th", "before: \u2212 is gone or was other"));
+  head.append(element("th", "after: + is new"));
+  for (const { old, now } of rows) {
     const row = table.insertRow();
     row.append(cell(old, now, "\u2212", "gone"), cell(now, old, "+", "new"));
   }
   return table;
 }
 
-function storyList(page, title, steps) {
+// A line behind which more stands, which is made once it is opened.
+function folded(text, more, open) {
+  const made = element("details", "");
+  made.append(element("summary", text));
+  const fill = () => {
+    if (made.open && made.childElementCount === 1) made.append(more());
+  };
+  made.addEventListener("toggle", fill);
+  made.open = open;
+  fill();
+  return made;
+}
+
+function storyItems(page, steps) {
   const list = document.createElement("ul");
   for (const it of steps) {
     const line = element("li", it.text, { className: it.grave ? "grave" : "" });
     line.style.paddingLeft = `${(it.depth || 0) * 18}px`;
     if (it.i !== undefined) {
-      const link = element("a", ` entry ${page.journal.entries[it.i].place}`);
-      link.addEventListener("click", () => page.choose(it.i));
-      line.append(link);
+      const link = element("a", page.nameOf(it.i), { href: "#" });
+      link.addEventListener("click", (event) => {
+        event.preventDefault();
+        page.choose(it.i);
+      });
+      line.append(" ", link);
     }
     list.append(line);
   }
-  return [element("h2", title), list];
+  return list;
+}
+
+function storyList(page, title, steps) {
+  return [element("h2", title), storyItems(page, steps)];
 }
 
 // The stories of an entry, and the sends that the picture marks for them.
@@ -119,18 +196,41 @@ function storiesOf(page, i, after) {
   const parts = [];
   const message = messageAt(journal, i);
   if (message !== null) {
-    parts.push(...storyList(page, `Where did message ${message} go?`, messageStory(journal, message)));
+    const title = `Where did message ${message} go?`;
+    parts.push(...storyList(page, title, messageStory(journal, message)));
   }
   if (entry.call === "notify" && entry.reply === "ok" && entry.given[1] !== "-") {
     const title = "What became of this registration?";
     parts.push(...storyList(page, title, registrationStory(journal, i)));
   }
-  for (const it of [...after.processes.values()].sort((a, b) => a.process - b.process)) {
-    if (it.wait === null) continue;
-    const title = `Why is process ${it.process} waiting?`;
-    parts.push(...storyList(page, title, waitStory(journal, after, it.process, i + 1)));
+  return [...parts, ...waitStories(page, i, after)];
+}
+
+// Who waits after an entry: a line for each process, behind which the chain stands.
+function waitStories(page, i, after) {
+  const { journal } = page;
+  const waiting = [...after.processes.values()].filter((it) => it.wait !== null)
+    .sort((a, b) => a.process - b.process);
+  if (waiting.length === 0) return [];
+  const stuck = stuckProcesses(journal, after);
+  const parts = [element("h2", "Who waits, and why?")];
+  if (stuck.size > 0) {
+    const list = [...stuck].sort((a, b) => a - b).join(", ");
+    const text = `Deadlock: nobody who could answer ${list} runs. ` +
+      "Only a process that opens the queue anew can end this.";
+    parts.push(element("p", text, { className: "grave" }));
+  }
+  for (const it of waiting) {
+    const own = it.process === journal.entries[i].process;
+    parts.push(waitDetails(page, i, after, it.process, own || waiting.length <= 2));
   }
   return parts;
+}
+
+function waitDetails(page, i, after, p, open) {
+  const { journal } = page;
+  const text = waitText(journal, after, p, waitOf(after, p));
+  return folded(text, () => storyItems(page, waitStory(journal, after, p, i + 1)), open);
 }
 
 function entryPanel(page, i, before, after) {
@@ -138,7 +238,9 @@ function entryPanel(page, i, before, after) {
   const queue = queueOf(before, entry);
   const on = queue ? ` on ${queueName(queue)}` : "";
   const line = element("div", entry.line, { className: `line${isError(entry) ? " error" : ""}` });
-  const text = `Process ${entry.process} ${CALLS[entry.call] || entry.call}${on}.`;
+  const by = entry.thread === undefined ? "" : `, in thread ${entry.thread} at step ${entry.step},`;
+  const text = `Process ${entry.process}${by} ${CALLS[entry.call] || entry.call}${on}` +
+    `${replyText(entry)}.`;
   return [element("h2", `Entry ${entry.place}`), line, element("p", text),
     ...storiesOf(page, i, after)];
 }

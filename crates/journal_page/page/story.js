@@ -212,7 +212,6 @@ function stuckProcesses(journal, state) {
 
 // Why a process waits: the queue, who could answer, and why each of those does not.
 function waitStory(journal, state, p, k) {
-  const stuck = stuckProcesses(journal, state);
   const steps = [];
   const seen = new Set();
   const tell = (q, depth) => {
@@ -228,12 +227,7 @@ function waitStory(journal, state, p, k) {
     }
   };
   tell(p, 0);
-  if (stuck.has(p)) {
-    const text = "Deadlock: nobody who could answer runs. Only a process that opens the queue " +
-      "anew can end this.";
-    steps.push({ depth: 0, text, grave: true });
-  }
-  return steps;
+  return steps.slice(1);
 }
 
 function waitText(journal, state, p, wait) {

@@ -1,7 +1,6 @@
 // The picture: time from left to right, a lane for each process.
 "use strict";
 
-const LANE = 34;
 const TOP = 22;
 const LEFT = 64;
 
@@ -48,28 +47,20 @@ function firstFrom(numbers, n) {
   return low;
 }
 
-class Timeline {
-  constructor(canvas, journal) {
+// A picture with a lane for each name, which zooms and moves.
+class Chart {
+  constructor(canvas, names) {
     this.canvas = canvas;
-    this.journal = journal;
     this.from = 0;
-    this.scale = 20;
     this.chosen = 0;
     this.shows = () => true;
-    this.lanes = new Map();
-    const { entries, links } = journal;
-    const processes = [...new Set(entries.map((it) => it.process))].sort((a, b) => a - b);
-    processes.forEach((p, i) => this.lanes.set(p, i));
-    this.laneOf = Uint16Array.from(entries, (it) => this.lanes.get(it.process));
-    this.errors = Uint8Array.from(entries, isError);
-    this.waits = processes.map(() => ({ from: [], to: [] }));
-    entries.forEach((it, i) => {
-      if (it.reply !== "waits") return;
-      const lane = this.waits[this.lanes.get(it.process)];
-      const end = links.endedAt.get(it.place);
-      lane.from.push(i);
-      lane.to.push(end === undefined ? entries.length : end);
-    });
+    const order = (it) => Number(it.split(" ")[1]);
+    this.names = [...new Set(names)].sort((a, b) => compare(a.split(" ")[0], b.split(" ")[0]) ||
+      order(a) - order(b));
+    const lanes = new Map(this.names.map((name, lane) => [name, lane]));
+    this.laneOf = Uint16Array.from(names, (it) => lanes.get(it));
+    this.lane = this.names.length > 8 ? 34 : 46;
+    this.top = TOP;
   }
 
   get width() {
@@ -80,14 +71,9 @@ class Timeline {
     return LEFT + (i - this.from + 0.5) * this.scale;
   }
 
-  y(process) {
-    return TOP + (this.lanes.get(process) + 0.5) * LANE;
-  }
-
-  // The entry at a point of the canvas, or the nearest there is.
-  entryAt(x) {
-    const i = Math.floor((x - LEFT) / this.scale + this.from);
-    return Math.max(0, Math.min(this.journal.entries.length - 1, i));
+  // The middle of the lane of an entry.
+  y(i) {
+    return this.top + (this.laneOf[i] + 0.5) * this.lane;
   }
 
   // Whether an entry lies within what is seen.
@@ -96,9 +82,9 @@ class Timeline {
   }
 
   bound() {
-    const fits = this.width / Math.max(1, this.journal.entries.length);
-    this.scale = Math.max(Math.min(fits, 20), Math.min(120, this.scale));
-    const last = this.journal.entries.length - this.width / this.scale;
+    const fits = this.width / Math.max(1, this.count);
+    this.scale = Math.max(Math.min(fits, 20), Math.min(160, this.scale));
+    const last = this.count - this.width / this.scale;
     this.from = Math.max(0, Math.min(last, this.from));
   }
 
@@ -122,7 +108,7 @@ class Timeline {
 
   draw() {
     const ratio = window.devicePixelRatio || 1;
-    const height = TOP + this.lanes.size * LANE + 6;
+    const height = this.top + this.names.length * this.lane + 6;
     this.canvas.style.height = `${height}px`;
     this.canvas.width = this.canvas.clientWidth * ratio;
     this.canvas.height = height * ratio;
@@ -133,29 +119,65 @@ class Timeline {
     this.bound();
     const first = Math.max(0, Math.floor(this.from));
     const last = Math.ceil(this.from + this.width / this.scale);
-    const range = [first, Math.min(this.journal.entries.length, last + 1)];
     this.drawLanes(c, height);
     c.save();
     c.beginPath();
     c.rect(LEFT, 0, this.width, height);
     c.clip();
-    this.drawTicks(c, range, height);
-    this.drawChosen(c, height);
-    this.drawWaits(c, range);
-    this.drawMessages(c, range);
-    this.drawMarks(c, range);
+    this.drawParts(c, [first, Math.min(this.count, last + 1)], height);
     c.restore();
   }
 
   drawLanes(c, height) {
-    for (const [p, lane] of this.lanes) {
-      const y = TOP + (lane + 0.5) * LANE;
+    this.names.forEach((name, lane) => {
+      const y = this.top + (lane + 0.5) * this.lane;
       c.fillStyle = this.colours.text;
-      c.fillText(`process ${p}`, 2, y + 4);
+      c.fillText(name, 2, y + 4);
       c.fillStyle = this.colours.line;
       c.fillRect(LEFT, y, this.width, 1);
-    }
+    });
     c.fillRect(LEFT - 1, 0, 1, height);
+  }
+}
+
+// The lane of an entry: that of its thread, if it is known.
+function laneName(entry) {
+  return entry.thread === undefined ? `process ${entry.process}` : `thread ${entry.thread}`;
+}
+
+class Timeline extends Chart {
+  constructor(canvas, journal) {
+    super(canvas, journal.entries.map(laneName));
+    this.journal = journal;
+    const { entries, links } = journal;
+    this.scale = Math.max(20, Math.min(100, this.width / Math.max(1, entries.length)));
+    this.errors = Uint8Array.from(entries, isError);
+    this.waits = this.names.map(() => ({ from: [], to: [] }));
+    entries.forEach((it, i) => {
+      if (it.reply !== "waits") return;
+      const lane = this.waits[this.laneOf[i]];
+      const end = links.endedAt.get(it.place);
+      lane.from.push(i);
+      lane.to.push(end === undefined ? entries.length : end);
+    });
+  }
+
+  get count() {
+    return this.journal.entries.length;
+  }
+
+  // The entry at a point of the canvas, or the nearest there is.
+  entryAt(x) {
+    const i = Math.floor((x - LEFT) / this.scale + this.from);
+    return Math.max(0, Math.min(this.count - 1, i));
+  }
+
+  drawParts(c, range, height) {
+    this.drawChosen(c, height);
+    this.drawTicks(c, range, height);
+    this.drawWaits(c, range);
+    this.drawMessages(c, range);
+    this.drawMarks(c, range);
   }
 
   drawTicks(c, [first, last], height) {
@@ -178,12 +200,12 @@ class Timeline {
   // A wait is a bar of stripes from its call to its end.
   drawWaits(c, [first, last]) {
     this.waits.forEach(({ from, to }, lane) => {
-      const y = TOP + (lane + 0.5) * LANE;
+      const y = this.top + (lane + 0.5) * this.lane;
       let drawn = -1;
       for (let w = firstFrom(to, first); w < from.length && from[w] < last; w += 1) {
         const [left, right] = [Math.max(LEFT, this.x(from[w])), this.x(to[w])];
         if (right <= drawn) continue;
-        drawn = Math.ceil(right);
+        drawn = Math.ceil(right) + (this.scale < 2 ? 2 : 0);
         c.fillStyle = this.colours.wait;
         c.fillRect(left, y - 6, Math.max(1, right - left), 13);
         this.stripe(c, left, Math.min(right, LEFT + this.width), y);
@@ -220,20 +242,21 @@ class Timeline {
 
   drawArrow(c, i, sent) {
     const { entries, links } = this.journal;
-    let receiver = entries[i];
-    if (receiver.reply === "handed") receiver = entries[Number(receiver.got[0]) - links.start];
+    let receiver = i;
+    if (entries[i].reply === "handed") receiver = Number(entries[i].got[0]) - links.start;
     const sender = entries[sent];
-    if (!receiver || !sender || !this.shows(sender, sent) || !this.shows(entries[i], i)) return;
-    const [x1, y1, x2, y2] = [this.x(sent), this.y(sender.process), this.x(i), this.y(receiver.process)];
+    if (!entries[receiver] || !sender) return;
+    if (!this.shows(sender, sent) || !this.shows(entries[i], i)) return;
+    const [x1, y1, x2, y2] = [this.x(sent), this.y(sent), this.x(i), this.y(receiver)];
     const story = this.story && this.story.has(sent);
     c.strokeStyle = story ? this.colours.story : this.colours.message;
     c.lineWidth = story ? 3 : 1.5;
     c.beginPath();
     c.moveTo(x1, y1);
-    if (y1 === y2) c.quadraticCurveTo((x1 + x2) / 2, y1 - LANE, x2, y2);
+    if (y1 === y2) c.quadraticCurveTo((x1 + x2) / 2, y1 - this.lane, x2, y2);
     else c.lineTo(x2, y2);
     c.stroke();
-    this.drawTip(c, x1, y1 === y2 ? y1 - LANE : y1, x2, y2);
+    this.drawTip(c, x1, y1 === y2 ? y1 - this.lane : y1, x2, y2);
   }
 
   drawTip(c, x1, y1, x2, y2) {
@@ -249,45 +272,49 @@ class Timeline {
 
   drawMarks(c, [first, last]) {
     const { entries } = this.journal;
-    const drawn = new Float64Array(2 * this.lanes.size).fill(-9);
+    const drawn = new Float64Array(2 * this.names.length).fill(-9);
     for (let i = first; i < last; i += 1) {
       const x = this.x(i);
       const key = 2 * this.laneOf[i] + this.errors[i];
-      if (this.scale < 2 && x - drawn[key] < 2) continue;
+      if (this.scale < 2 && x - drawn[key] < 3) continue;
       if (!this.shows(entries[i], i)) continue;
       drawn[key] = x;
-      this.drawMark(c, entries[i], x, i === this.chosen);
+      this.drawMark(c, entries[i], i, x);
     }
   }
 
-  drawMark(c, entry, x, chosen) {
+  drawMark(c, entry, i, x) {
     const shape = shapeOf(entry);
     const colour = this.colours[shape] || this.colours.text;
-    const y = this.y(entry.process);
+    const y = this.y(i);
     c.fillStyle = colour;
-    c.strokeStyle = colour;
-    c.lineWidth = 2;
     if (this.scale < 2) {
-      c.fillRect(x, y - 5, 1, 10);
+      c.fillRect(x, y - 5, 2, 10);
       return;
     }
+    c.strokeStyle = colour;
+    c.lineWidth = 2;
     c.beginPath();
     SHAPES[shape](c, x, y);
     if (shape === "ring" || shape === "cross") c.stroke();
     else c.fill();
-    if (this.scale >= 60 || chosen) this.drawLabel(c, entry, x, y);
+    if (this.scale >= 50 || i === this.chosen) this.drawLabel(c, entry, x, y);
   }
 
   drawLabel(c, entry, x, y) {
     c.fillStyle = this.colours.text;
     const word = isError(entry) || entry.reply === "waits" ? ` ${entry.reply}` : "";
-    c.fillText(`${entry.call}${word}`, x - 8, y - 9);
+    c.fillText(`${entry.call}${word}`, x - 8, y - 10);
+    if (this.scale < 50) return;
+    const below = isSent(entry) ? `${entry.given[1]}: ${entry.payload}` : "";
+    const most = Math.floor(this.scale / 7);
+    c.fillText(below.length > most ? `${below.slice(0, most - 2)}..` : below, x - 8, y + 19);
   }
 }
 
 function coloursOf(element) {
   const style = getComputedStyle(element);
   const names = ["text", "faint", "line", "chosen", "wait", "message", "story", "cross", "ring",
-    "up", "down", "diamond"];
+    "up", "down", "diamond", "panel"];
   return Object.fromEntries(names.map((it) => [it, style.getPropertyValue(`--${it}`).trim()]));
 }

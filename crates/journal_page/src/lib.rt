@@ -5,5 +5,6 @@ mod page;
 mod template;
 mod view;
 
-pub use template::{HEAD, TAIL};
+pub use page::page_of_text;
+pub use template::{FRONT, HEAD, TAIL};
 pub use view::{Unviewed, Viewed, view_journal};

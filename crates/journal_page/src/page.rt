@@ -32,6 +32,24 @@ pub(crate) fn page_of(
     Ok(text)
 }
 
+/// A page of a text: it stands between the head and the tail of a template, and no `<` of it stands
+/// there as it is.
+pub fn page_of_text(
+    alloc: Global,
+    text: &[u8],
+    head: &[u8],
+    tail: &[u8],
+) -> Result<Vec<u8>, AllocError>
+    ensures { IfOk result (λ page. page.items ≡
+        head.now ++ (flat_map shielded text.now ++ tail.now)) }
+{
+    let mut page = Vec::new(alloc);
+    page.extend_from_slice(head)?;
+    push_shielded(&mut page, text)?;
+    page.extend_from_slice(tail)?;
+    Ok(page)
+}
+
 // Adds the lines of so many entries.
 #[tactic(auto, using(crate::proofs::Steps::lines_steps))]
 fn push_lines(

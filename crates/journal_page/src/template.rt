@@ -1,7 +1,7 @@
 //! The template of a page, which `tools/template` writes.
 
-/// What stands before the lines of a journal.
-pub static HEAD: &str = r###"<!DOCTYPE html>
+/// What stands before the lines that name threads.
+pub static FRONT: &str = r###"<!DOCTYPE html>
 <html lang="en">
 <head>
 <meta charset="utf-8">
@@ -38,9 +38,12 @@ button:focus-visible, select:focus-visible, input:focus-visible, canvas:focus-vi
   outline: 2px solid var(--up); outline-offset: 1px; }
 #picture { max-height: 46vh; overflow-y: auto; border-bottom: 1px solid var(--line); flex: none; }
 canvas { display: block; width: 100%; cursor: crosshair; }
-#legend, #note { color: var(--faint); padding: 2px 10px; }
+#legend, #note { color: var(--faint); padding: 2px 10px; flex: none; }
 main { display: grid; grid-template-columns: 1fr 1fr; gap: 0 18px; padding: 8px 12px;
   overflow: auto; flex: 1; align-content: start; }
+#findings { grid-column: 1 / -1; background: var(--panel); padding: 2px 10px 0; margin-bottom: 8px; }
+[hidden] { display: none !important; }
+summary { cursor: pointer; }
 h2 { font-size: 15px; margin: 6px 0 4px; }
 code, .line { font-family: monospace; overflow-wrap: anywhere; }
 .line { background: var(--panel); padding: 4px 8px; border-left: 4px solid var(--up); }
@@ -54,7 +57,7 @@ td.new { background: var(--new); }
 ol, ul { margin: 2px 0 8px; padding-left: 22px; }
 ul { list-style: none; padding-left: 0; }
 a { color: var(--up); cursor: pointer; text-decoration: underline; }
-.grave { font-weight: bold; color: var(--cross); }
+.grave, #note.grave { font-weight: bold; color: var(--cross); }
 @media (max-width: 900px) { main { grid-template-columns: 1fr; } }
 </style>
 </head>
@@ -73,16 +76,23 @@ a { color: var(--up); cursor: pointer; text-decoration: underline; }
 <button id="theme">dark or light</button>
 </header>
 <div id="picture"><canvas tabindex="0" aria-label="the calls of each process, in order"></canvas></div>
-<div id="legend">&#9650; send &nbsp; &#9660; receive &nbsp; &#9711; waits, and the striped bar until it
-is served &nbsp; &#10007; error &nbsp; &#9670; notify or notice &nbsp; &#9686; collect or withdraw
-&nbsp; &#9632; other &nbsp; | &nbsp; left and right: step, with Shift in the same process; + and -:
+<div id="legend">time goes to the right; an arrow is a message, from its send to what took it;
+under a send: its priority and message | &#9650; send &nbsp; &#9660; receive &nbsp; &#9711; waits, and
+the striped bar until it is served &nbsp; &#10007; error &nbsp; &#9670; notify or notice &nbsp; &#9686;
+collect or withdraw &nbsp; &#9632; other | left and right: step, with Shift in the same lane; + and -:
 zoom; drag: move; /: find; n: next found; e: next error</div>
 <div id="note"></div>
-<main><section id="entry"></section><section id="state"></section></main>
+<main><section id="findings"></section><section id="entry"></section><section id="state"></section>
+</main>
+<pre id="threads" hidden>
+"###;
+
+/// What stands between them and the lines of a journal.
+pub static HEAD: &str = r###"</pre>
 <pre id="journal" hidden>
 "###;
 
-/// What stands behind them.
+/// What stands behind the journal.
 pub static TAIL: &str = r###"</pre>
 <script>
 "use strict";
@@ -110,10 +120,30 @@ function entryOf(line) {
 }
 
 // What a page shows: the state before its entries, in the first line, or null if none is known; and
-// the entries.
+// the entries. Or, if the first line is the answer of `mqlog judge`, that, and the journal that
+// explains a history, or the prefix that none explains.
 function pageOf(text) {
   const at = text.indexOf("\n");
-  return { before: JSON.parse(text.slice(0, at)), entries: entriesOf(text.slice(at + 1)) };
+  const [first, rest] = [text.slice(0, at), text.slice(at + 1)];
+  if (first.startsWith("possible: ")) {
+    return { said: first, before: null, entries: entriesOf(rest) };
+  }
+  if (/^(impossible|undecided): /.test(first)) return { said: first, calls: callsOf(rest) };
+  return { before: JSON.parse(first), entries: entriesOf(rest) };
+}
+
+// Notes the thread and the step of each entry, by lines PLACE THREAD STEP. It returns what is wrong
+// with the lines, or null.
+function noteThreads(entries, text) {
+  const start = entries.length > 0 ? entries[0].place : 0;
+  const lines = text.split("\n").filter((line) => line !== "");
+  for (const [k, line] of lines.entries()) {
+    const words = /^(\d+) (\d+) (\d+)$/.exec(line);
+    if (!words) return `Line ${k + 1} of the threads is malformed: ${line}`;
+    const entry = entries[Number(words[1]) - start];
+    if (entry) Object.assign(entry, { thread: Number(words[2]), step: Number(words[3]) });
+  }
+  return null;
 }
 
 function entriesOf(text) {
@@ -453,7 +483,7 @@ function stateJson(state) {
 if (typeof module !== "undefined") {
   module.exports = {
     SENDS, RECEIVES, States, copyOf, emptyState, endedWait, entriesOf, entryOf, follow, isError,
-    named, pageOf, queueOf, stateJson, taken,
+    named, noteThreads, pageOf, queueOf, stateJson, taken,
   };
 }
 
@@ -669,7 +699,6 @@ function stuckProcesses(journal, state) {
 
 // Why a process waits: the queue, who could answer, and why each of those does not.
 function waitStory(journal, state, p, k) {
-  const stuck = stuckProcesses(journal, state);
   const steps = [];
   const seen = new Set();
   const tell = (q, depth) => {
@@ -685,12 +714,7 @@ function waitStory(journal, state, p, k) {
     }
   };
   tell(p, 0);
-  if (stuck.has(p)) {
-    const text = "Deadlock: nobody who could answer runs. Only a process that opens the queue " +
-      "anew can end this.";
-    steps.push({ depth: 0, text, grave: true });
-  }
-  return steps;
+  return steps.slice(1);
 }
 
 function waitText(journal, state, p, wait) {
@@ -715,8 +739,113 @@ function lastOf(journal, p, k) {
   return undefined;
 }
 
+// What stands out in a journal: what a reader should look at first.
+function few(list) {
+  return list.length <= 6 ? list.join(", ") : `${list.slice(0, 6).join(", ")} ..`;
+}
+
+function counted(n, what) {
+  return `${n} ${what}${n === 1 ? "" : "s"}`;
+}
+
+// Who waits at the end, and whether for ever.
+function waitFindings(journal, state) {
+  const stuck = stuckProcesses(journal, state);
+  const last = journal.entries.length - 1;
+  const names = (list) => `${list.length === 1 ? "Process" : "Processes"} ${few(list)}`;
+  const found = [];
+  const ever = [...stuck].sort((a, b) => a - b);
+  if (ever.length > 0) {
+    const waits = ever.length === 1 ? "waits" : "wait";
+    const text = `Deadlock: ${names(ever).toLowerCase()} ${waits} at the end, and nobody who could ` +
+      "answer runs.";
+    found.push({ text, i: last, grave: true });
+  }
+  const others = [...state.processes.values()]
+    .filter((it) => it.wait !== null && it.answered === null && !stuck.has(it.process))
+    .map((it) => it.process).sort((a, b) => a - b);
+  if (others.length > 0) {
+    const text = `${names(others)} still ${others.length === 1 ? "waits" : "wait"} at the end.`;
+    found.push({ text, i: last });
+  }
+  return found;
+}
+
+// Registrations that still stand though there are messages: their notice does not come.
+function registrationFindings(journal, state) {
+  const found = [];
+  for (const queue of state.queues.values()) {
+    const n = queue.registration;
+    if (!n || queue.messages.length === 0) continue;
+    const lie = queue.messages.length === 1 ? "lies" : "lie";
+    const text = `Process ${n.process} waits for a notice of ${queueName(queue)} that does not ` +
+      `come: ${counted(queue.messages.length, "message")} ${lie} there, and a notice comes only ` +
+      "with a message to an empty queue.";
+    found.push({ text, i: n.place - journal.links.start, grave: true });
+  }
+  return found.filter((it) => journal.entries[it.i]);
+}
+
+// Sends that waited for room while messages of a lower priority went by: the one with the most.
+function inversionFindings(journal) {
+  const { entries, links, states } = journal;
+  let worst = null;
+  let count = 0;
+  entries.forEach((it, i) => {
+    if (!SENDS.has(it.call) || it.reply !== "waits") return;
+    const end = links.takenAt.get(it.place);
+    const priority = Number(it.given[1]);
+    let lower = 0;
+    for (let k = i + 1; k < (end === undefined ? entries.length : end); k += 1) {
+      const message = states.queues[k] === states.queues[i] ? taken(entries[k]) : null;
+      const sent = message === null ? null : entries[message - links.start];
+      if (sent && Number(sent.given[1]) < priority) lower += 1;
+    }
+    if (lower > 0) count += 1;
+    if (lower > (worst ? worst.lower : 0)) worst = { i, lower, priority };
+  });
+  if (!worst) return [];
+  const more = count > 1 ? `, the worst of ${count} such sends` : "";
+  const were = worst.lower === 1 ? "was" : "were";
+  const text = `Priority inversion: a message of priority ${worst.priority} waited for room ` +
+    `while ${counted(worst.lower, "message")} of a lower priority ${were} received${more}. ` +
+    "A full queue admits in the order of waiting.";
+  return [{ text, i: worst.i, grave: true }];
+}
+
+function errorFindings(journal) {
+  const counts = new Map();
+  let first = -1;
+  journal.entries.forEach((it, i) => {
+    if (!isError(it)) return;
+    if (first < 0) first = i;
+    counts.set(it.reply, (counts.get(it.reply) || 0) + 1);
+  });
+  if (first < 0) return [];
+  const list = [...counts].map(([reply, n]) => `${n} ${reply}`);
+  return [{ text: `Errors: ${few(list)}. The first:`, i: first }];
+}
+
+// Messages that nobody received.
+function leftFindings(journal, state) {
+  const left = [...state.queues.values()].flatMap((it) => it.messages.map((m) => m.place));
+  if (left.length === 0) return [];
+  const inside = left.map((place) => place - journal.links.start).filter((i) => i >= 0);
+  const text = `${counted(left.length, "message")} ${left.length === 1 ? "lies" : "lie"} in the ` +
+    `queues at the end.${inside.length > 0 ? " The oldest:" : ""}`;
+  return [{ text, i: inside.length > 0 ? Math.min(...inside) : undefined }];
+}
+
+function findingsOf(journal) {
+  if (journal.entries.length === 0) return [];
+  const state = journal.states.at(journal.entries.length);
+  const found = [...waitFindings(journal, state), ...registrationFindings(journal, state),
+    ...inversionFindings(journal), ...errorFindings(journal), ...leftFindings(journal, state)];
+  return found.length > 0 ? found :
+    [{ text: "Nothing: every call succeeded, nobody waits at the end, and the queues are empty." }];
+}
+
 // The picture: time from left to right, a lane for each process.
-const LANE = 34;
 const TOP = 22;
 const LEFT = 64;
 
@@ -763,28 +892,20 @@ function firstFrom(numbers, n) {
   return low;
 }
 
-class Timeline {
-  constructor(canvas, journal) {
+// A picture with a lane for each name, which zooms and moves.
+class Chart {
+  constructor(canvas, names) {
     this.canvas = canvas;
-    this.journal = journal;
     this.from = 0;
-    this.scale = 20;
     this.chosen = 0;
     this.shows = () => true;
-    this.lanes = new Map();
-    const { entries, links } = journal;
-    const processes = [...new Set(entries.map((it) => it.process))].sort((a, b) => a - b);
-    processes.forEach((p, i) => this.lanes.set(p, i));
-    this.laneOf = Uint16Array.from(entries, (it) => this.lanes.get(it.process));
-    this.errors = Uint8Array.from(entries, isError);
-    this.waits = processes.map(() => ({ from: [], to: [] }));
-    entries.forEach((it, i) => {
-      if (it.reply !== "waits") return;
-      const lane = this.waits[this.lanes.get(it.process)];
-      const end = links.endedAt.get(it.place);
-      lane.from.push(i);
-      lane.to.push(end === undefined ? entries.length : end);
-    });
+    const order = (it) => Number(it.split(" ")[1]);
+    this.names = [...new Set(names)].sort((a, b) => compare(a.split(" ")[0], b.split(" ")[0]) ||
+      order(a) - order(b));
+    const lanes = new Map(this.names.map((name, lane) => [name, lane]));
+    this.laneOf = Uint16Array.from(names, (it) => lanes.get(it));
+    this.lane = this.names.length > 8 ? 34 : 46;
+    this.top = TOP;
   }
 
   get width() {
@@ -795,14 +916,9 @@ class Timeline {
     return LEFT + (i - this.from + 0.5) * this.scale;
   }
 
-  y(process) {
-    return TOP + (this.lanes.get(process) + 0.5) * LANE;
-  }
-
-  // The entry at a point of the canvas, or the nearest there is.
-  entryAt(x) {
-    const i = Math.floor((x - LEFT) / this.scale + this.from);
-    return Math.max(0, Math.min(this.journal.entries.length - 1, i));
+  // The middle of the lane of an entry.
+  y(i) {
+    return this.top + (this.laneOf[i] + 0.5) * this.lane;
   }
 
   // Whether an entry lies within what is seen.
@@ -811,9 +927,9 @@ class Timeline {
   }
 
   bound() {
-    const fits = this.width / Math.max(1, this.journal.entries.length);
-    this.scale = Math.max(Math.min(fits, 20), Math.min(120, this.scale));
-    const last = this.journal.entries.length - this.width / this.scale;
+    const fits = this.width / Math.max(1, this.count);
+    this.scale = Math.max(Math.min(fits, 20), Math.min(160, this.scale));
+    const last = this.count - this.width / this.scale;
     this.from = Math.max(0, Math.min(last, this.from));
   }
 
@@ -837,7 +953,7 @@ class Timeline {
 
   draw() {
     const ratio = window.devicePixelRatio || 1;
-    const height = TOP + this.lanes.size * LANE + 6;
+    const height = this.top + this.names.length * this.lane + 6;
     this.canvas.style.height = `${height}px`;
     this.canvas.width = this.canvas.clientWidth * ratio;
     this.canvas.height = height * ratio;
@@ -848,29 +964,65 @@ class Timeline {
     this.bound();
     const first = Math.max(0, Math.floor(this.from));
     const last = Math.ceil(this.from + this.width / this.scale);
-    const range = [first, Math.min(this.journal.entries.length, last + 1)];
     this.drawLanes(c, height);
     c.save();
     c.beginPath();
     c.rect(LEFT, 0, this.width, height);
     c.clip();
-    this.drawTicks(c, range, height);
-    this.drawChosen(c, height);
-    this.drawWaits(c, range);
-    this.drawMessages(c, range);
-    this.drawMarks(c, range);
+    this.drawParts(c, [first, Math.min(this.count, last + 1)], height);
     c.restore();
   }
 
   drawLanes(c, height) {
-    for (const [p, lane] of this.lanes) {
-      const y = TOP + (lane + 0.5) * LANE;
+    this.names.forEach((name, lane) => {
+      const y = this.top + (lane + 0.5) * this.lane;
       c.fillStyle = this.colours.text;
-      c.fillText(`process ${p}`, 2, y + 4);
+      c.fillText(name, 2, y + 4);
       c.fillStyle = this.colours.line;
       c.fillRect(LEFT, y, this.width, 1);
-    }
+    });
     c.fillRect(LEFT - 1, 0, 1, height);
+  }
+}
+
+// The lane of an entry: that of its thread, if it is known.
+function laneName(entry) {
+  return entry.thread === undefined ? `process ${entry.process}` : `thread ${entry.thread}`;
+}
+
+class Timeline extends Chart {
+  constructor(canvas, journal) {
+    super(canvas, journal.entries.map(laneName));
+    this.journal = journal;
+    const { entries, links } = journal;
+    this.scale = Math.max(20, Math.min(100, this.width / Math.max(1, entries.length)));
+    this.errors = Uint8Array.from(entries, isError);
+    this.waits = this.names.map(() => ({ from: [], to: [] }));
+    entries.forEach((it, i) => {
+      if (it.reply !== "waits") return;
+      const lane = this.waits[this.laneOf[i]];
+      const end = links.endedAt.get(it.place);
+      lane.from.push(i);
+      lane.to.push(end === undefined ? entries.length : end);
+    });
+  }
+
+  get count() {
+    return this.journal.entries.length;
+  }
+
+  // The entry at a point of the canvas, or the nearest there is.
+  entryAt(x) {
+    const i = Math.floor((x - LEFT) / this.scale + this.from);
+    return Math.max(0, Math.min(this.count - 1, i));
+  }
+
+  drawParts(c, range, height) {
+    this.drawChosen(c, height);
+    this.drawTicks(c, range, height);
+    this.drawWaits(c, range);
+    this.drawMessages(c, range);
+    this.drawMarks(c, range);
   }
 
   drawTicks(c, [first, last], height) {
@@ -893,12 +1045,12 @@ class Timeline {
   // A wait is a bar of stripes from its call to its end.
   drawWaits(c, [first, last]) {
     this.waits.forEach(({ from, to }, lane) => {
-      const y = TOP + (lane + 0.5) * LANE;
+      const y = this.top + (lane + 0.5) * this.lane;
       let drawn = -1;
       for (let w = firstFrom(to, first); w < from.length && from[w] < last; w += 1) {
         const [left, right] = [Math.max(LEFT, this.x(from[w])), this.x(to[w])];
         if (right <= drawn) continue;
-        drawn = Math.ceil(right);
+        drawn = Math.ceil(right) + (this.scale < 2 ? 2 : 0);
         c.fillStyle = this.colours.wait;
         c.fillRect(left, y - 6, Math.max(1, right - left), 13);
         this.stripe(c, left, Math.min(right, LEFT + this.width), y);
@@ -935,20 +1087,21 @@ class Timeline {
 
   drawArrow(c, i, sent) {
     const { entries, links } = this.journal;
-    let receiver = entries[i];
-    if (receiver.reply === "handed") receiver = entries[Number(receiver.got[0]) - links.start];
+    let receiver = i;
+    if (entries[i].reply === "handed") receiver = Number(entries[i].got[0]) - links.start;
     const sender = entries[sent];
-    if (!receiver || !sender || !this.shows(sender, sent) || !this.shows(entries[i], i)) return;
-    const [x1, y1, x2, y2] = [this.x(sent), this.y(sender.process), this.x(i), this.y(receiver.process)];
+    if (!entries[receiver] || !sender) return;
+    if (!this.shows(sender, sent) || !this.shows(entries[i], i)) return;
+    const [x1, y1, x2, y2] = [this.x(sent), this.y(sent), this.x(i), this.y(receiver)];
     const story = this.story && this.story.has(sent);
     c.strokeStyle = story ? this.colours.story : this.colours.message;
     c.lineWidth = story ? 3 : 1.5;
     c.beginPath();
     c.moveTo(x1, y1);
-    if (y1 === y2) c.quadraticCurveTo((x1 + x2) / 2, y1 - LANE, x2, y2);
+    if (y1 === y2) c.quadraticCurveTo((x1 + x2) / 2, y1 - this.lane, x2, y2);
     else c.lineTo(x2, y2);
     c.stroke();
-    this.drawTip(c, x1, y1 === y2 ? y1 - LANE : y1, x2, y2);
+    this.drawTip(c, x1, y1 === y2 ? y1 - this.lane : y1, x2, y2);
   }
 
   drawTip(c, x1, y1, x2, y2) {
@@ -964,46 +1117,50 @@ class Timeline {
 
   drawMarks(c, [first, last]) {
     const { entries } = this.journal;
-    const drawn = new Float64Array(2 * this.lanes.size).fill(-9);
+    const drawn = new Float64Array(2 * this.names.length).fill(-9);
     for (let i = first; i < last; i += 1) {
       const x = this.x(i);
       const key = 2 * this.laneOf[i] + this.errors[i];
-      if (this.scale < 2 && x - drawn[key] < 2) continue;
+      if (this.scale < 2 && x - drawn[key] < 3) continue;
       if (!this.shows(entries[i], i)) continue;
       drawn[key] = x;
-      this.drawMark(c, entries[i], x, i === this.chosen);
+      this.drawMark(c, entries[i], i, x);
     }
   }
 
-  drawMark(c, entry, x, chosen) {
+  drawMark(c, entry, i, x) {
     const shape = shapeOf(entry);
     const colour = this.colours[shape] || this.colours.text;
-    const y = this.y(entry.process);
+    const y = this.y(i);
     c.fillStyle = colour;
-    c.strokeStyle = colour;
-    c.lineWidth = 2;
     if (this.scale < 2) {
-      c.fillRect(x, y - 5, 1, 10);
+      c.fillRect(x, y - 5, 2, 10);
       return;
     }
+    c.strokeStyle = colour;
+    c.lineWidth = 2;
     c.beginPath();
     SHAPES[shape](c, x, y);
     if (shape === "ring" || shape === "cross") c.stroke();
     else c.fill();
-    if (this.scale >= 60 || chosen) this.drawLabel(c, entry, x, y);
+    if (this.scale >= 50 || i === this.chosen) this.drawLabel(c, entry, x, y);
   }
 
   drawLabel(c, entry, x, y) {
     c.fillStyle = this.colours.text;
     const word = isError(entry) || entry.reply === "waits" ? ` ${entry.reply}` : "";
-    c.fillText(`${entry.call}${word}`, x - 8, y - 9);
+    c.fillText(`${entry.call}${word}`, x - 8, y - 10);
+    if (this.scale < 50) return;
+    const below = isSent(entry) ? `${entry.given[1]}: ${entry.payload}` : "";
+    const most = Math.floor(this.scale / 7);
+    c.fillText(below.length > most ? `${below.slice(0, most - 2)}..` : below, x - 8, y + 19);
   }
 }
 
 function coloursOf(element) {
   const style = getComputedStyle(element);
   const names = ["text", "faint", "line", "chosen", "wait", "message", "story", "cross", "ring",
-    "up", "down", "diamond"];
+    "up", "down", "diamond", "panel"];
   return Object.fromEntries(names.map((it) => [it, style.getPropertyValue(`--${it}`).trim()]));
 }
 
@@ -1016,6 +1173,33 @@ const CALLS = {
   notice: "asks for its oldest notice", collect: "collects what ended its wait",
   withdraw: "withdraws its wait, whose deadline has passed",
 };
+
+const FAULTS = {
+  EAGAIN: "the call would have to wait, and its descriptor is nonblocking",
+  EBADF: "the descriptor is not open for this", EBUSY: "a process is registered already",
+  EEXIST: "the queue exists already", EINVAL: "an argument is not valid",
+  EMFILE: "the process has no free descriptor", EMSGSIZE: "the length does not fit the queue",
+  ENAMETOOLONG: "the name is too long", ENOENT: "no queue has this name",
+  ENOSPC: "there is no room for another queue", ETIMEDOUT: "the deadline has passed",
+};
+
+// What an entry's reply says.
+function replyText(entry) {
+  const { reply, got } = entry;
+  const full = SENDS.has(entry.call) ? "the queue is full" : "the queue is empty";
+  const texts = {
+    queued: "the message is put into the queue", waits: `${full}, so it waits`,
+    handed: `the message goes to the receive ${got[0]}, which waited`,
+    got: `it gets message ${got[0]}`, collected: `entry ${got[0]} served it`,
+    withdrawn: `of entry ${got[0]}`,
+    fd: `as descriptor ${got[0]}${got[1] ? ", and creates it" : ""}`,
+    notice: got[0] === "none" ? "there is none" : `its value is ${got[0]}`,
+  };
+  const text = texts[reply] || FAULTS[reply];
+  const admitted = named(entry, "admitted");
+  const more = admitted === null ? "" : `, and the send ${admitted}, which waited, is admitted`;
+  return text ? `: ${text}${more}` : more;
+}
 
 // The rows of a state: each has a key, by which it is found again, and a text.
 function rowsOf(state) {
@@ -1033,7 +1217,10 @@ function rowsOf(state) {
       add(`q${it.queue}r${w.place}`, `  process ${w.process} waits to receive since ${w.place}`);
     }
     const n = it.registration;
-    if (n) add(`q${it.queue}n`, `  process ${n.process} is registered since ${n.place}: ${n.value}`);
+    if (n) {
+      const text = `  process ${n.process} is registered since ${n.place}, with value ${n.value}`;
+      add(`q${it.queue}n`, text);
+    }
   }
   for (const it of [...state.processes.values()].sort((a, b) => a.process - b.process)) {
     rows.push(...processRows(it));
@@ -1069,7 +1256,7 @@ function sideBySide(before, after) {
   const rows = [];
   const done = new Set();
   const push = (key) => {
-    if (!done.has(key)) rows.push([old.get(key), now.get(key)]);
+    if (!done.has(key)) rows.push({ key, old: old.get(key), now: now.get(key) });
     done.add(key);
   };
   let k = 0;
@@ -1093,30 +1280,77 @@ function cell(text, other, mark, className) {
   return element("td", `${mark} ${text}`, { className });
 }
 
+const MOST_ROWS = 40;
+
+// The queue or the process that a row is of.
+function groupOf(key) {
+  return /^[qp]\d+/.exec(key)[0];
+}
+
+// The states before and after side by side. Of long ones the queues and processes that stay as they
+// were stand behind a line.
 function stateTable(before, after) {
+  const rows = sideBySide(rowsOf(before), rowsOf(after));
+  const changed = new Set(rows.filter((it) => it.old !== it.now).map((it) => groupOf(it.key)));
+  const shown = rows.length <= MOST_ROWS ? rows : rows.filter((it) => changed.has(groupOf(it.key)));
+  const parts = [tableOf(shown)];
+  if (shown.length < rows.length) {
+    const rest = rows.filter((it) => !changed.has(groupOf(it.key)));
+    const groups = [...new Set(rest.map((it) => groupOf(it.key)))];
+    const queues = groups.filter((it) => it.startsWith("q")).length;
+    const processes = groups.length - queues;
+    const text = `${counted(queues, "queue")} and ${processes} ` +
+      `${processes === 1 ? "process" : "processes"} stay as they were`;
+    parts.push(folded(text, () => tableOf(rest), false));
+  }
+  return parts;
+}
+
+function tableOf(rows) {
   const table = document.createElement("table");
   const head = table.insertRow();
-  head.append(element("th", "before: \u2212 is gone or was other"), element("th", "after: + is new"));
-  for (const [old, now] of sideBySide(rowsOf(before), rowsOf(after))) {
+  head.append(element("th", "before: \u2212 is gone or was other"));
+  head.append(element("th", "after: + is new"));
+  for (const { old, now } of rows) {
     const row = table.insertRow();
     row.append(cell(old, now, "\u2212", "gone"), cell(now, old, "+", "new"));
   }
   return table;
 }
 
-function storyList(page, title, steps) {
+// A line behind which more stands, which is made once it is opened.
+function folded(text, more, open) {
+  const made = element("details", "");
+  made.append(element("summary", text));
+  const fill = () => {
+    if (made.open && made.childElementCount === 1) made.append(more());
+  };
+  made.addEventListener("toggle", fill);
+  made.open = open;
+  fill();
+  return made;
+}
+
+function storyItems(page, steps) {
   const list = document.createElement("ul");
   for (const it of steps) {
     const line = element("li", it.text, { className: it.grave ? "grave" : "" });
     line.style.paddingLeft = `${(it.depth || 0) * 18}px`;
     if (it.i !== undefined) {
-      const link = element("a", ` entry ${page.journal.entries[it.i].place}`);
-      link.addEventListener("click", () => page.choose(it.i));
-      line.append(link);
+      const link = element("a", page.nameOf(it.i), { href: "#" });
+      link.addEventListener("click", (event) => {
+        event.preventDefault();
+        page.choose(it.i);
+      });
+      line.append(" ", link);
     }
     list.append(line);
   }
-  return [element("h2", title), list];
+  return list;
+}
+
+function storyList(page, title, steps) {
+  return [element("h2", title), storyItems(page, steps)];
 }
 
 // The stories of an entry, and the sends that the picture marks for them.
@@ -1126,18 +1360,41 @@ function storiesOf(page, i, after) {
   const parts = [];
   const message = messageAt(journal, i);
   if (message !== null) {
-    parts.push(...storyList(page, `Where did message ${message} go?`, messageStory(journal, message)));
+    const title = `Where did message ${message} go?`;
+    parts.push(...storyList(page, title, messageStory(journal, message)));
   }
   if (entry.call === "notify" && entry.reply === "ok" && entry.given[1] !== "-") {
     const title = "What became of this registration?";
     parts.push(...storyList(page, title, registrationStory(journal, i)));
   }
-  for (const it of [...after.processes.values()].sort((a, b) => a.process - b.process)) {
-    if (it.wait === null) continue;
-    const title = `Why is process ${it.process} waiting?`;
-    parts.push(...storyList(page, title, waitStory(journal, after, it.process, i + 1)));
+  return [...parts, ...waitStories(page, i, after)];
+}
+
+// Who waits after an entry: a line for each process, behind which the chain stands.
+function waitStories(page, i, after) {
+  const { journal } = page;
+  const waiting = [...after.processes.values()].filter((it) => it.wait !== null)
+    .sort((a, b) => a.process - b.process);
+  if (waiting.length === 0) return [];
+  const stuck = stuckProcesses(journal, after);
+  const parts = [element("h2", "Who waits, and why?")];
+  if (stuck.size > 0) {
+    const list = [...stuck].sort((a, b) => a - b).join(", ");
+    const text = `Deadlock: nobody who could answer ${list} runs. ` +
+      "Only a process that opens the queue anew can end this.";
+    parts.push(element("p", text, { className: "grave" }));
+  }
+  for (const it of waiting) {
+    const own = it.process === journal.entries[i].process;
+    parts.push(waitDetails(page, i, after, it.process, own || waiting.length <= 2));
   }
   return parts;
+}
+
+function waitDetails(page, i, after, p, open) {
+  const { journal } = page;
+  const text = waitText(journal, after, p, waitOf(after, p));
+  return folded(text, () => storyItems(page, waitStory(journal, after, p, i + 1)), open);
 }
 
 function entryPanel(page, i, before, after) {
@@ -1145,26 +1402,49 @@ function entryPanel(page, i, before, after) {
   const queue = queueOf(before, entry);
   const on = queue ? ` on ${queueName(queue)}` : "";
   const line = element("div", entry.line, { className: `line${isError(entry) ? " error" : ""}` });
-  const text = `Process ${entry.process} ${CALLS[entry.call] || entry.call}${on}.`;
+  const by = entry.thread === undefined ? "" : `, in thread ${entry.thread} at step ${entry.step},`;
+  const text = `Process ${entry.process}${by} ${CALLS[entry.call] || entry.call}${on}` +
+    `${replyText(entry)}.`;
   return [element("h2", `Entry ${entry.place}`), line, element("p", text),
     ...storiesOf(page, i, after)];
 }
 
 // The page: what is chosen, what is shown, and what keys and buttons do.
 class Page {
-  constructor(text) {
-    const { before, entries } = pageOf(text);
-    this.journal = { entries, links: new Links(entries), states: new States(entries, before) };
-    this.timeline = new Timeline(document.querySelector("canvas"), this.journal);
-    this.shows = (entry, i) => this.passes(entry, i);
-    this.timeline.shows = this.shows;
+  constructor(parts) {
+    const dark = window.matchMedia("(prefers-color-scheme: dark)").matches;
+    document.documentElement.dataset.theme = dark ? "dark" : "light";
+    this.load(parts);
+    this.timeline.shows = (entry, i) => this.passes(entry, i);
     this.fillFilters();
     this.listen();
+  }
+
+  // Shows a journal.
+  load({ said, before, entries }) {
+    const wrong = noteThreads(entries, document.querySelector("#threads").textContent);
+    this.wrong = wrong || "";
+    this.entries = entries;
+    this.journal = { entries, links: new Links(entries), states: new States(entries, before) };
+    this.timeline = new Timeline(document.querySelector("canvas"), this.journal);
     const { start } = this.journal.links;
     const last = start + entries.length - 1;
     const title = entries.length === 0 ? "The journal is empty" : `Entries ${start} to ${last}`;
-    document.querySelector("#title").textContent = title;
+    this.input("title").textContent = said ? `${title}, which explain a history` : title;
+    const found = findingsOf(this.journal);
+    const steps = said ? [{ text: `mqlog judge: ${said}` }, ...found] : found;
+    if (steps.length > 0) {
+      this.input("findings").replaceChildren(...storyList(this, "What stands out", steps));
+    }
     this.choose(0);
+  }
+
+  nameOf(i) {
+    return `entry ${this.entries[i].place}`;
+  }
+
+  entryAt(x) {
+    return this.timeline.entryAt(x);
   }
 
   input(name) {
@@ -1172,14 +1452,15 @@ class Page {
   }
 
   fillFilters() {
-    const { entries, states } = this.journal;
+    const { entries } = this;
     const fill = (name, values) => {
       this.input(name).append(new Option("all", ""));
       for (const [value, text] of values) this.input(name).append(new Option(text, value));
     };
     const numbers = [...new Set(entries.map((it) => it.process))].sort((a, b) => a - b);
     fill("process", numbers.map((it) => [it, it]));
-    fill("queue", [...states.names].map(([q, name]) => [q, `${q} ${name}`]));
+    const queues = this.journal ? [...this.journal.states.names] : [];
+    fill("queue", queues.map(([q, name]) => [q, `${q} ${name}`]));
     fill("call", [...new Set(entries.map((it) => it.call))].sort().map((it) => [it, it]));
   }
 
@@ -1203,7 +1484,7 @@ class Page {
 
   // The next entry from here, forward or back, that the filters and a test let through.
   next(step, test = () => true) {
-    const { entries } = this.journal;
+    const { entries } = this;
     for (let i = this.timeline.chosen + step; i >= 0 && i < entries.length; i += step) {
       if (this.passes(entries[i], i) && test(entries[i])) return i;
     }
@@ -1223,7 +1504,7 @@ class Page {
     const message = messageAt(this.journal, i);
     this.timeline.story = new Set(message === null ? [] : [message - this.journal.links.start]);
     this.input("entry").replaceChildren(...entryPanel(this, i, before, after));
-    this.input("state").replaceChildren(element("h2", "State"), stateTable(before, after));
+    this.input("state").replaceChildren(element("h2", "State"), ...stateTable(before, after));
     this.timeline.reveal(i);
     this.draw();
   }
@@ -1235,7 +1516,8 @@ class Page {
       this.waiting = false;
       this.timeline.draw();
       const note = "Too many entries are shown for arrows: zoom in.";
-      this.input("note").textContent = this.timeline.tooMany ? note : "";
+      this.input("note").textContent = this.wrong || (this.timeline.tooMany ? note : "");
+      this.input("note").className = this.wrong ? "grave" : "";
     });
   }
 
@@ -1245,18 +1527,18 @@ class Page {
       this.read = null;
       this.draw();
     }));
-    const middle = () => this.timeline.x(this.timeline.chosen);
+    const middle = () => this.timeline.width / 2;
     const buttons = {
       back: () => this.choose(this.next(-1)), on: () => this.choose(this.next(1)),
       in: () => this.zoom(1.5, middle()), out: () => this.zoom(1 / 1.5, middle()),
       theme: () => this.turnTheme(),
     };
-    for (const [name, act] of Object.entries(buttons)) this.input(name).addEventListener("click", act);
+    for (const [name, act] of Object.entries(buttons)) {
+      this.input(name).addEventListener("click", act);
+    }
     document.addEventListener("keydown", (event) => this.key(event, buttons));
     window.addEventListener("resize", () => this.draw());
     this.listenToPointer(this.timeline.canvas);
-    const dark = window.matchMedia("(prefers-color-scheme: dark)").matches;
-    document.documentElement.dataset.theme = dark ? "dark" : "light";
   }
 
   turnTheme() {
@@ -1285,7 +1567,7 @@ class Page {
       this.draw();
     });
     canvas.addEventListener("pointerup", (event) => {
-      if (held && !held.moved) this.choose(this.timeline.entryAt(event.offsetX));
+      if (held && !held.moved) this.choose(this.entryAt(event.offsetX, event.offsetY));
       held = null;
     });
     canvas.addEventListener("wheel", (event) => {
@@ -1302,9 +1584,9 @@ class Page {
     if (event.key === "Escape") event.target.blur();
     if (event.key === "Enter" && event.target.id === "find") this.choose(this.next(1));
     if (typing || event.ctrlKey || event.metaKey || event.altKey) return;
-    const { entries } = this.journal;
+    const { entries } = this;
     const chosen = entries[this.timeline.chosen];
-    const same = (it) => !event.shiftKey || it.process === chosen.process;
+    const same = (it) => !event.shiftKey || laneName(it) === laneName(chosen);
     const acts = {
       ArrowLeft: () => this.choose(this.next(-1, same)),
       ArrowRight: () => this.choose(this.next(1, same)),
@@ -1318,7 +1600,216 @@ class Page {
   }
 }
 
-new Page(document.querySelector("#journal").textContent);
+// A history that no journal explains: its calls, the call at fault, and those that overlap it.
+// The calls that the lines of a history have, in the order in which they began.
+function callsOf(text) {
+  const calls = text.split("\n").filter((line) => line !== "").map(callOf);
+  nameQueues(calls);
+  const sorted = [...calls].sort((a, b) => compare(a.begin, b.begin) || a.index - b.index);
+  rank(sorted);
+  return sorted;
+}
+
+function callOf(line, index) {
+  const words = line.split(" ");
+  const arrow = words.indexOf("->", 4);
+  const quoted = arrow > 4 && words[arrow - 1].startsWith('"');
+  const end = words[2] === "-" ? null : BigInt(words[2]);
+  const got = words.slice(arrow + 2);
+  return {
+    index, line, end, begin: BigInt(words[1]), process: Number(words[0]), call: words[3],
+    given: words.slice(4, quoted ? arrow - 1 : arrow),
+    payload: quoted ? words[arrow - 1].slice(1, -1) : "",
+    reply: words[arrow + 1] || "", got,
+    received: got.length > 1 ? got[1].slice(1, -1) : "",
+  };
+}
+
+function compare(a, b) {
+  return a < b ? -1 : Number(a > b);
+}
+
+// The name of the queue that each call is made on, by the opens of its process.
+function nameQueues(calls) {
+  const open = new Map();
+  for (const it of calls) {
+    const key = `${it.process} ${it.given[0]}`;
+    if (it.call === "open" || it.call === "unlink") it.queue = it.payload;
+    else it.queue = open.get(key) || null;
+    if (it.reply === "fd") open.set(`${it.process} ${it.got[0]}`, it.payload);
+    if (it.call === "close" && it.reply === "ok") open.delete(key);
+  }
+}
+
+// Notes where each call begins and ends among all moments: only their order matters.
+function rank(calls) {
+  const moments = [...new Set(calls.flatMap((it) => [it.begin, it.end ?? it.begin]))].sort(compare);
+  const ranks = new Map(moments.map((moment, k) => [moment, k]));
+  for (const it of calls) {
+    it.from = ranks.get(it.begin);
+    it.to = it.end === null ? moments.length : ranks.get(it.end);
+  }
+}
+
+// The call whose return is the last: no journal explains the prefix until then.
+function faultOf(calls) {
+  const returned = calls.filter((it) => it.end !== null);
+  return returned.reduce((last, it) =>
+    !last || compare(it.end, last.end) > 0 || (it.end === last.end && it.index > last.index)
+      ? it : last, null);
+}
+
+function overlap(a, b) {
+  return a !== b && a.from <= b.to && b.from <= a.to;
+}
+
+// What the calls of a prefix say against the return of one of them: texts with the calls that they
+// speak of.
+function evidenceOf(calls, it) {
+  const steps = [];
+  const say = (text, found) => {
+    steps.push({ text });
+    for (const other of found) steps.push({ depth: 1, text: other.line, i: calls.indexOf(other) });
+  };
+  if (it.reply === "got") {
+    const same = (other) => other.queue === it.queue;
+    const sends = calls.filter((other) => SENDS.has(other.call) && same(other) &&
+      other.given[1] === it.got[0] && other.payload === it.received && !isError(other));
+    const takes = calls.filter((other) => other !== it && same(other) && other.reply === "got" &&
+      other.got[0] === it.got[0] && other.received === it.received);
+    const nobody = "Nobody sent this message to the queue before.";
+    say(sends.length === 0 ? nobody : "It was sent by", sends);
+    if (takes.length > 0) say("It was also received by", takes);
+  }
+  const around = calls.filter((other) => overlap(it, other));
+  say(around.length === 0 ? "No call overlaps it: all others came before." :
+    "These overlap it, and may take effect before or after it", around);
+  return steps;
+}
+
+const BAR = 22;
+
+// The picture of a history: a lane for each process, a bar from the begin of a call to its return.
+class HistoryTimeline extends Chart {
+  constructor(canvas, calls, fault) {
+    super(canvas, calls.map((it) => `process ${it.process}`));
+    this.calls = calls;
+    this.fault = fault;
+    this.scale = Math.max(20, Math.min(90, this.width / Math.max(1, this.moments)));
+  }
+
+  get moments() {
+    return this.calls.reduce((most, it) => Math.max(most, it.to, it.from + 1), 0) + 1;
+  }
+
+  get count() {
+    return this.moments;
+  }
+
+  // The place of a call in the picture.
+  placeOf(i) {
+    return this.calls[i].from;
+  }
+
+  callAt(x, y) {
+    const at = (x - LEFT) / this.scale + this.from;
+    const lane = Math.floor((y - this.top) / this.lane);
+    const near = (it) => Math.max(it.from - at, at - it.to, 0);
+    const calls = this.calls.filter((it, i) => this.laneOf[i] === lane);
+    const found = (calls.length > 0 ? calls : this.calls)
+      .reduce((best, it) => (!best || near(it) < near(best) ? it : best), null);
+    return this.calls.indexOf(found);
+  }
+
+  drawParts(c) {
+    this.calls.forEach((it, i) => this.drawCall(c, it, i));
+  }
+
+  drawCall(c, it, i) {
+    const [left, right] = [this.x(it.from - 0.4), this.x(it.to + 0.4)];
+    if (right < LEFT || left > LEFT + this.width) return;
+    const y = this.y(i) - BAR / 2;
+    const fault = it === this.fault;
+    c.fillStyle = i === this.chosen ? this.colours.chosen : this.colours.panel;
+    c.fillRect(left, y, right - left, BAR);
+    c.strokeStyle = fault ? this.colours.cross : this.colours.message;
+    if (this.fault && overlap(this.fault, it)) c.strokeStyle = this.colours.story;
+    c.lineWidth = fault ? 3 : 1.5;
+    c.setLineDash(it.end === null ? [5, 4] : []);
+    c.strokeRect(left, y, right - left, BAR);
+    c.setLineDash([]);
+    c.save();
+    c.beginPath();
+    c.rect(left, y, right - left, BAR);
+    c.clip();
+    c.fillStyle = fault ? this.colours.cross : this.colours.text;
+    c.fillText(`${fault ? "\u2717 " : ""}${labelOf(it)}`, Math.max(left, LEFT) + 4, y + 15);
+    c.restore();
+  }
+}
+
+function labelOf(it) {
+  const what = it.payload !== "" ? ` "${it.payload}"` : "";
+  const received = it.received !== "" ? ` "${it.received}"` : "";
+  return `${it.call}${what}${it.end === null ? "" : ` ${it.reply}${received}`}`;
+}
+
+class HistoryPage extends Page {
+  load({ said, calls }) {
+    this.said = said;
+    this.fault = said.startsWith("impossible") ? faultOf(calls) : null;
+    this.entries = calls;
+    this.timeline = new HistoryTimeline(document.querySelector("canvas"), calls, this.fault);
+    this.input("queue").parentElement.hidden = true;
+    const kind = this.fault ? "A history that no journal explains" : "A history, undecided";
+    this.input("title").textContent = kind;
+    this.input("legend").textContent = "a bar: a call, from its begin to its return; dashed: it " +
+      "had not returned; \u2717 and thick: its return can't be explained; only the order of moments " +
+      "counts | left and right: step, with Shift in the same process; + and -: zoom; drag: move; " +
+      "/: find; n: next found; e: next error";
+    this.tell();
+    this.choose(this.fault ? calls.indexOf(this.fault) : 0);
+  }
+
+  tell() {
+    const steps = [{ text: this.said }];
+    if (this.fault) {
+      const text = "Every order of these calls that keeps to their begins and returns " +
+        "contradicts some reply, and this is the last return:";
+      steps.push({ text, i: this.entries.indexOf(this.fault) });
+    }
+    this.input("findings").replaceChildren(...storyList(this, "What mqlog judge says", steps));
+  }
+
+  nameOf(i) {
+    return `the ${this.entries[i].call} of process ${this.entries[i].process}`;
+  }
+
+  entryAt(x, y) {
+    return this.timeline.callAt(x, y);
+  }
+
+  choose(i) {
+    if (this.entries.length === 0) return;
+    const it = this.entries[i];
+    this.timeline.chosen = i;
+    const on = it.queue ? ` on ${it.queue}` : "";
+    const returned = [it.reply, ...it.got].join(" ");
+    const came = it.end === null ? "It had not returned." : `It returned ${returned}.`;
+    const line = element("div", it.line, { className: `line${it === this.fault ? " error" : ""}` });
+    const text = `Process ${it.process} ${CALLS[it.call] || it.call}${on}. ${came}`;
+    const title = it === this.fault ? "The return that can't be explained" : "Call";
+    const steps = storyList(this, "What speaks of it", evidenceOf(this.entries, it));
+    this.input("entry").replaceChildren(element("h2", title), line, element("p", text));
+    this.input("state").replaceChildren(...steps);
+    this.timeline.reveal(this.timeline.placeOf(i));
+    this.draw();
+  }
+}
+
+// What begins when the page is opened.
+const parts = pageOf(document.querySelector("#journal").textContent);
+window.page = parts.calls ? new HistoryPage(parts) : new Page(parts);
 </script>
 </body>
 </html>

@@ -46,11 +46,7 @@ pub fn command<'a>(alloc: Global) -> Result<Command<'a>, AllocError> {
             "draw",
             "Writes a picture (SVG) of a journal, of at most 2000 entries",
         )?)?
-        .subcommand(windowed(
-            alloc,
-            "view",
-            "Writes a page (HTML) that steps through a journal of at most 1000000 entries",
-        )?)?
+        .subcommand(view(alloc)?)?
         .subcommand(state(alloc)?)?
         .subcommand(judge(alloc)?)?
         .subcommand(orders(alloc)?)
@@ -86,6 +82,22 @@ fn windowed<'a>(alloc: Global, name: &'a str, about: &'a str) -> Result<Command<
         .arg(number(alloc, "to", &["L"], "The last entry that is shown"))
 }
 
+fn view<'a>(alloc: Global) -> Result<Command<'a>, AllocError> {
+    windowed(
+        alloc,
+        "view",
+        "Writes a page (HTML) that steps through a journal of at most 1000000 entries",
+    )?
+    .arg(
+        Arg::new(alloc, "threads")
+            .long("threads")
+            .value_names(&["FILE"])
+            .help(
+                "A file with lines PLACE THREAD STEP, as yak-explore writes it: lanes are threads",
+            ),
+    )
+}
+
 fn state<'a>(alloc: Global) -> Result<Command<'a>, AllocError> {
     task(
         alloc,
@@ -112,6 +124,12 @@ fn judge<'a>(alloc: Global) -> Result<Command<'a>, AllocError> {
         "explained",
         "journal",
         "Also writes a journal that explains the history",
+    ))?
+    .arg(flag(
+        alloc,
+        "page",
+        "page",
+        "Writes a page (HTML) of the answer: of that journal, or of the prefix that is impossible",
     ))?
     .arg(number(
         alloc,
@@ -141,11 +159,14 @@ fn orders<'a>(alloc: Global) -> Result<Command<'a>, AllocError> {
     ))
 }
 
-/// A task, and the file that it reads in place of the standard input.
+/// A task, the file that it reads in place of the standard input, the file that names the threads of
+/// a journal, and whether the answer of `judge` is a page.
 #[derive(Clone, Copy, Debug, PartialEq, Eq)]
 pub struct Asked<'a> {
     pub task: Task,
     pub file: Option<&'a str>,
+    pub threads: Option<&'a str>,
+    pub page: bool,
 }
 
 /// What the words ask for.
@@ -156,7 +177,12 @@ pub fn asked_by<'a>(matches: &ArgMatches<'a>) -> Option<Asked<'a>> {
         Some("-") => None,
         file => file,
     };
-    Some(Asked { task, file })
+    Some(Asked {
+        task,
+        file,
+        threads: given.get_str("threads"),
+        page: given.get_flag("page"),
+    })
 }
 
 // The options that a task was given.

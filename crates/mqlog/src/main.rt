@@ -2,18 +2,20 @@
 #![tactic(auto)]
 
 mod command;
+mod pages;
 mod task;
 #[cfg(test)]
 mod tests;
 
 use command::{Asked, asked_by, command};
 use fast_mutex::FastMutex;
-use journal_page::{HEAD, TAIL, Unviewed, Viewed, view_journal};
+use journal_page::{TAIL, Unviewed, Viewed, view_journal};
 use journal_tasks::{
     Ending, LogFault, Question, Trial, Wanted, Window, check_journal, compact_journal,
     draw_journal, judge_history, record_history, record_script, state_journal, try_orders,
 };
 use mq::Guarded;
+use pages::{head_of, judge_to_page};
 use script_runner::{Plain, RunFault};
 use std::alloc::{Alloc, Global};
 use std::fmt::Display;
@@ -84,19 +86,23 @@ fn not_asked(rt: &(impl Print + Eprint), error: clap::Error) -> ExitCode {
 
 // Does a task over what a file or the standard input has.
 fn answer<R: Read>(
-    rt: &(impl Print + Eprint + AllocGlobal + Threads + Wait + Clock + Sync),
+    rt: &(impl Print + Eprint + AllocGlobal + Threads + Wait + Clock + Sync + Files),
     asked: Asked<'_>,
     input: &mut R,
 ) -> ExitCode {
-    let Asked { task, file } = asked;
+    let Asked { task, file, .. } = asked;
     match task {
         Task::Run => run(rt, file, input),
         Task::History => history(rt, file, input),
         Task::Check => check(rt, file, input),
         Task::Compact => compact(rt, file, input),
         Task::Draw(window) => draw(rt, file, input, window),
-        Task::View(window) => view(rt, file, input, window),
+        Task::View(window) => match head_of(rt, asked.threads) {
+            Ok(head) => view(rt, file, input, window, &head),
+            Err(status) => status,
+        },
         Task::State(wanted) => state(rt, file, input, wanted),
+        Task::Judge(question) if asked.page => judge_to_page(rt, file, input, question),
         Task::Judge(question) => judge(rt, file, input, question),
         Task::Orders(trial) => orders(rt, file, input, trial),
     }
@@ -169,9 +175,9 @@ fn view<R: Read>(
     file: Option<&str>,
     input: &mut R,
     window: Window,
+    head: &[u8],
 ) -> ExitCode {
-    let (head, tail) = (HEAD.as_bytes(), TAIL.as_bytes());
-    let (from, to) = (window.from, window.to);
+    let (from, to, tail) = (window.from, window.to, TAIL.as_bytes());
     match view_journal(rt.alloc(), input, &mut io::writer(rt), from, to, head, tail) {
         Ok(Viewed::Written) => ExitCode::SUCCESS,
         Ok(Viewed::TooLong) => {

@@ -14,7 +14,7 @@ fn asked<'a>(
 ) -> Result<Result<(Task, Option<&'a str>), ErrorKind>, AllocError> {
     match command(alloc)?.try_get_matches_from(words) {
         Ok(matches) => match asked_by(&matches) {
-            Some(Asked { task, file }) => Ok(Ok((task, file))),
+            Some(Asked { task, file, .. }) => Ok(Ok((task, file))),
             None => Ok(Err(ErrorKind::InvalidSubcommand)),
         },
         Err(error) => Ok(Err(error.kind())),
@@ -137,6 +137,41 @@ fn words_ask_for_a_task_with_its_options_in_any_order_and_a_file(
 fn other_words_are_refused_by_their_kind(rt: HostRuntime) -> Result<(), Fail> {
     for (words, kind) in NOT_ASKED {
         assert_eq!(rt; asked(rt.alloc(), words)?, Err(kind), "{words:?}");
+    }
+    Ok(())
+}
+
+// The file of threads, and whether a page is asked for.
+fn parts_of<'a>(
+    alloc: Global,
+    words: &'a [&'a str],
+) -> Result<Option<(Option<&'a str>, bool)>, AllocError> {
+    match command(alloc)?.try_get_matches_from(words) {
+        Ok(matches) => match asked_by(&matches) {
+            Some(Asked { threads, page, .. }) => Ok(Some((threads, page))),
+            None => Ok(None),
+        },
+        Err(_) => Ok(None),
+    }
+}
+
+// Command lines, with what they say of a page.
+static PARTS: [(&[&str], Option<(Option<&str>, bool)>); 6] = [
+    (&["mqlog", "view"], Some((None, false))),
+    (
+        &["mqlog", "view", "j", "--threads", "t"],
+        Some((Some("t"), false)),
+    ),
+    (&["mqlog", "judge", "h", "--page"], Some((None, true))),
+    (&["mqlog", "judge", "h"], Some((None, false))),
+    (&["mqlog", "draw", "--threads", "t"], None),
+    (&["mqlog", "view", "--page"], None),
+];
+
+#[test]
+fn a_page_is_asked_for_with_its_threads(rt: HostRuntime) -> Result<(), Fail> {
+    for (words, parts) in PARTS {
+        assert_eq!(rt; parts_of(rt.alloc(), words)?, parts);
     }
     Ok(())
 }

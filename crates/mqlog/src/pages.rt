@@ -1,0 +1,61 @@
+//! Pages that are put together here: of a journal whose threads are known, and of a judgement.
+
+use crate::{failed, not_opened};
+use journal_page::{FRONT, HEAD, TAIL, page_of_text};
+use journal_tasks::{LogFault, Question, judge_history};
+use std::alloc::AllocGlobal;
+use std::io::{Eprint, ErrorKind, Print, Read, Write};
+use std::process::ExitCode;
+use std::rt::Files;
+use std::{fs, io};
+
+/// What stands before the lines of a journal in a page: with the lines of a file that names the
+/// threads of its entries, if there is one.
+pub fn head_of(
+    rt: &(impl Eprint + AllocGlobal + Files),
+    threads: Option<&str>,
+) -> Result<Vec<u8>, ExitCode> {
+    let text = match threads {
+        None => Vec::new(rt.alloc()),
+        Some(path) => match fs::read(rt, path) {
+            Ok(text) => text,
+            Err(error) if error.kind() == ErrorKind::OutOfMemory => {
+                return Err(failed(rt, Some(path), LogFault::NoMemory));
+            }
+            Err(error) => return Err(not_opened(rt, path, &error)),
+        },
+    };
+    match page_of_text(rt.alloc(), &text, FRONT.as_bytes(), HEAD.as_bytes()) {
+        Ok(head) => Ok(head),
+        Err(_) => Err(failed(rt, threads, LogFault::NoMemory)),
+    }
+}
+
+/// Judges a history, and writes what it comes to as a page, with the journal that explains it.
+pub fn judge_to_page<R: Read>(
+    rt: &(impl Print + Eprint + AllocGlobal + Files),
+    file: Option<&str>,
+    input: &mut R,
+    question: Question,
+) -> ExitCode {
+    let asked = Question {
+        journal: true,
+        budget: question.budget,
+    };
+    let mut said = Vec::new(rt.alloc());
+    let status = match judge_history(rt.alloc(), input, &mut said, asked) {
+        Ok(status) => status,
+        Err(fault) => return failed(rt, file, fault),
+    };
+    let head = match head_of(rt, None) {
+        Ok(head) => head,
+        Err(status) => return status,
+    };
+    let Ok(page) = page_of_text(rt.alloc(), &said, &head, TAIL.as_bytes()) else {
+        return failed(rt, file, LogFault::NoMemory);
+    };
+    match io::writer(rt).write_all(&page) {
+        Ok(()) => ExitCode::from(status),
+        Err(_) => failed(rt, file, LogFault::Output),
+    }
+}
