@@ -219,6 +219,21 @@ fn note(slots: &[Slot], index: &mut Index, place: u64, key: usize) {
     }
 }
 
+/// Notes the entry that a slot keeps, if it keeps one.
+#[inline(always)]
+pub fn note_kept(slots: &[Slot], index: &mut Index, key: usize) {
+    if key < slots.len() && !slots[key].is_vacant() {
+        note_again(slots, index, key);
+    }
+}
+
+#[inline(never)]
+fn note_again(slots: &[Slot], index: &mut Index, key: usize) {
+    if key < slots.len() {
+        note(slots, index, slots[key].place(), key);
+    }
+}
+
 // The same, after the first.
 #[inline(never)]
 fn note_on(slots: &[Slot], index: &mut Index, place: u64, key: usize) {
@@ -361,7 +376,6 @@ pub fn put(
     ensures none { payload.now ≡ [] → next.new ≡ next.old }
 {
     let key = vacant_slot(slots, index, class);
-    note(slots, index, place, key);
     slots[key].occupy(place, prio, home, next, payload);
     key
 }

@@ -29,9 +29,11 @@ pub struct Unstored {
     // how many slots are vacant
     vacant: usize,
     index: Index,
-    // the place that the latest entry ended, and perhaps its slot
+    // the place that the latest entry ended, and perhaps its slot, or that of the latest entry
     ended: Option<u64>,
     last: usize,
+    // whether the index leads to that slot. What it keeps often ends before anything else is looked for
+    is_last_noted: bool,
     // the buffer for the next payload
     next: Vec<u8>,
     // for which messages there are slots of their own
@@ -101,6 +103,7 @@ impl Unstored {
             index: Index::new(alloc),
             ended: None,
             last: 0,
+            is_last_noted: true,
             next: Vec::new(alloc),
             paid: Paid::new(alloc),
         }
@@ -138,8 +141,30 @@ impl Unstored {
     {
         if let Some(place) = ended {
             if let Some(key) = slots::guess(&self.slots, &self.index, self.last, place) {
-                self.last = key;
+                self.set_last(key);
             }
+        }
+    }
+
+    // This slot is the last one, to which the index leads, unless it was the last already.
+    #[inline(always)]
+    fn set_last(&mut self, key: usize)
+        ensures { self.new ≡ self.old }
+    {
+        if key != self.last {
+            self.note_latest();
+            self.last = key;
+        }
+    }
+
+    // Sees to it that the index leads to the last slot.
+    #[inline(always)]
+    fn note_latest(&mut self)
+        ensures { self.new ≡ self.old }
+    {
+        if !self.is_last_noted {
+            slots::note_kept(&self.slots, &mut self.index, self.last);
+            self.is_last_noted = true;
         }
     }
 
@@ -193,6 +218,7 @@ impl Unstored {
             payload,
             class,
         );
+        self.is_last_noted = false;
         self.vacant -= 1;
         self.ended = None;
         self.len += 1;
@@ -233,6 +259,7 @@ impl Unstored {
             HasPlace self.old.places k → HasPlace self.new.places k }
     {
         self.drop_ended();
+        self.note_latest();
         self.add_kept(entry, payload, prio, home, class);
     }
 
