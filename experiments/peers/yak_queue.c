@@ -1,4 +1,5 @@
-/* `pair` and `crowd` of mqbench over the queues for C, by handles. Behind `unstored` no journal is stored. */
+/* `pair` and `crowd` of mqbench over the queues for C, by handles. Behind `unstored` no journal is
+ * stored, and behind `prepaid` only the open takes memory. */
 #include "yakyrombe.h"
 
 #include <pthread.h>
@@ -68,8 +69,8 @@ static double nanoseconds(void)
 int main(int count, char **words)
 {
     uint32_t (*make)(yak_process *, size_t) = yak_new;
-    if (count > 1 && !strcmp(words[1], "unstored")) {
-        make = yak_unstored;
+    if (count > 1 && (!strcmp(words[1], "unstored") || !strcmp(words[1], "prepaid"))) {
+        make = words[1][0] == 'u' ? yak_unstored : yak_prepaid;
         --count;
         ++words;
     }
@@ -77,7 +78,7 @@ int main(int count, char **words)
     rounds = count > 2 ? atol(words[count - 1]) : 0;
     int is_crowd = rounds && !strcmp(words[1], "crowd");
     if (!rounds || size < 1 || size > MOST_MEMBERS || (!is_crowd && strcmp(words[1], "pair"))) {
-        fputs("pair N or crowd P N, or unstored and either\n", stderr);
+        fputs("pair N or crowd P N, or one of them behind unstored or prepaid\n", stderr);
         return 2;
     }
     uint32_t made = make(processes, (size_t)size);
