@@ -128,11 +128,16 @@ fn once_the_queues_of_a_prepaid_system_are_open_no_call_takes_memory(rt: HostRun
     for round in 0..1_000u64 {
         let start = 7 + 24 * round;
         expect_steps(&rt, &mut trial, &handed(start));
-        expect_steps(&rt, &mut trial, &admitted(start + 3));
-        expect_steps(&rt, &mut trial, &notified(start + 11));
-        expect_steps(&rt, &mut trial, &timed(start + 15));
+        expect_steps(&rt, &mut trial, &admitted(after(start, 3)));
+        expect_steps(&rt, &mut trial, &notified(after(start, 11)));
+        expect_steps(&rt, &mut trial, &timed(after(start, 15)));
     }
     expect_steps(&rt, &mut trial, &[(1, Entries, Count(24_007))]);
+}
+
+// The place after so many entries more.
+fn after(start: u64, entries: u64) -> u64 {
+    start.wrapping_add(entries)
 }
 
 // A message is handed over to a receive that waits.
@@ -155,11 +160,11 @@ fn admitted(start: u64) -> [Step; 8] {
         (2, Send(0, b"aaaaaaaa", 1), QUEUED),
         (3, Send(0, b"bbbbbbbb", 9), WAITS),
         (1, Send(0, b"cccccccc", 12), WAITS),
-        (2, Receive(0), got(start, Some(start + 1))),
-        (2, Receive(0), got(start + 1, Some(start + 2))),
+        (2, Receive(0), got(start, Some(after(start, 1)))),
+        (2, Receive(0), got(after(start, 1), Some(after(start, 2)))),
         (3, Collect, SENT),
         (1, Collect, SENT),
-        (2, Receive(0), got(start + 2, None)),
+        (2, Receive(0), got(after(start, 2), None)),
     ]
 }
 
@@ -174,7 +179,7 @@ fn notified(start: u64) -> [Step; 4] {
             Replied(Reply::Queued { notified }),
         ),
         (1, NextNotice, Replied(Reply::Notice(Some(7)))),
-        (3, Receive(0), got(start + 1, None)),
+        (3, Receive(0), got(after(start, 1), None)),
     ]
 }
 
@@ -187,8 +192,8 @@ fn timed(start: u64) -> [Step; 9] {
         (4, TimedSend(0, b"ffffffff", 2, LATER, START), QUEUED),
         (5, TimedSend(0, b"gggggggg", 2, LATER, START), WAITS),
         (5, Withdraw(LATER), Is(true)),
-        (4, Receive(0), got(start + 2, None)),
-        (4, Receive(0), got(start + 3, None)),
+        (4, Receive(0), got(after(start, 2), None)),
+        (4, Receive(0), got(after(start, 3), None)),
         (4, NextNotice, Replied(Reply::Notice(None))),
     ]
 }
