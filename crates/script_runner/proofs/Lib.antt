@@ -7,3 +7,4 @@ pub mod SideBySide
 pub mod Standing
 pub mod Stopping
 pub mod Working
+pub mod Whole

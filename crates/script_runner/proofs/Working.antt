@@ -1,16 +1,17 @@
 -- Calls, shares and phases, one more after the others.
-use Rattle.std.proofs.Common.{◌≡◌, ◌<◌, ◌+◌, ◌++◌, ℕ, List, [], ◌∷◌, length, get_or, take, map, refl, ap, arith, sym, ◌∙◌, subst, append_assoc, append-nil, All, Vec, Global, zero, suc}
+use Rattle.std.proofs.Common.{◌≡◌, ◌<◌, ◌≤◌, ◌+◌, ◌++◌, ℕ, List, [], ◌∷◌, length, get_or, take, map, refl, ap, arith, sym, ◌∙◌, subst, append_assoc, append-nil, All, Vec, Global, None, zero, suc}
 use Rattle.std.proofs.lemmas.List.{length-map, take_more, map-append}
 use Rattle.std.proofs.lemmas.List.Elements.{All-nil, All-cons, All-head, All-tail, All-from_recursion, All-map, recursion_from_All}
 use Rattle.std.proofs.lemmas.Slice.Zip.{AllZip-long}
 use Rattle.std.specs.List.{AllByRecursion as ByRecursion}
-use Rattle.fast_mutex.specs.Items.{LockId, Ticket, tickets_from}
-use Rattle.mq_model.specs.Record.{Record}
+use Rattle.fast_mutex.specs.Items.{LockId, Ticket, tickets_from, tickets_with}
+use Rattle.mq_model.specs.Record.{Past, Record}
+use Rattle.mq_model.specs.Waits.{open_wait}
 use Rattle.script_runner.specs.Buffer.{buffer_given}
 use Rattle.text_io.specs.Words.{Word}
 use Rattle.script_runner.specs.Meeting.{RunsAndMeets}
 use Rattle.script_runner.specs.Phase.{AllWorkOff, WorksOff, calls_in, text_in}
-use Rattle.script_runner.specs.Runs.{IsReady, Performs, RunsCalls, RunsPhase, RunsPhases, calls_of}
+use Rattle.script_runner.specs.Runs.{IsReady, NoneWaits, Performs, RunsCalls, RunsPhase, RunsPhases, calls_of}
 use Rattle.script_text.specs.Script.{WrittenCall, said_calls, said_phases}
 use Rattle.script_text.specs.declared.line.ScriptCall.{ScriptCall}
 use Rattle.script_text.specs.declared.reply.Completion.{Completion}
@@ -85,6 +86,19 @@ each-new-ready lock k (suc n) = (record { made = refl; free = refl }, each-new-r
 pub new-ready : (lock : LockId) (n : ℕ) → All (IsReady lock) (tickets_from lock 1 n)
 new-ready lock n = All-from_recursion (IsReady lock) (tickets_from lock 1 n) (each-new-ready lock 1 n)
 
+pub count-after : (lock : LockId) (past : Past) (k n : ℕ) → length (tickets_with lock past k n) ≡ n
+count-after lock past k zero = refl
+count-after lock past k (suc n) = ap suc (count-after lock past (suc k) n)
+
 pub new-count : (lock : LockId) (k n : ℕ) → length (tickets_from {I = Record} lock k n) ≡ n
-new-count lock k zero = refl
-new-count lock k (suc n) = ap suc (new-count lock (suc k) n)
+new-count lock k n = count-after lock [] k n
+
+-- processes that go on from a journal in which none of them waits are ready
+each-after-ready : (lock : LockId) (past : Past) (k n : ℕ) → ((p : ℕ) → k ≤ p → p < k + n → open_wait past p ≡ None) → ByRecursion (IsReady lock) (tickets_with lock past k n)
+each-after-ready lock past k zero free = tt
+each-after-ready lock past k (suc n) free =
+    (record { made = refl; free = free k (omega arith) (omega arith) }, each-after-ready lock past (suc k) n (λ p low high. free p (omega arith) (omega arith)))
+
+pub after-ready : (lock : LockId) (past : Past) (n : ℕ) → NoneWaits past n → All (IsReady lock) (tickets_with lock past 1 n)
+after-ready lock past n free =
+    All-from_recursion (IsReady lock) (tickets_with lock past 1 n) (each-after-ready lock past 1 n (λ p low high. free p low (omega arith)))

@@ -6,7 +6,7 @@ use Rattle.mq_model.specs.declared.faults.Fault.TheVariants as fault
 use Rattle.script_text.specs.Script.{Whole}
 use Rattle.script_text.specs.declared.reply.Outcome.{Outcome}
 use Rattle.script_text.specs.declared.reply.Outcome.TheVariants.{Refused}
-use Rattle.script_runner.specs.Runs.{RunsWhole}
+use Rattle.script_runner.specs.Runs.{RunsAfter, RunsWhole}
 use Rattle.script_text.specs.Replies.{reply_line}
 use Rattle.script_runner.specs.declared.noted.Noted.{Noted}
 
@@ -30,4 +30,9 @@ some_refused all = list_any (λ noted. is_refused noted.completion.outcome) all
 -- a script was run whole, with what was noted as its replies, and no call was refused memory
 pub record RunsServed (script : Whole) (all : List Noted) (journal : Past) : Type 0 where
   pub ran : RunsWhole script (lines_of all) journal
+  pub served : some_refused all ≡ false
+
+-- the same of a script that was run whole after the calls of a journal
+pub record RunsServedAfter (past : Past) (script : Whole) (all : List Noted) (journal : Past) : Type 0 where
+  pub ran : RunsAfter past script (lines_of all) journal
   pub served : some_refused all ≡ false

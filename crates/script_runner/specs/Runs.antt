@@ -2,7 +2,7 @@
 use Rattle.std.specs.Prelude.{◌≡◌, ◌≤◌, ◌==◌, ◌++◌, ℕ, List, [], ◌∷◌, codes, filter, length, IsFalse, IsSome, IsTrue, Option, None, Result, Ok, Err, ◌⊎◌}
 use Rattle.std.specs.List.{All, AllZip}
 use Rattle.std.specs.Io.KnownBytes as known
-use Rattle.fast_mutex.specs.Items.{LockId, Ticket, Grows, tickets_from}
+use Rattle.fast_mutex.specs.Items.{LockId, Ticket, Grows, tickets_from, tickets_with}
 use Rattle.mq.specs.Calls.{Calls, IsFree, Exits, OneCall, ReceiveCall, SendCall, TimedReceive, TimedSend, WaitedReceive, WaitedSend, WholeReceive, author, bounds_in, recorded}
 use Rattle.mq.specs.Says.{attributes_says, done_says, notice_says, open_says, receive_says, send_says}
 use Rattle.mq_model.specs.Legality.{Legal}
@@ -150,6 +150,28 @@ pub record RunsWhole (script : Whole) (replies : List ℕ) (journal : Past) : Ty
   pub legal : Legal journal
   pub authors : All (λ r. (1 ≤ author r) × (author r ≤ script.processes)) journal
   pub grows : All (λ process. Grows author process.number process.left journal []) processes
+
+-- Phases were run with these replies on a system whose processes were these before, and it has ended with this journal, which is legal. The
+-- journal begins with what each process last left and has no further record of it, and none of other processes
+pub record RunsOn (system : LockId) (before : List (Ticket Record)) (phases : List (List WrittenCall)) (replies : List ℕ) (journal : Past) : Type 0 where
+  pub processes : List (Ticket Record)
+  pub ran : RunsPhases phases before processes replies
+  pub legal : Legal journal
+  pub authors : All (λ r. (1 ≤ author r) × (author r ≤ system.count)) journal
+  pub grows : All (λ process. Grows author process.number process.left journal []) processes
+
+-- none of the processes 1 to n waits after this journal
+abbrev pub NoneWaits : Past → ℕ → Type 0
+NoneWaits past n = (p : ℕ) → 1 ≤ p → p ≤ n → open_wait past p ≡ None
+
+-- A script was run whole after the calls of a journal, with these replies and this journal. As RunsWhole, but its processes had all left
+-- the journal before, and none of them waited there
+pub record RunsAfter (past : Past) (script : Whole) (replies : List ℕ) (journal : Past) : Type 0 where
+  pub system : LockId
+  pub count : system.count ≡ script.processes
+  pub unbounded : bounds_in system.fixed ≡ None
+  pub free : NoneWaits past script.processes
+  pub runs : RunsOn system (tickets_with system past 1 script.processes) script.phases replies journal
 
 -- A script was run whole, and known bytes have grown by its replies and the last line
 pub record RunsScript (script : Whole) (old new : Option (List ℕ)) : Type 0 where

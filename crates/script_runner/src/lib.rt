@@ -1,6 +1,7 @@
 //! Runs scripts of message queue calls, each process in a thread of its own.
 #![tactic(auto)]
 
+mod after;
 mod calls;
 mod deal;
 mod fault;
@@ -18,6 +19,7 @@ mod text;
 mod turns;
 mod waiting;
 
+pub use after::run_after;
 pub use fault::RunFault;
 pub use gate::{Gate, Plain};
 pub use journal::script_journal;

@@ -5,7 +5,8 @@ ghost use Rattle.mq_model.specs.Legality.{Legal};
 ghost use Rattle.script_runner.specs.Meeting.{RunsAndMeets};
 ghost use Rattle.script_runner.specs.Notes.{RunsServed, lines_of, some_refused};
 ghost use Rattle.script_runner.specs.RunFault.{IsUnwritten};
-ghost use Rattle.script_runner.specs.Runs.{IsReady, RunsPhases, RunsWhole};
+ghost use Rattle.mq.specs.Calls.{stored_in};
+ghost use Rattle.script_runner.specs.Runs.{IsReady, RunsOn, RunsPhases, RunsWhole};
 ghost use Rattle.script_runner.specs.declared.fault.RunFault.TheVariants.{NoMemory};
 ghost use Rattle.script_text.specs.Script.{said_calls, said_phases, said_script};
 
@@ -86,6 +87,35 @@ where
     let Ok((mq, processes)) = Mq::<L>::new(alloc, script.processes) else {
         return Err(RunFault::NoMemory);
     };
+    make_on(rt, alloc, mq, processes, script, gate, noted)
+}
+
+/// Makes the calls of a script on a system whose processes these are, and ends it.
+pub(crate) fn make_on<L, S, G>(
+    rt: &S,
+    alloc: Global,
+    mq: Mq<L>,
+    processes: Vec<Process<L>>,
+    script: &Script<'_>,
+    gate: &G,
+    noted: &mut Vec<Noted>,
+) -> Result<Journal, RunFault>
+where
+    L: Look<Guarded> + Sync,
+    L::Seat: Send,
+    L::Walk: Send,
+    S: Threads + Wait + Clock + Sync,
+    G: Gate + Sync,
+    requires ready { All (IsReady mq) processes.items }
+    requires all { vec_len processes ≡ mq.count }
+    requires stored { stored_in mq.fixed ≡ true }
+    requires nothing { noted.old.items ≡ [] }
+    ensures fault { IfErr result IsUnwritten }
+    ensures legal { IfOk result (λ journal. Legal journal.records) }
+    // What is noted are the replies.
+    ensures done { IfOk result (λ journal. RunsOn mq processes.items
+        (said_script script.now).phases (lines_of noted.new.items) journal.records) }
+{
     let phases = script.phases.as_slice();
     let processes = run_noted_phases(rt, alloc, &mq, gate, noted, processes, phases)?;
     let Ok(journal) = mq.finish(processes) else {

@@ -1,0 +1,90 @@
+//! A script that goes on from the queues that a journal leaves.
+ghost use Rattle.std.specs.Prelude.{◌≡◌, ◌≤◌, [], true, IfErr, IfOk, IsErrOf, None};
+ghost use Rattle.mq_model.specs.Legality.{Legal};
+ghost use Rattle.script_runner.specs.Notes.{RunsServedAfter, lines_of, some_refused};
+ghost use Rattle.script_runner.specs.RunFault.{IsUnwritten};
+ghost use Rattle.script_runner.specs.Runs.{NoneWaits, RunsAfter};
+ghost use Rattle.script_runner.specs.declared.fault.RunFault.TheVariants.{NoMemory};
+ghost use Rattle.script_text.specs.Script.{said_script};
+
+use crate::fault::RunFault;
+use crate::gate::Gate;
+use crate::noted::{Noted, some_refused};
+use crate::noting::make_on;
+use fast_mutex::Look;
+use mq::{Guarded, Mq};
+use mq_model::journals::Journal;
+use mq_state::books::Books;
+use script_text::script::Script;
+use std::alloc::Global;
+use std::sync::Wait;
+use std::thread::Threads;
+use std::time::Clock;
+
+/// Makes the calls of a script as `run_noted` does, on queues on which calls have been made. Its processes hold what they held, and
+/// none of them waits. The journal begins with that of the queues.
+pub fn run_after<L, S, G>(
+    rt: &S,
+    alloc: Global,
+    books: Books,
+    script: &Script<'_>,
+    gate: &G,
+    noted: &mut Vec<Noted>,
+) -> Result<Journal, RunFault>
+where
+    L: Look<Guarded> + Sync,
+    L::Seat: Send,
+    L::Walk: Send,
+    S: Threads + Wait + Clock + Sync,
+    G: Gate + Sync,
+    requires processes { (1 ≤ script.now.processes) × (script.now.processes ≤ 32) }
+    requires count { books.n ≡ script.now.processes }
+    requires stored { (books.bounds ≡ None) × (books.stored ≡ true) }
+    requires free { NoneWaits books.records script.now.processes }
+    requires nothing { noted.old.items ≡ [] }
+    ensures fault { IfErr result IsUnwritten }
+    ensures legal { IfOk result (λ journal. Legal journal.records) }
+    // What is noted are the replies, and no call was refused memory.
+    ensures done { IfOk result (λ journal. RunsServedAfter books.records
+        (said_script script.now) noted.new.items journal.records) }
+    ensures refused { some_refused noted.new.items ≡ true → IsErrOf result NoMemory }
+{
+    let ran = make_after::<L, S, G>(rt, alloc, books, script, gate, noted);
+    if some_refused(noted.as_slice()) {
+        return Err(RunFault::NoMemory);
+    }
+    let journal = ran?;
+    Ok(journal)
+}
+
+// Makes the calls of a script, whether or not one of them is refused memory.
+fn make_after<L, S, G>(
+    rt: &S,
+    alloc: Global,
+    books: Books,
+    script: &Script<'_>,
+    gate: &G,
+    noted: &mut Vec<Noted>,
+) -> Result<Journal, RunFault>
+where
+    L: Look<Guarded> + Sync,
+    L::Seat: Send,
+    L::Walk: Send,
+    S: Threads + Wait + Clock + Sync,
+    G: Gate + Sync,
+    requires processes { (1 ≤ script.now.processes) × (script.now.processes ≤ 32) }
+    requires count { books.n ≡ script.now.processes }
+    requires stored { (books.bounds ≡ None) × (books.stored ≡ true) }
+    requires free { NoneWaits books.records script.now.processes }
+    requires nothing { noted.old.items ≡ [] }
+    ensures fault { IfErr result IsUnwritten }
+    ensures legal { IfOk result (λ journal. Legal journal.records) }
+    // What is noted are the replies.
+    ensures done { IfOk result (λ journal. RunsAfter books.records (said_script script.now)
+        (lines_of noted.new.items) journal.records) }
+{
+    let Ok((mq, processes)) = Mq::<L>::resume(alloc, books) else {
+        return Err(RunFault::NoMemory);
+    };
+    make_on(rt, alloc, mq, processes, script, gate, noted)
+}
