@@ -1,11 +1,14 @@
 -- How the processes of a script begin.
-use Rattle.std.proofs.Common.{◌≡◌, ℕ, zero, suc, ◌+◌, List, [], ◌∷◌, ◌++◌, length, map, None, replicate, refl, ap, sym, ◌∙◌, arith, Vec}
+use Rattle.std.proofs.Common.{◌≡◌, ℕ, zero, suc, ◌+◌, ◌<◌, ◌≤◌, List, [], ◌∷◌, ◌++◌, length, map, None, replicate, refl, ap, sym, ◌∙◌, arith, Vec}
 use Rattle.std.specs.declared.alloc.Global.{Global}
-use Rattle.fast_mutex.specs.Items.{LockId, tickets_from}
+use Rattle.fast_mutex.specs.Items.{LockId, tickets_with}
 use Rattle.mq.specs.Calls.{bounds_in}
+use Rattle.mq_model.specs.Record.{Past}
+use Rattle.mq_model.specs.Waits.{open_wait}
 use Rattle.script_orders.specs.Plans.{Plan, plan_of, program_of, programs_of}
 use Rattle.script_orders.specs.Stage.{fresh}
 use Rattle.script_orders.specs.declared.plan.Planned.{Planned}
+use Rattle.script_runner.specs.Runs.{NoneWaits}
 use Rattle.script_text.specs.Script.{WrittenCall}
 use Rattle.script_laws.proofs.Growth.{AllLeft}
 use Rattle.script_laws.proofs.Sitting.{AllSit}
@@ -32,11 +35,11 @@ in-order phases (suc n) =
     ap (λ (l : List (List Plan)). l ++ program_of 0 phases (n + 1) ∷ []) (in-order phases n)
     ∙ (ap (λ (k : ℕ). programs_from phases 1 n ++ program_of 0 phases k ∷ []) e ∙ sym (one-more phases 1 n))
 
-begin-sit : (phases : List (List WrittenCall)) (lock : LockId) (p n : ℕ) (programs : List (Vec Planned Global)) → bounds_in lock.fixed ≡ None → map shown programs ≡ programs_from phases p n → AllSit 0 phases p programs (replicate n fresh) (tickets_from lock p n)
-begin-sit phases lock p zero [] unbounded are = (refl, refl)
-begin-sit phases lock p zero (program ∷ programs) unbounded are = cc
-begin-sit phases lock p (suc n) [] unbounded are = cc
-begin-sit phases lock p (suc n) (program ∷ programs) unbounded are =
+begin-sit : (past : Past) (phases : List (List WrittenCall)) (lock : LockId) (p n : ℕ) (programs : List (Vec Planned Global)) → bounds_in lock.fixed ≡ None → ((q : ℕ) → p ≤ q → q < p + n → open_wait past q ≡ None) → map shown programs ≡ programs_from phases p n → AllSit 0 phases p programs (replicate n fresh) (tickets_with lock past p n)
+begin-sit past phases lock p zero [] unbounded free are = (refl, refl)
+begin-sit past phases lock p zero (program ∷ programs) unbounded free are = cc
+begin-sit past phases lock p (suc n) [] unbounded free are = cc
+begin-sit past phases lock p (suc n) (program ∷ programs) unbounded free are =
     let lines : map plan_of program.items ≡ program_of 0 phases p = cc in
     let rest : map shown programs ≡ programs_from phases (suc p) n = cc in (
       program,
@@ -45,17 +48,18 @@ begin-sit phases lock p (suc n) (program ∷ programs) unbounded are =
       replicate n fresh,
       refl,
       refl,
-      record { number = refl; unbounded = unbounded; free = refl; earlier = []; are = lines; count = refl; text = refl },
-      begin-sit phases lock (suc p) n programs unbounded rest,
+      record { number = refl; unbounded = unbounded; free = free p (omega arith) (omega arith); earlier = []; are = lines; count = refl; text = refl },
+      begin-sit past phases lock (suc p) n programs unbounded (λ q low high. free q (omega (arith, low)) (omega (arith, high))) rest,
     )
 
-pub all-begin : (phases : List (List WrittenCall)) (lock : LockId) (n : ℕ) (programs : List (Vec Planned Global)) → bounds_in lock.fixed ≡ None → map shown programs ≡ programs_of phases n → AllSit 0 phases 1 programs (replicate n fresh) (tickets_from lock 1 n)
-all-begin phases lock n programs unbounded are = begin-sit phases lock 1 n programs unbounded (are ∙ in-order phases n)
+pub all-begin : (past : Past) (phases : List (List WrittenCall)) (lock : LockId) (n : ℕ) (programs : List (Vec Planned Global)) → bounds_in lock.fixed ≡ None → NoneWaits past n → map shown programs ≡ programs_of phases n → AllSit 0 phases 1 programs (replicate n fresh) (tickets_with lock past 1 n)
+all-begin past phases lock n programs unbounded free are =
+    begin-sit past phases lock 1 n programs unbounded (λ q low high. free q low (omega (arith, high))) (are ∙ in-order phases n)
 
--- with the empty journal
-pub none-left : (lock : LockId) (p n : ℕ) → AllLeft [] (tickets_from lock p n)
-none-left lock p zero = tt
-none-left lock p (suc n) = (refl, none-left lock (suc p) n)
+-- with the journal before
+pub all-left-with : (past : Past) (lock : LockId) (p n : ℕ) → AllLeft past (tickets_with lock past p n)
+all-left-with past lock p zero = tt
+all-left-with past lock p (suc n) = (refl, all-left-with past lock (suc p) n)
 
 pub count-from : (phases : List (List WrittenCall)) (p n : ℕ) → length (programs_from phases p n) ≡ n
 count-from phases p zero = refl

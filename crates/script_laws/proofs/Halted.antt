@@ -28,7 +28,7 @@ use Rattle.script_laws.specs.StandLaws.{stand_text, stand_told}
 use Rattle.script_laws.proofs.Course.{Course}
 use Rattle.script_laws.proofs.Halting.{Halts}
 use Rattle.script_laws.proofs.Resting.{has-end, has-program, no-turn, still-where}
-use Rattle.script_laws.proofs.Runners.{Runner, ends_in, programs_in, there-is}
+use Rattle.script_laws.proofs.Runners.{Frame, Runner, ends_in, programs_in, there-is}
 use Rattle.script_laws.proofs.Sitting.{Through}
 use Rattle.script_laws.proofs.Weaving.{ended}
 
@@ -79,11 +79,11 @@ stand-more : (first more : List ℕ) → stand_text (first ++ more) ≡ stand_te
 stand-more [] more = refl
 stand-more (line ∷ first) more = ap (λ (l : List ℕ). wait_text line ++ l) (stand-more first more) ∙ sym (append_assoc (wait_text line) (stand_text first) (stand_text more))
 
-rests-said : (b : Option ℕ) (i phases phase : ℕ) (past to : Past) (runners : List Runner) (r : Runner) → slice_get runners i ≡ Some r → Rests b (i + 1) phase past to r → wait_of (ended phases phase to runners) i ≡ stand_text (line_in b)
-rests-said None i phases phase past to runners r has rests =
-    ap (λ (o : Option ℕ). if is_some o then wait_text (wait_line_of (ended phases phase to runners) i) else []) rests.free
-rests-said (Some line) i phases phase past to runners r has rests =
-    let s : Stage = ended phases phase to runners in
+rests-said : (b : Option ℕ) (i : ℕ) (frame : Frame) (phase : ℕ) (past to : Past) (runners : List Runner) (r : Runner) → slice_get runners i ≡ Some r → Rests b (i + 1) phase past to r → wait_of (ended frame phase to runners) i ≡ stand_text (line_in b)
+rests-said None i frame phase past to runners r has rests =
+    ap (λ (o : Option ℕ). if is_some o then wait_text (wait_line_of (ended frame phase to runners) i) else []) rests.free
+rests-said (Some line) i frame phase past to runners r has rests =
+    let s : Stage = ended frame phase to runners in
     let both = parts to (i + 1) rests.blocked in
     let by_seat : Vec Planned Global → Option Progress → ℕ = λ program o. unwrap_or (option_map (λ (seat : Progress). line_of program seat.begun) o) 0 in
     let by_program : Option (Vec Planned Global) → ℕ = λ o.
@@ -129,7 +129,7 @@ some-told [] some none = some refl
 some-told (line ∷ lines) some none = cc
 
 -- all rest, and one of them waits
-module _ (phases phase : ℕ) (past to : Past) (runners : List Runner) (worked : List (Worked (Ticket Record))) (count : length runners ≡ length worked)
+module _ (frame : Frame) (phase : ℕ) (past to : Past) (runners : List Runner) (worked : List (Worked (Ticket Record))) (count : length runners ≡ length worked)
     (rest : (i : ℕ) (r : Runner) (w : Worked (Ticket Record)) → slice_get runners i ≡ Some r → slice_get worked i ≡ Some w → Rests w.blocked (i + 1) phase past to r) where
   of-runner : (i : ℕ) (r : Runner) → slice_get runners i ≡ Some r → (w : Worked (Ticket Record)) × Rests w.blocked (i + 1) phase past to r
   of-runner i r has =
@@ -140,23 +140,23 @@ module _ (phases phase : ℕ) (past to : Past) (runners : List Runner) (worked :
   pub halted-course : (i : ℕ) (r : Runner) → slice_get runners i ≡ Some r → Course (i + 1) phase r.program to r.end r.moves past r.seat
   halted-course i r has = let w = of-runner i r has in rests-course w.0.blocked (i + 1) phase past to r w.1
 
-  pub halted-still : stands_still (ended phases phase to runners) ≡ true
-  halted-still = still-where phases phase to runners (λ i r has. let w = of-runner i r has in rests-turn w.0.blocked (i + 1) phase past to r w.1)
+  pub halted-still : stands_still (ended frame phase to runners) ≡ true
+  halted-still = still-where frame phase to runners (λ i r has. let w = of-runner i r has in rests-turn w.0.blocked (i + 1) phase past to r w.1)
 
-  halted-lines : waiting_lines (ended phases phase to runners) (length (programs_in runners)) ≡ stand_text (blocked_lines worked)
+  halted-lines : waiting_lines (ended frame phase to runners) (length (programs_in runners)) ≡ stand_text (blocked_lines worked)
   halted-lines =
-      let s : Stage = ended phases phase to runners in
+      let s : Stage = ended frame phase to runners in
       let programs : length (programs_in runners) ≡ length runners = length-map runners (λ (r : Runner). r.program) in
       let many : length (programs_in runners) ≡ 0 + length worked = omega (arith, programs, count) in
       ap (λ (k : ℕ). waiting_lines s k) many ∙ lines-from s worked 0 (λ i w has.
       let below : i < length worked = slice_get_within worked i w has in
       let there = there-is runners i (omega (arith, below, count)) in
       let here : i ≡ 0 + i = omega arith in
-      subst (λ (k : ℕ). wait_of s k ≡ stand_text (line_in w.blocked)) here (rests-said w.blocked i phases phase past to runners there.0 there.1 (rest i there.0 w there.1 has)))
+      subst (λ (k : ℕ). wait_of s k ≡ stand_text (line_in w.blocked)) here (rests-said w.blocked i frame phase past to runners there.0 there.1 (rest i there.0 w there.1 has)))
 
-  pub halted-tells : (lines : List ℕ) → blocked_lines worked ≡ lines → lines ≢ [] → told (ended phases phase to runners) ≡ stand_told phase lines
+  pub halted-tells : (lines : List ℕ) → blocked_lines worked ≡ lines → lines ≢ [] → told (ended frame phase to runners) ≡ stand_told phase lines
   halted-tells lines are some =
-      let s : Stage = ended phases phase to runners in
+      let s : Stage = ended frame phase to runners in
       let n : ℕ = length (programs_in runners) in
       let all : waiting_lines s n ≡ stand_text lines = halted-lines ∙ ap stand_text are in
       let waits_so : waits s ≡ true = split (waits s) (λ yes. yes) (λ no. absurd (some-told lines some (sym all ∙ none-told s n no))) in

@@ -1,10 +1,10 @@
 -- What a run prints of its phases is told of one order.
-use Rattle.std.proofs.Common.{◌≡◌, ℕ, refl, ◌+◌, ◌≤◌, List, [], ◌∷◌, ◌++◌, length, map, Option, None, Some, replicate, ap, sym, ◌∙◌, subst, arith, append-nil, Vec}
+use Rattle.std.proofs.Common.{◌≡◌, ℕ, zero, suc, refl, ◌+◌, ◌≤◌, List, [], ◌∷◌, ◌++◌, length, map, Option, None, Some, replicate, ap, sym, ◌∙◌, subst, arith, append-nil, Vec}
 use Rattle.std.specs.List.{All}
 use Rattle.std.specs.Option.{option_and_then}
 use Rattle.std.specs.declared.alloc.Global.{Global}
 use Rattle.std.proofs.lemmas.List.{length-map}
-use Rattle.fast_mutex.specs.Items.{LockId, Ticket, tickets_from}
+use Rattle.fast_mutex.specs.Items.{LockId, Ticket, tickets_from, tickets_with}
 use Rattle.mq.specs.Calls.{bounds_in}
 use Rattle.mq_model.specs.Record.{Past, Record}
 use Rattle.schedules.specs.Outcomes.{AreAll, is_among}
@@ -12,19 +12,19 @@ use Rattle.schedules.specs.Schedules.{after}
 use Rattle.schedules.specs.Told.{Told}
 use Rattle.schedules.specs.declared.outcomes.Witnessed.{Witnessed}
 use Rattle.schedules.proofs.Covering.{after-append}
-use Rattle.script_orders.specs.Orders.{Begins}
+use Rattle.script_orders.specs.Orders.{Begins, BeginsAfter}
 use Rattle.script_orders.specs.Plans.{Plan, plan_of}
 use Rattle.script_orders.specs.Progress.{Progress}
 use Rattle.script_orders.specs.Stage.{Stage, fresh, next_stage, seats_cleared, stands_still, told}
 use Rattle.script_orders.specs.declared.plan.Planned.{Planned}
-use Rattle.script_runner.specs.Runs.{RunsPhases, RunsWhole}
+use Rattle.script_runner.specs.Runs.{NoneWaits, RunsAfter, RunsPhases, RunsWhole}
 use Rattle.script_text.specs.Script.{Whole, WrittenCall}
-use Rattle.script_laws.specs.RunLaws.{AreAmplePhases, AreFound, AreTold, AreToldBefore, IsAmple, phase_replies, phase_told, whole_replies}
-use Rattle.script_laws.proofs.Beginning.{all-begin, count-from, in-order, none-left}
+use Rattle.script_laws.specs.RunLaws.{AreAmplePhases, AreFound, AreTold, AreToldBefore, IsAmple, IsAmpleAfter, phase_replies, phase_told, replies_after, whole_replies}
+use Rattle.script_laws.proofs.Beginning.{all-begin, all-left-with, count-from, in-order}
 use Rattle.script_laws.proofs.Growth.{AllLeft, AreEnds, IsEnd, all-grow, meeting, phase-grows, phases-end}
 use Rattle.script_laws.proofs.Joins.{all-left, all-right}
 use Rattle.script_laws.proofs.Resting.{AllThrough, next-begins, still, tells}
-use Rattle.script_laws.proofs.Runners.{AreOnCourse, Runner, ends_in, programs_in, seats_in, staged}
+use Rattle.script_laws.proofs.Runners.{AreOnCourse, Frame, Runner, ends_in, programs_in, seats_in, staged}
 use Rattle.script_laws.proofs.Sitting.{AllSit, Through, all-run}
 use Rattle.script_laws.proofs.Weaving.{IsOf, ended, weaving}
 
@@ -36,51 +36,51 @@ then-after schedule more from mid to first rest =
     after-append next_stage schedule more from ∙ (ap (λ (o : Option Stage). option_and_then (after next_stage more) o) first ∙ rest)
 
 -- as many programs as processes
-program-count : (script : Whole) (from : Stage) → Begins script from → length from.programs ≡ script.processes
+program-count : {past : Past} (script : Whole) (from : Stage) → BeginsAfter past script from → length from.programs ≡ script.processes
 program-count script from begins =
     let shown : Vec Planned Global → List Plan = λ program. map plan_of program.items in
     sym (length-map from.programs shown) ∙ (ap (λ (l : List (List Plan)). length l) (begins.programs ∙ in-order script.phases script.processes) ∙ count-from script.phases 1 script.processes)
 
-pub all-of : (script : Whole) (journal : Past) (from : Stage) → Begins script from → All (IsOf script.processes) journal → All (IsOf (length from.programs)) journal
+pub all-of : {past : Past} (script : Whole) (journal : Past) (from : Stage) → BeginsAfter past script from → All (IsOf script.processes) journal → All (IsOf (length from.programs)) journal
 all-of script journal from begins of = subst (λ (k : ℕ). All (IsOf k) journal) (sym (program-count script from begins)) of
 
 -- One order of calls leads from this stage to the beginning of a phase, where these processes sit. These are the phases from that one on
-pub record Reached (from : Stage) (journal : Past) (programs : List (Vec Planned Global)) (total phase : ℕ) (phases : List (List WrittenCall)) (tickets : List (Ticket Record)) : Type 0 where
+pub record Reached (from : Stage) (journal : Past) (programs : List (Vec Planned Global)) (frame : Frame) (phase : ℕ) (phases : List (List WrittenCall)) (tickets : List (Ticket Record)) : Type 0 where
   pub past : Past
   pub seats : List Progress
   pub schedule : List ℕ
   pub sit : AllSit phase phases 1 programs seats tickets
   pub left : AllLeft past tickets
   pub here : IsEnd past journal
-  pub count : total ≡ phase + length phases
-  pub leads : 1 ≤ length phases → after next_stage schedule from ≡ Some (record { programs = programs; phases = total; phase = phase; past = past; seats = seats })
+  pub count : frame.phases ≡ phase + length phases
+  pub leads : 1 ≤ length phases → after next_stage schedule from ≡ Some (record { programs = programs; phases = frame.phases; start = frame.start; phase = phase; past = past; seats = seats })
 
 -- where each process has a course through the phase, they go through it in some order
-pub phase-runs : (from : Stage) (journal : Past) (programs : List (Vec Planned Global)) (total phase : ℕ) (phases : List (List WrittenCall)) (tickets : List (Ticket Record)) (reached : Reached from journal programs total phase phases tickets) (to : Past) (runners : List Runner) →
+pub phase-runs : (from : Stage) (journal : Past) (programs : List (Vec Planned Global)) (frame : Frame) (phase : ℕ) (phases : List (List WrittenCall)) (tickets : List (Ticket Record)) (reached : Reached from journal programs frame phase phases tickets) (to : Past) (runners : List Runner) →
     All (IsOf (length programs)) journal → 1 ≤ length phases → IsEnd reached.past to → IsEnd to journal → programs_in runners ≡ programs → seats_in runners ≡ reached.seats → AreOnCourse phase to reached.past runners →
-    (schedule : List ℕ) × (after next_stage schedule from ≡ Some (ended total phase to runners))
-phase-runs from journal programs total phase phases tickets reached to runners of some begin end programs_are seats_are on =
+    (schedule : List ℕ) × (after next_stage schedule from ≡ Some (ended frame phase to runners))
+phase-runs from journal programs frame phase phases tickets reached to runners of some begin end programs_are seats_are on =
     let past : Past = reached.past in
     let many : length programs ≡ length runners = sym (ap (λ (l : List (Vec Planned Global)). length l) programs_are) ∙ length-map runners (λ (r : Runner). r.program) in
     let of_to : All (IsOf (length programs)) to = all-right (IsOf (length programs)) end.more to (subst (λ (l : Past). All (IsOf (length programs)) l) end.is of) in
     let of_more : All (IsOf (length programs)) begin.more = all-left (IsOf (length programs)) begin.more past (subst (λ (l : Past). All (IsOf (length programs)) l) begin.is of_to) in
-    let woven = weaving total phase to past runners begin.more on begin.is (subst (λ (k : ℕ). All (IsOf k) begin.more) many of_more) in
+    let woven = weaving frame phase to past runners begin.more on begin.is (subst (λ (k : ℕ). All (IsOf k) begin.more) many of_more) in
     let made : List (Vec Planned Global) → List Progress → Option Stage = λ programs seats.
-    Some (record { programs = programs; phases = total; phase = phase; past = past; seats = seats })
+    Some (record { programs = programs; phases = frame.phases; start = frame.start; phase = phase; past = past; seats = seats })
     in
-    let start : after next_stage reached.schedule from ≡ Some (staged total phase past runners) =
+    let start : after next_stage reached.schedule from ≡ Some (staged frame phase past runners) =
     reached.leads some ∙ (ap (λ (l : List (Vec Planned Global)). made l reached.seats) (sym programs_are) ∙ ap (λ (l : List Progress). made (programs_in runners) l) (sym seats_are))
     in
-    (reached.schedule ++ woven.0, then-after reached.schedule woven.0 from (staged total phase past runners) (ended total phase to runners) start woven.1)
+    (reached.schedule ++ woven.0, then-after reached.schedule woven.0 from (staged frame phase past runners) (ended frame phase to runners) start woven.1)
 
 -- what is printed of some phases is told of one order, which leads to the beginning of the later ones
-pub phases-told : (GoesOn : Stage → ℕ → Type 0) (journal : Past) (programs : List (Vec Planned Global)) (total : ℕ) (later : List (List WrittenCall)) (tickets : List (Ticket Record)) →
-    All (IsOf (length programs)) journal → AreEnds journal tickets → ((from : Stage) (phase : ℕ) → Reached from journal programs total phase later tickets → GoesOn from phase) →
+pub phases-told : (GoesOn : Stage → ℕ → Type 0) (journal : Past) (programs : List (Vec Planned Global)) (frame : Frame) (later : List (List WrittenCall)) (tickets : List (Ticket Record)) →
+    All (IsOf (length programs)) journal → AreEnds journal tickets → ((from : Stage) (phase : ℕ) → Reached from journal programs frame phase later tickets → GoesOn from phase) →
     (phases : List (List WrittenCall)) (phase : ℕ) (from : Stage) (before : List (Ticket Record)) (text : List ℕ) (ran : RunsPhases phases before tickets text) → AreAmplePhases phases before tickets text ran →
-    Reached from journal programs total phase (phases ++ later) before → AreToldBefore GoesOn from phase (phase_replies phases before tickets text ran)
-phases-told GoesOn journal programs total later tickets of ends then [] phase from before text ran ample reached =
-    then from phase (subst (λ (ts : List (Ticket Record)). Reached from journal programs total phase later ts) (sym ran.0) reached)
-phases-told GoesOn journal programs total later tickets of ends then (calls ∷ phases) phase from before text ran ample reached =
+    Reached from journal programs frame phase (phases ++ later) before → AreToldBefore GoesOn from phase (phase_replies phases before tickets text ran)
+phases-told GoesOn journal programs frame later tickets of ends then [] phase from before text ran ample reached =
+    then from phase (subst (λ (ts : List (Ticket Record)). Reached from journal programs frame phase later ts) (sym ran.0) reached)
+phases-told GoesOn journal programs frame later tickets of ends then (calls ∷ phases) phase from before text ran ample reached =
     let between : List (Ticket Record) = ran.1 in
     let rest : List (List WrittenCall) = phases ++ later in
     let past : Past = reached.past in
@@ -89,19 +89,19 @@ phases-told GoesOn journal programs total later tickets of ends then (calls ∷ 
     let all = all-run phase calls rest ran.2 1 past to programs reached.seats before ran.0 between ran.3 ran.5 ample.0 reached.sit ran.6 reached.left met.all in
     let runners : List Runner = all.runners in
     let through : AllThrough phase past to runners = λ i r has. at-number (1 + i) (i + 1) phase past to r (omega arith) (all.through i r has) in
-    let runs = phase-runs from journal programs total phase (calls ∷ rest) before reached to runners of (omega arith) met.from met.end all.programs_are all.seats_are (λ i r has. (through i r has).course) in
-    let last : Stage = ended total phase to runners in
-    let said : told last ≡ phase_told phase ran.3 = tells total phase past to runners through ∙ ap (λ (l : List ℕ). phase_told phase l) all.replies_are in
+    let runs = phase-runs from journal programs frame phase (calls ∷ rest) before reached to runners of (omega arith) met.from met.end all.programs_are all.seats_are (λ i r has. (through i r has).course) in
+    let last : Stage = ended frame phase to runners in
+    let said : told last ≡ phase_told phase ran.3 = tells frame phase past to runners through ∙ ap (λ (l : List ℕ). phase_told phase l) all.replies_are in
     let n : ℕ = length (programs_in runners) in
     let count = reached.count in
     let next : List (Vec Planned Global) → Option Stage = λ programs.
-    Some (record { programs = programs; phases = total; phase = phase + 1; past = to; seats = seats_cleared (ends_in runners) })
+    Some (record { programs = programs; phases = frame.phases; start = frame.start; phase = phase + 1; past = to; seats = seats_cleared (ends_in runners) })
     in
     let goes : 1 ≤ length rest → after next_stage (n ∷ []) last ≡ next programs = λ some.
-    ap (λ (o : Option Stage). option_and_then (after next_stage []) o) (next-begins total phase past to runners through (omega (arith, some, count)))
+    ap (λ (o : Option Stage). option_and_then (after next_stage []) o) (next-begins frame phase past to runners through (omega (arith, some, count)))
     ∙ ap next all.programs_are
     in
-    let on : Reached last journal programs total (phase + 1) rest between = record {
+    let on : Reached last journal programs frame (phase + 1) rest between = record {
       past = to;
       seats = seats_cleared (ends_in runners);
       schedule = n ∷ [];
@@ -114,37 +114,70 @@ phases-told GoesOn journal programs total later tickets of ends then (calls ∷ 
     in (
       runs.0,
       last,
-      record { runs = runs.1; goal = still total phase past to runners through },
+      record { runs = runs.1; goal = still frame phase past to runners through },
       said,
-      phases-told GoesOn journal programs total later tickets of ends then phases (phase + 1) last between ran.4 ran.7 ample.1 on,
+      phases-told GoesOn journal programs frame later tickets of ends then phases (phase + 1) last between ran.4 ran.7 ample.1 on,
     )
 
+-- a stage with this journal before all phases
+abbrev pub frame_of : Stage → Past → Frame
+frame_of from past = record { phases = from.phases; start = past }
+
 -- the processes of a script begin with its first phase
-pub all-reached : (script : Whole) (system : LockId) (journal : Past) (from : Stage) → bounds_in system.fixed ≡ None → Begins script from → Reached from journal from.programs from.phases 0 script.phases (tickets_from system 1 script.processes)
-all-reached script system journal from unbounded begins =
-    let made : List Progress → Option Stage = λ seats.
-    Some (record { programs = from.programs; phases = from.phases; phase = 0; past = []; seats = seats })
+pub all-reached : (past : Past) (script : Whole) (system : LockId) (journal : Past) (from : Stage) → bounds_in system.fixed ≡ None → NoneWaits past script.processes → IsEnd past journal → BeginsAfter past script from → Reached from journal from.programs (frame_of from past) 0 script.phases (tickets_with system past 1 script.processes)
+all-reached past script system journal from unbounded free end begins =
+    let made : Past → List Progress → Option Stage = λ start seats.
+    Some (record { programs = from.programs; phases = from.phases; start = start; phase = 0; past = start; seats = seats })
     in
-    let start : after next_stage [] from ≡ made (replicate script.processes fresh) = ap (λ (s : Stage). Some s) (sym begins.first) ∙ ap (λ (k : ℕ). made (replicate k fresh)) (program-count script from begins) in
+    let start : after next_stage [] from ≡ made past (replicate script.processes fresh) =
+    ap (λ (s : Stage). Some s) (sym begins.first)
+    ∙ (ap (λ (k : ℕ). made from.start (replicate k fresh)) (program-count script from begins) ∙ ap (λ (p : Past). made p (replicate script.processes fresh)) begins.start)
+    in
     record {
-      past = [];
+      past = past;
       seats = replicate script.processes fresh;
       schedule = [];
-      sit = all-begin script.phases system script.processes from.programs unbounded begins.programs;
-      left = none-left system 1 script.processes;
-      here = record { more = journal; is = sym (append-nil journal) };
+      sit = all-begin past script.phases system script.processes from.programs unbounded free begins.programs;
+      left = all-left-with past system 1 script.processes;
+      here = end;
       count = omega (arith, begins.phases);
       leads = λ some. start;
     }
+
+-- before all calls
+pub new-reached : (script : Whole) (system : LockId) (journal : Past) (from : Stage) → bounds_in system.fixed ≡ None → Begins script from → Reached from journal from.programs (frame_of from []) 0 script.phases (tickets_from system 1 script.processes)
+new-reached script system journal from unbounded begins =
+    all-reached [] script system journal from unbounded (λ p low high. refl) (record { more = journal; is = sym (append-nil journal) }) begins
 
 -- of a run: what is printed of its phases is told of one order
 pub run-told : (script : Whole) (text : List ℕ) (journal : Past) (ran : RunsWhole script text journal) (from : Stage) → IsAmple ran → Begins script from → AreTold from 0 (whole_replies ran)
 run-told script text journal ran from ample begins =
     let tickets : List (Ticket Record) = tickets_from ran.system 1 script.processes in
-    let first : Reached from journal from.programs from.phases 0 script.phases tickets = all-reached script ran.system journal from ran.unbounded begins in
-    phases-told (λ to next. Unit {0}) journal from.programs from.phases [] ran.processes (all-of script journal from begins ran.authors) (all-grow journal ran.processes ran.grows) (λ to next reached. tt)
+    let first : Reached from journal from.programs (frame_of from []) 0 script.phases tickets = new-reached script ran.system journal from ran.unbounded begins in
+    phases-told (λ to next. Unit {0}) journal from.programs (frame_of from []) [] ran.processes (all-of script journal from begins ran.authors) (all-grow journal ran.processes ran.grows) (λ to next reached. tt)
     script.phases 0 from tickets text ran.ran ample
-    (subst (λ (phases : List (List WrittenCall)). Reached from journal from.programs from.phases 0 phases tickets) (sym (append-nil script.phases)) first)
+    (subst (λ (phases : List (List WrittenCall)). Reached from journal from.programs (frame_of from []) 0 phases tickets) (sym (append-nil script.phases)) first)
+
+first-end : (journal past : Past) (lock : LockId) (n : ℕ) → 1 ≤ n → AreEnds journal (tickets_with lock past 1 n) → IsEnd past journal
+first-end journal past lock zero some ends = absurd (omega (arith, some))
+first-end journal past lock (suc n) some ends = ends.0
+
+-- a run that goes on from a journal leaves one that begins with it
+pub after-end : (past : Past) (script : Whole) (text : List ℕ) (journal : Past) → 1 ≤ script.processes → RunsAfter past script text journal → IsEnd past journal
+after-end past script text journal some ran =
+    let runs = ran.runs in let tickets : List (Ticket Record) = tickets_with ran.system past 1 script.processes in
+    first-end journal past ran.system script.processes some (phases-end journal script.phases tickets runs.processes text runs.ran (all-grow journal runs.processes runs.grows))
+
+-- the same of a run that goes on from a journal
+pub run-after-told : (past : Past) (script : Whole) (text : List ℕ) (journal : Past) (ran : RunsAfter past script text journal) (from : Stage) → IsEnd past journal → IsAmpleAfter ran → BeginsAfter past script from → AreTold from 0 (replies_after ran)
+run-after-told past script text journal ran from end ample begins =
+    let runs = ran.runs in
+    let tickets : List (Ticket Record) = tickets_with ran.system past 1 script.processes in
+    let first : Reached from journal from.programs (frame_of from past) 0 script.phases tickets = all-reached past script ran.system journal from ran.unbounded ran.free end begins in
+    let authors : All (IsOf script.processes) journal = subst (λ (n : ℕ). All (IsOf n) journal) ran.count runs.authors in
+    phases-told (λ to next. Unit {0}) journal from.programs (frame_of from past) [] runs.processes (all-of script journal from begins authors) (all-grow journal runs.processes runs.grows) (λ to next reached. tt)
+    script.phases 0 from tickets text runs.ran ample
+    (subst (λ (phases : List (List WrittenCall)). Reached from journal from.programs (frame_of from past) 0 phases tickets) (sym (append-nil script.phases)) first)
 
 -- where every order from a first stage on was tried -----------------------------------------------------------------------
 

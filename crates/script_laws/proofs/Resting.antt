@@ -16,7 +16,7 @@ use Rattle.script_orders.specs.Turns.{Turned, after_line, after_turn, scene_of, 
 use Rattle.script_orders.specs.declared.plan.Planned.{Planned}
 use Rattle.script_orders.proofs.Turning.{turn_of-is}
 use Rattle.schedules.specs.Told.{Told}
-use Rattle.script_laws.proofs.Runners.{Runner, ends_in, programs_in, there-is}
+use Rattle.script_laws.proofs.Runners.{Frame, Runner, ends_in, programs_in, there-is}
 use Rattle.script_laws.proofs.Sitting.{Through}
 use Rattle.script_laws.proofs.Weaving.{ended}
 
@@ -54,41 +54,41 @@ none-waits past (suc n) none =
     ap (λ (b : Bool). b || is_some (open_wait past (n + 1))) (none-waits past n (λ i below. none i (omega (arith, below)))) ∙ ap (λ (o : Option ℕ). is_some o) (none n (omega arith))
 
 -- where each has no turn the machine stands still
-pub still-where : (phases phase : ℕ) (to : Past) (runners : List Runner) → ((i : ℕ) (r : Runner) → slice_get runners i ≡ Some r → after_turn to phase (i + 1) r.end r.program ≡ None) → stands_still (ended phases phase to runners) ≡ true
-still-where phases phase to runners none = none-can (ended phases phase to runners) (length (programs_in runners)) (λ i below.
+pub still-where : (frame : Frame) (phase : ℕ) (to : Past) (runners : List Runner) → ((i : ℕ) (r : Runner) → slice_get runners i ≡ Some r → after_turn to phase (i + 1) r.end r.program ≡ None) → stands_still (ended frame phase to runners) ≡ true
+still-where frame phase to runners none = none-can (ended frame phase to runners) (length (programs_in runners)) (λ i below.
     let count : length (programs_in runners) ≡ length runners = length-map runners (λ (r : Runner). r.program) in
     let there = there-is runners i (omega (arith, below, count)) in
     let r : Runner = there.0 in
-    turn_of-is (ended phases phase to runners) i r.program r.end (has-program runners i r there.1) (has-end runners i r there.1) ∙ none i r there.1)
+    turn_of-is (ended frame phase to runners) i r.program r.end (has-program runners i r there.1) (has-end runners i r there.1) ∙ none i r there.1)
 
 -- all have come through the phase
 abbrev pub AllThrough : ℕ → Past → Past → List Runner → Type 0
 AllThrough phase past to runners = (i : ℕ) (r : Runner) → slice_get runners i ≡ Some r → Through (i + 1) phase past to r
 
-module _ (phases phase : ℕ) (past to : Past) (runners : List Runner) (through : AllThrough phase past to runners) where
+module _ (frame : Frame) (phase : ℕ) (past to : Past) (runners : List Runner) (through : AllThrough phase past to runners) where
   count : length (programs_in runners) ≡ length runners
   count = length-map runners (λ (r : Runner). r.program)
 
-  pub still : stands_still (ended phases phase to runners) ≡ true
-  still = still-where phases phase to runners (λ i r has. no-turn to phase (i + 1) r.end r.program (through i r has).free (through i r has).done)
+  pub still : stands_still (ended frame phase to runners) ≡ true
+  still = still-where frame phase to runners (λ i r has. no-turn to phase (i + 1) r.end r.program (through i r has).free (through i r has).done)
 
-  pub waits-none : waits (ended phases phase to runners) ≡ false
+  pub waits-none : waits (ended frame phase to runners) ≡ false
   waits-none = none-waits to (length (programs_in runners)) (λ i below.
       let there = there-is runners i (omega (arith, below, count)) in
       (through i there.0 there.1).free)
 
-  pub tells : told (ended phases phase to runners) ≡ record { stage = phase; stuck = false; text = replies (ends_in runners) }
+  pub tells : told (ended frame phase to runners) ≡ record { stage = phase; stuck = false; text = replies (ends_in runners) }
   tells =
-      let telling : Bool → Told = λ b. record { stage = phase; stuck = b; text = if b then waiting_lines (ended phases phase to runners) (length (programs_in runners)) else replies (ends_in runners) } in
+      let telling : Bool → Told = λ b. record { stage = phase; stuck = b; text = if b then waiting_lines (ended frame phase to runners) (length (programs_in runners)) else replies (ends_in runners) } in
       ap telling waits-none
 
   -- the next phase, if there is one
-  pub next-begins : phase + 1 < phases → next_stage (ended phases phase to runners) (length (programs_in runners)) ≡ Some (in_next_phase (ended phases phase to runners))
+  pub next-begins : phase + 1 < frame.phases → next_stage (ended frame phase to runners) (length (programs_in runners)) ≡ Some (in_next_phase (ended frame phase to runners))
   next-begins more =
-      let s : Stage = ended phases phase to runners in
+      let s : Stage = ended frame phase to runners in
       let n : ℕ = length (programs_in runners) in
       let same : (n == n) ≡ true = eq-eqb n n refl in
-      let less : nat_lt (phase + 1) phases ≡ true = grind (arith, nat_tests) in
+      let less : nat_lt (phase + 1) frame.phases ≡ true = grind (arith, nat_tests) in
       let over : is_phase_over s ≡ true =
       ap (λ (b : Bool). b && (stands_still s && not (waits s))) less ∙ (ap (λ (b : Bool). b && not (waits s)) still ∙ ap (λ (b : Bool). not b) waits-none)
       in

@@ -20,6 +20,11 @@ pub record Runner : Type 0 where
   pub end : Progress
   pub moves : List Move
 
+-- what stays the same in a play: how many phases there are, and the journal before all of them
+pub record Frame : Type 0 where
+  pub phases : ℕ
+  pub start : Past
+
 abbrev pub programs_in : List Runner → List (Vec Planned Global)
 programs_in runners = map (λ (r : Runner). r.program) runners
 
@@ -30,9 +35,9 @@ abbrev pub ends_in : List Runner → List Progress
 ends_in runners = map (λ (r : Runner). r.end) runners
 
 -- process p is at p - 1
-abbrev pub staged : ℕ → ℕ → Past → List Runner → Stage
-staged phases phase past runners =
-    record { programs = programs_in runners; phases = phases; phase = phase; past = past; seats = seats_in runners }
+abbrev pub staged : Frame → ℕ → Past → List Runner → Stage
+staged frame phase past runners =
+    record { programs = programs_in runners; phases = frame.phases; start = frame.start; phase = phase; past = past; seats = seats_in runners }
 
 abbrev pub gone : Runner → Progress → List Move → Runner
 gone r seat moves = record { program = r.program; seat = seat; end = r.end; moves = moves }
@@ -73,9 +78,9 @@ map-agree {A} {B} f g (x ∷ xs) h =
     ap (λ (b : B). b ∷ map f xs) (h zero x refl) ∙ ap (λ (l : List B). g x ∷ l) (map-agree f g xs (λ i y has. h (suc i) y has))
 
 -- a process goes on
-pub goes-on : (phases phase : ℕ) (past : Past) (runners : List Runner) (i : ℕ) (r : Runner) (turned : Turned) (moves : List Move) → slice_get runners i ≡ Some r → after_turn past phase (i + 1) r.seat r.program ≡ Some turned → next_stage (staged phases phase past runners) i ≡ Some (staged phases phase turned.past (slice_set runners i (gone r turned.progress moves)))
-goes-on phases phase past runners i r turned moves here goes =
-    let s : Stage = staged phases phase past runners in
+pub goes-on : (frame : Frame) (phase : ℕ) (past : Past) (runners : List Runner) (i : ℕ) (r : Runner) (turned : Turned) (moves : List Move) → slice_get runners i ≡ Some r → after_turn past phase (i + 1) r.seat r.program ≡ Some turned → next_stage (staged frame phase past runners) i ≡ Some (staged frame phase turned.past (slice_set runners i (gone r turned.progress moves)))
+goes-on frame phase past runners i r turned moves here goes =
+    let s : Stage = staged frame phase past runners in
     let next : List Runner = slice_set runners i (gone r turned.progress moves) in
     let has : slice_get s.programs i ≡ Some r.program = slice_get-map (λ (r : Runner). r.program) runners i ∙ ap (λ (o : Option Runner). option_map (λ (r : Runner). r.program) o) here in
     let sits : slice_get s.seats i ≡ Some r.seat = slice_get-map (λ (r : Runner). r.seat) runners i ∙ ap (λ (o : Option Runner). option_map (λ (r : Runner). r.seat) o) here in
@@ -83,7 +88,7 @@ goes-on phases phase past runners i r turned moves here goes =
     let below : i < length s.programs = slice_get_within s.programs i r.program has in
     let other : (i == length s.programs) ≡ false = grind (arith, nat_tests) in
     let made : List (Vec Planned Global) → List Progress → Option Stage = λ programs seats.
-    Some (record { programs = programs; phases = phases; phase = phase; past = turned.past; seats = seats })
+    Some (record { programs = programs; phases = frame.phases; start = frame.start; phase = phase; past = turned.past; seats = seats })
     in
     ap (λ (b : Bool). if b then after_phase s else option_map (with_turn s i) (turn_of s i)) other
     ∙ ap (λ (o : Option Turned). option_map (with_turn s i) o) turn

@@ -27,8 +27,8 @@ use Rattle.script_laws.proofs.Course.{Move}
 use Rattle.script_laws.proofs.Growth.{AllGrown, AllLeft, AreEnds, IsEnd, by-calls, all-grow, calls-grow, end-then, meeting, phase-ends}
 use Rattle.script_laws.proofs.Halting.{one-halts, waits-by}
 use Rattle.script_laws.proofs.Halted.{Rests, halted-course, halted-still, halted-tells}
-use Rattle.script_laws.proofs.Phasing.{Reached, all-of, all-reached, phase-runs, phases-told, told-found, then-after}
-use Rattle.script_laws.proofs.Runners.{Runner, programs_in, seats_in}
+use Rattle.script_laws.proofs.Phasing.{Reached, all-of, frame_of, new-reached, phase-runs, phases-told, told-found, then-after}
+use Rattle.script_laws.proofs.Runners.{Frame, Runner, programs_in, seats_in}
 use Rattle.script_laws.proofs.Sitting.{AllSit, Sits, end_of, one-runs}
 use Rattle.script_laws.proofs.Weaving.{IsOf, ended}
 
@@ -125,10 +125,10 @@ all-blocked n to (w ∷ worked) (t ∷ after) met now all =
 
 -- the stand ----------------------------------------------------------------------------------------------------------------
 
-last-stands : (journal : Past) (programs : List (Vec Planned Global)) (total : ℕ) (last : List WrittenCall) (later : List (List WrittenCall)) (before : List (Ticket Record)) (lines : List ℕ) (after : List (Ticket Record)) (stand : ComesToAStand last before lines after) →
+last-stands : (journal : Past) (programs : List (Vec Planned Global)) (frame : Frame) (last : List WrittenCall) (later : List (List WrittenCall)) (before : List (Ticket Record)) (lines : List ℕ) (after : List (Ticket Record)) (stand : ComesToAStand last before lines after) →
     All (IsOf (length programs)) journal → AreAmpleEnds last before stand.ended stand.each → AreEnds journal after →
-    (from : Stage) (phase : ℕ) → Reached from journal programs total phase (last ∷ later) before → Stands lines from phase
-last-stands journal programs total last later before lines after stand of ample ends from phase reached =
+    (from : Stage) (phase : ℕ) → Reached from journal programs frame phase (last ∷ later) before → Stands lines from phase
+last-stands journal programs frame last later before lines after stand of ample ends from phase reached =
     let worked : List (Worked (Ticket Record)) = stand.ended in
     let past : Past = reached.past in
     let met = meeting journal past stand.n before (processes_of worked) after reached.here reached.left (all-grown last before worked stand.each) stand.met ends in
@@ -140,13 +140,13 @@ last-stands journal programs total last later before lines after stand of ample 
     let here : 1 + i ≡ i + 1 = omega arith in
     subst (λ (k : ℕ). Rests w.blocked k phase past to r) here (all.rest i r w has is)
     in
-    let runs = phase-runs from journal programs total phase (last ∷ later) before reached to runners of (omega arith) met.from met.end all.programs_are all.seats_are
-    (halted-course total phase past to runners worked all.count rest)
+    let runs = phase-runs from journal programs frame phase (last ∷ later) before reached to runners of (omega arith) met.from met.end all.programs_are all.seats_are
+    (halted-course frame phase past to runners worked all.count rest)
     in (
       runs.0,
-      ended total phase to runners,
-      record { runs = runs.1; goal = halted-still total phase past to runners worked all.count rest },
-      halted-tells total phase past to runners worked all.count rest lines stand.are stand.some,
+      ended frame phase to runners,
+      record { runs = runs.1; goal = halted-still frame phase past to runners worked all.count rest },
+      halted-tells frame phase past to runners worked all.count rest lines stand.are stand.some,
     )
 
 -- a run that comes to a stand is told of one order
@@ -159,11 +159,11 @@ stand-told script lines old new from stop ample begins =
     let ends : AreEnds journal stop.processes = all-grow journal stop.processes stop.grows in
     let stand = s.stands in
     let between : AreEnds journal s.between = phase-ends journal stand.n s.between (processes_of stand.ended) stop.processes (all-grown s.last s.between stand.ended stand.each) stand.met ends in
-    let first : Reached from journal from.programs from.phases 0 (s.first ++ s.last ∷ s.later) tickets =
-    subst (λ (phases : List (List WrittenCall)). Reached from journal from.programs from.phases 0 phases tickets) s.are (all-reached script stop.system journal from stop.unbounded begins)
+    let first : Reached from journal from.programs (frame_of from []) 0 (s.first ++ s.last ∷ s.later) tickets =
+    subst (λ (phases : List (List WrittenCall)). Reached from journal from.programs (frame_of from []) 0 phases tickets) s.are (new-reached script stop.system journal from stop.unbounded begins)
     in
-    phases-told (Stands lines) journal from.programs from.phases (s.last ∷ s.later) s.between of between
-    (last-stands journal from.programs from.phases s.last s.later s.between lines stop.processes stand of ample.1 ends)
+    phases-told (Stands lines) journal from.programs (frame_of from []) (s.last ∷ s.later) s.between of between
+    (last-stands journal from.programs (frame_of from []) s.last s.later s.between lines stop.processes stand of ample.1 ends)
     s.first 0 from tickets s.replies s.ran ample.0 first
 
 -- and found where every order was tried

@@ -16,7 +16,7 @@ use Rattle.script_orders.specs.declared.plan.Planned.{Planned}
 use Rattle.script_laws.proofs.Course.{Course, Move}
 use Rattle.script_laws.proofs.Courses.{course-end, course-goes-on, first-move, found-here}
 use Rattle.script_laws.proofs.Joins.{all-left, all-last, both-empty, by-last, owns-last}
-use Rattle.script_laws.proofs.Runners.{AreOnCourse, Runner, ends_in, get-set-here, get-set-other, goes-on, gone, map-agree, map-set-same, programs_in, seats_in, staged, there-is}
+use Rattle.script_laws.proofs.Runners.{AreOnCourse, Frame, Runner, ends_in, get-set-here, get-set-other, goes-on, gone, map-agree, map-set-same, programs_in, seats_in, staged, there-is}
 
 -- a move that leaves no record ---------------------------------------------------------------------------------------------
 
@@ -172,13 +172,13 @@ moves_left [] = 0
 moves_left (r ∷ runners) = length r.moves + moves_left runners
 
 -- the phase as all processes end it
-abbrev pub ended : ℕ → ℕ → Past → List Runner → Stage
-ended phases phase to runners =
-    record { programs = programs_in runners; phases = phases; phase = phase; past = to; seats = ends_in runners }
+abbrev pub ended : Frame → ℕ → Past → List Runner → Stage
+ended frame phase to runners =
+    record { programs = programs_in runners; phases = frame.phases; start = frame.start; phase = phase; past = to; seats = ends_in runners }
 
-abbrev pub Weaves : ℕ → ℕ → Past → Past → List Runner → Type 0
-Weaves phases phase to past runners =
-    (schedule : List ℕ) × (after next_stage schedule (staged phases phase past runners) ≡ Some (ended phases phase to runners))
+abbrev pub Weaves : Frame → ℕ → Past → Past → List Runner → Type 0
+Weaves frame phase to past runners =
+    (schedule : List ℕ) × (after next_stage schedule (staged frame phase past runners) ≡ Some (ended frame phase to runners))
 
 one-less : (runners : List Runner) (i : ℕ) (r : Runner) (seat : Progress) (move : Move) (moves : List Move) → slice_get runners i ≡ Some r → r.moves ≡ move ∷ moves → suc (moves_left (slice_set runners i (gone r seat moves))) ≡ moves_left runners
 one-less [] i r seat move moves has next = cc
@@ -190,14 +190,14 @@ one-less (x ∷ runners) (suc i) r seat move moves has next =
     let rest = one-less runners i r seat move moves has next in
     omega (arith, rest)
 
-all-ended : (phases phase : ℕ) (to past : Past) (runners : List Runner) → AreOnCourse phase to past runners → AllMade to past runners → Weaves phases phase to past runners
-all-ended phases phase to past runners on all =
+all-ended : (frame : Frame) (phase : ℕ) (to past : Past) (runners : List Runner) → AreOnCourse phase to past runners → AllMade to past runners → Weaves frame phase to past runners
+all-ended frame phase to past runners on all =
     let seats : seats_in runners ≡ ends_in runners = map-agree (λ (r : Runner). r.seat) (λ (r : Runner). r.end) runners (λ i r has.
     let course : CourseOf i phase to past r [] = subst (λ (moves : List Move). CourseOf i phase to past r moves) (all.made i r has) (on i r has) in
     course.0)
     in
     let made : Past → List Progress → Option Stage = λ past seats.
-    Some (record { programs = programs_in runners; phases = phases; phase = phase; past = past; seats = seats })
+    Some (record { programs = programs_in runners; phases = frame.phases; start = frame.start; phase = phase; past = past; seats = seats })
     in
     ([], ap (λ (past : Past). made past (seats_in runners)) all.here ∙ ap (λ (seats : List Progress). made to seats) seats)
 
@@ -220,16 +220,16 @@ next-on phase to past runners on n i r has =
     subst P (sym n.found) (n.others i r differ there))
 
 -- one move, and then the rest
-then-weaves : (phases phase : ℕ) (to past : Past) (runners : List Runner) → AreOnCourse phase to past runners → (n : Next phase to past runners) → Weaves phases phase to (n.move.own ++ n.move.found) (slice_set runners n.at (gone n.runner n.move.next n.moves)) → Weaves phases phase to past runners
-then-weaves phases phase to past runners on n rest =
+then-weaves : (frame : Frame) (phase : ℕ) (to past : Past) (runners : List Runner) → AreOnCourse phase to past runners → (n : Next phase to past runners) → Weaves frame phase to (n.move.own ++ n.move.found) (slice_set runners n.at (gone n.runner n.move.next n.moves)) → Weaves frame phase to past runners
+then-weaves frame phase to past runners on n rest =
     let course : CourseOf n.at phase to past n.runner (n.move ∷ n.moves) = subst (λ (moves : List Move). CourseOf n.at phase to past n.runner moves) n.next (on n.at n.runner n.has) in
     let turned : Turned = record { past = n.move.own ++ n.move.found; progress = n.move.next } in
     let P : Past → Type 0 = λ found. after_turn found phase (n.at + 1) n.runner.seat n.runner.program ≡ Some turned in
     let goes : after_turn past phase (n.at + 1) n.runner.seat n.runner.program ≡ Some turned = subst P n.found course.0.turn in
-    let step = goes-on phases phase past runners n.at n.runner turned n.moves n.has goes in
+    let step = goes-on frame phase past runners n.at n.runner turned n.moves n.has goes in
     let next : List Runner = slice_set runners n.at (gone n.runner n.move.next n.moves) in
     let made : List (Vec Planned Global) → List Progress → Option Stage = λ programs seats.
-    Some (record { programs = programs; phases = phases; phase = phase; past = to; seats = seats })
+    Some (record { programs = programs; phases = frame.phases; start = frame.start; phase = phase; past = to; seats = seats })
     in (
       n.at ∷ rest.0,
       ap (λ (o : Option Stage). option_and_then (after next_stage rest.0) o) step ∙ (rest.1
@@ -248,20 +248,20 @@ next-behind phase to past runners behind on at of n =
     let few : All (IsOf (length runners)) more.0 = all-left (IsOf (length runners)) more.0 n.move.own (subst (λ (l : Past). All (IsOf (length runners)) l) same of) in
     (more.0, more.1, subst (λ (count : ℕ). All (IsOf count) more.0) (sym (length-set runners n.at (gone n.runner n.move.next n.moves))) few)
 
-weave : (left : ℕ) (phases phase : ℕ) (to past : Past) (runners : List Runner) (behind : Past) → moves_left runners ≡ left → AreOnCourse phase to past runners → to ≡ behind ++ past → All (IsOf (length runners)) behind → Weaves phases phase to past runners
-weave zero phases phase to past runners behind count on at of =
+weave : (left : ℕ) (frame : Frame) (phase : ℕ) (to past : Past) (runners : List Runner) (behind : Past) → moves_left runners ≡ left → AreOnCourse phase to past runners → to ≡ behind ++ past → All (IsOf (length runners)) behind → Weaves frame phase to past runners
+weave zero frame phase to past runners behind count on at of =
     elim (find-next phase to past runners behind on at of) [
       | inl n ↦ let less = one-less runners n.at n.runner n.move.next n.move n.moves n.has n.next in let k : ⊥ = omega (arith, less, count) in absurd k
-      | inr all ↦ all-ended phases phase to past runners on all
+      | inr all ↦ all-ended frame phase to past runners on all
     ]
-weave (suc left) phases phase to past runners behind count on at of =
+weave (suc left) frame phase to past runners behind count on at of =
     elim (find-next phase to past runners behind on at of) [
       | inl n ↦
           let less = one-less runners n.at n.runner n.move.next n.move n.moves n.has n.next in
           let more = next-behind phase to past runners behind on at of n in
-          then-weaves phases phase to past runners on n (weave left phases phase to (n.move.own ++ n.move.found) (slice_set runners n.at (gone n.runner n.move.next n.moves)) more.0 (omega (arith, less, count)) (next-on phase to past runners on n) more.1 more.2)
-      | inr all ↦ all-ended phases phase to past runners on all
+          then-weaves frame phase to past runners on n (weave left frame phase to (n.move.own ++ n.move.found) (slice_set runners n.at (gone n.runner n.move.next n.moves)) more.0 (omega (arith, less, count)) (next-on phase to past runners on n) more.1 more.2)
+      | inr all ↦ all-ended frame phase to past runners on all
     ]
 
-pub weaving : (phases phase : ℕ) (to past : Past) (runners : List Runner) (behind : Past) → AreOnCourse phase to past runners → to ≡ behind ++ past → All (IsOf (length runners)) behind → Weaves phases phase to past runners
-weaving phases phase to past runners behind on at of = weave (moves_left runners) phases phase to past runners behind refl on at of
+pub weaving : (frame : Frame) (phase : ℕ) (to past : Past) (runners : List Runner) (behind : Past) → AreOnCourse phase to past runners → to ≡ behind ++ past → All (IsOf (length runners)) behind → Weaves frame phase to past runners
+weaving frame phase to past runners behind on at of = weave (moves_left runners) frame phase to past runners behind refl on at of

@@ -1,7 +1,7 @@
 -- What a run of a script and the orders of its calls have to do with each other.
 use Rattle.std.specs.Prelude.{◌≡◌, ◌≢◌, ℕ, ◌+◌, true, false, List, [], ◌∷◌}
 use Rattle.std.specs.List.{All}
-use Rattle.fast_mutex.specs.Items.{Ticket, tickets_from}
+use Rattle.fast_mutex.specs.Items.{Ticket, tickets_from, tickets_with}
 use Rattle.mq_model.specs.Record.{Past, Record}
 use Rattle.mq_model.specs.declared.faults.Fault.TheVariants.{NoMemory}
 use Rattle.schedules.specs.Outcomes.{is_among}
@@ -9,7 +9,7 @@ use Rattle.schedules.specs.Schedules.{LeadsToGoal}
 use Rattle.schedules.specs.Told.{Told}
 use Rattle.schedules.specs.declared.outcomes.Witnessed.{Witnessed}
 use Rattle.script_orders.specs.Stage.{Stage, next_stage, stands_still, told}
-use Rattle.script_runner.specs.Runs.{RunsPhase, RunsPhases, RunsWhole}
+use Rattle.script_runner.specs.Runs.{RunsAfter, RunsPhase, RunsPhases, RunsWhole}
 use Rattle.script_text.specs.Script.{Whole, WrittenCall}
 use Rattle.script_text.specs.declared.reply.Completion.{Completion}
 use Rattle.script_text.specs.declared.reply.Outcome.TheVariants as outcomes
@@ -34,6 +34,10 @@ AreAmplePhases (calls ∷ phases) before after text ran = IsAmplePhase calls bef
 abbrev pub IsAmple : {script : Whole} {replies : List ℕ} {journal : Past} → RunsWhole script replies journal → Type 0
 IsAmple {script} {replies} ran = AreAmplePhases script.phases (tickets_from ran.system 1 script.processes) ran.processes replies ran.ran
 
+-- no call of a script that went on from a journal was
+abbrev pub IsAmpleAfter : {past : Past} {script : Whole} {replies : List ℕ} {journal : Past} → RunsAfter past script replies journal → Type 0
+IsAmpleAfter {past} {script} {replies} ran = AreAmplePhases script.phases (tickets_with ran.system past 1 script.processes) ran.runs.processes replies ran.runs.ran
+
 -- what is told of a phase that ended with these replies
 abbrev pub phase_told : ℕ → List ℕ → Told
 phase_told phase text = record { stage = phase; stuck = false; text = text }
@@ -46,6 +50,10 @@ phase_replies (calls ∷ phases) before after text ran = ran.3 ∷ phase_replies
 -- the replies of each phase of a script that was run whole
 abbrev pub whole_replies : {script : Whole} {replies : List ℕ} {journal : Past} → RunsWhole script replies journal → List (List ℕ)
 whole_replies {script} {replies} ran = phase_replies script.phases (tickets_from ran.system 1 script.processes) ran.processes replies ran.ran
+
+-- the same of a script that went on from a journal
+abbrev pub replies_after : {past : Past} {script : Whole} {replies : List ℕ} {journal : Past} → RunsAfter past script replies journal → List (List ℕ)
+replies_after {past} {script} {replies} ran = phase_replies script.phases (tickets_with ran.system past 1 script.processes) ran.runs.processes replies ran.runs.ran
 
 -- in one order of the calls from this stage on, phases end one after the other, each with its replies; the first of them has this number.
 -- GoesOn then holds of the stage that they lead to and of the number of the next phase

@@ -1,16 +1,16 @@
 //! What a run of a script and every order of its calls have to do with each other. Each function does nothing: its contract is the law.
 #![tactic(auto)]
 
-ghost use Rattle.std.specs.Prelude.{◌≡◌, ℕ, true, List, Option, length};
+ghost use Rattle.std.specs.Prelude.{◌≡◌, ◌≤◌, ◌++◌, ℕ, true, List, Option, length};
 ghost use Rattle.mq_model.specs.Record.{Past};
 ghost use Rattle.schedules.specs.Outcomes.{AreAll, is_among};
 ghost use Rattle.schedules.specs.declared.outcomes.Witnessed.{Witnessed};
 ghost use Rattle.script_text.specs.Script.{Whole};
-ghost use Rattle.script_orders.specs.Orders.{Begins};
+ghost use Rattle.script_orders.specs.Orders.{Begins, BeginsAfter};
 ghost use Rattle.script_orders.specs.Stage.{Stage, next_stage, stands_still, told};
-ghost use Rattle.script_runner.specs.Runs.{RunsWhole};
+ghost use Rattle.script_runner.specs.Runs.{RunsAfter, RunsWhole};
 ghost use Rattle.script_runner.specs.Stops.{StopsInDeadlock};
-ghost use Rattle.script_laws.specs.RunLaws.{AreFound, AreTold, IsAmple, whole_replies};
+ghost use Rattle.script_laws.specs.RunLaws.{AreFound, AreTold, IsAmple, IsAmpleAfter, replies_after, whole_replies};
 ghost use Rattle.script_laws.specs.StandLaws.{ComesToStand, IsAmpleStop, replies_before, stand_told};
 
 /// What a run prints of each phase is what is told of that phase in one order of the calls, from where the processes of the script begin. No call
@@ -27,6 +27,22 @@ pub fn prints_what_is_found()
         (found : List Witnessed) (ran : RunsWhole script replies journal) → IsAmple ran →
         Begins script from → AreAll next_stage stands_still told from found →
         AreFound found 0 (whole_replies ran) }
+{}
+
+/// A script that goes on from a journal leaves a journal that begins with it.
+pub fn goes_on_from_its_past()
+    ensures { (past : Past) (script : Whole) (replies : List ℕ) (journal : Past) →
+        1 ≤ script.processes → RunsAfter past script replies journal →
+        (later : Past) × (journal ≡ later ++ past) }
+{}
+
+/// The same of a run that goes on from a journal in which no process waits, where every order was tried from there on.
+pub fn prints_what_is_found_after()
+    ensures { (past : Past) (script : Whole) (replies : List ℕ) (journal : Past) (from : Stage)
+        (found : List Witnessed) (ran : RunsAfter past script replies journal) →
+        1 ≤ script.processes → IsAmpleAfter ran →
+        BeginsAfter past script from → AreAll next_stage stands_still told from found →
+        AreFound found 0 (replies_after ran) }
 {}
 
 /// Where a run came to a stand, so does one order of the calls, from where the processes of the script begin: what the run prints of

@@ -229,5 +229,5 @@ run-legal (choice ∷ schedule) x y few legal h =
     in
     goes (next_stage x choice) refl h
 
-pub are-legal : (s : Stage) → length s.programs ≤ 32 → AreLegal (first_stage s)
-are-legal s few = λ schedule to run. run-legal schedule (first_stage s) to few tt run
+pub are-legal : (s : Stage) → length s.programs ≤ 32 → Legal s.start → AreLegal (first_stage s)
+are-legal s few legal = λ schedule to run. run-legal schedule (first_stage s) to few legal run

@@ -4,3 +4,4 @@ pub mod Legality
 pub mod Making
 pub mod Printing
 pub mod Likewise
+pub mod Starting

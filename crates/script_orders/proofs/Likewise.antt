@@ -1,22 +1,21 @@
 -- Stages that are alike stay so by each choice.
-use Rattle.std.proofs.Common.{◌≡◌, ℕ, zero, suc, ◌+◌, ◌≤◌, ◌<◌, ◌==◌, Bool, true, false, ◌&&◌, ◌||◌, List, [], ◌∷◌, ◌++◌, length, Option, Some, None, is_some, is_none, slice_get, slice_set, refl, ap, sym, ◌∙◌, subst, arith, if◌then◌else◌, Vec, nat_lt, not}
+use Rattle.std.proofs.Common.{◌≡◌, ℕ, zero, suc, ◌+◌, ◌≤◌, ◌<◌, ◌==◌, Bool, true, false, ◌&&◌, ◌||◌, List, [], ◌∷◌, ◌++◌, length, Option, Some, None, is_some, is_none, slice_get, refl, ap, sym, ◌∙◌, subst, arith, if◌then◌else◌, Vec, nat_lt, not}
 use Rattle.std.specs.Option.{option_and_then, option_map}
 use Rattle.std.specs.declared.alloc.Global.{Global}
-use Rattle.std.proofs.lemmas.Bool.{eqb-false, eqb-true}
-use Rattle.std.proofs.lemmas.Option.{slice_get_within, slice_get-map}
+use Rattle.std.proofs.lemmas.Option.{slice_get_within}
+use Rattle.mq_model.specs.Legality.{Legal}
 use Rattle.mq_model.specs.Record.{Past, Process}
 use Rattle.mq_model.specs.Waits.{open_wait}
 use Rattle.mq_model.specs.Legality.{may_call, reply_to}
 use Rattle.mq_model.specs.declared.entries.Call.{Call}
 use Rattle.mq_model.specs.declared.entries.Call.TheVariants.{MqClose, Collect}
-use Rattle.mq_model.proofs.Places.{split}
 use Rattle.mq_state.specs.Trails.{can_call, record_of_call}
 use Rattle.mq_equivalence.specs.Key.{key_of, listed}
 use Rattle.mq_equivalence.specs.Views.{Message}
 use Rattle.mq_equivalence.proofs.Codes.{IsTold, told-listed, told-message}
 use Rattle.mq_equivalence.proofs.Alike.{refused-alike}
 use Rattle.mq_equivalence.proofs.Calls.{can-alike}
-use Rattle.mq_equivalence.specs.Equivalence.{Equivalent, EquivalentUnder}
+use Rattle.mq_equivalence.specs.Equivalence.{Equivalent}
 use Rattle.mq_equivalence.specs.Structure.{extended}
 use Rattle.mq_equivalence.proofs.SameKeys.{same-key}
 use Rattle.mq_equivalence.proofs.Runs.{steps-equivalent}
@@ -263,26 +262,28 @@ told-seat a b u v e =
     (ap progress same.0, same.1)
 
 -- stages that are reached from one, and have one key
-pub stages-key : (from x y : Stage) (key : List ℕ) → IsReached next_stage (first_stage from) x → IsReached next_stage (first_stage from) y → IsStageKey x key → IsStageKey y key → AreStagesAlike x y
-stages-key from x y key to_x to_y key_x key_y =
+pub stages-key : (from x y : Stage) (key : List ℕ) → Legal from.start → IsReached next_stage (first_stage from) x → IsReached next_stage (first_stage from) y → IsStageKey x key → IsStageKey y key → AreStagesAlike x y
+stages-key from x y key legal to_x to_y key_x key_y =
     let first_x : first_stage x ≡ first_stage from = reach-first to_x.0 (first_stage from) x to_x.1 in
     let first_y : first_stage y ≡ first_stage from = reach-first to_y.0 (first_stage from) y to_y.1 in
     let first : first_stage y ≡ first_stage x = first_y ∙ sym first_x in
     let programs : y.programs ≡ x.programs = ap (λ (s : Stage). s.programs) first in
     let phases : y.phases ≡ x.phases = ap (λ (s : Stage). s.phases) first in
+    let start : y.start ≡ x.start = ap (λ (s : Stage). s.start) first in
     let count : length from.programs ≡ length x.programs = ap (λ (s : Stage). length s.programs) (sym first_x) in
     let few : length from.programs ≤ 32 = omega (arith, count, key_x.few) in
     let codes : stage_code y ≡ stage_code x = sym key_y.is ∙ key_x.is in
     let phase : y.phase ≡ x.phase = cc in
     let rest : listed seat_code y.seats ++ key_of y.past ≡ listed seat_code x.seats ++ key_of x.past = cc in
     let parts = told-listed seat_code told-seat y.seats x.seats (key_of y.past) (key_of x.past) rest in
-    let build : List (Vec Planned Global) → ℕ → ℕ → List Progress → Stage = λ programs phases phase seats. record { programs = programs; phases = phases; phase = phase; past = y.past; seats = seats } in
+    let build : List (Vec Planned Global) → ℕ → Past → ℕ → List Progress → Stage = λ programs phases start phase seats. record { programs = programs; phases = phases; start = start; phase = phase; past = y.past; seats = seats } in
     record {
       few = key_x.few;
       differ =
-          ap (λ (ps : List (Vec Planned Global)). build ps y.phases y.phase y.seats) programs
-          ∙ ap (λ (n : ℕ). build x.programs n y.phase y.seats) phases
-          ∙ ap (λ (n : ℕ). build x.programs x.phases n y.seats) phase
-          ∙ ap (λ (seats : List Progress). build x.programs x.phases x.phase seats) parts.0;
-      journals = same-key x.past y.past (are-legal from few to_x.0 x to_x.1) (are-legal from few to_y.0 y to_y.1) (sym parts.1);
+          ap (λ (ps : List (Vec Planned Global)). build ps y.phases y.start y.phase y.seats) programs
+          ∙ ap (λ (n : ℕ). build x.programs n y.start y.phase y.seats) phases
+          ∙ ap (λ (past : Past). build x.programs x.phases past y.phase y.seats) start
+          ∙ ap (λ (n : ℕ). build x.programs x.phases x.start n y.seats) phase
+          ∙ ap (λ (seats : List Progress). build x.programs x.phases x.start x.phase seats) parts.0;
+      journals = same-key x.past y.past (are-legal from few legal to_x.0 x to_x.1) (are-legal from few legal to_y.0 y to_y.1) (sym parts.1);
     }

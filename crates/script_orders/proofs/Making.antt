@@ -28,7 +28,7 @@ use Rattle.script_orders.specs.Progress.{Progress}
 use Rattle.script_orders.specs.Scenes.{Scene, after_call, after_step}
 use Rattle.script_orders.specs.Turns.{Turned, after_line, after_turn, scene_of, turned}
 use Rattle.script_orders.specs.Stage.{Stage, after_phase, in_next_phase, next_stage, none_can_turn, one_waits, stands_still, turn_of, waits, with_turn}
-use Rattle.script_orders.specs.Orders.{Begins, HasMade}
+use Rattle.script_orders.specs.Orders.{BeginsAfter, HasMade}
 use Rattle.script_orders.specs.declared.plan.Planned.{Planned}
 use Rattle.script_orders.specs.declared.plan.Step.{Step}
 use Rattle.script_orders.specs.declared.plan.Step.TheVariants as steps
@@ -370,7 +370,7 @@ run-holds (choice ∷ schedule) x y holds h =
     in
     goes (next_stage x choice) refl h
 
-begins-holds : (script : Whole) (s : Stage) → script.processes ≤ 32 → Begins script s → Holds s
+begins-holds : {past : Past} (script : Whole) (s : Stage) → script.processes ≤ 32 → BeginsAfter past script s → Holds s
 begins-holds script s few begins =
     let shown : Vec Planned Global → List Plan = λ program. map plan_of program.items in
     let count : length s.programs ≡ script.processes =
@@ -390,7 +390,7 @@ begins-holds script s few begins =
 none-is : {A : Type 0} (o : Option A) → o ≡ None → is_some o ≡ false
 none-is o h = ap (λ o. is_some o) h
 
-pub has-made : (script : Whole) (from s : Stage) (schedule : List ℕ) (i : ℕ) → script.processes ≤ 32 → Begins script from → after next_stage schedule from ≡ Some s → turn_of s i ≡ None → open_wait s.past (i + 1) ≡ None → HasMade s i
+pub has-made : {past : Past} (script : Whole) (from s : Stage) (schedule : List ℕ) (i : ℕ) → script.processes ≤ 32 → BeginsAfter past script from → after next_stage schedule from ≡ Some s → turn_of s i ≡ None → open_wait s.past (i + 1) ≡ None → HasMade s i
 has-made script from s schedule i few begins run stands free =
     λ program seat planned has sits next.
     let holds = run-holds schedule from s (begins-holds script from few begins) run in

@@ -8,7 +8,7 @@ use Rattle.script_orders.specs.Stage.{Stage}
 
 -- the same stage with another journal
 abbrev pub with_past : Stage → Past → Stage
-with_past s past = record { programs = s.programs; phases = s.phases; phase = s.phase; past = past; seats = s.seats }
+with_past s past = record { programs = s.programs; phases = s.phases; start = s.start; phase = s.phase; past = past; seats = s.seats }
 
 -- stages that differ in their journals alone, and these are equivalent
 pub record AreStagesAlike (x y : Stage) : Type 0 where

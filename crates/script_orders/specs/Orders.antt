@@ -1,7 +1,8 @@
 -- The processes of a script.
-use Rattle.std.specs.Prelude.{◌≡◌, ◌<◌, ℕ, List, Some, Vec, length, map, slice_get}
+use Rattle.std.specs.Prelude.{◌≡◌, ◌<◌, ℕ, List, [], Some, Vec, length, map, slice_get}
 use Rattle.std.specs.declared.alloc.Global.{Global}
 use Rattle.mq_model.specs.Legality.{Legal}
+use Rattle.mq_model.specs.Record.{Past}
 use Rattle.script_text.specs.Script.{Whole}
 use Rattle.script_orders.specs.Plans.{plan_of, programs_of}
 use Rattle.script_orders.specs.Progress.{Progress}
@@ -9,11 +10,16 @@ use Rattle.script_orders.specs.declared.plan.Planned.{Planned}
 use Rattle.script_orders.specs.Stage.{Stage, first_stage, next_stage}
 use Rattle.schedules.specs.Schedules.{after}
 
--- the processes of a script with their lines, of which none has begun
-pub record Begins (script : Whole) (s : Stage) : Type 0 where
+-- the processes of a script with their lines, of which none has begun, after the calls of a journal
+pub record BeginsAfter (past : Past) (script : Whole) (s : Stage) : Type 0 where
   pub programs : map (λ program. map plan_of program.items) s.programs ≡ programs_of script.phases script.processes
   pub phases : s.phases ≡ length script.phases
+  pub start : s.start ≡ past
   pub first : first_stage s ≡ s
+
+-- the same before all calls
+abbrev pub Begins : Whole → Stage → Type 0
+Begins script s = BeginsAfter [] script s
 
 -- the journal after each schedule from a stage on is legal
 abbrev pub AreLegal : Stage → Type 0

@@ -10,11 +10,12 @@ use Rattle.script_orders.specs.Progress.{Progress}
 use Rattle.script_orders.specs.Turns.{Turned, after_turn}
 use Rattle.script_orders.specs.declared.plan.Planned.{Planned}
 
--- the lines of each process, and how many phases there are; the phase that runs, the journal so far, and how far each process has come.
--- Process p is at p - 1
+-- the lines of each process, how many phases there are, and the journal before all of them; the phase that runs, the journal so far, and
+-- how far each process has come. Process p is at p - 1
 pub record Stage : Type 0 where
   pub programs : List (Vec Planned Global)
   pub phases : ℕ
+  pub start : Past
   pub phase : ℕ
   pub past : Past
   pub seats : List Progress
@@ -24,7 +25,7 @@ abbrev pub fresh : Progress
 fresh = record { begun = 0; text = [] }
 
 abbrev pub first_stage : Stage → Stage
-first_stage s = record { programs = s.programs; phases = s.phases; phase = 0; past = []; seats = replicate (length s.programs) fresh }
+first_stage s = record { programs = s.programs; phases = s.phases; start = s.start; phase = 0; past = s.start; seats = replicate (length s.programs) fresh }
 
 -- what the process at an index does next, if it can go on
 abbrev pub turn_of : Stage → ℕ → Option Turned
@@ -36,6 +37,7 @@ abbrev pub with_turn : Stage → ℕ → Turned → Stage
 with_turn s index turned = record {
   programs = s.programs;
   phases = s.phases;
+  start = s.start;
   phase = s.phase;
   past = turned.past;
   seats = slice_set s.seats index turned.progress;
@@ -63,7 +65,7 @@ seats_cleared seats = map (λ (seat : Progress). let next : Progress = record { 
 
 -- the next phase has begun
 abbrev pub in_next_phase : Stage → Stage
-in_next_phase s = record { programs = s.programs; phases = s.phases; phase = s.phase + 1; past = s.past; seats = seats_cleared s.seats }
+in_next_phase s = record { programs = s.programs; phases = s.phases; start = s.start; phase = s.phase + 1; past = s.past; seats = seats_cleared s.seats }
 
 -- a phase ends where no process can go on and none waits, and there is a next one
 abbrev pub is_phase_over : Stage → Bool

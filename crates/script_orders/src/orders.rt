@@ -1,16 +1,18 @@
 //! Every order in which the calls of a script can come.
 ghost use Rattle.std.specs.Prelude.{◌≡◌, ◌≤◌, ◌+◌, ℕ, List, IfOk, OnOk, None, Some, false, true};
 ghost use Rattle.std.specs.List.{All};
+ghost use Rattle.mq_model.specs.Legality.{Legal};
 ghost use Rattle.mq_model.specs.Waits.{open_wait};
 ghost use Rattle.schedules.specs.Schedules.{after};
 ghost use Rattle.schedules.specs.Outcomes.{AreAll, AreDistinct, IsWitness};
 ghost use Rattle.schedules.specs.Work.{TakesAll};
 ghost use Rattle.script_text.specs.Script.{Whole, said_script};
-ghost use Rattle.script_orders.specs.Orders.{AreLegal, Begins, HasMade};
+ghost use Rattle.script_orders.specs.Orders.{AreLegal, Begins, BeginsAfter, HasMade};
 ghost use Rattle.script_orders.specs.Stage.{Stage, choice_count, first_stage, next_stage, stands_still, told, turn_of};
 
 use crate::plan::programs_of;
 use crate::play::Play;
+use mq_model::journals::Journal;
 use schedules::outcomes::{Collected, collect};
 use script_text::script::Script;
 use std::alloc::{AllocError, Global};
@@ -20,8 +22,17 @@ pub fn play_of(alloc: Global, script: &Script<'_>) -> Result<Play, AllocError>
     requires { script.now.processes ≤ 32 }
     ensures { IfOk result (Begins (said_script script.now)) }
 {
+    play_after(alloc, script, Journal::new(alloc))
+}
+
+/// The same after the calls of a journal.
+pub fn play_after(alloc: Global, script: &Script<'_>, journal: Journal) -> Result<Play, AllocError>
+    requires processes { script.now.processes ≤ 32 }
+    requires legal { Legal journal.records }
+    ensures { IfOk result (BeginsAfter journal.records (said_script script.now)) }
+{
     let programs = programs_of(alloc, script)?;
-    Play::new(alloc, programs, script.phases.len() as u64)
+    Play::new(alloc, programs, script.phases.len() as u64, journal)
 }
 
 /// Tries every order of the calls of a script, in so many steps at most, and collects what is told where no process can go on: of

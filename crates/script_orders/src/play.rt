@@ -1,4 +1,5 @@
 //! The processes of a script as a machine: a choice is the process that goes on, and the last one begins the next phase.
+ghost use Rattle.mq_model.specs.Legality.{Legal};
 ghost use Rattle.script_orders.specs.Orders.{AreLegal};
 ghost use Rattle.script_orders.specs.Stage.{first_stage, fresh, is_phase_over, next_stage, none_can_turn, one_waits, replies, seats_cleared, turn_of, wait_line_of, wait_of, waiting_lines, with_turn};
 ghost use Rattle.std.specs.Option.{option_map};
@@ -23,6 +24,8 @@ pub struct Play {
     alloc: Global,
     programs: Vec<Vec<Planned>>,
     phases: u64,
+    // The journal before all lines.
+    start: Journal,
     phase: u64,
     trail: Trail,
     seats: Vec<Seat>,
@@ -38,6 +41,21 @@ impl Model for Play {
     ghost view = { shown };
 
     ghost invariant = { AreSeated };
+}
+
+// The trail of the calls of a legal journal.
+fn trail_after(alloc: Global, journal: &Journal) -> Result<Trail, AllocError>
+    requires { Legal journal.now.records }
+    ensures { IfOk result (λ trail. trail ≡ journal.now.records) }
+{
+    let mut trail = Trail::new(alloc)?;
+    for place in 0..journal.len() {
+        let (entry, payload) = journal.record(place);
+        if !trail.make(entry.process, entry.call, payload)? {
+            unreachable!()
+        }
+    }
+    Ok(trail)
 }
 
 // Seats of processes that have begun nothing.
@@ -74,23 +92,31 @@ fn replies(alloc: Global, seats: &[Seat]) -> Result<Vec<u8>, AllocError>
 }
 
 impl Play {
-    /// The processes 1, 2, .. of a script with their lines, of which none has begun one.
-    pub fn new(alloc: Global, programs: Vec<Vec<Planned>>, phases: u64) -> Result<Play, AllocError>
-        requires { length programs.items ≤ 32 }
+    /// The processes 1, 2, .. of a script with their lines, of which none has begun one, after the calls of a journal.
+    pub fn new(
+        alloc: Global,
+        programs: Vec<Vec<Planned>>,
+        phases: u64,
+        start: Journal,
+    ) -> Result<Play, AllocError>
+        requires few { length programs.items ≤ 32 }
+        requires legal { Legal start.records }
         ensures { IfOk result (λ play. play ≡ record {
           programs = programs.items;
           phases = phases;
+          start = start.records;
           phase = 0;
-          past = [];
+          past = start.records;
           seats = replicate (length programs.items) fresh;
         }) }
     {
         let seats = fresh_seats(alloc, programs.len())?;
-        let trail = Trail::new(alloc)?;
+        let trail = trail_after(alloc, &start)?;
         Ok(Play {
             alloc,
             programs,
             phases,
+            start,
             phase: 0,
             trail,
             seats,
@@ -137,6 +163,7 @@ impl Play {
             alloc,
             programs,
             phases: _,
+            start: _,
             phase,
             trail,
             seats,
@@ -271,7 +298,7 @@ impl Machine for Play {
 
     fn restart(&mut self) -> Result<(), AllocError> {
         let seats = fresh_seats(self.alloc, self.programs.len())?;
-        self.trail = Trail::new(self.alloc)?;
+        self.trail = trail_after(self.alloc, &self.start)?;
         self.seats = seats;
         self.phase = 0;
         Ok(())
