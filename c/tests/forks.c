@@ -86,16 +86,25 @@ static void ring_in(long milliseconds)
     WANT(setitimer(ITIMER_REAL, &once, 0) == 0);
 }
 
-/* The call fails with EINTR in both. */
+/* The call fails with EINTR in both. As long as the parent has not ended its wait, it would get
+ * what the child sends. */
 static void interrupted(void)
 {
+    int ends[2];
+    char byte = 0;
+    WANT(pipe(ends) == 0);
     handle(SIGALRM, 0);
     ring_in(50);
     WANT(mq_receive(queue, buf, sizeof buf, &prio) == -1 && errno == EINTR);
     if (forked == 0) {
+        close(ends[1]);
+        WANT(read(ends[0], &byte, 1) == 1);
         send_and_receive();
         _exit(0);
     }
+    WANT(write(ends[1], &byte, 1) == 1);
+    close(ends[0]);
+    close(ends[1]);
     ends_well(forked);
 }
 
