@@ -1148,10 +1148,10 @@ class Timeline extends Chart {
 
   drawLabel(c, entry, x, y) {
     c.fillStyle = this.colours.text;
-    const word = isError(entry) || entry.reply === "waits" ? ` ${entry.reply}` : "";
-    c.fillText(`${entry.call}${word}`, x - 8, y - 10);
+    c.fillText(`${entry.call}${entry.reply === "waits" ? " waits" : ""}`, x - 8, y - 10);
+    const error = isError(entry) ? entry.reply : "";
+    const below = isSent(entry) ? `${entry.given[1]}: ${entry.payload}` : error;
     if (this.scale < 50) return;
-    const below = isSent(entry) ? `${entry.given[1]}: ${entry.payload}` : "";
     const most = Math.floor(this.scale / 7);
     c.fillText(below.length > most ? `${below.slice(0, most - 2)}..` : below, x - 8, y + 19);
   }
