@@ -3,7 +3,7 @@ ghost use Rattle.std.specs.Prelude.{◌≡◌, ◌<◌, ◌^◌, IfSome, IsNone,
 ghost use Rattle.mq_state.specs.Memory.{memory_of};
 
 /// How many bytes of memory [`Books::bounded`](crate::books::Books::bounded) takes for so many processes, entries and payload bytes, on a
-/// machine with addresses of 64 bits; `None` where that is more than a u64 holds. Of it 5,256,048 are for the 64 queues, whatever
+/// machine with addresses of 64 bits; `None` where that is more than a u64 holds. Of it 5,256,248 are for the 64 queues, whatever
 /// the bounds.
 pub fn memory_of(n: u32, entries: u64, bytes: u64) -> Option<u64>
     ensures some { IfSome result (λ total. total ≡ memory_of n entries bytes) }
@@ -11,6 +11,6 @@ pub fn memory_of(n: u32, entries: u64, bytes: u64) -> Option<u64>
 {
     let entries = u128::from(entries);
     let processes = (u128::from(n) + 1) * (8 * entries + 1_064);
-    let total = u128::from(bytes) + 120 * entries + processes + 5_256_048;
+    let total = u128::from(bytes) + 120 * entries + processes + 5_256_248;
     u64::try_from(total).ok()
 }
