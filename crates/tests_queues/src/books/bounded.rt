@@ -178,11 +178,11 @@ fn orders_of_queues_that_are_gone_serve_queues_to_come(rt: HostRuntime) {
 
 #[test]
 fn memory_is_told_before_it_is_taken(rt: HostRuntime) {
-    same(&rt, memory_of(1, 0, 0), Some(5_258_176), "without entries");
+    same(&rt, memory_of(1, 0, 0), Some(5_258_376), "without entries");
     same(
         &rt,
         memory_of(4, 1_000_000, 1_000_000),
-        Some(166_261_368),
+        Some(166_261_568),
         "with a million",
     );
     same(
