@@ -1,9 +1,10 @@
 -- What is written of all orders of the calls of a script.
-use Rattle.std.specs.Prelude.{◌≡◌, ℕ, zero, suc, Bool, true, false, List, [], Option, None, Some, if◌then◌else◌, length, slice_get}
+use Rattle.std.specs.Prelude.{◌≡◌, ℕ, zero, suc, Bool, true, false, List, [], Option, None, Some, Result, Ok, Err, if◌then◌else◌, length, slice_get}
 use Rattle.std.specs.List.{All, list_any}
 use Rattle.std.specs.Option.{option_map, unwrap_or}
 use Rattle.std.specs.Io.KnownBytes as known
 use Rattle.text_io.specs.Output.{AppendsTooLittle}
+use Rattle.mq_model.specs.Record.{Past}
 use Rattle.script_text.specs.Script.{Whole}
 use Rattle.journal_format.specs.Text.{journal_text}
 use Rattle.schedules.specs.Schedules.{after}
@@ -11,12 +12,14 @@ use Rattle.schedules.specs.Outcomes.{AreAll, AreDistinct, IsWitness}
 use Rattle.schedules.specs.Work.{TakesAll}
 use Rattle.schedules.specs.declared.outcomes.Collected.{Collected}
 use Rattle.schedules.specs.declared.outcomes.Witnessed.{Witnessed}
-use Rattle.script_orders.specs.Orders.{AreLegal, Begins}
+use Rattle.script_orders.specs.Orders.{AreLegal, BeginsAfter}
 use Rattle.script_orders.specs.Report.{report_text}
 use Rattle.script_orders.specs.Stage.{Stage, choice_count, next_stage, stands_still, told}
+use Rattle.journal_tasks.specs.Start.{IsNoStart}
 use Rattle.journal_tasks.specs.declared.every_order.Ending.{Ending}
 use Rattle.journal_tasks.specs.declared.every_order.Ending.TheVariants.{Well, NoSuch, Deadlock, OutOfBudget}
 use Rattle.journal_tasks.specs.declared.every_order.Trial.{Trial}
+use Rattle.journal_tasks.specs.declared.start.NoStart.{NoStart}
 
 -- the exit status of the program
 abbrev pub ending_status : Ending → ℕ
@@ -70,19 +73,32 @@ abbrev pub answer_ending : Option ℕ → Collected → Ending
 answer_ending None collected = ending_of collected
 answer_ending (Some number) collected = ending_if collected (numbered collected.found.items number)
 
--- all orders of a script were tried, unless the budget was used up, and known bytes have grown by the answer
-pub record Answers (script : Whole) (trial : Trial) (ending : Ending) (old new : Option (List ℕ)) : Type 0 where
+-- all orders of a script were tried, unless the budget was used up, and known bytes have grown by the answer. The script begins after the
+-- calls of a journal
+pub record AnswersAfter (past : Past) (script : Whole) (trial : Trial) (ending : Ending) (old new : Option (List ℕ)) : Type 0 where
   pub from : Stage
-  pub begins : Begins script from
+  pub begins : BeginsAfter past script from
   pub collected : Collected
   pub found : AreFound trial.budget from collected
   pub ends : ending ≡ answer_ending trial.journal collected
   pub written : known.Appends old new (answer_text trial.journal trial.budget (length script.phases) from collected)
 
 -- the same, and known bytes have grown by a front part of the answer that lacks a byte or more
-pub record AnswersInPart (script : Whole) (trial : Trial) (old new : Option (List ℕ)) : Type 0 where
+pub record AnswersAfterInPart (past : Past) (script : Whole) (trial : Trial) (old new : Option (List ℕ)) : Type 0 where
   pub from : Stage
-  pub begins : Begins script from
+  pub begins : BeginsAfter past script from
   pub collected : Collected
   pub found : AreFound trial.budget from collected
   pub written : AppendsTooLittle old new (answer_text trial.journal trial.budget (length script.phases) from collected)
+
+-- the same of a script that begins before all calls
+abbrev pub Answers : Whole → Trial → Ending → Option (List ℕ) → Option (List ℕ) → Type 0
+Answers script trial ending old new = AnswersAfter [] script trial ending old new
+
+abbrev pub AnswersInPart : Whole → Trial → Option (List ℕ) → Option (List ℕ) → Type 0
+AnswersInPart script trial old new = AnswersAfterInPart [] script trial old new
+
+-- the answer is written; or nothing is, and there is a reason why the script does not go on from the journal
+abbrev pub AnswersOrNot : Past → Whole → Trial → Result Ending NoStart → Option (List ℕ) → Option (List ℕ) → Type 0
+AnswersOrNot past script trial (Ok ending) old new = AnswersAfter past script trial ending old new
+AnswersOrNot past script trial (Err why) old new = IsNoStart past script.processes why × (new ≡ old)

@@ -7,3 +7,5 @@ pub mod Verdict
 pub mod Window
 pub mod Judged
 pub mod State
+pub mod Start
+pub mod Resumed

@@ -6,15 +6,18 @@ ghost use Rattle.script_runner.specs.RunFault.{IsLate, StopsAt};
 ghost use Rattle.script_runner.specs.declared.fault.RunFault.{RunFault};
 ghost use Rattle.script_runner.specs.declared.fault.RunFault.TheVariants.{BadCall, Deadlock, Output};
 ghost use Rattle.script_text.specs.Script.{Whole, said_script, script_written};
+ghost use Rattle.mq_model.specs.Legality.{Legal};
 ghost use Rattle.schedules.specs.Schedules.{after};
 ghost use Rattle.schedules.specs.Outcomes.{IsWitness};
 ghost use Rattle.script_orders.specs.Stage.{first_stage, next_stage, stands_still, told};
-ghost use Rattle.journal_tasks.specs.EveryOrder.{Answers, AnswersInPart, AreFound, answer_ending, answer_text, ending_of, ending_status, has_deadlock, journal_of, numbered};
+ghost use Rattle.journal_tasks.specs.EveryOrder.{Answers, AnswersAfter, AnswersAfterInPart, AnswersInPart, AnswersOrNot, AreFound, answer_ending, answer_text, ending_of, ending_status, has_deadlock, journal_of, numbered};
 
+use crate::start::{NoStart, start_after};
 use journal_format::text::write_journal;
+use mq_model::journals::Journal;
 use schedules::outcomes::{Collected, Witnessed};
 use schedules::search::run_again;
-use script_orders::orders::{outcomes_of, play_of};
+use script_orders::orders::{outcomes_of, play_after};
 use script_orders::play::Play;
 use script_orders::report::report_text;
 use script_runner::RunFault;
@@ -93,27 +96,92 @@ pub fn try_orders<R: Read, W: Write>(
 {
     let text = read_all(alloc, input, MOST_BYTES)?;
     let script = read_script(alloc, text.as_slice())?;
-    try_script(alloc, &script, output, trial)
+    try_script(alloc, Journal::new(alloc), &script, output, trial)
 }
 
-// Tries every order of the calls of a script, and writes the answer.
+/// Tries every order of the calls of a script as `try_orders` does, in the state that a journal leaves; or says why the script does not go
+/// on from the journal. Then nothing is written.
+pub fn try_orders_after<R: Read, W: Write>(
+    alloc: Global,
+    journal: Journal,
+    input: &mut R,
+    output: &mut W,
+    trial: Trial,
+) -> Result<Result<Ending, NoStart>, RunFault>
+    ensures bad_call { (all : List ℕ) (line : ℕ) → R.remaining input.old ≡ Some all →
+        script_written (take (MOST_BYTES + 1) all) ≡ Err line →
+        StopsAt line result × (W.contents output.new ≡ W.contents output.old) }
+    ensures bad_call_only { (all : List ℕ) (line : ℕ) → R.remaining input.old ≡ Some all →
+        IsErrOf result (BadCall line) → script_written (take (MOST_BYTES + 1) all) ≡ Err line }
+    ensures no_deadlock { (lines : Vec ℕ Global) → IsErrOf result (Deadlock lines) → ⊥ }
+    ensures unwritten { (fault : RunFault) → IsErrOf result fault → fault ≢ Output →
+        W.contents output.new ≡ W.contents output.old }
+    ensures output { (all : List ℕ) (script : Whole) → R.remaining input.old ≡ Some all →
+        script_written (take (MOST_BYTES + 1) all) ≡ Ok script → IsErrOf result Output →
+        AnswersAfterInPart journal.records script trial (W.contents output.old)
+        (W.contents output.new) }
+    ensures done { (all : List ℕ) (script : Whole) → R.remaining input.old ≡ Some all →
+        script_written (take (MOST_BYTES + 1) all) ≡ Ok script →
+        IfOk result (λ answer. AnswersOrNot journal.records script trial answer
+        (W.contents output.old) (W.contents output.new)) }
+{
+    let text = read_all(alloc, input, MOST_BYTES)?;
+    let script = read_script(alloc, text.as_slice())?;
+    try_after(alloc, journal, &script, output, trial)
+}
+
+// Tries every order of the calls of a script after those of a journal, and writes the answer.
+fn try_after<W: Write>(
+    alloc: Global,
+    journal: Journal,
+    script: &Script<'_>,
+    output: &mut W,
+    trial: Trial,
+) -> Result<Result<Ending, NoStart>, RunFault>
+    requires { (1 ≤ script.now.processes) × (script.now.processes ≤ 32) }
+    ensures fault { IfErr result IsLate }
+    ensures no_deadlock { (lines : Vec ℕ Global) → IsErrOf result (Deadlock lines) → ⊥ }
+    ensures unwritten { (fault : RunFault) → IsErrOf result fault → fault ≢ Output →
+        W.contents output.new ≡ W.contents output.old }
+    ensures output { IsErrOf result Output → AnswersAfterInPart journal.records
+        (said_script script.now) trial (W.contents output.old) (W.contents output.new) }
+    ensures done { IfOk result (λ answer. AnswersOrNot journal.records (said_script script.now)
+        trial answer (W.contents output.old) (W.contents output.new)) }
+{
+    let start = start_after(alloc, script.processes, journal)?;
+    match start {
+        Ok(books) => {
+            let past = books.into_journal();
+            match try_script(alloc, past, script, output, trial) {
+                Ok(ending) => Ok(Ok(ending)),
+                Err(fault) => Err(fault),
+            }
+        }
+        Err(why) => Ok(Err(why)),
+    }
+}
+
+// Tries every order of the calls of a script after those of a legal journal, and writes the answer.
 fn try_script<W: Write>(
     alloc: Global,
+    journal: Journal,
     script: &Script<'_>,
     output: &mut W,
     trial: Trial,
 ) -> Result<Ending, RunFault>
-    requires { script.now.processes ≤ 32 }
+    requires processes { script.now.processes ≤ 32 }
+    requires legal { Legal journal.records }
     ensures fault { IfErr result IsLate }
     ensures no_deadlock { (lines : Vec ℕ Global) → IsErrOf result (Deadlock lines) → ⊥ }
     ensures unwritten { (fault : RunFault) → IsErrOf result fault → fault ≢ Output →
         W.contents output.new ≡ W.contents output.old }
     ensures output { IsErrOf result Output →
-        AnswersInPart (said_script script.now) trial (W.contents output.old) (W.contents output.new) }
-    ensures done { IfOk result (λ ending.
-        Answers (said_script script.now) trial ending (W.contents output.old) (W.contents output.new)) }
+        AnswersAfterInPart journal.records (said_script script.now) trial (W.contents output.old)
+        (W.contents output.new) }
+    ensures done { IfOk result (λ ending. AnswersAfter journal.records (said_script script.now)
+        trial ending (W.contents output.old) (W.contents output.new)) }
 {
-    let mut play = play_of(alloc, script)?;
+    let mut play = play_after(alloc, script, journal)?;
     let collected = outcomes_of(alloc, &mut play, trial.budget)?;
     let phases = script.phases.len() as u64;
     let said = answer_text(alloc, &mut play, phases, &collected, trial)?;

@@ -2,7 +2,7 @@
 use Rattle.std.specs.Prelude.{◌-◌, ◌^◌, List, ℕ, Option, Some, None, if◌then◌else◌, codes, unwrap_or}
 use Rattle.std.specs.Str.{bytes_eq}
 use Rattle.mqlog.specs.declared.task.Task.{Task}
-use Rattle.mqlog.specs.declared.task.Task.TheVariants.{Run, History, Check, Compact, Draw, View, State, Judge, Orders}
+use Rattle.mqlog.specs.declared.task.Task.TheVariants.{Run, Resume, History, Check, Compact, Draw, View, State, Judge, Orders}
 use Rattle.mqlog.specs.declared.task.Options.{Options}
 use Rattle.journal_tasks.specs.declared.every_order.Trial.{Trial}
 use Rattle.journal_tasks.specs.declared.judge.Question.{Question}
@@ -31,6 +31,7 @@ trial_of o = record { journal = o.journal; budget = unwrap_or o.budget 5000000 }
 abbrev pub task_named : List ℕ → Options → Option Task
 task_named name o =
     if bytes_eq name (codes "run") then Some Run
+    else if bytes_eq name (codes "resume") then Some Resume
     else if bytes_eq name (codes "history") then Some History
     else if bytes_eq name (codes "check") then Some Check
     else if bytes_eq name (codes "compact") then Some Compact

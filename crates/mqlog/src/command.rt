@@ -14,8 +14,8 @@ Exit status:
   2  a line is malformed, or the arguments are wrong
   3  a read or a write failed
   4  memory was refused
-  5  run, history: the script is deadlocked; orders: an interleaving deadlocks;
-     judge: the budget was used up
+  5  run, history, resume: the script is deadlocked; orders: an interleaving
+     deadlocks; judge: the budget was used up
   6  orders: the budget was used up, and no deadlock was found";
 
 /// The command line as `clap` describes it.
@@ -26,6 +26,7 @@ pub fn command<'a>(alloc: Global) -> Result<Command<'a>, AllocError> {
         .after_help(STATUSES)
         .subcommand_required(true)
         .subcommand(task(alloc, "run", "Runs a script, and writes its journal")?)?
+        .subcommand(resume(alloc)?)?
         .subcommand(task(
             alloc,
             "history",
@@ -73,6 +74,29 @@ fn flag<'a>(alloc: Global, id: &'a str, name: &'a str, help: &'a str) -> Arg<'a>
         .long(name)
         .action(ArgAction::SetTrue)
         .help(help)
+}
+
+// An option with the path of a file.
+fn path<'a>(alloc: Global, id: &'a str, name: &'a str, help: &'a str) -> Arg<'a> {
+    Arg::new(alloc, id)
+        .long(name)
+        .value_names(&["FILE"])
+        .help(help)
+}
+
+fn resume<'a>(alloc: Global) -> Result<Command<'a>, AllocError> {
+    task(
+        alloc,
+        "resume",
+        "Runs a script in the state that a journal leaves, and writes the journal of both",
+    )?
+    .arg(path(
+        alloc,
+        "script",
+        "script",
+        "The script; -, for standard input",
+    )
+    .required(true))
 }
 
 // A task that shows a part of a journal.
@@ -156,15 +180,30 @@ fn orders<'a>(alloc: Global) -> Result<Command<'a>, AllocError> {
         "budget",
         &["N"],
         "Takes at most N steps, in place of 5000000",
+    ))?
+    .arg(path(
+        alloc,
+        "past",
+        "from",
+        "Begins in the state that this journal leaves",
     ))
 }
 
-/// A task, the file that it reads in place of the standard input, the file that names the threads of
-/// a journal, and whether the answer of `judge` is a page.
+/// A file that a task reads.
+#[derive(Clone, Copy, Debug, PartialEq, Eq)]
+pub enum Source<'a> {
+    StandardInput,
+    Path(&'a str),
+}
+
+/// A task, the file that it reads, and the second one of a task that reads two: the script of
+/// `resume`, the journal of `orders`. Then the file that names the threads of a journal, and
+/// whether the answer of `judge` is a page.
 #[derive(Clone, Copy, Debug, PartialEq, Eq)]
 pub struct Asked<'a> {
     pub task: Task,
-    pub file: Option<&'a str>,
+    pub file: Source<'a>,
+    pub second: Option<Source<'a>>,
     pub threads: Option<&'a str>,
     pub page: bool,
 }
@@ -173,16 +212,31 @@ pub struct Asked<'a> {
 pub fn asked_by<'a>(matches: &ArgMatches<'a>) -> Option<Asked<'a>> {
     let (name, given) = matches.subcommand()?;
     let task = task_named(name, options_of(given))?;
-    let file = match given.get_str("FILE") {
-        Some("-") => None,
-        file => file,
-    };
     Some(Asked {
         task,
-        file,
+        file: source_of(given.get_str("FILE")),
+        second: second_of(task, given),
         threads: given.get_str("threads"),
         page: given.get_flag("page"),
     })
+}
+
+// The file that a word names.
+fn source_of(word: Option<&str>) -> Source<'_> {
+    match word {
+        None | Some("-") => Source::StandardInput,
+        Some(path) => Source::Path(path),
+    }
+}
+
+// The second file that a task reads.
+fn second_of<'a>(task: Task, matches: &ArgMatches<'a>) -> Option<Source<'a>> {
+    let word = match task {
+        Task::Resume => matches.get_str("script")?,
+        Task::Orders(_) => matches.get_str("past")?,
+        _ => return None,
+    };
+    Some(source_of(Some(word)))
 }
 
 // The options that a task was given.

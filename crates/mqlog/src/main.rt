@@ -7,14 +7,17 @@ mod task;
 #[cfg(test)]
 mod tests;
 
-use command::{Asked, asked_by, command};
+use command::{Asked, Source, asked_by, command};
 use fast_mutex::FastMutex;
+use journal_format::input::read_input;
 use journal_page::{TAIL, Unviewed, Viewed, view_journal};
 use journal_tasks::{
     Ending, LogFault, Question, Trial, Wanted, Window, check_journal, compact_journal,
-    draw_journal, judge_history, record_history, record_script, state_journal, try_orders,
+    draw_journal, judge_history, record_history, record_script, resume_script, state_journal,
+    try_orders, try_orders_after,
 };
 use mq::Guarded;
+use mq_model::journals::Journal;
 use pages::{head_of, judge_to_page};
 use script_runner::{Plain, RunFault};
 use std::alloc::{Alloc, Global};
@@ -63,10 +66,24 @@ fn asked(
     };
     match asked_by(&matches) {
         None => ExitCode::from(2),
+        Some(
+            Asked {
+                file: Source::StandardInput,
+                second: Some(Source::StandardInput),
+                ..
+            },
+        ) => {
+            say(
+                rt,
+                None,
+                &"the script and the journal can't both be the standard input",
+            );
+            ExitCode::from(2)
+        }
         Some(asked) => match asked.file {
-            None => answer(rt, asked, &mut rt.reader()),
-            Some(path) => match fs::open(rt, path) {
-                Ok(mut file) => answer(rt, asked, &mut file),
+            Source::StandardInput => answer(rt, asked, None, &mut rt.reader()),
+            Source::Path(path) => match fs::open(rt, path) {
+                Ok(mut input) => answer(rt, asked, Some(path), &mut input),
                 Err(error) => not_opened(rt, path, &error),
             },
         },
@@ -86,13 +103,14 @@ fn not_asked(rt: &(impl Print + Eprint), error: clap::Error) -> ExitCode {
 
 // Does a task over what a file or the standard input has.
 fn answer<R: Read>(
-    rt: &(impl Print + Eprint + AllocGlobal + Threads + Wait + Clock + Sync + Files),
+    rt: &(impl Print + Eprint + AllocGlobal + Threads + Wait + Clock + Sync + Input + Files),
     asked: Asked<'_>,
+    file: Option<&str>,
     input: &mut R,
 ) -> ExitCode {
-    let Asked { task, file, .. } = asked;
-    match task {
+    match asked.task {
         Task::Run => run(rt, file, input),
+        Task::Resume => resume(rt, file, input, asked.second),
         Task::History => history(rt, file, input),
         Task::Check => check(rt, file, input),
         Task::Compact => compact(rt, file, input),
@@ -104,7 +122,10 @@ fn answer<R: Read>(
         Task::State(wanted) => state(rt, file, input, wanted),
         Task::Judge(question) if asked.page => judge_to_page(rt, file, input, question),
         Task::Judge(question) => judge(rt, file, input, question),
-        Task::Orders(trial) => orders(rt, file, input, trial),
+        Task::Orders(trial) => match asked.second {
+            None => orders(rt, file, input, trial),
+            Some(past) => orders_after(rt, past, file, input, trial),
+        },
     }
 }
 
@@ -236,6 +257,53 @@ fn run<R: Read>(
     }
 }
 
+// Runs a script in the state that the journal leaves which `input` has.
+fn resume<R: Read>(
+    rt: &(impl Print + Eprint + AllocGlobal + Threads + Wait + Clock + Sync + Input + Files),
+    file: Option<&str>,
+    input: &mut R,
+    script: Option<Source<'_>>,
+) -> ExitCode {
+    let journal = match read_input(rt.alloc(), input) {
+        Ok(journal) => journal,
+        Err(fault) => return failed(rt, file, LogFault::from(fault)),
+    };
+    match script {
+        None | Some(Source::StandardInput) => go_on(rt, file, journal, None, &mut rt.reader()),
+        Some(Source::Path(path)) => match fs::open(rt, path) {
+            Ok(mut lines) => go_on(rt, file, journal, Some(path), &mut lines),
+            Err(error) => not_opened(rt, path, &error),
+        },
+    }
+}
+
+// Runs the script that `input` has, of the file `script`, in the state that a journal leaves, of
+// the file `past`.
+fn go_on<R: Read>(
+    rt: &(impl Print + Eprint + AllocGlobal + Threads + Wait + Clock + Sync),
+    past: Option<&str>,
+    journal: Journal,
+    script: Option<&str>,
+    input: &mut R,
+) -> ExitCode {
+    let outcome = resume_script::<FastMutex<Guarded>, _, _, _, _>(
+        rt,
+        rt.alloc(),
+        journal,
+        input,
+        &mut io::writer(rt),
+        &Plain,
+    );
+    match outcome {
+        Ok(None) => ExitCode::SUCCESS,
+        Ok(Some(why)) => {
+            say(rt, past, &why);
+            ExitCode::from(1)
+        }
+        Err(fault) => stopped(rt, script, fault),
+    }
+}
+
 fn history<R: Read>(
     rt: &(impl Print + Eprint + AllocGlobal + Threads + Wait + Clock + Sync),
     file: Option<&str>,
@@ -255,11 +323,53 @@ fn orders<R: Read>(
     trial: Trial,
 ) -> ExitCode {
     match try_orders(rt.alloc(), input, &mut io::writer(rt), trial) {
-        Ok(ending) => {
-            if ending == Ending::NoSuch {
-                say(rt, file, &"no outcome of this number");
-            }
-            ExitCode::from(ending.status())
+        Ok(ending) => ended(rt, file, ending),
+        Err(fault) => stopped(rt, file, fault),
+    }
+}
+
+fn ended(rt: &impl Eprint, file: Option<&str>, ending: Ending) -> ExitCode {
+    if ending == Ending::NoSuch {
+        say(rt, file, &"no outcome of this number");
+    }
+    ExitCode::from(ending.status())
+}
+
+// Tries the orders of a script in the state that the journal `past` leaves.
+fn orders_after<R: Read>(
+    rt: &(impl Print + Eprint + AllocGlobal + Input + Files),
+    past: Source<'_>,
+    file: Option<&str>,
+    input: &mut R,
+    trial: Trial,
+) -> ExitCode {
+    match past {
+        Source::StandardInput => orders_from(rt, None, &mut rt.reader(), file, input, trial),
+        Source::Path(path) => match fs::open(rt, path) {
+            Ok(mut entries) => orders_from(rt, Some(path), &mut entries, file, input, trial),
+            Err(error) => not_opened(rt, path, &error),
+        },
+    }
+}
+
+// The same with the journal that `entries` has, of the file `past`.
+fn orders_from<J: Read, R: Read>(
+    rt: &(impl Print + Eprint + AllocGlobal),
+    past: Option<&str>,
+    entries: &mut J,
+    file: Option<&str>,
+    input: &mut R,
+    trial: Trial,
+) -> ExitCode {
+    let journal = match read_input(rt.alloc(), entries) {
+        Ok(journal) => journal,
+        Err(fault) => return failed(rt, past, LogFault::from(fault)),
+    };
+    match try_orders_after(rt.alloc(), journal, input, &mut io::writer(rt), trial) {
+        Ok(Ok(ending)) => ended(rt, file, ending),
+        Ok(Err(why)) => {
+            say(rt, past, &why);
+            ExitCode::from(1)
         }
         Err(fault) => stopped(rt, file, fault),
     }

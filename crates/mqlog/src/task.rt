@@ -10,6 +10,8 @@ use journal_tasks::{LAST, PLAIN, Question, REPORT, Trial, WHOLE, Wanted, Window}
 pub enum Task {
     /// Runs a script and writes its journal.
     Run,
+    /// Runs a script in the state that a journal leaves, and writes the journal of both.
+    Resume,
     /// Runs a script and writes the history of its calls.
     History,
     /// Checks a journal.
@@ -47,6 +49,7 @@ pub fn task_named(name: &str, options: Options) -> Option<Task>
 {
     let task = match name {
         "run" => Task::Run,
+        "resume" => Task::Resume,
         "history" => Task::History,
         "check" => Task::Check,
         "compact" => Task::Compact,

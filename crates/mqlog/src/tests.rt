@@ -17,6 +17,7 @@ mod judging;
 mod overlapping;
 mod pictures;
 mod recorded;
+mod resumed;
 mod script_histories;
 mod states;
 

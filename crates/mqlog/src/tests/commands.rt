@@ -1,5 +1,5 @@
 // The command line: what words ask for, and which are refused.
-use crate::command::{Asked, asked_by, command};
+use crate::command::{Asked, Source, asked_by, command};
 use crate::task::Task;
 use clap::error::ErrorKind;
 use journal_state::Form;
@@ -7,14 +7,14 @@ use journal_tasks::{LAST, PLAIN, Question, REPORT, Trial, WHOLE, Wanted, Window}
 use std::alloc::{AllocError, Global};
 use std::test::Fail;
 
-// The task and the file that these words ask for, or the kind of the error.
+// What these words ask for, or the kind of the error.
 fn asked<'a>(
     alloc: Global,
     words: &'a [&'a str],
-) -> Result<Result<(Task, Option<&'a str>), ErrorKind>, AllocError> {
+) -> Result<Result<Asked<'a>, ErrorKind>, AllocError> {
     match command(alloc)?.try_get_matches_from(words) {
         Ok(matches) => match asked_by(&matches) {
-            Some(Asked { task, file, .. }) => Ok(Ok((task, file))),
+            Some(asked) => Ok(Ok(asked)),
             None => Ok(Err(ErrorKind::InvalidSubcommand)),
         },
         Err(error) => Ok(Err(error.kind())),
@@ -78,7 +78,12 @@ static ASKED: [(&[&str], Task, Option<&str>); 16] = [
 ];
 
 // Command lines that ask for no task, with the kind of what is said of them.
-static NOT_ASKED: [(&[&str], ErrorKind); 18] = [
+static NOT_ASKED: [(&[&str], ErrorKind); 20] = [
+    (
+        &["mqlog", "resume", "j"],
+        ErrorKind::MissingRequiredArgument,
+    ),
+    (&["mqlog", "orders", "--from"], ErrorKind::InvalidValue),
     (&["mqlog"], ErrorKind::MissingSubcommand),
     (&["mqlog", ""], ErrorKind::InvalidSubcommand),
     (&["mqlog", "draws"], ErrorKind::InvalidSubcommand),
@@ -128,7 +133,70 @@ fn words_ask_for_a_task_with_its_options_in_any_order_and_a_file(
     rt: HostRuntime,
 ) -> Result<(), Fail> {
     for (words, task, file) in ASKED {
-        assert_eq!(rt; asked(rt.alloc(), words)?, Ok((task, file)));
+        let file = match file {
+            None => Source::StandardInput,
+            Some(path) => Source::Path(path),
+        };
+        let wanted = Asked {
+            task,
+            file,
+            second: None,
+            threads: None,
+            page: false,
+        };
+        assert_eq!(rt; asked(rt.alloc(), words)?, Ok(wanted));
+    }
+    Ok(())
+}
+
+// Command lines of tasks over a script and a journal, with both files.
+static ASKED_OF_TWO: [(&[&str], Asked<'static>); 4] = [
+    (
+        &["mqlog", "resume", "--script", "s"],
+        Asked {
+            task: Task::Resume,
+            file: Source::StandardInput,
+            second: Some(Source::Path("s")),
+            threads: None,
+            page: false,
+        },
+    ),
+    (
+        &["mqlog", "resume", "j", "--script", "-"],
+        Asked {
+            task: Task::Resume,
+            file: Source::Path("j"),
+            second: Some(Source::StandardInput),
+            threads: None,
+            page: false,
+        },
+    ),
+    (
+        &["mqlog", "orders", "--from", "j", "s"],
+        Asked {
+            task: Task::Orders(REPORT),
+            file: Source::Path("s"),
+            second: Some(Source::Path("j")),
+            threads: None,
+            page: false,
+        },
+    ),
+    (
+        &["mqlog", "orders", "s", "--from=-"],
+        Asked {
+            task: Task::Orders(REPORT),
+            file: Source::Path("s"),
+            second: Some(Source::StandardInput),
+            threads: None,
+            page: false,
+        },
+    ),
+];
+
+#[test]
+fn words_ask_for_a_script_and_a_journal(rt: HostRuntime) -> Result<(), Fail> {
+    for (words, wanted) in ASKED_OF_TWO {
+        assert_eq!(rt; asked(rt.alloc(), words)?, Ok(wanted));
     }
     Ok(())
 }

@@ -12,7 +12,7 @@ use std::thread::Threads;
 use std::time::Clock;
 
 // How the run of a script ended, and the text of its journal.
-fn recorded<S: Threads + Wait + Clock + Sync>(
+pub(super) fn recorded<S: Threads + Wait + Clock + Sync>(
     rt: &S,
     alloc: Global,
     mut script: &[u8],

@@ -1,22 +1,9 @@
 use Rattle.std.proofs.Common.{◌≡◌, subst, ℕ, List, take, Ok, IfOk}
-use Rattle.text_io.specs.declared.input.ReadFault.{ReadFault}
-use Rattle.text_io.specs.declared.input.ReadFault.TheVariants as read
-use Rattle.script_text.specs.declared.fault.ScriptFault.{ScriptFault}
-use Rattle.script_text.specs.declared.fault.ScriptFault.TheVariants as script
 use Rattle.script_text.specs.Script.{Whole, said_script, script_written}
-use Rattle.script_runner.specs.RunFault.{of_read_fault, of_script_fault}
-use Rattle.script_runner.specs.declared.fault.RunFault.TheVariants.{Output}
-use Rattle.journal_tasks.specs.EveryOrder.{Answers, AnswersInPart}
+use Rattle.mq_model.specs.Record.{Past}
+use Rattle.journal_tasks.specs.EveryOrder.{AnswersAfter, AnswersAfterInPart}
+use Rattle.journal_tasks.proofs.Reading.{read-no_output, script-no_output}
 use Rattle.journal_tasks.proofs.every_order.try_orders.Goals as goal
-
--- reading the script comes to no output fault
-read-no_output : (fault : ReadFault) → Output ≡ of_read_fault fault → ⊥
-read-no_output read.Failed is = cc
-read-no_output read.NoMemory is = cc
-
-script-no_output : (fault : ScriptFault) → Output ≡ of_script_fault fault → ⊥
-script-no_output (script.BadCall line) is = cc
-script-no_output script.NoMemory is = cc
 
 -- the script that was read is the one that the input writes
 same_script : (text slice front : List ℕ) (read script : Whole) → text ≡ front → slice ≡ text → script_written slice ≡ Ok read → script_written front ≡ Ok script → read ≡ script
@@ -34,10 +21,16 @@ pub returns-clause-output : goal.returns-clause-output
 returns-clause-output g c = λ all script known written failed.
     let text : c.in_ok-text.text.items ≡ take 1048577 all = rw known at c.in_ok-text.ensures.bytes in
     let same = same_script _ _ (take 1048577 all) (said_script c.in_ok-script.script) script text c.as_slice.ensures.value c.in_ok-script.ensures.written written in
-    subst (λ s. AnswersInPart s c.args.trial (g.W.Write.contents c.args.output.now) (g.W.Write.contents c.try_script.new.output)) same (c.try_script.ensures.output failed)
+    let old = g.W.Write.contents c.args.output.now in
+    let new = g.W.Write.contents c.try_script.new.output in
+    subst (λ (past : Past). AnswersAfterInPart past script c.args.trial old new) c.new.ensures
+    (subst (λ s. AnswersAfterInPart c.new.result.records s c.args.trial old new) same (c.try_script.ensures.output failed))
 
 pub returns-clause-done : goal.returns-clause-done
 returns-clause-done g c = λ all script known written.
     let text : c.in_ok-text.text.items ≡ take 1048577 all = rw known at c.in_ok-text.ensures.bytes in
     let same = same_script _ _ (take 1048577 all) (said_script c.in_ok-script.script) script text c.as_slice.ensures.value c.in_ok-script.ensures.written written in
-    subst (λ s. IfOk c.try_script.result (λ ending. Answers s c.args.trial ending (g.W.Write.contents c.args.output.now) (g.W.Write.contents c.try_script.new.output))) same c.try_script.ensures.done
+    let old = g.W.Write.contents c.args.output.now in
+    let new = g.W.Write.contents c.try_script.new.output in
+    subst (λ (past : Past). IfOk c.try_script.result (λ ending. AnswersAfter past script c.args.trial ending old new)) c.new.ensures
+    (subst (λ s. IfOk c.try_script.result (λ ending. AnswersAfter c.new.result.records s c.args.trial ending old new)) same c.try_script.ensures.done)

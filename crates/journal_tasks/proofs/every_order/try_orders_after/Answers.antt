@@ -1,0 +1,21 @@
+use Rattle.std.proofs.Common.{IfOk}
+use Rattle.script_runner.proofs.Stopping.{of-script}
+use Rattle.journal_tasks.specs.EveryOrder.{AnswersOrNot, AnswersAfterInPart}
+use Rattle.journal_tasks.proofs.Reading.{read-no_output, script-no_output}
+use Rattle.journal_tasks.proofs.every_order.try_orders_after.Goals as goal
+
+pub returns-in_err-text-clause-output : goal.returns-in_err-text-clause-output
+returns-in_err-text-clause-output g c = λ all script known written failed.
+    absurd (read-no_output c.in_err-text.field-0.0 (rw failed at c.from_residual.ensures.1))
+
+pub returns-in_err-script-clause-output : goal.returns-in_err-script-clause-output
+returns-in_err-script-clause-output g c = λ all script known written failed.
+    absurd (script-no_output c.in_err-script.field-0.0 (rw failed at c.from_residual-in_err-script.ensures.1))
+
+pub returns-clause-output : goal.returns-clause-output
+returns-clause-output g c = λ all script known written failed.
+    of-script (λ s. AnswersAfterInPart c.args.journal.records s c.args.trial (g.W.Write.contents c.args.output.now) (g.W.Write.contents c.try_after.new.output)) (rw known at c.in_ok-text.ensures.bytes) c.as_slice.ensures.value c.in_ok-script.ensures.written written (c.try_after.ensures.output failed)
+
+pub returns-clause-done : goal.returns-clause-done
+returns-clause-done g c = λ all script known written.
+    of-script (λ s. IfOk c.try_after.result (λ answer. AnswersOrNot c.args.journal.records s c.args.trial answer (g.W.Write.contents c.args.output.now) (g.W.Write.contents c.try_after.new.output))) (rw known at c.in_ok-text.ensures.bytes) c.as_slice.ensures.value c.in_ok-script.ensures.written written c.try_after.ensures.done
