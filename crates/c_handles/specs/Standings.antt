@@ -9,7 +9,7 @@ use Rattle.c_handles.specs.declared.standing.Standing.{Standing}
 
 abbrev pub ticket_in : Option (Ticket Record) → Option Entrant → Ticket Record
 ticket_in (Some process) way = process
-ticket_in None (Some approach) = approach.process
+ticket_in None (Some acquisition) = acquisition.process
 ticket_in None None = no_ticket
 
 abbrev pub ticket_of : Standing → Ticket Record

@@ -83,10 +83,10 @@ impl Member {
         if waiting(&self.standing).is_some() {
             return Tried::Waiting;
         }
-        let Some(arrived) = arrive(&self.mq, &mut self.standing) else {
+        let Some(guard) = arrive(&self.mq, &mut self.standing) else {
             return Tried::Retry;
         };
-        let (process, returned) = arrived.make(&self.mq, call, given, buf);
+        let (process, returned) = guard.make(&self.mq, call, given, buf);
         self.until = until_of(&process, call);
         settle(&mut self.standing, process);
         Tried::Made(returned)
@@ -111,15 +111,15 @@ impl Member {
             return None;
         }
         match set_out(&self.mq, &mut self.standing) {
-            Ok(arrived) => {
+            Ok(guard) => {
                 let len = bytes.len() as u64;
                 let call = Call::MqSend { d, prio, len };
-                let (process, sent) = arrived.make(&self.mq, call, bytes, &mut []);
+                let (process, sent) = guard.make(&self.mq, call, bytes, &mut []);
                 settle(&mut self.standing, process);
                 Some(Tried::Made(sent))
             }
-            Err(approach) => {
-                walk_on(&mut self.standing, approach);
+            Err(acquisition) => {
+                walk_on(&mut self.standing, acquisition);
                 None
             }
         }
@@ -143,15 +143,15 @@ impl Member {
             return None;
         }
         match set_out(&self.mq, &mut self.standing) {
-            Ok(arrived) => {
+            Ok(guard) => {
                 let room = buf.len() as u64;
                 let call = Call::MqReceive { d, room };
-                let (process, got) = arrived.make(&self.mq, call, &[], buf);
+                let (process, got) = guard.make(&self.mq, call, &[], buf);
                 settle(&mut self.standing, process);
                 Some(Tried::Made(got))
             }
-            Err(approach) => {
-                walk_on(&mut self.standing, approach);
+            Err(acquisition) => {
+                walk_on(&mut self.standing, acquisition);
                 None
             }
         }
@@ -166,10 +166,10 @@ impl Member {
         if waiting(&self.standing).is_some() {
             return Tried::Waiting;
         }
-        let Some(arrived) = arrive(&self.mq, &mut self.standing) else {
+        let Some(guard) = arrive(&self.mq, &mut self.standing) else {
             return Tried::Retry;
         };
-        let (process, closed) = arrived.exit(&self.mq);
+        let (process, closed) = guard.exit(&self.mq);
         settle(&mut self.standing, process);
         self.until = None;
         Tried::Made(closed)
@@ -200,8 +200,8 @@ impl Member {
         ensures legal { IfSome result (λ checked. IsOk checked ×
             Calls (ticket_of self.old.standing) (ticket_of self.new.standing) []) }
     {
-        let arrived = arrive(&self.mq, &mut self.standing)?;
-        let (process, checked) = arrived.check(alloc, &self.mq);
+        let guard = arrive(&self.mq, &mut self.standing)?;
+        let (process, checked) = guard.check(alloc, &self.mq);
         settle(&mut self.standing, process);
         Some(checked)
     }
@@ -219,8 +219,8 @@ impl Member {
         ensures calls { OnSome result (Calls (ticket_of self.old.standing)
             (ticket_of self.new.standing) []) }
     {
-        let arrived = arrive(&self.mq, &mut self.standing)?;
-        let (process, read) = arrived.record(alloc, &self.mq, place);
+        let guard = arrive(&self.mq, &mut self.standing)?;
+        let (process, read) = guard.record(alloc, &self.mq, place);
         settle(&mut self.standing, process);
         Some(read)
     }
@@ -234,8 +234,8 @@ impl Member {
         ensures calls { OnSome result (Calls (ticket_of self.old.standing)
             (ticket_of self.new.standing) []) }
     {
-        let arrived = arrive(&self.mq, &mut self.standing)?;
-        let (process, room) = arrived.room(&self.mq);
+        let guard = arrive(&self.mq, &mut self.standing)?;
+        let (process, room) = guard.room(&self.mq);
         settle(&mut self.standing, process);
         Some(room)
     }
@@ -249,8 +249,8 @@ impl Member {
         ensures calls { OnSome result (Calls (ticket_of self.old.standing)
             (ticket_of self.new.standing) []) }
     {
-        let arrived = arrive(&self.mq, &mut self.standing)?;
-        let (process, nobody) = arrived.nobody_can_call(&self.mq);
+        let guard = arrive(&self.mq, &mut self.standing)?;
+        let (process, nobody) = guard.nobody_can_call(&self.mq);
         settle(&mut self.standing, process);
         Some(nobody)
     }
@@ -282,10 +282,10 @@ impl Member {
         if buf.len() < room {
             return Ending::Short;
         }
-        let Some(arrived) = arrive(&self.mq, &mut self.standing) else {
+        let Some(guard) = arrive(&self.mq, &mut self.standing) else {
             return Ending::Retry;
         };
-        let (process, outcome) = arrived.collect(&self.mq, buf);
+        let (process, outcome) = guard.collect(&self.mq, buf);
         settle(&mut self.standing, process);
         match outcome {
             None => Ending::Unanswered,
@@ -311,10 +311,10 @@ impl Member {
         if !ladder::is_over(self.until, now) {
             return Ending::TooEarly;
         }
-        let Some(arrived) = arrive(&self.mq, &mut self.standing) else {
+        let Some(guard) = arrive(&self.mq, &mut self.standing) else {
             return Ending::Retry;
         };
-        let (process, outcome) = arrived.end_wait(&self.mq, buf, now);
+        let (process, outcome) = guard.end_wait(&self.mq, buf, now);
         settle(&mut self.standing, process);
         self.until = None;
         match outcome {

@@ -5,7 +5,7 @@ ghost use Rattle.mq.specs.Calls.{IsFree};
 ghost use Rattle.c_handles.specs.Standings.{ticket_of, is_there, is_under_way, LooksAt};
 
 use fast_mutex::HASTE;
-use mq::{FastApproach, FastArrived, FastMq, FastProcess};
+use mq::{FastAcquisition, FastGuard, FastMq, FastProcess};
 use std::mem;
 
 // How many steps on its way into the lock one try takes.
@@ -16,7 +16,7 @@ const STEPS: u32 = 100;
 #[derive(Drop)]
 pub struct Standing {
     pub rest: Option<FastProcess>,
-    pub way: Option<FastApproach>,
+    pub way: Option<FastAcquisition>,
 }
 
 /// A process at rest.
@@ -32,24 +32,24 @@ pub fn at_rest(process: FastProcess) -> Standing
 
 /// Takes the process inside, or leaves it on its way there.
 #[inline(always)]
-pub fn arrive(mq: &FastMq, standing: &mut Standing) -> Option<FastArrived>
+pub fn arrive(mq: &FastMq, standing: &mut Standing) -> Option<FastGuard>
     requires there { is_there standing.old ≡ true }
     requires made { (ticket_of standing.old).lock ≡ mq.now }
-    ensures arrived { IfSome result (λ arrived. arrived.process ≡ ticket_of standing.old) }
+    ensures guard { IfSome result (λ guard. guard.process ≡ ticket_of standing.old) }
     ensures same { IfNone result (ticket_of standing.new ≡ ticket_of standing.old) }
     ensures there { IfNone result (is_there standing.new ≡ true) }
 {
     let came = match standing.rest.take() {
-        Some(process) => process.approach(mq).advance(mq, STEPS),
+        Some(process) => process.acquisition(mq).advance(mq, STEPS),
         None => match standing.way.take() {
-            Some(approach) => go_on(mq, approach),
+            Some(acquisition) => go_on(mq, acquisition),
             None => unreachable!(),
         },
     };
     match came {
-        Ok(arrived) => Some(arrived),
-        Err(approach) => {
-            standing.way = Some(approach);
+        Ok(guard) => Some(guard),
+        Err(acquisition) => {
+            standing.way = Some(acquisition);
             None
         }
     }
@@ -57,25 +57,25 @@ pub fn arrive(mq: &FastMq, standing: &mut Standing) -> Option<FastArrived>
 
 // It stands apart, so that of a process that sets out each step is known.
 #[inline(never)]
-fn go_on(mq: &FastMq, approach: FastApproach) -> Result<FastArrived, FastApproach>
-    requires made { approach.process.lock ≡ mq.now }
-    ensures arrived { IfOk result (λ arrived. arrived.process ≡ approach.process) }
-    ensures under_way { IfErr result (λ nearer. nearer.process ≡ approach.process) }
+fn go_on(mq: &FastMq, acquisition: FastAcquisition) -> Result<FastGuard, FastAcquisition>
+    requires made { acquisition.process.lock ≡ mq.now }
+    ensures guard { IfOk result (λ guard. guard.process ≡ acquisition.process) }
+    ensures under_way { IfErr result (λ nearer. nearer.process ≡ acquisition.process) }
 {
-    approach.advance(mq, STEPS)
+    acquisition.advance(mq, STEPS)
 }
 
 /// Takes a process inside that is at rest and meets nobody, or gives it back on its way there. It leaves none at rest.
 #[inline(always)]
-pub fn set_out(mq: &FastMq, standing: &mut Standing) -> Result<FastArrived, FastApproach>
+pub fn set_out(mq: &FastMq, standing: &mut Standing) -> Result<FastGuard, FastAcquisition>
     requires rest { is_some standing.old.rest ≡ true }
     requires made { (ticket_of standing.old).lock ≡ mq.now }
-    ensures arrived { IfOk result (λ arrived. arrived.process ≡ ticket_of standing.old) }
-    ensures under_way { IfErr result (λ approach. approach.process ≡ ticket_of standing.old) }
+    ensures guard { IfOk result (λ guard. guard.process ≡ ticket_of standing.old) }
+    ensures under_way { IfErr result (λ acquisition. acquisition.process ≡ ticket_of standing.old) }
     ensures none { standing.new.rest ≡ None }
 {
     match standing.rest.take() {
-        Some(process) => process.approach(mq).advance(mq, HASTE),
+        Some(process) => process.acquisition(mq).advance(mq, HASTE),
         None => unreachable!(),
     }
 }
@@ -101,7 +101,7 @@ pub fn waiting(standing: &Standing) -> Option<usize>
     match &standing.rest {
         Some(process) => process.waiting(),
         None => match &standing.way {
-            Some(approach) => approach.waiting(),
+            Some(acquisition) => acquisition.waiting(),
             None => unreachable!(),
         },
     }
@@ -118,12 +118,12 @@ pub fn settle(standing: &mut Standing, process: FastProcess)
 
 /// Puts a process down that is under way.
 #[inline(always)]
-pub fn walk_on(standing: &mut Standing, approach: FastApproach)
+pub fn walk_on(standing: &mut Standing, acquisition: FastAcquisition)
     requires none { standing.old.rest ≡ None }
-    ensures process { ticket_of standing.new ≡ approach.process }
+    ensures process { ticket_of standing.new ≡ acquisition.process }
     ensures there { is_there standing.new ≡ true }
 {
-    mem::forget(mem::replace(&mut standing.way, Some(approach)));
+    mem::forget(mem::replace(&mut standing.way, Some(acquisition)));
 }
 
 /// What one look from outside tells of the open wait of a process: at rest what [`FastProcess::answered`] gives, and nothing of one
@@ -149,7 +149,7 @@ pub fn bell(standing: &Standing) -> u32
     match &standing.rest {
         Some(process) => process.bell(),
         None => match &standing.way {
-            Some(approach) => approach.bell(),
+            Some(acquisition) => acquisition.bell(),
             None => unreachable!(),
         },
     }
@@ -171,7 +171,7 @@ pub fn number(standing: &Standing) -> u32
     match &standing.rest {
         Some(process) => process.number(),
         None => match &standing.way {
-            Some(approach) => approach.number(),
+            Some(acquisition) => acquisition.number(),
             None => unreachable!(),
         },
     }

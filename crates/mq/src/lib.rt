@@ -5,8 +5,8 @@
 //! that it has no open wait.
 #![tactic(auto)]
 
-mod approach;
-mod arrived;
+mod acquisition;
+mod guard;
 mod guarded;
 mod judging;
 mod monotonic;
@@ -16,8 +16,8 @@ mod returned;
 mod stays;
 mod system;
 
-pub use approach::Approach;
-pub use arrived::Arrived;
+pub use acquisition::Acquisition;
+pub use guard::Guard;
 use fast_mutex::FastMutex;
 pub use fast_mutex::Missing;
 pub use guarded::{Guarded, LoggedRecord};
@@ -48,7 +48,7 @@ pub type FastMq = Mq<FastMutex<Guarded>>;
 pub type FastProcess = Process<FastMutex<Guarded>>;
 
 /// A process of that system on its way into the lock.
-pub type FastApproach = Approach<FastMutex<Guarded>>;
+pub type FastAcquisition = Acquisition<FastMutex<Guarded>>;
 
 /// A process of that system inside the lock.
-pub type FastArrived = Arrived<FastMutex<Guarded>>;
+pub type FastGuard = Guard<FastMutex<Guarded>>;

@@ -5,8 +5,8 @@ ghost use Rattle.mq.specs.Calls.{ticket_of};
 
 // What a process comes to that enters with its seat, makes this of its stay, leaves, and wakes who sleeps until then.
 macro_rules! in_one_stay {
-    ($process:ident, $rt:ident, $mq:ident, |$arrived:ident| $made:expr) => {{
-        let $arrived = arrive($rt, $mq, &mut $process.seat, $process.waits);
+    ($process:ident, $rt:ident, $mq:ident, |$guard:ident| $made:expr) => {{
+        let $guard = arrive($rt, $mq, &mut $process.seat, $process.waits);
         let (process, made) = $made;
         *$process = process.settled($mq);
         made
@@ -18,7 +18,7 @@ mod exits;
 mod messages;
 mod timed;
 
-use crate::arrived::Arrived;
+use crate::guard::Guard;
 use crate::guarded::Guarded;
 use crate::returned::Returned;
 use crate::system::Mq;
@@ -109,7 +109,7 @@ impl<L: Look<Guarded>> Process<L> {
     }
 
     /// Wakes who sleeps until what this process's last call has changed: each call of a `Process` ends with it, and a call of an
-    /// [`Arrived`] leaves it to its caller. Where it is left out, those who sleep look some milliseconds later.
+    /// [`Guard`] leaves it to its caller. Where it is left out, those who sleep look some milliseconds later.
     #[inline(always)]
     pub fn wake_others(&self, mq: &Mq<L>) {
         match &self.seat {
@@ -155,7 +155,7 @@ impl<L: Look<Guarded>> Process<L> {
         ensures begun { IsSome (waiting_room self.new.left self.new.number) →
             WaitsIn self.new call }
     {
-        in_one_stay!(self, rt, mq, |arrived| arrived.make(mq, call, given, buf))
+        in_one_stay!(self, rt, mq, |guard| guard.make(mq, call, given, buf))
     }
 
     /// Opens the queue of that name (`mq_open`) and gives the lowest free descriptor. Refused with `Exists`, `NoEntry`, `Invalid`,
@@ -261,7 +261,7 @@ fn arrive<L: Look<Guarded>, R: Wait>(
     mq: &Mq<L>,
     seat: &mut Option<L::Seat>,
     waits: Option<usize>,
-) -> Arrived<L>
+) -> Guard<L>
     requires some { IsSome seat.old }
     requires made { (ticket_of L.ticket seat.old).lock ≡ mq.now }
     requires waits { waits ≡ waiting_room (ticket_of L.ticket seat.old).left
@@ -269,5 +269,5 @@ fn arrive<L: Look<Guarded>, R: Wait>(
     ensures { result.process ≡ ticket_of L.ticket seat.old }
 {
     let process = process_of(seat.take().unwrap(), waits);
-    process.approach(mq).come_in(rt, mq)
+    process.acquisition(mq).come_in(rt, mq)
 }

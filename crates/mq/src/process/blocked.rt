@@ -30,7 +30,7 @@ impl<L: Look<Guarded>> Process<L> {
             waiting_room self.old.left self.old.number }
         ensures told { KeepsTold self.old self.new }
     {
-        in_one_stay!(self, rt, mq, |arrived| arrived.are_blocked(mq, processes))
+        in_one_stay!(self, rt, mq, |guard| guard.are_blocked(mq, processes))
     }
 
     /// Whether no process can make a call any more, asked as [`Process::are_blocked`] is: no open wait is answered or has a
@@ -45,7 +45,7 @@ impl<L: Look<Guarded>> Process<L> {
             waiting_room self.old.left self.old.number }
         ensures told { KeepsTold self.old self.new }
     {
-        in_one_stay!(self, rt, mq, |arrived| arrived.nobody_can_call(mq))
+        in_one_stay!(self, rt, mq, |guard| guard.nobody_can_call(mq))
     }
 
     /// For how many more entries, beside those that end the open waits, and payload bytes the journal has room; `None` without
@@ -58,7 +58,7 @@ impl<L: Look<Guarded>> Process<L> {
             waiting_room self.old.left self.old.number }
         ensures told { KeepsTold self.old self.new }
     {
-        in_one_stay!(self, rt, mq, |arrived| arrived.room(mq))
+        in_one_stay!(self, rt, mq, |guard| guard.room(mq))
     }
 
     /// How many entries the journal has. Asked once inside the lock, of the journal found, which it leaves as it was; the process that
@@ -71,7 +71,7 @@ impl<L: Look<Guarded>> Process<L> {
             waiting_room self.old.left self.old.number }
         ensures told { KeepsTold self.old self.new }
     {
-        in_one_stay!(self, rt, mq, |arrived| arrived.journal_len(mq))
+        in_one_stay!(self, rt, mq, |guard| guard.journal_len(mq))
     }
 
     /// Begins a send with a deadline at the moment `now`, without waiting for its admission: true where the queue or a waiting

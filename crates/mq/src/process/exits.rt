@@ -19,6 +19,6 @@ impl<L: Look<Guarded>> Process<L> {
         ensures call { Exits self.old self.new result }
         ensures free { IsFree self.new }
     {
-        in_one_stay!(self, rt, mq, |arrived| arrived.exit(mq))
+        in_one_stay!(self, rt, mq, |guard| guard.exit(mq))
     }
 }

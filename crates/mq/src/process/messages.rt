@@ -46,7 +46,7 @@ impl<L: Look<Guarded>> Process<L> {
             self,
             rt,
             mq,
-            |arrived| arrived.make(mq, call, bytes, &mut [])
+            |guard| guard.make(mq, call, bytes, &mut [])
         )
     }
 
@@ -69,7 +69,7 @@ impl<L: Look<Guarded>> Process<L> {
     {
         let room = buf.len() as u64;
         let call = Call::MqReceive { d, room };
-        in_one_stay!(self, rt, mq, |arrived| arrived.make(mq, call, &[], buf))
+        in_one_stay!(self, rt, mq, |guard| guard.make(mq, call, &[], buf))
     }
 
     /// Ends the open wait, if it is answered, and gives what it came to: a message that was received lies in the front of the
@@ -87,7 +87,7 @@ impl<L: Look<Guarded>> Process<L> {
         ensures fits { IfSome result (λ outcome. FitsIn outcome (length buf.old)) }
         ensures told { self.old.told ≡ true → IsSome result }
     {
-        in_one_stay!(self, rt, mq, |arrived| arrived.collect(mq, buf))
+        in_one_stay!(self, rt, mq, |guard| guard.collect(mq, buf))
     }
 
     /// Whether the open wait is answered, by one look from outside the lock, which never waits. Where it is true, the next
@@ -175,7 +175,7 @@ impl<L: Look<Guarded>> Process<L> {
             self,
             rt,
             mq,
-            |arrived| arrived.make(mq, call, bytes, &mut [])
+            |guard| guard.make(mq, call, bytes, &mut [])
         );
         match sent {
             Ok(true) => Ok(()),
@@ -204,7 +204,7 @@ impl<L: Look<Guarded>> Process<L> {
     {
         let room = buf.len() as u64;
         let call = Call::MqReceive { d, room };
-        let got = in_one_stay!(self, rt, mq, |arrived| arrived.make(mq, call, &[], buf));
+        let got = in_one_stay!(self, rt, mq, |guard| guard.make(mq, call, &[], buf));
         match got {
             Ok(Some(received)) => Ok(received),
             Ok(None) => match self.await_outcome(rt, mq, buf) {

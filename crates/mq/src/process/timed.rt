@@ -43,7 +43,7 @@ impl<L: Look<Guarded>> Process<L> {
         ensures fits { IfSome result (λ outcome. FitsIn outcome (length buf.old)) }
         ensures free { IsFree self.new }
     {
-        in_one_stay!(self, rt, mq, |arrived| arrived.end_wait(mq, buf, now))
+        in_one_stay!(self, rt, mq, |guard| guard.end_wait(mq, buf, now))
     }
 
     // Looks until the wait is answered, or its deadline has passed: then it gives that moment.

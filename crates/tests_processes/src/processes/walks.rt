@@ -8,7 +8,7 @@ use super::deadlines::{LATER, START};
 use super::steps::CREATE;
 use super::{CREATED, OPENED, Pair, expect_journal, finish, make_pair, room};
 use fast_mutex::{FastMutex, Look};
-use mq::{Approach, Arrived, Guarded, Mq, Process};
+use mq::{Acquisition, Guard, Guarded, Mq, Process};
 use mq_model::entries::{Attr, Call, Entry, Received, Reply};
 use mq_model::faults::Fault;
 use mq_model::journals::Journal;
@@ -30,23 +30,23 @@ const OPEN: Call = Call::MqOpen {
 };
 
 // The process that has tried to open a queue, and whether memory was refused.
-fn opens<L: Look<Guarded>, A: Abort>(rt: &A, mq: &Mq<L>, arrived: Arrived<L>) -> (Process<L>, bool)
-    requires made { arrived.process.lock ≡ mq.now }
-    requires free { IsFree arrived.process }
+fn opens<L: Look<Guarded>, A: Abort>(rt: &A, mq: &Mq<L>, guard: Guard<L>) -> (Process<L>, bool)
+    requires made { guard.process.lock ≡ mq.now }
+    requires free { IsFree guard.process }
     ensures { (result.0.lock ≡ mq.now) × IsFree result.0 }
 {
     let name = Name::read(b"/q").ok().expect(rt, "a name");
-    let (process, opened) = arrived.make::<Result<u32, Fault>>(mq, OPEN, name.bytes(), &mut []);
+    let (process, opened) = guard.make::<Result<u32, Fault>>(mq, OPEN, name.bytes(), &mut []);
     (process, opened == Err(Fault::NoMemory))
 }
 
 // The process that has opened a queue. A growth may be refused from outside.
-fn opened<L: Look<Guarded>, R: Abort + Print>(rt: &R, mq: &Mq<L>, arrived: Arrived<L>) -> Process<L>
-    requires made { arrived.process.lock ≡ mq.now }
-    requires free { IsFree arrived.process }
+fn opened<L: Look<Guarded>, R: Abort + Print>(rt: &R, mq: &Mq<L>, guard: Guard<L>) -> Process<L>
+    requires made { guard.process.lock ≡ mq.now }
+    requires free { IsFree guard.process }
     ensures { (result.lock ≡ mq.now) × IsFree result }
 {
-    let (process, is_refused) = opens(rt, mq, arrived);
+    let (process, is_refused) = opens(rt, mq, guard);
     if !is_refused {
         return process;
     }
@@ -59,11 +59,11 @@ fn in_by_the_fifth<L: Look<Guarded>, A: Abort>(
     rt: &A,
     mq: &Mq<L>,
     process: Process<L>,
-) -> Arrived<L>
+) -> Guard<L>
     requires { process.lock ≡ mq.now }
     ensures { result.process ≡ process }
 {
-    let Err(process) = process.approach(mq).advance(mq, 4) else {
+    let Err(process) = process.acquisition(mq).advance(mq, 4) else {
         panic!(rt; "inside by four steps")
     };
     process
@@ -73,26 +73,26 @@ fn in_by_the_fifth<L: Look<Guarded>, A: Abort>(
 }
 
 // The process does not come in.
-fn kept_out<L: Look<Guarded>, A: Abort>(rt: &A, mq: &Mq<L>, process: Process<L>) -> Approach<L>
+fn kept_out<L: Look<Guarded>, A: Abort>(rt: &A, mq: &Mq<L>, process: Process<L>) -> Acquisition<L>
     requires { process.lock ≡ mq.now }
     ensures { result.process ≡ process }
 {
-    match process.approach(mq).advance(mq, 1_000) {
+    match process.acquisition(mq).advance(mq, 1_000) {
         Err(process) => process,
         Ok(_) => panic!(rt; "two processes inside"),
     }
 }
 
 // The process comes in and leaves without a call.
-fn in_and_out<L: Look<Guarded>, A: Abort>(rt: &A, mq: &Mq<L>, process: Approach<L>) -> Process<L>
+fn in_and_out<L: Look<Guarded>, A: Abort>(rt: &A, mq: &Mq<L>, process: Acquisition<L>) -> Process<L>
     requires { process.process.lock ≡ mq.now }
     ensures { result.lock ≡ mq.now }
 {
-    let arrived = process
+    let guard = process
         .advance(mq, 1_000)
         .ok()
         .expect(rt, "inside once nobody is there");
-    arrived.leave(mq)
+    guard.leave(mq)
 }
 
 // Process 1 comes in by its fifth step and not before, and opens a queue; meanwhile process 2 does not come in, and it leaves
@@ -134,12 +134,12 @@ fn readings<L: Look<Guarded>, R: Abort + Print>(rt: &R, alloc: Global) -> Readin
 type Readings = (Result<(), u64>, Option<Entry>, Option<Entry>);
 
 // The process inside, where nobody else is.
-fn inside<L: Look<Guarded>, A: Abort>(rt: &A, mq: &Mq<L>, process: Process<L>) -> Arrived<L>
+fn inside<L: Look<Guarded>, A: Abort>(rt: &A, mq: &Mq<L>, process: Process<L>) -> Guard<L>
     requires { process.lock ≡ mq.now }
     ensures { result.process ≡ process }
 {
     process
-        .approach(mq)
+        .acquisition(mq)
         .advance(mq, 5)
         .ok()
         .expect(rt, "nobody else inside")

@@ -14,7 +14,7 @@ returns-in-Ok-Some-clause-fits g c =
 pub returns-in-Got-clause-call : goal.returns-in-Got-clause-call
 returns-in-Got-clause-call g c =
     let none : c.make-process.result.1 ≡ Ok None = search rules in
-    let same : c.arrive-arrived.result.process ≡ c.args.self.now = search rules in
+    let same : c.arrive-guard.result.process ≡ c.args.self.now = search rules in
     let waits = c.make-process.ensures.waits none in
     let start = rw (none, same) at c.make-process.ensures.call in
     let ends : Collects c.make-process.result.0 c.await_outcome.new.self (Got c.in-Got.received) c.make-process.new.buf c.await_outcome.new.buf = search rules in
