@@ -4,7 +4,7 @@ ghost use Rattle.mq_state.specs.Buffers.{waiting_room};
 ghost use Rattle.mq.specs.Calls.{IsFree};
 ghost use Rattle.c_handles.specs.Standings.{ticket_of, is_there, is_under_way, LooksAt};
 
-use fast_mutex::HASTE;
+use fast_mutex::FAST_PATH_STEPS;
 use mq::{FastAcquisition, FastGuard, FastMq, FastProcess};
 use std::mem;
 
@@ -75,7 +75,7 @@ pub fn set_out(mq: &FastMq, standing: &mut Standing) -> Result<FastGuard, FastAc
     ensures none { standing.new.rest ≡ None }
 {
     match standing.rest.take() {
-        Some(process) => process.acquisition(mq).advance(mq, HASTE),
+        Some(process) => process.acquisition(mq).advance(mq, FAST_PATH_STEPS),
         None => unreachable!(),
     }
 }

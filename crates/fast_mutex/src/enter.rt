@@ -8,15 +8,15 @@ use crate::pauses::Pauses;
 use std::sync::Wait;
 
 /// How many steps an entry takes that meets nobody.
-pub const HASTE: u32 = 5;
+pub const FAST_PATH_STEPS: u32 = 5;
 
 // How often a walk that can't go on pauses before it sleeps.
 const MOST_PAUSES: u32 = 12;
 
 /// The entry that waits, which each lock has. It stands apart from `Lock`, so that code that never waits can use a lock.
 pub trait Enter<S: Logged>: Lock<S> {
-    /// Takes at most [`HASTE`] steps, and none once the walk has come in. It never waits.
-    fn hasten(&self, walk: Self::Walk) -> Self::Walk
+    /// Takes at most [`FAST_PATH_STEPS`] steps, and none once the walk has come in. It never waits.
+    fn take_fast_path(&self, walk: Self::Walk) -> Self::Walk
         requires { (Self.walking walk).lock ≡ Self.id self.now }
         ensures ticket { Self.walking result ≡ Self.walking walk }
         ensures few { Self.walk_accesses result ≤ Self.walk_accesses walk + 5 };
@@ -47,7 +47,7 @@ pub trait Enter<S: Logged>: Lock<S> {
 impl<S: Logged, L: Lock<S>> Enter<S> for L {
     // In straight line the compiler knows where the walk stands at each step.
     #[inline(always)]
-    fn hasten(&self, walk: L::Walk) -> L::Walk {
+    fn take_fast_path(&self, walk: L::Walk) -> L::Walk {
         let walk = next(self, walk);
         let walk = next(self, walk);
         let walk = next(self, walk);
@@ -57,11 +57,11 @@ impl<S: Logged, L: Lock<S>> Enter<S> for L {
 
     #[inline(always)]
     fn come_in<R: Wait>(&self, rt: &R, walk: L::Walk) -> L::Walk {
-        let hastened = self.hasten(walk);
-        if L::is_admitted(&hastened) {
-            return hastened;
+        let tried = self.take_fast_path(walk);
+        if L::is_admitted(&tried) {
+            return tried;
         }
-        wait_apart(self, rt, hastened)
+        wait_apart(self, rt, tried)
     }
 
     fn enter<R: Wait>(&self, rt: &R, seat: L::Seat) -> (L::Inside, S) {

@@ -15,7 +15,7 @@ mod word;
 
 pub use await_answer::AwaitAnswer;
 pub use bells::Bells;
-pub use enter::{Enter, HASTE};
+pub use enter::{Enter, FAST_PATH_STEPS};
 pub use fast::{FastInside, FastMutex, FastSeat, Walk};
 pub use lock::{Lock, Look, Missing, Path};
 pub use logged::Logged;

@@ -4,7 +4,7 @@ use crate::guard::Guard;
 use crate::guarded::Guarded;
 use crate::process::Process;
 use crate::system::Mq;
-use fast_mutex::{Enter, HASTE, Look};
+use fast_mutex::{Enter, FAST_PATH_STEPS, Look};
 use std::marker::Model;
 use std::sync::Wait;
 
@@ -66,7 +66,7 @@ impl<L: Look<Guarded>> Acquisition<L> {
         ensures few_on_the_way { IfErr result (λ acquisition.
             acquisition.accesses ≤ self.accesses + steps) }
     {
-        if steps < HASTE {
+        if steps < FAST_PATH_STEPS {
             return self.go_on(mq, steps);
         }
         let Acquisition {
@@ -74,23 +74,23 @@ impl<L: Look<Guarded>> Acquisition<L> {
             walk,
             waits,
         } = self;
-        let hastened = mq.lock().hasten(walk);
-        if L::is_admitted(&hastened) {
+        let tried = mq.lock().take_fast_path(walk);
+        if L::is_admitted(&tried) {
             return Ok(Guard {
                 number,
-                walk: hastened,
+                walk: tried,
                 waits,
             });
         }
         let on_its_way = Acquisition {
             number,
-            walk: hastened,
+            walk: tried,
             waits,
         };
-        if steps == HASTE {
+        if steps == FAST_PATH_STEPS {
             return Err(on_its_way);
         }
-        on_its_way.go_on(mq, steps - HASTE)
+        on_its_way.go_on(mq, steps - FAST_PATH_STEPS)
     }
 
     // The same, step by step. To look again and again for what was not there would take the words of the lock from who is inside. It stands
