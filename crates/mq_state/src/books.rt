@@ -37,7 +37,7 @@ use std::marker::Model;
 /// The queues of one thread. It takes one word, so to hand it over, as a lock does, is cheap.
 #[derive(Drop)]
 pub struct Books {
-    shelf: Box<Shelf>,
+    inner: Box<Inner>,
 }
 
 /// No queues go on from this journal: it comes back as it was, with the cause.
@@ -49,7 +49,7 @@ pub struct Refused {
 
 /// What a `Books` has.
 #[derive(Drop)]
-struct Shelf {
+struct Inner {
     journal: Ledger,
     tables: Tables,
 }
@@ -74,12 +74,12 @@ impl Books {
         ensures bounds { IfOk result (λ b. b.bounds ≡ bounds) }
         ensures stored { IfOk result (λ b. b.stored ≡ true) }
     {
-        let shelf = Shelf {
+        let inner = Inner {
             journal: Ledger::stored(empty_journal(alloc, bounds)?),
             tables: Tables::new(alloc, n, bounds, false)?,
         };
         Ok(Books {
-            shelf: Box::new(alloc, shelf)?,
+            inner: Box::new(alloc, inner)?,
         })
     }
 
@@ -90,12 +90,12 @@ impl Books {
         ensures bounds { IfOk result (λ b. b.bounds ≡ None) }
         ensures stored { IfOk result (λ b. b.stored ≡ false) }
     {
-        let shelf = Shelf {
+        let inner = Inner {
             journal: Ledger::unstored(Unstored::new(alloc)),
             tables: Tables::new(alloc, n, None, is_prepaid)?,
         };
         Ok(Books {
-            shelf: Box::new(alloc, shelf)?,
+            inner: Box::new(alloc, inner)?,
         })
     }
 
@@ -160,14 +160,14 @@ impl Books {
         ensures back { IfErr result (λ r. r.journal.records ≡ journal.records) }
         ensures why { IfErr result (λ r. IsMisfit journal.records n r.why) }
     {
-        let Ok(shelf) = empty_shelf(alloc, n) else {
+        let Ok(inner) = empty_inner(alloc, n) else {
             return Err(Refused {
                 journal,
                 why: Misfit::NoMemory,
             });
         };
-        match restock(shelf, journal) {
-            Ok(shelf) => Ok(Books { shelf }),
+        match restock(inner, journal) {
+            Ok(inner) => Ok(Books { inner }),
             Err(refused) => Err(refused),
         }
     }
@@ -187,7 +187,7 @@ impl Books {
             result.reply ≡ Reply.Refused fault → fault ≢ Fault.NoMemory →
             self.new.byte_room ≡ self.old.byte_room }
     {
-        let Shelf { journal, tables } = &mut *self.shelf;
+        let Inner { journal, tables } = &mut *self.inner;
         tables.make(journal, p, call, given, buf)
     }
 
@@ -282,7 +282,7 @@ impl Books {
         ensures refused { (fault : Fault) → result.reply ≡ Reply.Refused fault →
             fault ≢ Fault.NoMemory → self.new.byte_room ≡ self.old.byte_room }
     {
-        let Shelf { journal, tables } = &mut *self.shelf;
+        let Inner { journal, tables } = &mut *self.inner;
         tables.send(journal, p, d, bytes, prio)
     }
 
@@ -309,7 +309,7 @@ impl Books {
         ensures received { result.received ≡ received_by self.old.records result.reply }
         ensures buffer { buf.new ≡ filled self.old.records result.reply buf.old }
     {
-        let Shelf { journal, tables } = &mut *self.shelf;
+        let Inner { journal, tables } = &mut *self.inner;
         tables.receive(journal, p, d, buf)
     }
 
@@ -382,7 +382,7 @@ impl Books {
     pub fn waiting(&self, p: u32) -> Option<usize>
         ensures { result ≡ waiting_room self.now.records p }
     {
-        let Shelf { journal, tables } = &*self.shelf;
+        let Inner { journal, tables } = &*self.inner;
         match tables.wait(p) {
             None => None,
             Some(_) => Some(room_of(waiting_call(journal, tables, p))),
@@ -393,7 +393,7 @@ impl Books {
     pub fn answered(&self, p: u32) -> bool
         ensures { result ≡ is_answered self.now.records p }
     {
-        self.shelf.tables.answer(p).is_some()
+        self.inner.tables.answer(p).is_some()
     }
 
     /// Ends the open wait of process p, if it is answered, and gives what it came to. A message that was received lies in the
@@ -412,7 +412,7 @@ impl Books {
         ensures bounds { self.new.bounds ≡ self.old.bounds }
         ensures stored { self.new.stored ≡ self.old.stored }
     {
-        let Shelf { journal, tables } = &mut *self.shelf;
+        let Inner { journal, tables } = &mut *self.inner;
         let by = tables.answer(p)?;
         let call = waiting_call(journal, tables, p);
         let outcome = outcome(journal, call, by, buf);
@@ -436,7 +436,7 @@ impl Books {
         ensures bounds { self.new.bounds ≡ self.old.bounds }
         ensures stored { self.new.stored ≡ self.old.stored }
     {
-        let Shelf { journal, tables } = &mut *self.shelf;
+        let Inner { journal, tables } = &mut *self.inner;
         let call = Call::Withdraw { now };
         if !may_withdraw(journal, tables, p, call) {
             return false;
@@ -449,7 +449,7 @@ impl Books {
     pub fn lowest_open(&self, p: u32) -> Option<u32>
         ensures { result ≡ lowest_held self.now.records p }
     {
-        self.shelf.tables.lowest_open(p)
+        self.inner.tables.lowest_open(p)
     }
 
     /// None of the processes can make any call, at whatever moment: the open waits are not answered and have no deadline, and where
@@ -457,7 +457,7 @@ impl Books {
     pub fn nobody_can_call(&self) -> bool
         ensures { IsTrue result ↔ NobodyCanCall self.now.bounds self.now.records self.now.n }
     {
-        let Shelf { journal, tables } = &*self.shelf;
+        let Inner { journal, tables } = &*self.inner;
         tables.nobody_can_call(journal)
     }
 
@@ -465,7 +465,7 @@ impl Books {
     pub fn room(&self) -> Option<Bounds>
         ensures { result ≡ room_left self.now.bounds self.now.records }
     {
-        let Shelf { journal, tables } = &*self.shelf;
+        let Inner { journal, tables } = &*self.inner;
         tables.room(journal)
     }
 
@@ -475,14 +475,14 @@ impl Books {
         ensures legal { Legal self.now.records }
         ensures processes { All (λ r. r.entry.process ≤ self.now.n) self.now.records }
     {
-        self.shelf.journal.len()
+        self.inner.journal.len()
     }
 
     /// Whether the journal is stored.
     pub fn is_stored(&self) -> bool
         ensures { result ≡ self.now.stored }
     {
-        self.shelf.journal.is_stored()
+        self.inner.journal.is_stored()
     }
 
     /// The stored journal.
@@ -492,7 +492,7 @@ impl Books {
         ensures legal { Legal result.now.records }
         ensures processes { All (λ r. r.entry.process ≤ self.now.n) result.now.records }
     {
-        self.shelf.journal.journal()
+        self.inner.journal.journal()
     }
 
     /// A short journal after which the queues stand as they do now, but for the numbers of places and queues; its length goes by what is
@@ -501,7 +501,7 @@ impl Books {
         requires { self.now.stored ≡ true }
         ensures { IfOk result (λ journal. Legal journal.records) }
     {
-        let Shelf { journal, tables } = &*self.shelf;
+        let Inner { journal, tables } = &*self.inner;
         rewrite(alloc, journal.journal(), tables)
     }
 
@@ -509,7 +509,7 @@ impl Books {
     pub fn processes(&self) -> u32
         ensures { result ≡ self.now.n }
     {
-        self.shelf.tables.processes()
+        self.inner.tables.processes()
     }
 
     /// The stored journal, which is all that is left.
@@ -519,7 +519,7 @@ impl Books {
         ensures legal { Legal result.records }
         ensures processes { All (λ r. r.entry.process ≤ self.n) result.records }
     {
-        Box::into_inner(self.shelf).journal.into_journal()
+        Box::into_inner(self.inner).journal.into_journal()
     }
 
     /// The history of a journal that is not stored, which is all that is left. It has no bytes: contracts say what it is.
@@ -529,47 +529,47 @@ impl Books {
         ensures legal { Legal result.past }
         ensures processes { All (λ r. r.entry.process ≤ self.n) result.past }
     {
-        Box::into_inner(self.shelf).journal.into_history()
+        Box::into_inner(self.inner).journal.into_history()
     }
 }
 
 // The queues of n processes that nobody called yet, without bounds.
-fn empty_shelf(alloc: Global, n: u32) -> Result<Box<Shelf>, AllocError>
+fn empty_inner(alloc: Global, n: u32) -> Result<Box<Inner>, AllocError>
     requires { (1 ≤ n) × (n ≤ 32) }
     ensures tables { IfOk result (λ s. AreThoseOf [] s.value.tables) }
     ensures processes { IfOk result (λ s. s.value.tables.n ≡ n) }
     ensures bounds { IfOk result (λ s. s.value.tables.bounds ≡ None) }
 {
-    let shelf = Shelf {
+    let inner = Inner {
         journal: Ledger::stored(Journal::new(alloc)),
         tables: Tables::new(alloc, n, None, false)?,
     };
-    Ok(Box::new(alloc, shelf)?)
+    Ok(Box::new(alloc, inner)?)
 }
 
 // The same after the calls of a journal.
-fn restock(mut shelf: Box<Shelf>, mut journal: Journal) -> Result<Box<Shelf>, Refused>
-    requires tables { AreThoseOf [] shelf.value.tables }
-    requires bounds { shelf.value.tables.bounds ≡ None }
+fn restock(mut inner: Box<Inner>, mut journal: Journal) -> Result<Box<Inner>, Refused>
+    requires tables { AreThoseOf [] inner.value.tables }
+    requires bounds { inner.value.tables.bounds ≡ None }
     ensures whole { IfOk result (λ s. IsWhole s.value.journal s.value.tables) }
     ensures records { IfOk result (λ s. s.value.journal.records ≡ journal.records) }
-    ensures processes { IfOk result (λ s. s.value.tables.n ≡ shelf.value.tables.n) }
+    ensures processes { IfOk result (λ s. s.value.tables.n ≡ inner.value.tables.n) }
     ensures unbounded { IfOk result (λ s. s.value.tables.bounds ≡ None) }
     ensures stored { IfOk result (λ s. s.value.journal.stored ≡ true) }
     ensures back { IfErr result (λ r. r.journal.records ≡ journal.records) }
-    ensures why { IfErr result (λ r. IsMisfit journal.records shelf.value.tables.n r.why) }
+    ensures why { IfErr result (λ r. IsMisfit journal.records inner.value.tables.n r.why) }
 {
-    if let Err(why) = follow_all(&mut shelf.tables, &journal) {
+    if let Err(why) = follow_all(&mut inner.tables, &journal) {
         return Err(Refused { journal, why });
     }
-    if journal.reserve(shelf.tables.open_waits(), 0).is_err() {
+    if journal.reserve(inner.tables.open_waits(), 0).is_err() {
         return Err(Refused {
             journal,
             why: Misfit::NoMemory,
         });
     }
-    shelf.journal = Ledger::stored(journal);
-    Ok(shelf)
+    inner.journal = Ledger::stored(journal);
+    Ok(inner)
 }
 
 // An empty journal, with room for all that the bounds allow.

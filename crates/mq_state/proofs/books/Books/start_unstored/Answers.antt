@@ -1,6 +1,6 @@
 use Rattle.std.proofs.Common.{◌≡◌, [], arith, sym, ◌∙◌, subst}
 use Rattle.mq_state.specs.Kept.{IsWhole}
-use Rattle.mq_state.specs.declared.books.Shelf.{Shelf}
+use Rattle.mq_state.specs.declared.books.Inner.{Inner}
 use Rattle.mq_state.proofs.Reachable.{none-needed}
 use Rattle.mq_state.proofs.books.Books.start_unstored.Goals as goal
 
@@ -30,4 +30,4 @@ invariant_of-result c =
       };
       pool = new.pool;
     } in
-    subst (λ (s : Shelf). IsWhole s.journal s.tables) (sym c.in_ok-new-2.ensures.ok) whole
+    subst (λ (s : Inner). IsWhole s.journal s.tables) (sym c.in_ok-new-2.ensures.ok) whole
