@@ -10,7 +10,7 @@ use crate::standing;
 use crate::standing::{Standing, arrive, at_rest, look, set_out, settle, waiting, walk_on};
 use crate::tried::{Ending, Looked, Tried};
 use mq::{Bounds, Call, Deadline, Entry, FastMq, FastProcess, Fault, Received, Returned};
-use mq_model::ladder;
+use mq_model::error_order;
 use std::alloc::{AllocError, Global};
 use std::sync::Arc;
 
@@ -308,7 +308,7 @@ impl Member {
         if buf.len() < room {
             return Ending::Short;
         }
-        if !ladder::is_over(self.until, now) {
+        if !error_order::is_over(self.until, now) {
             return Ending::TooEarly;
         }
         let Some(guard) = arrive(&self.mq, &mut self.standing) else {

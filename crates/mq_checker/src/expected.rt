@@ -1,5 +1,5 @@
 //! The reply to each call, by the entries before a place: the facts that it depends on, read off the tables and the
-//! entries, and the reply that the ladder of `mq_model` gives to them. Facts that no reply depends on are not read.
+//! entries, and the reply that the error_order of `mq_model` gives to them. Facts that no reply depends on are not read.
 #![tactic(auto, using(mq_model::proofs::Prefixes::prefixes))]
 
 ghost use Rattle.std.specs.Prelude.{◌≡◌, ◌≤◌, ◌==◌, ◌&&◌, length, IsTrue, IfSome, is_some, None, if◌then◌else◌};
@@ -18,8 +18,8 @@ use crate::tables;
 use crate::tables::Tables;
 use mq_model::entries::{Attr, Call, Description, OpenFlags, Reply};
 use mq_model::journals::Journal;
-use mq_model::ladder;
-use mq_model::ladder::{NotifyFacts, OpenFacts, ReceiveFacts, SendFacts, StatusFacts};
+use mq_model::error_order;
+use mq_model::error_order::{NotifyFacts, OpenFacts, ReceiveFacts, SendFacts, StatusFacts};
 use mq_model::owners::WaitKind;
 
 // How many queues exist, which counts where the name of an open is not bound.
@@ -67,7 +67,7 @@ fn reply_to_open(
     ensures { result ≡ reply_to_open (first k journal.now.records) p flags attr name.now }
 {
     let facts = open_facts(journal, k, tables, p, name);
-    ladder::open(flags, attr, facts)
+    error_order::open(flags, attr, facts)
 }
 
 fn registered_place(journal: &Journal, k: u64, q: u64) -> Option<u64>
@@ -129,10 +129,10 @@ fn reply_to_send(
     ensures { result ≡ reply_to_send (first k journal.now.records) held prio len }
 {
     match held {
-        None => ladder::send(prio, len, None),
+        None => error_order::send(prio, len, None),
         Some(h) => {
             let facts = send_facts(journal, k, tables, h);
-            ladder::send(prio, len, Some(facts))
+            error_order::send(prio, len, Some(facts))
         }
     }
 }
@@ -190,10 +190,10 @@ fn reply_to_receive(
     ensures { result ≡ reply_to_receive (first k journal.now.records) held room }
 {
     match held {
-        None => ladder::receive(room, None),
+        None => error_order::receive(room, None),
         Some(h) => {
             let facts = receive_facts(journal, k, tables, h);
-            ladder::receive(room, Some(facts))
+            error_order::receive(room, Some(facts))
         }
     }
 }
@@ -224,8 +224,8 @@ fn reply_to_attributes(
     ensures { result ≡ reply_to_attributes (first k journal.now.records) held }
 {
     match held {
-        None => ladder::status(None),
-        Some(h) => ladder::status(Some(StatusFacts {
+        None => error_order::status(None),
+        Some(h) => error_order::status(Some(StatusFacts {
             description: h,
             attributes: attributes(journal, k, h.queue),
             count: few_present(journal, k, tables, h.queue),
@@ -244,8 +244,8 @@ fn reply_to_notify(
     ensures { result ≡ reply_to_notify (first k journal.now.records) p held value }
 {
     match held {
-        None => ladder::notify(p, value, None),
-        Some(h) => ladder::notify(
+        None => error_order::notify(p, value, None),
+        Some(h) => error_order::notify(
             p,
             value,
             Some(NotifyFacts {
@@ -283,8 +283,8 @@ pub(crate) fn reply_to(
 {
     match call {
         Call::MqOpen { flags, attr } => reply_to_open(journal, k, tables, p, flags, attr, name),
-        Call::MqClose { d } => ladder::close(tables::held(journal, k, tables, p, d)),
-        Call::MqUnlink => ladder::unlink(bound_queue(journal, k, name)),
+        Call::MqClose { d } => error_order::close(tables::held(journal, k, tables, p, d)),
+        Call::MqUnlink => error_order::unlink(bound_queue(journal, k, name)),
         Call::MqSend { d, prio, len } => reply_to_send(
             journal,
             k,
@@ -308,7 +308,7 @@ pub(crate) fn reply_to(
             now,
         } => {
             let held = tables::held(journal, k, tables, p, d);
-            ladder::timed(
+            error_order::timed(
                 until,
                 now,
                 reply_to_send(journal, k, tables, held, prio, len),
@@ -321,7 +321,7 @@ pub(crate) fn reply_to(
             now,
         } => {
             let held = tables::held(journal, k, tables, p, d);
-            ladder::timed(until, now, reply_to_receive(journal, k, tables, held, room))
+            error_order::timed(until, now, reply_to_receive(journal, k, tables, held, room))
         }
         Call::MqGetattr { d } | Call::MqSetattr { d, .. } => reply_to_attributes(
             journal,

@@ -25,7 +25,7 @@ use Rattle.mq_equivalence.proofs.Falling.{any, any-least, has, pick, prio_of, to
 use Rattle.mq_equivalence.proofs.Changes.{got-all}
 use Rattle.mq_equivalence.proofs.Registrations.{after_registered, registered-step}
 use Rattle.mq_model.proofs.Frames.{attributes-older}
-use Rattle.mq_model.specs.Ladder.{is_full_with}
+use Rattle.mq_model.specs.ErrorOrder.{is_full_with}
 use Rattle.std.proofs.lemmas.List.{length-map}
 use Rattle.std.proofs.lemmas.Bool.Decides.{nat_tests}
 use Rattle.mq_equivalence.specs.Outline.{outline}

@@ -9,7 +9,7 @@ use Rattle.mq_model.specs.Descriptors.{called_queue, descriptor_of, held}
 use Rattle.mq_model.specs.Messages.{best, least, present, waiting_receives, waiting_sends}
 use Rattle.mq_model.specs.Notices.{notices, registered, registered_place}
 use Rattle.mq_model.specs.Limits.{most_priorities}
-use Rattle.mq_model.specs.Ladder.{accepted_reply, close_reply, is_full_with, is_of, is_read_only, is_write_only, receive_reply, send_reply}
+use Rattle.mq_model.specs.ErrorOrder.{accepted_reply, close_reply, is_full_with, is_of, is_read_only, is_write_only, receive_reply, send_reply}
 use Rattle.mq_model.specs.Legality.{reply_to, reply_to_attributes, reply_to_notify, reply_to_receive, reply_to_send}
 use Rattle.mq_model.specs.declared.entries.Attr.{Attr}
 use Rattle.mq_model.specs.declared.entries.Description.{Description}

@@ -9,12 +9,12 @@ use Rattle.mq_model.specs.Descriptors.{after_open, created, held, held_after}
 use Rattle.mq_model.specs.Messages.{best, is_in, least, present, waiting_receives, waiting_sends}
 use Rattle.mq_model.specs.Notices.{registered_place}
 use Rattle.mq_model.specs.Limits.{most_priorities}
-use Rattle.mq_model.specs.Ladder.{accepted_reply, close_reply, found_reply, is_full_with, is_read_only, is_write_only, receive_reply, send_reply, timed_reply}
+use Rattle.mq_model.specs.ErrorOrder.{accepted_reply, close_reply, found_reply, is_full_with, is_read_only, is_write_only, receive_reply, send_reply, timed_reply}
 use Rattle.mq_model.specs.Deadlines.{has_passed, is_moment}
 use Rattle.mq_model.specs.Waits.{answered_by, is_wait, open_wait}
 use Rattle.mq_model.specs.Legality.{is_refused, may_call, payload_of, reply_to, reply_to_attributes, reply_to_receive, reply_to_send}
-use Rattle.mq_model.specs.declared.ladder.SendFacts.{SendFacts}
-use Rattle.mq_model.specs.declared.ladder.ReceiveFacts.{ReceiveFacts}
+use Rattle.mq_model.specs.declared.error_order.SendFacts.{SendFacts}
+use Rattle.mq_model.specs.declared.error_order.ReceiveFacts.{ReceiveFacts}
 use Rattle.mq_model.specs.declared.entries.Attr.{Attr}
 use Rattle.mq_model.specs.declared.entries.Deadline.{Deadline}
 use Rattle.mq_model.specs.declared.entries.Description.{Description}

@@ -10,12 +10,12 @@ use Rattle.mq_model.specs.Descriptors.{alive, descriptor_numbers, held, lowest_f
 use Rattle.mq_model.specs.Messages.{best, is_in, least, present, waiting_receives, waiting_sends}
 use Rattle.mq_model.specs.Notices.{registered, registered_place}
 use Rattle.mq_model.specs.Limits.{most_priorities}
-use Rattle.mq_model.specs.Ladder.{accepted_reply, found_reply, is_full_with, is_of, is_read_only, is_write_only, open_reply, receive_reply, send_reply, timed_reply}
+use Rattle.mq_model.specs.ErrorOrder.{accepted_reply, found_reply, is_full_with, is_of, is_read_only, is_write_only, open_reply, receive_reply, send_reply, timed_reply}
 use Rattle.mq_model.specs.Deadlines.{has_passed, is_moment, is_over}
 use Rattle.mq_model.specs.Waits.{answered_by, open_wait}
 use Rattle.mq_model.specs.Legality.{may_call, reply_to, reply_to_attributes, reply_to_notify, reply_to_open, reply_to_receive, reply_to_send}
-use Rattle.mq_model.specs.declared.ladder.SendFacts.{SendFacts}
-use Rattle.mq_model.specs.declared.ladder.ReceiveFacts.{ReceiveFacts}
+use Rattle.mq_model.specs.declared.error_order.SendFacts.{SendFacts}
+use Rattle.mq_model.specs.declared.error_order.ReceiveFacts.{ReceiveFacts}
 use Rattle.mq_model.specs.declared.entries.Attr.{Attr}
 use Rattle.mq_model.specs.declared.entries.OpenFlags.{OpenFlags}
 use Rattle.mq_model.specs.declared.entries.Deadline.{Deadline}

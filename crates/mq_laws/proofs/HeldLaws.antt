@@ -5,7 +5,7 @@ use Rattle.mq_model.specs.Record.{Past, first}
 use Rattle.mq_model.specs.Descriptors.{held, descriptor_of, called_queue}
 use Rattle.mq_model.specs.Messages.{is_send, is_receive}
 use Rattle.mq_model.specs.Waits.{is_wait, open_wait, answered_by}
-use Rattle.mq_model.specs.Ladder.{is_read_only, is_write_only}
+use Rattle.mq_model.specs.ErrorOrder.{is_read_only, is_write_only}
 use Rattle.mq_model.specs.Legality.{Legal, is_refused, may_call}
 use Rattle.mq_laws.specs.Laws.{message_given, GivesBest, HoldsDescriptors}
 use Rattle.mq_model.proofs.Places.{split}

@@ -7,7 +7,7 @@ use Rattle.mq_model.specs.Descriptors.{held, descriptor_of, called_queue, create
 use Rattle.mq_model.specs.Messages.{is_in, is_send, is_receive, is_accepted, taken_by, taken, present, priority, best, waiting_sends, waiting_receives}
 use Rattle.mq_model.specs.Notices.{notified}
 use Rattle.mq_model.specs.Waits.{open_wait, named_wait, ended_wait}
-use Rattle.mq_model.specs.Ladder.{is_read_only, is_write_only}
+use Rattle.mq_model.specs.ErrorOrder.{is_read_only, is_write_only}
 use Rattle.mq_model.specs.Legality.{is_refused}
 use Rattle.mq_model.specs.declared.entries.Deadline.{Deadline}
 use Rattle.mq_model.specs.declared.entries.Description.{Description}

@@ -10,7 +10,7 @@ use Rattle.mq_model.specs.Notices.{registered, registered_place, notices}
 use Rattle.mq_model.specs.Deadlines.{is_moment, has_passed}
 use Rattle.mq_model.specs.Waits.{open_wait, answered_by}
 use Rattle.mq_model.specs.Limits.{most_priorities, most_queues}
-use Rattle.mq_model.specs.Ladder.{is_read_only, is_write_only, is_of, accepted_reply, found_reply, close_reply, timed_reply}
+use Rattle.mq_model.specs.ErrorOrder.{is_read_only, is_write_only, is_of, accepted_reply, found_reply, close_reply, timed_reply}
 use Rattle.mq_model.specs.Legality.{reply_to, reply_to_open, reply_to_send, reply_to_receive, reply_to_attributes, reply_to_notify}
 use Rattle.mq_model.specs.declared.entries.Attr.{Attr}
 use Rattle.mq_model.specs.declared.entries.OpenFlags.{OpenFlags}

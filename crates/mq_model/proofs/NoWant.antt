@@ -8,7 +8,7 @@ use Rattle.mq_model.specs.Descriptors.{held, lowest_free, alive}
 use Rattle.mq_model.specs.Messages.{present, is_full, best, least, waiting_sends, waiting_receives}
 use Rattle.mq_model.specs.Notices.{registered, registered_place}
 use Rattle.mq_model.specs.Limits.{most_priorities, most_queues}
-use Rattle.mq_model.specs.Ladder.{is_read_only, is_write_only, is_of, accepted_reply, found_reply, close_reply, timed_reply}
+use Rattle.mq_model.specs.ErrorOrder.{is_read_only, is_write_only, is_of, accepted_reply, found_reply, close_reply, timed_reply}
 use Rattle.mq_model.specs.Legality.{reply_to, reply_to_open, reply_to_send, reply_to_receive, reply_to_attributes, reply_to_notify}
 use Rattle.mq_model.proofs.Cases.{either}
 use Rattle.mq_model.specs.declared.entries.Attr.{Attr}

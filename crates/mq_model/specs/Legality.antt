@@ -10,12 +10,12 @@ use Rattle.mq_model.specs.Messages.{present, best, least, waiting_sends, waiting
 use Rattle.mq_model.specs.Notices.{registered, registered_place, notices}
 use Rattle.mq_model.specs.Deadlines.{is_over}
 use Rattle.mq_model.specs.Waits.{open_wait, wait_deadline, answered_by}
-use Rattle.mq_model.specs.Ladder.{open_reply, close_reply, unlink_reply, send_reply, receive_reply, timed_reply, status_reply, notify_reply}
-use Rattle.mq_model.specs.declared.ladder.OpenFacts.{OpenFacts}
-use Rattle.mq_model.specs.declared.ladder.SendFacts.{SendFacts}
-use Rattle.mq_model.specs.declared.ladder.ReceiveFacts.{ReceiveFacts}
-use Rattle.mq_model.specs.declared.ladder.StatusFacts.{StatusFacts}
-use Rattle.mq_model.specs.declared.ladder.NotifyFacts.{NotifyFacts}
+use Rattle.mq_model.specs.ErrorOrder.{open_reply, close_reply, unlink_reply, send_reply, receive_reply, timed_reply, status_reply, notify_reply}
+use Rattle.mq_model.specs.declared.error_order.OpenFacts.{OpenFacts}
+use Rattle.mq_model.specs.declared.error_order.SendFacts.{SendFacts}
+use Rattle.mq_model.specs.declared.error_order.ReceiveFacts.{ReceiveFacts}
+use Rattle.mq_model.specs.declared.error_order.StatusFacts.{StatusFacts}
+use Rattle.mq_model.specs.declared.error_order.NotifyFacts.{NotifyFacts}
 use Rattle.mq_model.specs.declared.entries.Attr.{Attr}
 use Rattle.mq_model.specs.declared.entries.OpenFlags.{OpenFlags}
 use Rattle.mq_model.specs.declared.entries.Description.{Description}

@@ -6,7 +6,7 @@ pub mod Stored
 pub mod Names
 pub mod Deadlines
 pub mod Descriptors
-pub mod Ladder
+pub mod ErrorOrder
 pub mod Messages
 pub mod Notices
 pub mod Waits

@@ -5,7 +5,7 @@ use Rattle.std.specs.Option.{option_map, unwrap_or}
 use Rattle.mq_model.specs.Record.{Past, record_at, Message, Place, Queue}
 use Rattle.mq_model.specs.Names.{attributes}
 use Rattle.mq_model.specs.Descriptors.{is_on}
-use Rattle.mq_model.specs.Ladder.{is_full_with}
+use Rattle.mq_model.specs.ErrorOrder.{is_full_with}
 use Rattle.mq_model.specs.declared.entries.Entry.{Entry}
 use Rattle.mq_model.specs.declared.entries.Call.{Call}
 use Rattle.mq_model.specs.declared.entries.Call.TheVariants.{MqSend, MqReceive, MqTimedSend, MqTimedReceive}

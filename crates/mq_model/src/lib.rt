@@ -7,7 +7,7 @@ pub mod entries;
 pub mod faults;
 pub mod forms;
 pub mod journals;
-pub mod ladder;
+pub mod error_order;
 pub mod limits;
 pub mod names;
 pub mod owners;

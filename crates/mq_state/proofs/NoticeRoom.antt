@@ -21,7 +21,7 @@ use Rattle.mq_state.specs.declared.moves.Moves.{Moves}
 use Rattle.mq_state.specs.QueueShown.{QueueShown}
 use Rattle.mq_state.specs.InboxShown.{InboxShown}
 use Rattle.mq_state.specs.Inboxes.{room_in}
-use Rattle.mq_model.specs.Ladder.{is_of}
+use Rattle.mq_model.specs.ErrorOrder.{is_of}
 use Rattle.mq_state.specs.WaitBits.{waits_noted}
 use Rattle.mq_state.specs.Queues.{queue_in, registration_in, registrations_in, changed, without_queue, reregistered, renewed, noted_queues, QueuesMirror}
 use Rattle.mq_state.specs.Tables.{HasNoticeRoom, HasRoomToRegister, notices_brought, with_fresh}

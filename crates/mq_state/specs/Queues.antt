@@ -9,7 +9,7 @@ use Rattle.mq_model.specs.Names.{attributes, default_attributes, name_of}
 use Rattle.mq_model.specs.Descriptors.{alive, is_named}
 use Rattle.mq_model.specs.Messages.{is_in, present, priority}
 use Rattle.mq_model.specs.Notices.{registered, registration_after}
-use Rattle.mq_model.specs.Ladder.{is_of}
+use Rattle.mq_model.specs.ErrorOrder.{is_of}
 use Rattle.mq_model.specs.Owners.{is_held_in}
 use Rattle.mq_model.specs.declared.owners.Owner.{Owner}
 use Rattle.mq_model.specs.declared.entries.Attr.{Attr}

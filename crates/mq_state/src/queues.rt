@@ -11,7 +11,7 @@ ghost use Rattle.mq_state.specs.Pool.{Pool, IsSpare, emptied};
 use crate::moves::{LineMove, Moves};
 use crate::prefixes::Prefix;
 use mq_model::entries::{Attr, Entry, Registration};
-use mq_model::ladder::DEFAULT_ATTRIBUTES;
+use mq_model::error_order::DEFAULT_ATTRIBUTES;
 use mq_model::owners::Owner;
 use mq_model::{limits, owners, registrations};
 use mq_slots::Slots;

@@ -24,7 +24,7 @@ use crate::{notices, queues};
 use mq_model::bounds::Bounds;
 use mq_model::entries::{Call, Description, Entry};
 use mq_model::owners::Owner;
-use mq_model::{ladder, limits, owners};
+use mq_model::{error_order, limits, owners};
 use mq_slots::Slots;
 use std::alloc::{AllocError, Global};
 
@@ -263,7 +263,7 @@ impl Tables {
             queues::add(
                 &mut self.queues,
                 here,
-                ladder::attributes_given(entry.call),
+                error_order::attributes_given(entry.call),
                 slots,
             );
         }

@@ -6,7 +6,7 @@ use Rattle.mq.specs.Calls.{Expired, author, recorded}
 use Rattle.mq.proofs.Others.{deadline-grown}
 use Rattle.mq_model.proofs.Places.{split}
 use Rattle.mq_model.specs.Deadlines.{deadline_of, has_passed, is_moment, is_over}
-use Rattle.mq_model.specs.Ladder.{timed_reply}
+use Rattle.mq_model.specs.ErrorOrder.{timed_reply}
 use Rattle.mq_model.specs.Legality.{Legal, payload_of, reply_to}
 use Rattle.mq_model.specs.Record.{Past, Record}
 use Rattle.mq_model.specs.Waits.{answered_by, wait_deadline}

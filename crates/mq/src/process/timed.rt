@@ -7,7 +7,7 @@ use crate::system::Mq;
 use fast_mutex::Look;
 use mq_model::entries::{Deadline, Received};
 use mq_model::faults::Fault;
-use mq_model::{clock, ladder};
+use mq_model::{clock, error_order};
 use mq_state::collected::Collected;
 use std::sync::Wait;
 use std::time::Duration;
@@ -68,7 +68,7 @@ impl<L: Look<Guarded>> Process<L> {
                 break;
             }
             let now = clock.now();
-            if ladder::is_over(Some(until), now) {
+            if error_order::is_over(Some(until), now) {
                 passed = Some(now);
                 break;
             }

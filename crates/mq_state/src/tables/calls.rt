@@ -25,7 +25,7 @@ use crate::{buffers, moves, notices, queues};
 use mq_ledger::ledger::Ledger;
 use mq_model::entries::{Call, Entry, Reply};
 use mq_model::faults::Fault;
-use mq_model::{bounds, ladder, owners};
+use mq_model::{bounds, error_order, owners};
 use mq_slots::Slots;
 use std::alloc::{AllocError, Global};
 
@@ -512,7 +512,7 @@ impl Tables {
                 self.queues.reserve(1)?;
                 match self.bounds {
                     None => {
-                        let cap = queues::slots_for(ladder::attributes_given(call));
+                        let cap = queues::slots_for(error_order::attributes_given(call));
                         Ok(Some(Slots::new(self.alloc, cap)?))
                     }
                     Some(_) => Ok(Some(self.spares.pop().unwrap())),
@@ -578,7 +578,7 @@ impl Tables {
                     created: true,
                 },
             ) => {
-                let attr = ladder::attributes_given(call);
+                let attr = error_order::attributes_given(call);
                 let messages = usize::try_from(attr.maxmsg).unwrap_or(0);
                 let size = usize::try_from(attr.msgsize).unwrap_or(0);
                 journal.prepay(messages, size, self.n as usize)

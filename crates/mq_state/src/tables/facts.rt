@@ -1,4 +1,4 @@
-//! What the tables say of the journal: the facts that a reply depends on, and the reply that the ladder gives to them.
+//! What the tables say of the journal: the facts that a reply depends on, and the reply that the error_order gives to them.
 ghost use Rattle.std.specs.Prelude.{◌≡◌, ◌<◌, ◌≤◌, ◌^◌, IfSome, IsTrue, ℕ, List, length};
 ghost use Rattle.std.specs.Option.{option_map};
 ghost use Rattle.mq_model.specs.Names.{attributes, bound_queue};
@@ -18,9 +18,9 @@ use crate::prefixes::Prefix;
 use crate::queues::{self, LineFacts};
 use crate::tables::Tables;
 use mq_model::entries::{Call, Description, Registration, Reply};
-use mq_model::ladder::{NotifyFacts, OpenFacts, ReceiveFacts, SendFacts, StatusFacts};
+use mq_model::error_order::{NotifyFacts, OpenFacts, ReceiveFacts, SendFacts, StatusFacts};
 use mq_model::owners::WaitKind;
-use mq_model::{ladder, owners};
+use mq_model::{error_order, owners};
 
 // The place of a message.
 fn message_place(message: Option<(u32, u64)>) -> Option<u64>
@@ -50,7 +50,7 @@ pub(super) fn by_deadline(call: Call, plain: Reply) -> Reply
 {
     match call {
         Call::MqTimedSend { until, now, .. } | Call::MqTimedReceive { until, now, .. } => {
-            ladder::timed(until, now, plain)
+            error_order::timed(until, now, plain)
         }
         _ => plain,
     }
@@ -112,7 +112,7 @@ impl Tables {
         ensures { result ≡ reply_to_send journal.now.records held prio len }
     {
         let Some(h) = held else {
-            return ladder::send(prio, len, None);
+            return error_order::send(prio, len, None);
         };
         let line = self.line(journal, h.queue);
         let facts = SendFacts {
@@ -122,7 +122,7 @@ impl Tables {
             waiting: self.first_wait(journal, h.queue, WaitKind::Receive, line.waiting),
             registered: registration_place(line.registration),
         };
-        ladder::send(prio, len, Some(facts))
+        error_order::send(prio, len, Some(facts))
     }
 
     // The reply to a receive on a descriptor that is this.
@@ -141,7 +141,7 @@ impl Tables {
         ensures { result ≡ reply_to_receive journal.now.records held room }
     {
         let Some(h) = held else {
-            return ladder::receive(room, None);
+            return error_order::receive(room, None);
         };
         let line = self.line(journal, h.queue);
         let facts = ReceiveFacts {
@@ -152,7 +152,7 @@ impl Tables {
             waiting: self.first_wait(journal, h.queue, WaitKind::Send, line.waiting),
             registered: registration_place(line.registration),
         };
-        ladder::receive(room, Some(facts))
+        error_order::receive(room, Some(facts))
     }
 
     // The reply to a call of process p without its deadline, a name being that of an open or an unlink.
@@ -168,10 +168,10 @@ impl Tables {
                     free: owners::free_number(&self.owners, p),
                     queues: self.queues.len() as u64,
                 };
-                ladder::open(flags, attr, facts)
+                error_order::open(flags, attr, facts)
             }
-            Call::MqClose { d } => ladder::close(self.held(journal, p, d)),
-            Call::MqUnlink => ladder::unlink(self.bound(journal, name)),
+            Call::MqClose { d } => error_order::close(self.held(journal, p, d)),
+            Call::MqUnlink => error_order::unlink(self.bound(journal, name)),
             Call::MqSend { d, prio, len } | Call::MqTimedSend { d, prio, len, .. } => {
                 self.reply_to_send(journal, self.held(journal, p, d), prio, len)
             }
@@ -186,16 +186,16 @@ impl Tables {
                         attributes: line.attributes,
                         count: line.count as u64,
                     };
-                    ladder::status(Some(facts))
+                    error_order::status(Some(facts))
                 }
-                None => ladder::status(None),
+                None => error_order::status(None),
             },
             Call::MqNotify { d, value } => match self.held(journal, p, d) {
                 Some(h) => {
                     let registered = self.line(journal, h.queue).registration;
-                    ladder::notify(p, value, Some(NotifyFacts { registered }))
+                    error_order::notify(p, value, Some(NotifyFacts { registered }))
                 }
-                None => ladder::notify(p, value, None),
+                None => error_order::notify(p, value, None),
             },
             Call::NextNotice => Reply::Notice(notices::first(&self.inboxes, p)),
             Call::Collect => Reply::Collected {
@@ -225,7 +225,7 @@ impl Tables {
             Call::Collect => self.answer(p).is_some(),
             Call::Withdraw { now } => match owners::wait(&self.owners, p) {
                 None => false,
-                Some(wait) => self.answer(p).is_none() && ladder::is_over(wait.until, now),
+                Some(wait) => self.answer(p).is_none() && error_order::is_over(wait.until, now),
             },
             _ => self.wait(p).is_none(),
         }

@@ -14,11 +14,11 @@ use Rattle.mq_model.specs.declared.entries.Registration.{Registration}
 use Rattle.mq_model.specs.declared.entries.Reply.{Reply}
 use Rattle.mq_model.specs.declared.entries.Reply.TheVariants.{Opened, Queued, Handed, Waits, Got, Attrs, Done, Refused}
 use Rattle.mq_model.specs.declared.faults.Fault.TheVariants.{Again, BadDescriptor, Busy, Exists, Invalid, TooManyOpen, MessageSize, NoEntry, NoSpace, TimedOut}
-use Rattle.mq_model.specs.declared.ladder.OpenFacts.{OpenFacts}
-use Rattle.mq_model.specs.declared.ladder.SendFacts.{SendFacts}
-use Rattle.mq_model.specs.declared.ladder.ReceiveFacts.{ReceiveFacts}
-use Rattle.mq_model.specs.declared.ladder.StatusFacts.{StatusFacts}
-use Rattle.mq_model.specs.declared.ladder.NotifyFacts.{NotifyFacts}
+use Rattle.mq_model.specs.declared.error_order.OpenFacts.{OpenFacts}
+use Rattle.mq_model.specs.declared.error_order.SendFacts.{SendFacts}
+use Rattle.mq_model.specs.declared.error_order.ReceiveFacts.{ReceiveFacts}
+use Rattle.mq_model.specs.declared.error_order.StatusFacts.{StatusFacts}
+use Rattle.mq_model.specs.declared.error_order.NotifyFacts.{NotifyFacts}
 
 abbrev pub is_read_only : Access → Bool
 is_read_only Read = true

@@ -57,7 +57,7 @@ pub struct NotifyFacts {
 }
 
 ghost use Rattle.mq_model.specs.Deadlines.{is_moment, has_passed, is_over};
-ghost use Rattle.mq_model.specs.Ladder.{timed_reply, is_read_only, is_write_only, is_full_with, is_of, open_reply, close_reply, unlink_reply, accepted_reply, send_reply, found_reply, receive_reply, status_reply, notify_reply};
+ghost use Rattle.mq_model.specs.ErrorOrder.{timed_reply, is_read_only, is_write_only, is_full_with, is_of, open_reply, close_reply, unlink_reply, accepted_reply, send_reply, found_reply, receive_reply, status_reply, notify_reply};
 
 /// `maxmsg` and `msgsize` of a queue that is created without attributes.
 pub const DEFAULT_ATTRIBUTES: Attr = Attr {
