@@ -139,7 +139,7 @@ typedef struct owner {
     uint8_t numbers[NUMBERS]; /* a description and 1, or 0 */
     uint32_t stranded;
     uint32_t own_threads;  /* threads of the library */
-    _Atomic uint32_t bell; /* on which its notifier sleeps */
+    _Atomic uint32_t futex_word; /* on which its notifier sleeps */
     uint32_t polls;        /* how many descriptors for poll it has */
     uint64_t due[DUE];     /* serials of its notices that a thread of its own is to take */
     unsigned due_count;

@@ -1,9 +1,9 @@
 /* How a call by a handle waits: for the lock, and for the call of another process that answers it.
  *
- * A bell is a word of the library that is 1 if a thread may sleep on it. A thread that is about to
+ * A futex_word is a word of the library that is 1 if a thread may sleep on it. A thread that is about to
  * sleep stores 1, looks once more at what it waits for, and sleeps while the word is 1. A thread
- * that changes what others wait for stores 0 and wakes one. Word 0 is the bell of the lock, word j
- * that of process j's flag, and word YAK_ANSWER_BELL_ + j that of its answer. A missed wake-up
+ * that changes what others wait for stores 0 and wakes one. Word 0 is the futex_word of the lock, word j
+ * that of process j's flag, and word YAK_ANSWER_WORD_ + j that of its answer. A missed wake-up
  * makes a sleep late and does not lose it, since each sleep has an end. */
 #define _GNU_SOURCE
 /* quick.h must not define yak_send and yak_receive: they are below. */
@@ -26,7 +26,7 @@
 
 #define SELDOM(what) __builtin_expect(!!(what), 0)
 
-enum { LOCK_BELL = 0, SECOND = 1000000000, MILLISECOND = 1000000 };
+enum { LOCK_WORD = 0, SECOND = 1000000000, MILLISECOND = 1000000 };
 
 /* The process that the thread is attached to (yakyrombe/mqueue.h). */
 _Thread_local yak_process *yak_attached;
@@ -86,17 +86,17 @@ void yak_wake_on_(yak_word_ word, int most)
 #endif
 }
 
-/* The half of a bell that is 0 or 1. */
-static yak_word_ low_half(uint64_t *bell)
+/* The half of a futex_word that is 0 or 1. */
+static yak_word_ low_half(uint64_t *futex_word)
 {
     const yak_word_ half = {
-        .at = (uint32_t *)bell + (__BYTE_ORDER__ == __ORDER_BIG_ENDIAN__),
+        .at = (uint32_t *)futex_word + (__BYTE_ORDER__ == __ORDER_BIG_ENDIAN__),
     };
     return half;
 }
 
-/* Sleeps on a bell that was announced, for so many nanoseconds at the most. */
-static void sleep_on(uint64_t *bell, int64_t nanos)
+/* Sleeps on a futex_word that was announced, for so many nanoseconds at the most. */
+static void sleep_on(uint64_t *futex_word, int64_t nanos)
 {
     struct timespec until;
     const yak_sleep_ sleep = {.until = &until, .clock = CLOCK_MONOTONIC};
@@ -104,20 +104,20 @@ static void sleep_on(uint64_t *bell, int64_t nanos)
     nanos += until.tv_nsec;
     until.tv_sec += (time_t)(nanos / SECOND);
     until.tv_nsec = (long)(nanos % SECOND);
-    yak_sleep_on_(low_half(bell), 1, &sleep);
+    yak_sleep_on_(low_half(futex_word), 1, &sleep);
 }
 
-static void announce(uint64_t *bell)
+static void announce(uint64_t *futex_word)
 {
-    __atomic_store_n(bell, 1, __ATOMIC_SEQ_CST);
+    __atomic_store_n(futex_word, 1, __ATOMIC_SEQ_CST);
 }
 
-/* Wakes one that announced that it sleeps on the bell. */
-static void ring(uint64_t *bell)
+/* Wakes one that announced that it sleeps on the futex_word. */
+static void wake(uint64_t *futex_word)
 {
-    if (__atomic_load_n(bell, __ATOMIC_SEQ_CST) == 1) {
-        __atomic_store_n(bell, 0, __ATOMIC_SEQ_CST);
-        yak_wake_on_(low_half(bell), 1);
+    if (__atomic_load_n(futex_word, __ATOMIC_SEQ_CST) == 1) {
+        __atomic_store_n(futex_word, 0, __ATOMIC_SEQ_CST);
+        yak_wake_on_(low_half(futex_word), 1);
     }
 }
 
@@ -156,11 +156,11 @@ void yak_follow_(const yak_turns_ *them)
     is_watched = turns != 0 || __tsan_acquire != 0;
 }
 
-/* Where ThreadSanitizer keeps the order: at an address that no access has, since a store to a bell
+/* Where ThreadSanitizer keeps the order: at an address that no access has, since a store to a futex_word
  * would begin it anew. */
 static void *order_of(const yak_process *process)
 {
-    return (char *)process->bells + 4;
+    return (char *)process->futex_words + 4;
 }
 
 static void begin_call(const yak_process *process)
@@ -169,7 +169,7 @@ static void begin_call(const yak_process *process)
         return;
     if (turns != 0)
         turns->turn();
-    if (__tsan_release != 0 && process->bells != 0)
+    if (__tsan_release != 0 && process->futex_words != 0)
         __tsan_release(order_of(process));
 }
 
@@ -178,14 +178,14 @@ static void begin_call(const yak_process *process)
 /* Wakes those that wait for what the last call of the process changed. */
 static void end_call(yak_process *process)
 {
-    if (process->bells == 0)
+    if (process->futex_words == 0)
         return;
     if (SELDOM(is_watched) && __tsan_acquire != 0)
         __tsan_acquire(order_of(process));
-    ring(&process->bells[LOCK_BELL]);
-    ring(&process->bells[process->number]);
+    wake(&process->futex_words[LOCK_WORD]);
+    wake(&process->futex_words[process->number]);
     for (uint32_t left = process->answered; left != 0; left &= left - 1)
-        ring(&process->bells[YAK_ANSWER_BELL_ + 1 + __builtin_ctz(left)]);
+        wake(&process->futex_words[YAK_ANSWER_WORD_ + 1 + __builtin_ctz(left)]);
 }
 
 /* Passes the time before the next try of a call: pauses, and after some tries announces that the
@@ -195,22 +195,22 @@ static void end_call(yak_process *process)
  * the next, since nobody may come to lower that flag again. */
 static __attribute__((noinline)) void rest(yak_process *process, unsigned *tries)
 {
-    uint32_t bell;
-    if (yak_spin_(tries, YAK_SPINS_) || process->bells == 0 ||
-        yak_proved_bell(process, &bell) != YAK_DONE || bell > YAK_ANSWER_BELL_)
+    uint32_t futex_word;
+    if (yak_spin_(tries, YAK_SPINS_) || process->futex_words == 0 ||
+        yak_proved_futex_word(process, &futex_word) != YAK_DONE || futex_word > YAK_ANSWER_WORD_)
         return;
-    ring(&process->bells[process->number]); /* its own flag, which the last try may have lowered */
-    if (*tries != YAK_SPINS_ + 1 + bell) {
-        *tries = YAK_SPINS_ + 1 + bell;
-        announce(&process->bells[bell]);
+    wake(&process->futex_words[process->number]); /* its own flag, which the last try may have lowered */
+    if (*tries != YAK_SPINS_ + 1 + futex_word) {
+        *tries = YAK_SPINS_ + 1 + futex_word;
+        announce(&process->futex_words[futex_word]);
         return;
     }
     *tries = 0;
-    sleep_on(&process->bells[bell], (int64_t)YAK_LOCK_NAP_ * MILLISECOND);
-    if (bell == LOCK_BELL)
-        announce(&process->bells[bell]);
+    sleep_on(&process->futex_words[futex_word], (int64_t)YAK_LOCK_NAP_ * MILLISECOND);
+    if (futex_word == LOCK_WORD)
+        announce(&process->futex_words[futex_word]);
     else
-        yak_wake_on_(low_half(&process->bells[bell]), 1);
+        yak_wake_on_(low_half(&process->futex_words[futex_word]), 1);
 }
 
 /* The call of this name, which makes its proved try again until its process comes inside the lock.
@@ -320,19 +320,19 @@ static int64_t time_left(const yak_moment *until, yak_moment now, int64_t most)
  * looks or more was in vain, and after so many waits tries again. */
 static uint64_t learn(uint64_t doubt, bool was_answered)
 {
-    if (doubt >= YAK_MOST_DOUBT_ + YAK_DOUBTFUL_WAITS_)
-        return YAK_MOST_DOUBT_ - YAK_VAIN_LOOK_;
-    if (doubt >= YAK_MOST_DOUBT_)
+    if (doubt >= YAK_MOST_MISSES_ + YAK_WAITS_WITH_FEW_POLLS_)
+        return YAK_MOST_MISSES_ - YAK_FOR_A_MISS_;
+    if (doubt >= YAK_MOST_MISSES_)
         return doubt + 1;
-    return !was_answered ? doubt + YAK_VAIN_LOOK_ : doubt != 0 ? doubt - 1 : 0;
+    return !was_answered ? doubt + YAK_FOR_A_MISS_ : doubt != 0 ? doubt - 1 : 0;
 }
 
 /* Looks with pauses, and says whether the open wait still is not answered. */
 static bool looks_in_vain(yak_process *process)
 {
-    uint64_t *word = &process->bells[YAK_DOUBT_WORD_ + process->number];
+    uint64_t *word = &process->futex_words[YAK_MISSES_WORD_ + process->number];
     const uint64_t doubt = __atomic_load_n(word, __ATOMIC_RELAXED);
-    const unsigned most = doubt < YAK_MOST_DOUBT_ ? YAK_LONG_LOOKS_ : YAK_SHORT_LOOKS_;
+    const unsigned most = doubt < YAK_MOST_MISSES_ ? YAK_LONG_POLLS_ : YAK_SHORT_POLLS_;
     unsigned tries = 0;
     bool in_vain;
     do
@@ -348,12 +348,12 @@ static bool await_answer(yak_process *process, const waiting *it, int64_t nanos)
 {
     if (SELDOM(turns != 0)) {
         turns->await_answer(process, it->until, it->call, it->d);
-    } else if (process->bells != 0 && looks_in_vain(process)) {
-        uint64_t *bell = &process->bells[YAK_ANSWER_BELL_ + process->number];
-        announce(bell);
+    } else if (process->futex_words != 0 && looks_in_vain(process)) {
+        uint64_t *futex_word = &process->futex_words[YAK_ANSWER_WORD_ + process->number];
+        announce(futex_word);
         if (yak_answered(process) == YAK_WAITS)
-            sleep_on(bell, nanos);
-        __atomic_store_n(bell, 0, __ATOMIC_SEQ_CST);
+            sleep_on(futex_word, nanos);
+        __atomic_store_n(futex_word, 0, __ATOMIC_SEQ_CST);
     }
     return yak_answered(process) != YAK_WAITS;
 }
@@ -557,7 +557,7 @@ uint32_t yak_finish(yak_process *processes, size_t count, yak_line *line, void *
         if (yak_answered(&processes[i]) == YAK_EMPTY)
             return YAK_EMPTY;
     for (size_t i = 1; i < count; ++i)
-        if (processes[i].bells != processes[0].bells)
+        if (processes[i].futex_words != processes[0].futex_words)
             return YAK_INVAL;
     answer = yak_check(&processes[0]);
     if (answer == YAK_DONE && line != 0)

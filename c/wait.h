@@ -9,25 +9,25 @@
 /* The constants of waiting. Behind each stands the line of the proved library that has the same
  * one, as FILE: LINE; checks/pages compares the two. */
 enum {
-    /* The bell on which a process sleeps until its wait is answered is this word and its number. */
-    YAK_ANSWER_BELL_ = 32, /* fast_mutex/src/bells.rt: process.saturating_add(32) */
+    /* The futex_word on which a process sleeps until its wait is answered is this word and its number. */
+    YAK_ANSWER_WORD_ = 32, /* fast_mutex/src/futex_words.rt: process.saturating_add(32) */
     /* The word in which a process keeps its doubt is this one and its number. */
-    YAK_DOUBT_WORD_ = 64, /* fast_mutex/src/bells.rt: process.saturating_add(64) */
+    YAK_MISSES_WORD_ = 64, /* fast_mutex/src/futex_words.rt: process.saturating_add(64) */
     /* How often a process tries to come inside before it sleeps. */
     YAK_SPINS_ = 12, /* fast_mutex/src/enter.rt: const MOST_PAUSES: u32 = 12; */
     /* How often a wait looks for its answer before it sleeps, and how often if its process doubts
      * that this is worth it. */
-    YAK_LONG_LOOKS_ = 7,  /* fast_mutex/src/bells.rt: const LONG_LOOKS: u32 = 7; */
-    YAK_SHORT_LOOKS_ = 1, /* fast_mutex/src/bells.rt: const SHORT_LOOKS: u32 = 1; */
+    YAK_LONG_POLLS_ = 7,  /* fast_mutex/src/futex_words.rt: const LONG_POLLS: u32 = 7; */
+    YAK_SHORT_POLLS_ = 1, /* fast_mutex/src/futex_words.rt: const SHORT_POLLS: u32 = 1; */
     /* From which doubt on that is, by how much looks in vain raise it, and for how many waits. */
-    YAK_MOST_DOUBT_ = 12,     /* fast_mutex/src/bells.rt: const MOST_DOUBT: u64 = 12; */
-    YAK_VAIN_LOOK_ = 3,       /* fast_mutex/src/bells.rt: const FOR_A_LOOK_IN_VAIN: u64 = 3; */
-    YAK_DOUBTFUL_WAITS_ = 64, /* fast_mutex/src/bells.rt: const DOUBTFUL_WAITS: u64 = 64; */
+    YAK_MOST_MISSES_ = 12,     /* fast_mutex/src/futex_words.rt: const MOST_MISSES: u64 = 12; */
+    YAK_FOR_A_MISS_ = 3,       /* fast_mutex/src/futex_words.rt: const FOR_A_MISS: u64 = 3; */
+    YAK_WAITS_WITH_FEW_POLLS_ = 64, /* fast_mutex/src/futex_words.rt: const WAITS_WITH_FEW_POLLS: u64 = 64; */
     /* The shortest and the longest pause between two looks, in turns of a loop. */
     YAK_SHORT_PAUSE_ = 1024, /* fast_mutex/src/pauses.rt: const SHORTEST: u32 = 1_024; */
     YAK_LONG_PAUSE_ = 16384, /* fast_mutex/src/pauses.rt: const LONGEST: u32 = 16_384; */
     /* The longest sleep on the way into the lock, in milliseconds. */
-    YAK_LOCK_NAP_ = 10, /* fast_mutex/src/bells.rt: const LONGEST_NAP: u64 = 10; */
+    YAK_LOCK_NAP_ = 10, /* fast_mutex/src/futex_words.rt: const LONGEST_NAP: u64 = 10; */
     /* The first and the longest sleep of a wait for an answer, in milliseconds. */
     YAK_FIRST_NAP_ = 10,  /* mq/src/naps.rt: const FIRST_NAP: u64 = 10; */
     YAK_LONGEST_NAP_ = 80 /* mq/src/naps.rt: const LONGEST_NAP: u64 = 80; */

@@ -87,7 +87,7 @@ int main(void)
     if (yak_new(processes, PROCESSES) != YAK_DONE)
         return 1;
     for (k = 0; k < PROCESSES; k++)
-        if (!processes[k].full || processes[k].number != k + 1 || !processes[k].bells)
+        if (!processes[k].full || processes[k].number != k + 1 || !processes[k].futex_words)
             return 2;
     if (processes[PROCESSES].full || processes[PROCESSES].number != 0)
         return 3;

@@ -131,7 +131,7 @@ static void *receive_other(void *of)
     return 0;
 }
 
-static void ring(int number)
+static void wake(int number)
 {
     (void)number;
 }
@@ -176,7 +176,7 @@ static void beside(void)
     WANT(pthread_join(one, 0) == 0 && result == 2);
     /* Interrupted. */
     memset(&action, 0, sizeof action);
-    action.sa_handler = ring;
+    action.sa_handler = wake;
     sigaction(SIGUSR1, &action, 0);
     one = begin_other(0);
     await_waits(IN_ORDER + 1);

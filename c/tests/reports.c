@@ -137,7 +137,7 @@ static void await_report(double began, bool by_signal)
     WANT(told(path, began, &wholes) == 3 && wholes == 0);
 }
 
-static void ring(int number)
+static void wake(int number)
 {
     (void)number;
 }
@@ -155,7 +155,7 @@ static void all_wait(double began, bool by_signal)
     int wholes;
     WANT(own != -1);
     memset(&action, 0, sizeof action);
-    action.sa_handler = ring;
+    action.sa_handler = wake;
     sigaction(SIGALRM, &action, 0);
     memset(&event, 0, sizeof event);
     event.sigev_notify = SIGEV_SIGNAL;

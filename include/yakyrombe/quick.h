@@ -28,15 +28,15 @@ uint32_t yak_receive_on_(yak_process *process, uint32_t d, uint8_t *buf, size_t 
 /* Inline in each file that calls it, and a function of its own in none. */
 #define YAK_INLINE_ extern inline __attribute__((gnu_inline, always_inline))
 
-/* Whether a call came inside and is done, and nobody may sleep until what it changed. A bell is 0
+/* Whether a call came inside and is done, and nobody may sleep until what it changed. A futex_word is 0
  * or 1. */
 YAK_INLINE_ bool yak_is_through_(const yak_process *process, uint32_t answer)
 {
-    const uint64_t *bells = process->bells;
+    const uint64_t *futex_words = process->futex_words;
     return __builtin_expect(
         answer == YAK_DONE &&
-            ((uint32_t)(__atomic_load_n(&bells[0], __ATOMIC_SEQ_CST) |
-                        __atomic_load_n(&bells[process->number], __ATOMIC_SEQ_CST)) |
+            ((uint32_t)(__atomic_load_n(&futex_words[0], __ATOMIC_SEQ_CST) |
+                        __atomic_load_n(&futex_words[process->number], __ATOMIC_SEQ_CST)) |
              process->answered) == 0,
         1);
 }

@@ -118,7 +118,7 @@ struct Fields {
     full: bool,
     answered: u32,
     number: u32,
-    bells: *mut u64,
+    futex_words: *mut u64,
     apart: [u64; 12],
 }
 
@@ -248,7 +248,7 @@ impl Handle {
             full: false,
             answered: 0,
             number: 0,
-            bells: null_mut(),
+            futex_words: null_mut(),
             apart: [0; 12],
         }))
     }

@@ -21,8 +21,8 @@ pub struct Handle {
     answered: u32,
     // the number of its process
     number: u32,
-    // the bells of its system
-    bells: *const u64,
+    // the futex_words of its system
+    futex_words: *const u64,
     // so that no two handles of an array share a cache line, which each call of either would take from the other
     apart: [u64; 12],
     ghost fullness: { full ≡ is_some seal.member },
@@ -53,13 +53,13 @@ impl Handle {
         Some(self.seal.take(alloc))
     }
 
-    /// Takes the member out for good, and forgets the bells of its system, which may end with it.
+    /// Takes the member out for good, and forgets the futex_words of its system, which may end with it.
     pub fn end(&mut self, alloc: Global) -> Option<Box<Member>>
         ensures some { IfSome result (λ member. self.old.seal.member ≡ Some member.value) }
         ensures none { IfNone result (self.old.seal.member ≡ None) }
         ensures empty { self.new.seal.member ≡ None }
     {
-        self.bells = null();
+        self.futex_words = null();
         self.take(alloc)
     }
 
@@ -80,7 +80,7 @@ impl Handle {
         ensures { self.new.seal.member ≡ Some member.value }
     {
         self.number = member.number();
-        self.bells = member.bells().unwrap_or(null());
+        self.futex_words = member.futex_words().unwrap_or(null());
         self.put(member);
     }
 }

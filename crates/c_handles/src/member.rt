@@ -60,14 +60,14 @@ impl Member {
         standing::answered_others(&self.standing)
     }
 
-    /// The bells of its system.
-    pub fn bells(&self) -> Option<*const u64> {
-        self.mq.bells()
+    /// The futex_words of its system.
+    pub fn futex_words(&self) -> Option<*const u64> {
+        self.mq.futex_words()
     }
 
     /// Which of them its process sleeps on now. A hint.
-    pub fn bell(&self) -> u32 {
-        standing::bell(&self.standing)
+    pub fn futex_word(&self) -> u32 {
+        standing::futex_word(&self.standing)
     }
 
     /// Tries to make a call of whichever kind, with its name, the bytes of its message or none, and the buffer that a receive fills. A send

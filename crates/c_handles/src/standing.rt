@@ -142,14 +142,14 @@ pub fn look(mq: &FastMq, standing: &mut Standing) -> Option<bool>
     }
 }
 
-/// Which of the bells of its system the process sleeps on: that of what keeps it out of the lock, or of its answer.
-pub fn bell(standing: &Standing) -> u32
+/// Which of the futex_words of its system the process sleeps on: that of what keeps it out of the lock, or of its answer.
+pub fn futex_word(standing: &Standing) -> u32
     requires { is_there standing.now ≡ true }
 {
     match &standing.rest {
-        Some(process) => process.bell(),
+        Some(process) => process.futex_word(),
         None => match &standing.way {
-            Some(acquisition) => acquisition.bell(),
+            Some(acquisition) => acquisition.futex_word(),
             None => unreachable!(),
         },
     }

@@ -33,17 +33,17 @@ fn look_some_times<S: Logged, L: Look<S>>(lock: &L, seat: &mut L::Seat) -> bool
       told = (L.ticket seat.old).told || result;
     } }
 {
-    let bells = lock.bells();
+    let futex_words = lock.futex_words();
     let process = L::number(seat);
     let mut pauses = Pauses::new();
-    for _ in 0..bells.looks(process) {
+    for _ in 0..futex_words.looks(process) {
         if lock.answered(seat) {
-            bells.learn(process, true);
+            futex_words.learn(process, true);
             return true;
         }
-        pauses.pause(bells);
+        pauses.pause(futex_words);
     }
-    bells.learn(process, false);
+    futex_words.learn(process, false);
     false
 }
 
@@ -61,12 +61,12 @@ fn look_after_sleep<S: Logged, L: Look<S>, R: Wait>(
     ensures left { S.is_answered (L.ticket seat.old).number (L.ticket seat.old).left ≡ true →
         result ≡ true }
 {
-    let bells = lock.bells();
+    let futex_words = lock.futex_words();
     let process = L::number(seat);
-    bells.announce_wait(process);
+    futex_words.announce_wait(process);
     if !lock.answered(seat) {
-        bells.sleep_until_answered(rt, process, at_most);
+        futex_words.sleep_until_answered(rt, process, at_most);
     }
-    bells.end_wait(process);
+    futex_words.end_wait(process);
     lock.answered(seat)
 }

@@ -70,8 +70,8 @@ impl<S: Logged, L: Lock<S>> Enter<S> for L {
 
     #[inline(always)]
     fn wake(&self, seat: &L::Seat) {
-        self.bells()
-            .ring_after(L::number(seat), L::answered_by(seat));
+        self.futex_words()
+            .wake_after(L::number(seat), L::answered_by(seat));
     }
 }
 
@@ -113,7 +113,7 @@ fn wait_in<S: Logged, L: Lock<S>, R: Wait>(lock: &L, rt: &R, mut walk: L::Walk) 
             pauses = Pauses::new();
             paused = 0;
         } else {
-            pauses.pause(lock.bells());
+            pauses.pause(lock.futex_words());
             paused += 1;
         }
     }
@@ -126,14 +126,14 @@ fn nap<S: Logged, L: Lock<S>, R: Wait>(lock: &L, rt: &R, walk: L::Walk) -> (L::W
     requires outside { L.is_in walk ≡ false }
     ensures { L.walking result.0 ≡ L.walking walk }
 {
-    let bells = lock.bells();
-    let bell = L::bell(&walk);
-    bells.announce_walk(bell, L::own_bell(&walk));
+    let futex_words = lock.futex_words();
+    let futex_word = L::futex_word(&walk);
+    futex_words.announce_sleep(futex_word, L::own_futex_word(&walk));
     let (walk, has_moved) = lock.step(walk);
     if !has_moved {
-        bells.sleep_on_the_way(rt, bell);
+        futex_words.sleep_until_free(rt, futex_word);
     }
-    bells.end_walk(bell);
+    futex_words.end_sleep(futex_word);
     (walk, has_moved)
 }
 

@@ -13,7 +13,7 @@ ghost use Rattle.fast_mutex.specs.Word.{HasGrown};
 ghost use Rattle.fast_mutex.specs.Marks.{flag, answer_bits};
 ghost use Rattle.fast_mutex.specs.Fast.{seat_view, view_planned, view_marked, list_in, IsReady, Shows, resting, is_inside, slots_at, state_shown, state_at, counted_prop, ticket_of, stay_of, accesses_of, IsSeatOf};
 
-use crate::bells::Bells;
+use crate::futex_words::FutexWords;
 use crate::lock::Missing;
 use crate::logged::Logged;
 use crate::seats::{About, LockSeat, close, deal};
@@ -43,7 +43,7 @@ type TableSeat<S> = Seat<Option<S>, View<<S as Logged>::Item>>;
 pub struct FastMutex<S: Logged> {
     table: Table<Option<S>, View<S::Item>, About<S>, FastRule<S>, Global>,
     count: u32,
-    bells: Bells,
+    futex_words: FutexWords,
     ghost shape: { (table.shared.table_id.words ≡ 2 * count + 2) ×
         (table.shared.table_id.slots ≡ 1) × (count ≡ table.shared.key.count) × (1 ≤ count) ×
         (count ≤ 32) },
@@ -489,21 +489,21 @@ impl<S: Logged> FastMutex<S> {
 
 // What threads sleep on. It is no word of the table, and no step of the algorithm.
 impl<S: Logged> FastMutex<S> {
-    pub(crate) fn bells(&self) -> &Bells {
-        &self.bells
+    pub(crate) fn futex_words(&self) -> &FutexWords {
+        &self.futex_words
     }
 
     // A walk waits at y, or at the flag that its scan has come to.
-    pub(crate) fn bell_of(walk: &Walk<S>) -> u32 {
+    pub(crate) fn futex_word_of(walk: &Walk<S>) -> u32 {
         match walk.at {
-            At::Scan(j) => Bells::of_flag(j),
-            _ => Bells::of_y(),
+            At::Scan(j) => FutexWords::of_flag(j),
+            _ => FutexWords::of_y(),
         }
     }
 
     // That of its flag, which it lowers on its way to where it waits.
-    pub(crate) fn own_bell_of(walk: &Walk<S>) -> u32 {
-        Bells::of_flag(walk.number)
+    pub(crate) fn own_futex_word_of(walk: &Walk<S>) -> u32 {
+        FutexWords::of_flag(walk.number)
     }
 }
 
@@ -582,7 +582,7 @@ impl<S: Logged> FastMutex<S> {
     fn furnish(
         alloc: Global,
         count: u32,
-        bells: Bells,
+        futex_words: FutexWords,
         state: S,
     ) -> Result<(FastMutex<S>, TableSeat<S>), (S, AllocError)>
         requires { (1 ≤ count) × (count ≤ 32) }
@@ -604,7 +604,7 @@ impl<S: Logged> FastMutex<S> {
             FastMutex {
                 table,
                 count,
-                bells,
+                futex_words,
             },
             first,
         ))
@@ -628,14 +628,14 @@ impl<S: Logged> FastMutex<S> {
             Ok(seats) => seats,
             Err(failed) => return Err((state, failed)),
         };
-        let bells = match Bells::new(alloc) {
-            Ok(bells) => bells,
+        let futex_words = match FutexWords::new(alloc) {
+            Ok(futex_words) => futex_words,
             Err(failed) => {
                 seats.destroy_empty();
                 return Err((state, failed));
             }
         };
-        match FastMutex::furnish(alloc, n, bells, state) {
+        match FastMutex::furnish(alloc, n, futex_words, state) {
             Ok((lock, first)) => {
                 let seats = deal(&lock.table.shared, n, first, seats);
                 Ok((lock, seats))
@@ -670,7 +670,7 @@ impl<S: Logged> FastMutex<S> {
         let FastMutex {
             table,
             count: _,
-            bells: _,
+            futex_words: _,
         } = self;
         Ok(close(table, seats))
     }

@@ -7,7 +7,7 @@ ghost use Rattle.fast_mutex.specs.Word.{lock_id, made_with};
 ghost use Rattle.fast_mutex.specs.Fast.{is_inside, ticket_of, stay_of, accesses_of};
 ghost use Rattle.fast_mutex.specs.declared.lock.Path.TheVariants.{Fast};
 
-use crate::bells::Bells;
+use crate::futex_words::FutexWords;
 use crate::fast::{FastInside, FastMutex, FastSeat, Walk};
 use crate::lock::{Lock, Look, Missing, Path};
 use crate::logged::Logged;
@@ -106,16 +106,16 @@ impl<S: Logged + Drop> Lock<S> for FastMutex<S> {
     }
 
     #[inline(always)]
-    fn bells(&self) -> &Bells {
-        FastMutex::bells(self)
+    fn futex_words(&self) -> &FutexWords {
+        FastMutex::futex_words(self)
     }
 
-    fn bell(walk: &Walk<S>) -> u32 {
-        FastMutex::bell_of(walk)
+    fn futex_word(walk: &Walk<S>) -> u32 {
+        FastMutex::futex_word_of(walk)
     }
 
-    fn own_bell(walk: &Walk<S>) -> u32 {
-        FastMutex::own_bell_of(walk)
+    fn own_futex_word(walk: &Walk<S>) -> u32 {
+        FastMutex::own_futex_word_of(walk)
     }
 
     #[inline(always)]

@@ -2,7 +2,7 @@
 #![tactic(auto)]
 
 mod await_answer;
-mod bells;
+mod futex_words;
 mod enter;
 mod fast;
 mod fast_lock;
@@ -14,7 +14,7 @@ mod slot;
 mod word;
 
 pub use await_answer::AwaitAnswer;
-pub use bells::Bells;
+pub use futex_words::FutexWords;
 pub use enter::{Enter, FAST_PATH_STEPS};
 pub use fast::{FastInside, FastMutex, FastSeat, Walk};
 pub use lock::{Lock, Look, Missing, Path};

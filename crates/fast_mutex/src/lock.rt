@@ -3,7 +3,7 @@ ghost use Rattle.std.specs.Prelude.{◌≡◌, ◌≤◌, ◌+◌, ◌↔◌, �
 ghost use Rattle.std.specs.List.{All};
 ghost use Rattle.fast_mutex.specs.Items.{LockId, Ticket, tickets_with, Grows, GrowsBy};
 
-use crate::bells::Bells;
+use crate::futex_words::FutexWords;
 use crate::logged::Logged;
 use std::alloc::{AllocError, Global};
 
@@ -128,13 +128,13 @@ pub trait Lock<S: Logged>: Sized + Drop {
         ensures few { seat_accesses result ≤ stay_accesses inside + (id self.now).count + 2 };
 
     /// The words that threads sleep on, beside those of the lock.
-    fn bells(&self) -> &Bells;
+    fn futex_words(&self) -> &FutexWords;
 
     /// Which of them a walk sleeps on that a step did not move.
-    fn bell(walk: &Self::Walk) -> u32;
+    fn futex_word(walk: &Self::Walk) -> u32;
 
     /// Which of them others sleep on that wait for this walk.
-    fn own_bell(walk: &Self::Walk) -> u32;
+    fn own_futex_word(walk: &Self::Walk) -> u32;
 
     /// Whose waits the last stay of this process answered, that of process p by bit p - 1: whom [`Enter::wake`](crate::Enter) wakes. A hint.
     fn answered_by(seat: &Self::Seat) -> u32;

@@ -1,5 +1,5 @@
 //! The pauses of a wait that looks again and again.
-use crate::bells::Bells;
+use crate::futex_words::FutexWords;
 
 // The shortest and the longest, in loads of a word.
 const SHORTEST: u32 = 1_024;
@@ -21,8 +21,8 @@ impl Pauses {
     }
 
     /// The next one.
-    pub(crate) fn pause(&mut self, bells: &Bells) {
-        bells.linger(self.next);
+    pub(crate) fn pause(&mut self, futex_words: &FutexWords) {
+        futex_words.load_again(self.next);
         self.next = self.next.saturating_mul(2).min(LONGEST);
     }
 }

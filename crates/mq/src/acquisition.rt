@@ -49,9 +49,9 @@ impl<L: Look<Guarded>> Acquisition<L> {
         self.number
     }
 
-    /// Which of the bells it sleeps on, outside of Rattle, where steps do not take it inside (see [`Mq::bells`]).
-    pub fn bell(&self) -> u32 {
-        L::bell(&self.walk)
+    /// Which of the futex_words it sleeps on, outside of Rattle, where steps do not take it inside (see [`Mq::futex_words`]).
+    pub fn futex_word(&self) -> u32 {
+        L::futex_word(&self.walk)
     }
 
     /// Takes at most so many atomic steps, each one access to a word of the lock, none of which waits. It stops once it is inside, and beyond

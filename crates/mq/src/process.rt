@@ -127,8 +127,8 @@ impl<L: Look<Guarded>> Process<L> {
         }
     }
 
-    /// Which of the bells it sleeps on, outside of Rattle, until its wait is answered (see [`Mq::bells`]).
-    pub fn bell(&self) -> u32 {
+    /// Which of the futex_words it sleeps on, outside of Rattle, until its wait is answered (see [`Mq::futex_words`]).
+    pub fn futex_word(&self) -> u32 {
         self.number().saturating_add(32)
     }
 

@@ -288,9 +288,9 @@ impl<L: Look<Guarded>> Mq<L> {
         }
     }
 
-    /// The words that threads sleep on, for those who sleep outside of Rattle (`Bells::address` of `fast_mutex`).
-    pub fn bells(&self) -> Option<*const u64> {
-        self.lock.bells().address()
+    /// The words that threads sleep on, for those who sleep outside of Rattle (`FutexWords::address` of `fast_mutex`).
+    pub fn futex_words(&self) -> Option<*const u64> {
+        self.lock.futex_words().address()
     }
 
     pub(crate) fn lock(&self) -> &L

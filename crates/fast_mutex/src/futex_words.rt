@@ -6,7 +6,7 @@ use std::sync::atomic::AtomicU64;
 use std::sync::atomic::Ordering::SeqCst;
 use std::time::Duration;
 
-// The bells of a lock for the most processes, that of y, of each flag b[j], and of the answer of each process, and behind them the doubt
+// The futex_words of a lock for the most processes, that of y, of each flag b[j], and of the answer of each process, and behind them the misses
 // of each process. Then a word that stays as it is, with fifteen on either side of it that nobody touches: who pauses loads it again and
 // again, and would take what lies beside it, also what the allocator put behind these words, out of the cache of the one inside.
 const WORDS: u32 = 128;
@@ -18,48 +18,48 @@ const LONGEST_NAP: u64 = 10;
 
 // How often a process looks for its answer before it sleeps, and how often where it doubts that this is worth it: where of its last looks
 // one in four or more was in vain. It doubts for so many waits, and then tries again.
-const LONG_LOOKS: u32 = 7;
+const LONG_POLLS: u32 = 7;
 
-const SHORT_LOOKS: u32 = 1;
+const SHORT_POLLS: u32 = 1;
 
-const MOST_DOUBT: u64 = 12;
+const MOST_MISSES: u64 = 12;
 
-const FOR_A_LOOK_IN_VAIN: u64 = 3;
+const FOR_A_MISS: u64 = 3;
 
-const DOUBTFUL_WAITS: u64 = 64;
+const WAITS_WITH_FEW_POLLS: u64 = 64;
 
-/// Bells, each a word that is 1 where somebody may sleep on it. Who is about to sleep announces it, looks once more at what it waits
+/// FutexWords, each a word that is 1 where somebody may sleep on it. Who is about to sleep announces it, looks once more at what it waits
 /// for, and sleeps while the word is 1; who changes that rings. All are sequentially consistent.
 #[derive(Drop)]
-pub struct Bells {
+pub struct FutexWords {
     words: Vec<AtomicU64>,
     // how many walks sleep, or are about to
     sleepers: AtomicU64,
 }
 
-impl Bells {
-    pub(crate) fn new(alloc: Global) -> Result<Bells, AllocError> {
+impl FutexWords {
+    pub(crate) fn new(alloc: Global) -> Result<FutexWords, AllocError> {
         let mut words = Vec::with_capacity(alloc, WORDS as usize)?;
         for _ in 0..WORDS {
             words.push(AtomicU64::new(0))?;
         }
-        Ok(Bells {
+        Ok(FutexWords {
             words,
             sleepers: AtomicU64::new(0),
         })
     }
 
-    /// The bell of y.
+    /// The futex_word of y.
     pub(crate) fn of_y() -> u32 {
         0
     }
 
-    /// The bell of the flag b[process].
+    /// The futex_word of the flag b[process].
     pub(crate) fn of_flag(process: u32) -> u32 {
         process
     }
 
-    // The bell of the answer of a process.
+    // The futex_word of the answer of a process.
     fn of_answer(process: u32) -> u32 {
         process.saturating_add(32)
     }
@@ -70,16 +70,16 @@ impl Bells {
         }
     }
 
-    // Sleeps where it was announced, until the bell rings, and no longer than that.
-    fn sleep<R: Wait>(&self, rt: &R, bell: u32, at_most: Duration) {
-        if let Some(word) = self.words.get(bell as usize) {
+    // Sleeps where it was announced, until the futex_word rings, and no longer than that.
+    fn sleep<R: Wait>(&self, rt: &R, futex_word: u32, at_most: Duration) {
+        if let Some(word) = self.words.get(futex_word as usize) {
             word.park_timeout(rt, 1, at_most);
         }
     }
 
-    // Wakes one that sleeps on this bell, where that was announced.
-    fn ring(&self, bell: u32) {
-        if let Some(word) = self.words.get(bell as usize)
+    // Wakes one that sleeps on this futex_word, where that was announced.
+    fn wake(&self, futex_word: u32) {
+        if let Some(word) = self.words.get(futex_word as usize)
             && word.load(SeqCst) == 1
         {
             word.store(0, SeqCst);
@@ -87,78 +87,78 @@ impl Bells {
         }
     }
 
-    /// Says that a walk may sleep on this bell, and wakes one that sleeps until it has lowered its own flag.
-    pub(crate) fn announce_walk(&self, bell: u32, own: u32) {
-        self.ring(own);
+    /// Says that a walk may sleep on this futex_word, and wakes one that sleeps until it has lowered its own flag.
+    pub(crate) fn announce_sleep(&self, futex_word: u32, own: u32) {
+        self.wake(own);
         self.sleepers.fetch_add(1, SeqCst);
-        self.set(bell, 1);
+        self.set(futex_word, 1);
     }
 
-    /// Sleeps until the bell rings, where its last look was in vain.
-    pub(crate) fn sleep_on_the_way<R: Wait>(&self, rt: &R, bell: u32) {
-        self.sleep(rt, bell, Duration::from_millis(LONGEST_NAP));
+    /// Sleeps until the futex_word rings, where its last look was in vain.
+    pub(crate) fn sleep_until_free<R: Wait>(&self, rt: &R, futex_word: u32) {
+        self.sleep(rt, futex_word, Duration::from_millis(LONGEST_NAP));
     }
 
     /// Ends what was announced. Who was woken so announces for those that still sleep, and the next departure wakes the next. Nobody may
-    /// come to lower a flag again, so who slept on its bell wakes the next there.
-    pub(crate) fn end_walk(&self, bell: u32) {
+    /// come to lower a flag again, so who slept on its futex_word wakes the next there.
+    pub(crate) fn end_sleep(&self, futex_word: u32) {
         if self.sleepers.fetch_sub(1, SeqCst) != 1 {
-            self.set(bell, 1);
-            if bell != Bells::of_y() {
-                self.ring(bell);
+            self.set(futex_word, 1);
+            if futex_word != FutexWords::of_y() {
+                self.wake(futex_word);
             }
         }
     }
 
     /// Says that a process may sleep until it is answered.
     pub(crate) fn announce_wait(&self, process: u32) {
-        self.set(Bells::of_answer(process), 1);
+        self.set(FutexWords::of_answer(process), 1);
     }
 
     /// Sleeps until the process is answered, where its last look was in vain, and no longer than that.
     pub(crate) fn sleep_until_answered<R: Wait>(&self, rt: &R, process: u32, at_most: Duration) {
-        self.sleep(rt, Bells::of_answer(process), at_most);
+        self.sleep(rt, FutexWords::of_answer(process), at_most);
     }
 
     /// Takes back that the process may sleep.
     pub(crate) fn end_wait(&self, process: u32) {
-        self.set(Bells::of_answer(process), 0);
+        self.set(FutexWords::of_answer(process), 0);
     }
 
     /// Wakes one that sleeps until this process has left, and those whose waits it answered. Where nobody sleeps this is one load.
     #[inline(always)]
-    pub(crate) fn ring_after(&self, process: u32, answered: u32) {
+    pub(crate) fn wake_after(&self, process: u32, answered: u32) {
         if self.sleepers.load(SeqCst) != 0 {
-            self.ring_walks(process);
+            self.wake_walks(process);
         }
         if answered != 0 {
-            self.ring_answers(answered);
+            self.wake_answered(answered);
         }
     }
 
     // Apart, as the next, so that a departure that wakes nobody is short.
     #[cold]
     #[inline(never)]
-    fn ring_walks(&self, process: u32) {
-        self.ring(Bells::of_y());
-        self.ring(Bells::of_flag(process));
+    fn wake_walks(&self, process: u32) {
+        self.wake(FutexWords::of_y());
+        self.wake(FutexWords::of_flag(process));
     }
 
     // Wakes the processes whose bits are set, that of process p by bit p - 1, where they sleep until they are answered.
     #[cold]
     #[inline(never)]
-    fn ring_answers(&self, answered: u32) {
+    fn wake_answered(&self, answered: u32) {
         let mut left = answered;
         for process in 1..33 {
             if left % 2 == 1 {
-                self.ring(Bells::of_answer(process));
+                self.wake(FutexWords::of_answer(process));
             }
             left /= 2;
         }
     }
 
     /// Passes the time of so many loads. A loop that only says that it spins does nothing here, and is left out by the compiler.
-    pub(crate) fn linger(&self, loads: u32) {
+    pub(crate) fn load_again(&self, loads: u32) {
         if let Some(word) = self.words.get(STILL) {
             for _ in 0..loads {
                 let _ = word.load(SeqCst);
@@ -168,42 +168,42 @@ impl Bells {
 
     /// How often a process looks for its answer before it sleeps.
     pub(crate) fn looks(&self, process: u32) -> u32 {
-        if self.doubt(process) < MOST_DOUBT {
-            LONG_LOOKS
+        if self.misses(process) < MOST_MISSES {
+            LONG_POLLS
         } else {
-            SHORT_LOOKS
+            SHORT_POLLS
         }
     }
 
     /// What the process learns from these looks: whether one was true.
     pub(crate) fn learn(&self, process: u32, was_answered: bool) {
-        let doubt = self.doubt(process);
-        let next = if doubt >= MOST_DOUBT + DOUBTFUL_WAITS {
-            MOST_DOUBT - FOR_A_LOOK_IN_VAIN
-        } else if doubt >= MOST_DOUBT {
-            doubt + 1
+        let misses = self.misses(process);
+        let next = if misses >= MOST_MISSES + WAITS_WITH_FEW_POLLS {
+            MOST_MISSES - FOR_A_MISS
+        } else if misses >= MOST_MISSES {
+            misses + 1
         } else if was_answered {
-            doubt.saturating_sub(1)
+            misses.saturating_sub(1)
         } else {
-            doubt + FOR_A_LOOK_IN_VAIN
+            misses + FOR_A_MISS
         };
-        if next != doubt {
-            self.set(Bells::of_doubt(process), next);
+        if next != misses {
+            self.set(FutexWords::of_misses(process), next);
         }
     }
 
-    fn of_doubt(process: u32) -> u32 {
+    fn of_misses(process: u32) -> u32 {
         process.saturating_add(64)
     }
 
-    fn doubt(&self, process: u32) -> u64 {
-        match self.words.get(Bells::of_doubt(process) as usize) {
+    fn misses(&self, process: u32) -> u64 {
+        match self.words.get(FutexWords::of_misses(process) as usize) {
             Some(word) => word.load(SeqCst),
             None => 0,
         }
     }
 
-    /// The first of the 65 bells, for those who sleep on them outside of Rattle: that of y, then of each flag b[j], then of the answer of
+    /// The first of the 65 futex_words, for those who sleep on them outside of Rattle: that of y, then of each flag b[j], then of the answer of
     /// each process. A thread sleeps while its word is 1, which it stores before its last look, and is woken by who stores 0. They stay
     /// where they are as long as the lock is there.
     pub fn address(&self) -> Option<*const u64> {
