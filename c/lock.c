@@ -16,7 +16,7 @@
 enum {
     TRIES = 4, /* before a thread sleeps */
     /* So many nanoseconds a sleeper sleeps until it looks whether the holder lives. */
-    LONGEST_NAP = 50000000
+    LONGEST_SLEEP = 50000000
 };
 
 bool program_is_watched;
@@ -91,8 +91,8 @@ void program_wake_next(void)
  * holder lives. */
 static void sleep_for_lock(int seen)
 {
-    const struct timespec nap = {.tv_nsec = LONGEST_NAP};
-    if (syscall(SYS_futex, PROGRAM_WORD, FUTEX_WAIT, seen, &nap, 0, 0) >= 0 || errno != ETIMEDOUT ||
+    const struct timespec delay = {.tv_nsec = LONGEST_SLEEP};
+    if (syscall(SYS_futex, PROGRAM_WORD, FUTEX_WAIT, seen, &delay, 0, 0) >= 0 || errno != ETIMEDOUT ||
         kill(seen & FUTEX_TID_MASK, 0) == 0 || errno != ESRCH)
         return;
     __atomic_compare_exchange_n(PROGRAM_WORD, &seen, (int)(FUTEX_WAITERS | FUTEX_OWNER_DIED), false,

@@ -70,9 +70,9 @@ int yak_sleep_on_(yak_word_ word, uint32_t value, const yak_sleep_ *sleep)
     slept = syscall(SYS_futex, word.at, how, value, sleep->until, 0, FUTEX_BITSET_MATCH_ANY);
     return slept < 0 && errno == EINTR ? EINTR : 0;
 #else
-    const struct timespec nap = {.tv_nsec = MILLISECOND};
+    const struct timespec delay = {.tv_nsec = MILLISECOND};
     (void)word, (void)value, (void)sleep;
-    return nanosleep(&nap, 0) != 0 ? EINTR : 0;
+    return nanosleep(&delay, 0) != 0 ? EINTR : 0;
 #endif
 }
 
@@ -206,7 +206,7 @@ static __attribute__((noinline)) void rest(yak_process *process, unsigned *tries
         return;
     }
     *tries = 0;
-    sleep_on(&process->futex_words[futex_word], (int64_t)YAK_LOCK_NAP_ * MILLISECOND);
+    sleep_on(&process->futex_words[futex_word], (int64_t)YAK_LOCK_SLEEP_ * MILLISECOND);
     if (futex_word == LOCK_WORD)
         announce(&process->futex_words[futex_word]);
     else
@@ -360,7 +360,7 @@ static bool await_answer(yak_process *process, const waiting *it, int64_t nanos)
 
 uint32_t yak_await_answered(yak_process *process, int64_t nanos)
 {
-    const int64_t most = (int64_t)YAK_LONGEST_NAP_ * MILLISECOND;
+    const int64_t most = (int64_t)YAK_LONGEST_SLEEP_ * MILLISECOND;
     yak_moment until = yak_monotonic_now();
     const waiting it = {.call = "a call", .until = &until};
     nanos = nanos < 0 ? 0 : nanos < most ? nanos : most;
@@ -376,11 +376,11 @@ uint32_t yak_await_answered(yak_process *process, int64_t nanos)
  * early for that, the wait has another deadline, or none. */
 static uint32_t await_end(yak_process *process, const waiting *it)
 {
-    int64_t nap = (int64_t)YAK_FIRST_NAP_ * MILLISECOND, left = nap;
+    int64_t delay = (int64_t)YAK_FIRST_SLEEP_ * MILLISECOND, left = delay;
     uint32_t answer = YAK_WAITS;
     while (answer == YAK_WAITS || answer == YAK_EARLY) {
         if (it->until != 0 && answer == YAK_WAITS)
-            left = time_left(it->until, it->clock(), nap);
+            left = time_left(it->until, it->clock(), delay);
         answer = YAK_WAITS;
         if (await_answer(process, it, left)) {
             answer = yak_collect(process, it->buf, it->len, it->message);
@@ -389,9 +389,9 @@ static uint32_t await_end(yak_process *process, const waiting *it)
             if (time_left(it->until, now, 1) == 0)
                 answer = yak_end_wait(process, it->buf, it->len, it->message, &now);
         }
-        if (nap < (int64_t)YAK_LONGEST_NAP_ * MILLISECOND)
-            nap *= 2;
-        left = nap;
+        if (delay < (int64_t)YAK_LONGEST_SLEEP_ * MILLISECOND)
+            delay *= 2;
+        left = delay;
     }
     return answer;
 }

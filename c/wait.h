@@ -27,10 +27,10 @@ enum {
     YAK_SHORT_PAUSE_ = 1024, /* fast_mutex/src/pauses.rt: const SHORTEST: u32 = 1_024; */
     YAK_LONG_PAUSE_ = 16384, /* fast_mutex/src/pauses.rt: const LONGEST: u32 = 16_384; */
     /* The longest sleep on the way into the lock, in milliseconds. */
-    YAK_LOCK_NAP_ = 10, /* fast_mutex/src/futex_words.rt: const LONGEST_NAP: u64 = 10; */
+    YAK_LOCK_SLEEP_ = 10, /* fast_mutex/src/futex_words.rt: const LONGEST_SLEEP: u64 = 10; */
     /* The first and the longest sleep of a wait for an answer, in milliseconds. */
-    YAK_FIRST_NAP_ = 10,  /* mq/src/naps.rt: const FIRST_NAP: u64 = 10; */
-    YAK_LONGEST_NAP_ = 80 /* mq/src/naps.rt: const LONGEST_NAP: u64 = 80; */
+    YAK_FIRST_SLEEP_ = 10,  /* mq/src/sleep_times.rt: const FIRST_SLEEP: u64 = 10; */
+    YAK_LONGEST_SLEEP_ = 80 /* mq/src/sleep_times.rt: const LONGEST_SLEEP: u64 = 80; */
 };
 
 /* A word on which threads sleep. `is_shared` if threads of several programs do, by memory that they

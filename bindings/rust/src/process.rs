@@ -322,7 +322,7 @@ impl Process {
     pub(crate) fn await_end(&self, wait: &OpenWait, buf: &mut [u8], message: &mut Message) -> u32 {
         const FIRST: Duration = Duration::from_millis(10);
         const LONGEST: Duration = Duration::from_millis(80);
-        let mut nap = FIRST;
+        let mut delay = FIRST;
         let mut taken = Taken { from: &self.0.wait, wait: self.0.wait.take() };
         loop {
             if let Some(answer) = self.try_end(wait, buf, message) {
@@ -330,8 +330,8 @@ impl Process {
                 return answer;
             }
             if !self.skips_to(wait.until()) {
-                self.handle().await_answered(nap);
-                nap = LONGEST.min(2 * nap);
+                self.handle().await_answered(delay);
+                delay = LONGEST.min(2 * delay);
             }
         }
     }

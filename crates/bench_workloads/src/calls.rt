@@ -6,7 +6,7 @@ ghost use Rattle.bench_workloads.specs.Ready.{IsReady};
 use crate::course::Course;
 use bench_line::fault::WorkFault;
 use fast_mutex::Look;
-use mq::{Guarded, Mq, Naps, Process};
+use mq::{Guarded, Mq, SleepTimes, Process};
 use mq_model::entries::{Access, Attr, OpenFlags};
 use mq_model::faults::Fault;
 use mq_model::names::Name;
@@ -124,9 +124,9 @@ fn wait_in<L: Look<Guarded>, R: Wait + Clock>(
         (λ room. room ≤ length buffer.old) }
     ensures ready { OnOk result (IsReady mq.now process.new) }
 {
-    let mut naps = Naps::new();
+    let mut sleep_times = SleepTimes::new();
     'looks: for _ in rt.forever() {
-        if process.await_answer(rt, mq, naps.next()) {
+        if process.await_answer(rt, mq, sleep_times.next()) {
             break;
         }
         course.outcome()?;

@@ -3,7 +3,7 @@ ghost use Rattle.std.specs.Prelude.{◌≡◌, ◌||◌, true};
 
 use crate::lock::Look;
 use crate::logged::Logged;
-use crate::pauses::Pauses;
+use crate::backoff::Backoff;
 use std::sync::Wait;
 use std::time::Duration;
 
@@ -26,7 +26,7 @@ impl<S: Logged, L: Look<S>> AwaitAnswer<S> for L {
     }
 }
 
-// Looks with pauses that grow, so that a wait which is answered soon hears of it at once.
+// Looks with backoff that grow, so that a wait which is answered soon hears of it at once.
 fn look_some_times<S: Logged, L: Look<S>>(lock: &L, seat: &mut L::Seat) -> bool
     requires { (L.ticket seat.old).lock ≡ L.id lock.now }
     ensures { L.ticket seat.new ≡ record (L.ticket seat.old) {
@@ -35,13 +35,13 @@ fn look_some_times<S: Logged, L: Look<S>>(lock: &L, seat: &mut L::Seat) -> bool
 {
     let futex_words = lock.futex_words();
     let process = L::number(seat);
-    let mut pauses = Pauses::new();
+    let mut backoff = Backoff::new();
     for _ in 0..futex_words.looks(process) {
         if lock.answered(seat) {
             futex_words.learn(process, true);
             return true;
         }
-        pauses.pause(futex_words);
+        backoff.pause(futex_words);
     }
     futex_words.learn(process, false);
     false

@@ -4,13 +4,13 @@ ghost use Rattle.fast_mutex.specs.Items.{Grows};
 
 use crate::lock::Lock;
 use crate::logged::Logged;
-use crate::pauses::Pauses;
+use crate::backoff::Backoff;
 use std::sync::Wait;
 
 /// How many steps an entry takes that meets nobody.
 pub const FAST_PATH_STEPS: u32 = 5;
 
-// How often a walk that can't go on pauses before it sleeps.
+// How often a walk that can't go on backoff before it sleeps.
 const MOST_PAUSES: u32 = 12;
 
 /// The entry that waits, which each lock has. It stands apart from `Lock`, so that code that never waits can use a lock.
@@ -87,7 +87,7 @@ fn wait_apart<S: Logged, L: Lock<S>, R: Wait>(lock: &L, rt: &R, walk: L::Walk) -
     waited
 }
 
-// Step by step. After a step that left the walk where it was it pauses, longer each time, and after some pauses it takes a nap; once the
+// Step by step. After a step that left the walk where it was it backoff, longer each time, and after some backoff it takes a sleep_apart; once the
 // walk has moved, or been asleep, it begins anew. It never yields: beside a busy thread a yield costs that thread's whole slice.
 // It stands apart, so that the way of an entry that meets nobody has no more than that needs.
 #[inline(never)]
@@ -96,7 +96,7 @@ fn wait_in<S: Logged, L: Lock<S>, R: Wait>(lock: &L, rt: &R, mut walk: L::Walk) 
     ensures ticket { L.walking result ≡ L.walking walk }
     ensures inside { L.is_in result ≡ true }
 {
-    let mut pauses = Pauses::new();
+    let mut backoff = Backoff::new();
     let mut paused = 0;
     for _ in rt.forever() {
         if L::is_admitted(&walk) {
@@ -104,16 +104,16 @@ fn wait_in<S: Logged, L: Lock<S>, R: Wait>(lock: &L, rt: &R, mut walk: L::Walk) 
         }
         let is_tired = paused >= MOST_PAUSES;
         let (next, has_moved) = if is_tired {
-            nap(lock, rt, walk)
+            sleep_apart(lock, rt, walk)
         } else {
             lock.step(walk)
         };
         walk = next;
         if has_moved || is_tired {
-            pauses = Pauses::new();
+            backoff = Backoff::new();
             paused = 0;
         } else {
-            pauses.pause(lock.futex_words());
+            backoff.pause(lock.futex_words());
             paused += 1;
         }
     }
@@ -121,7 +121,7 @@ fn wait_in<S: Logged, L: Lock<S>, R: Wait>(lock: &L, rt: &R, mut walk: L::Walk) 
 }
 
 // Announces that it sleeps, takes the next step, and sleeps until it is woken where that has not moved the walk.
-fn nap<S: Logged, L: Lock<S>, R: Wait>(lock: &L, rt: &R, walk: L::Walk) -> (L::Walk, bool)
+fn sleep_apart<S: Logged, L: Lock<S>, R: Wait>(lock: &L, rt: &R, walk: L::Walk) -> (L::Walk, bool)
     requires lock { (L.walking walk).lock ≡ L.id lock.now }
     requires outside { L.is_in walk ≡ false }
     ensures { L.walking result.0 ≡ L.walking walk }

@@ -7,14 +7,14 @@ use std::sync::atomic::Ordering::SeqCst;
 use std::time::Duration;
 
 // The futex_words of a lock for the most processes, that of y, of each flag b[j], and of the answer of each process, and behind them the misses
-// of each process. Then a word that stays as it is, with fifteen on either side of it that nobody touches: who pauses loads it again and
+// of each process. Then a word that stays as it is, with fifteen on either side of it that nobody touches: who backoff loads it again and
 // again, and would take what lies beside it, also what the allocator put behind these words, out of the cache of the one inside.
 const WORDS: u32 = 128;
 
 const STILL: usize = 112;
 
 // How long a walk sleeps at the most before it takes its next step anyway, in milliseconds.
-const LONGEST_NAP: u64 = 10;
+const LONGEST_SLEEP: u64 = 10;
 
 // How often a process looks for its answer before it sleeps, and how often where it doubts that this is worth it: where of its last looks
 // one in four or more was in vain. It doubts for so many waits, and then tries again.
@@ -96,7 +96,7 @@ impl FutexWords {
 
     /// Sleeps until the futex_word rings, where its last look was in vain.
     pub(crate) fn sleep_until_free<R: Wait>(&self, rt: &R, futex_word: u32) {
-        self.sleep(rt, futex_word, Duration::from_millis(LONGEST_NAP));
+        self.sleep(rt, futex_word, Duration::from_millis(LONGEST_SLEEP));
     }
 
     /// Ends what was announced. Who was woken so announces for those that still sleep, and the next departure wakes the next. Nobody may

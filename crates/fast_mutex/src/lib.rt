@@ -8,7 +8,7 @@ mod fast;
 mod fast_lock;
 mod lock;
 mod logged;
-mod pauses;
+mod backoff;
 mod seats;
 mod slot;
 mod word;

@@ -12,7 +12,7 @@ ghost use Rattle.script_text.specs.declared.reply.Outcome.TheVariants as outcome
 
 use crate::peers::{Peer, calling};
 use fast_mutex::Look;
-use mq::{Collected, Guarded, Mq, Naps, Process};
+use mq::{Collected, Guarded, Mq, SleepTimes, Process};
 use mq_model::entries::Call;
 use script_text::reply::Outcome;
 use std::sync::Wait;
@@ -117,10 +117,10 @@ fn look_for_answer<L: Look<Guarded>, R: Wait>(
     ensures calls { Calls process.old process.new [] }
     ensures told { IsTrue result → process.new.told ≡ true }
 {
-    let mut naps = Naps::new();
+    let mut sleep_times = SleepTimes::new();
     let mut answered = false;
     'looks: for _ in rt.forever() {
-        if process.await_answer(rt, mq, naps.next()) {
+        if process.await_answer(rt, mq, sleep_times.next()) {
             answered = true;
             break;
         }

@@ -2,7 +2,7 @@
 
 use super::{Process, arrive};
 use crate::guarded::Guarded;
-use crate::naps::Naps;
+use crate::sleep_times::SleepTimes;
 use crate::system::Mq;
 use fast_mutex::{AwaitAnswer, Look};
 use mq_model::entries::{Call, Received};
@@ -142,9 +142,9 @@ impl<L: Look<Guarded>> Process<L> {
         ensures fits { FitsIn result (length buf.old) }
         ensures free { IsFree self.new }
     {
-        let mut naps = Naps::new();
+        let mut sleep_times = SleepTimes::new();
         'looks: for _ in rt.forever() {
-            if self.await_answer(rt, mq, naps.next()) {
+            if self.await_answer(rt, mq, sleep_times.next()) {
                 break;
             }
         }

@@ -2,7 +2,7 @@
 
 use super::{Process, arrive};
 use crate::guarded::Guarded;
-use crate::naps::Naps;
+use crate::sleep_times::SleepTimes;
 use crate::system::Mq;
 use fast_mutex::Look;
 use mq_model::entries::{Deadline, Received};
@@ -61,7 +61,7 @@ impl<L: Look<Guarded>> Process<L> {
         ensures over { IfSome result (λ now. is_over (Some until) now ≡ true) }
         ensures moment { IfSome result (λ now. C.gives clock.now now) }
     {
-        let mut naps = Naps::new();
+        let mut sleep_times = SleepTimes::new();
         let mut passed = None;
         'looks: for _ in rt.forever() {
             if self.answered(mq) {
@@ -72,8 +72,8 @@ impl<L: Look<Guarded>> Process<L> {
                 passed = Some(now);
                 break;
             }
-            let nap = naps.next().min(time_left(until, now));
-            if self.await_answer(rt, mq, nap) {
+            let delay = sleep_times.next().min(time_left(until, now));
+            if self.await_answer(rt, mq, delay) {
                 break;
             }
         }

@@ -1,4 +1,4 @@
-//! The pauses of a wait that looks again and again.
+//! The backoff of a wait that looks again and again.
 use crate::futex_words::FutexWords;
 
 // The shortest and the longest, in loads of a word.
@@ -6,18 +6,18 @@ const SHORTEST: u32 = 1_024;
 
 const LONGEST: u32 = 16_384;
 
-/// Pauses of half a microsecond and more, each twice as long as the one before, up to some microseconds. A look takes the words of the lock
-/// out of the cache of the one that is inside, so it is worth it only now and then; and where threads crowd, long pauses let that one
+/// Backoff of half a microsecond and more, each twice as long as the one before, up to some microseconds. A look takes the words of the lock
+/// out of the cache of the one that is inside, so it is worth it only now and then; and where threads crowd, long backoff let that one
 /// make several calls in a row, with all that they touch in its own cache.
 #[derive(Drop)]
-pub(crate) struct Pauses {
+pub(crate) struct Backoff {
     next: u32,
 }
 
-impl Pauses {
+impl Backoff {
     /// From the shortest on.
-    pub(crate) fn new() -> Pauses {
-        Pauses { next: SHORTEST }
+    pub(crate) fn new() -> Backoff {
+        Backoff { next: SHORTEST }
     }
 
     /// The next one.
