@@ -1,4 +1,4 @@
-//! What the queues of a history hold, as far as a guide to its order follows it.
+//! What the queues of a history hold, as far as a heuristic to its order follows it.
 use crate::tasks::{Effect, Task};
 use std::alloc::{AllocError, Global};
 

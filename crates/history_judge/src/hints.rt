@@ -1,26 +1,26 @@
 //! In which order the operations of a history are best tried.
 ghost use Rattle.std.specs.Prelude.{◌≡◌, ◌+◌, IfOk, OnOk, length, vec_len};
 
-use crate::guide::Guide;
+use crate::heuristic::Heuristic;
 use crate::tasks::tasks_of;
 use histories::operation::{Operation, Outcome};
 use std::alloc::{AllocError, Global};
 
-// The least steps of a guide, and how many more there are for each operation.
+// The least steps of a heuristic, and how many more there are for each operation.
 const STEPS: u64 = 100_000;
 
 const STEPS_EACH: u64 = 50;
 
-/// A number for each operation, and one more behind those of each process: by an order that a guide finds, and where it finds none by
+/// A number for each operation, and one more behind those of each process: by an order that a heuristic finds, and where it finds none by
 /// the ends of the operations.
 pub fn hints_of(alloc: Global, histories: &Vec<Vec<Operation>>) -> Result<Vec<Vec<u64>>, AllocError>
     ensures { IfOk result (λ hints. length hints.items ≡ length histories.now.items) }
 {
-    let mut guide = Guide::new(alloc, tasks_of(alloc, histories)?)?;
+    let mut heuristic = Heuristic::new(alloc, tasks_of(alloc, histories)?)?;
     let steps = STEPS_EACH
         .saturating_mul(operation_count(histories))
         .saturating_add(STEPS);
-    match guide.order(alloc, steps)? {
+    match heuristic.order(alloc, steps)? {
         Some(order) => hints_by_order(alloc, histories, &order),
         None => hints_by_ends(alloc, histories),
     }

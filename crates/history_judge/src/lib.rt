@@ -6,7 +6,7 @@ pub mod descriptors;
 mod first_excess;
 mod fitting;
 pub mod front;
-pub mod guide;
+pub mod heuristic;
 pub mod hints;
 pub mod input;
 pub mod judgement;

@@ -1,4 +1,4 @@
-//! The operations of a history by what each needs of its queue and does to it, as a guide to their order sees them.
+//! The operations of a history by what each needs of its queue and does to it, as a heuristic to their order sees them.
 use crate::places::Names;
 use histories::operation::{Operation, Outcome};
 use mq_model::entries::Call;
@@ -35,7 +35,7 @@ pub enum Effect {
     LeftOut,
 }
 
-/// An operation as a guide sees it.
+/// An operation as a heuristic sees it.
 #[derive(Clone, Copy)]
 pub struct Task {
     pub begin: u64,

@@ -7,15 +7,15 @@ use crate::windows::{Guess, Windows};
 use std::alloc::{AllocError, Global};
 use std::collections::HashSet;
 
-// How many lessons a guide draws at most.
-const LESSONS: usize = 40;
+// How many constraints a heuristic draws at most.
+const MOST_CONSTRAINTS: usize = 40;
 
 // How many calls of a process are looked at, from its next one on, for those that must come first.
 const AHEAD: usize = 32;
 
 /// The calls of a history of which some have taken effect.
 #[derive(Drop)]
-pub struct Guide {
+pub struct Heuristic {
     tasks: Vec<Vec<Task>>,
     windows: Windows,
     // how many calls of each process have taken effect
@@ -23,7 +23,7 @@ pub struct Guide {
     // how many messages of each kind were sent
     sent: Vec<usize>,
     queues: Queues,
-    lessons: Vec<Lesson>,
+    constraints: Vec<LearnedConstraint>,
 }
 
 // A message by its kind, and by how many of that kind were sent before.
@@ -31,7 +31,7 @@ type Numbered = (usize, usize);
 
 // What was learned where no call could come next: the first message is to be sent before the other one.
 #[derive(Clone, Copy, PartialEq, Eq)]
-struct Lesson {
+struct LearnedConstraint {
     first: Numbered,
     other: Numbered,
 }
@@ -40,7 +40,7 @@ struct Lesson {
 #[derive(Drop)]
 enum Trial {
     Found(Vec<usize>),
-    Stuck(Option<Lesson>),
+    Stuck(Option<LearnedConstraint>),
 }
 
 // When a call is to be tried of those that can come next.
@@ -66,8 +66,8 @@ struct Move {
     tried: usize,
 }
 
-impl Guide {
-    pub fn new(alloc: Global, tasks: Tasks) -> Result<Guide, AllocError> {
+impl Heuristic {
+    pub fn new(alloc: Global, tasks: Tasks) -> Result<Heuristic, AllocError> {
         let Tasks {
             tasks,
             queues,
@@ -77,13 +77,13 @@ impl Guide {
         let made = vec![in alloc; 0usize; tasks.len()]?;
         let sent = vec![in alloc; 0usize; kinds]?;
         let queues = Queues::new(alloc, queues)?;
-        Ok(Guide {
+        Ok(Heuristic {
             tasks,
             windows,
             made,
             sent,
             queues,
-            lessons: Vec::new(alloc),
+            constraints: Vec::new(alloc),
         })
     }
 
@@ -91,14 +91,14 @@ impl Guide {
     /// taught, and by one of so many steps.
     pub fn order(&mut self, alloc: Global, steps: u64) -> Result<Option<Vec<usize>>, AllocError> {
         let short = self.call_count().saturating_mul(2).saturating_add(2000);
-        for _ in 0..LESSONS {
+        for _ in 0..MOST_CONSTRAINTS {
             match self.search(alloc, short.min(steps))? {
                 Trial::Found(order) => return Ok(Some(order)),
-                Trial::Stuck(Some(lesson)) => self.lessons.push(lesson)?,
+                Trial::Stuck(Some(constraint)) => self.constraints.push(constraint)?,
                 Trial::Stuck(None) => break,
             }
         }
-        self.lessons.clear();
+        self.constraints.clear();
         match self.search(alloc, steps)? {
             Trial::Found(order) => Ok(Some(order)),
             Trial::Stuck(_) => Ok(None),
@@ -128,7 +128,7 @@ impl Guide {
     fn search(&mut self, alloc: Global, steps: u64) -> Result<Trial, AllocError> {
         self.restart(alloc)?;
         let mut longest = 0;
-        let mut lesson = None;
+        let mut constraint = None;
         let mut dead: HashSet<u64> = HashSet::new(alloc);
         let mut path: Vec<Move> = Vec::new(alloc);
         let mut choices = self.choices(alloc)?;
@@ -158,11 +158,11 @@ impl Guide {
                 None => {
                     if path.len() > longest {
                         longest = path.len();
-                        lesson = self.lesson(alloc)?;
+                        constraint = self.constraint(alloc)?;
                     }
                     let _added = dead.insert(self.digest())?;
                     let Some(last) = path.pop() else {
-                        return Ok(Trial::Stuck(lesson));
+                        return Ok(Trial::Stuck(constraint));
                     };
                     let Move {
                         process,
@@ -176,7 +176,7 @@ impl Guide {
                 }
             }
         }
-        Ok(Trial::Stuck(lesson))
+        Ok(Trial::Stuck(constraint))
     }
 
     // The next task of a process.
@@ -301,10 +301,10 @@ impl Guide {
     // A message that was learned to be sent before this one was not sent.
     fn is_too_early(&self, task: &Task) -> bool {
         let number = (task.kind, self.sent_of(task));
-        self.lessons.iter().any(|lesson| {
-            lesson.other == number
-                && match self.sent.get(lesson.first.0) {
-                    Some(sent) => *sent <= lesson.first.1,
+        self.constraints.iter().any(|constraint| {
+            constraint.other == number
+                && match self.sent.get(constraint.first.0) {
+                    Some(sent) => *sent <= constraint.first.1,
                     None => false,
                 }
         })
@@ -360,7 +360,7 @@ impl Guide {
     }
 
     // What can be learned of a call that can't come next and whose end the others wait for.
-    fn lesson(&self, alloc: Global) -> Result<Option<Lesson>, AllocError> {
+    fn constraint(&self, alloc: Global) -> Result<Option<LearnedConstraint>, AllocError> {
         let limit = self.limit();
         for process in 0..self.made.len() {
             if let Some(task) = self.next(process)
@@ -370,7 +370,7 @@ impl Guide {
                 return Ok(match task.effect {
                     Effect::Receives => self.in_front(&messages, task.kind),
                     Effect::Sends => match self.room_in_front(&messages, task.queue, limit) {
-                        Some(lesson) => Some(lesson),
+                        Some(constraint) => Some(constraint),
                         None => self.room_behind(&messages, task, limit),
                     },
                     _ => None,
@@ -400,13 +400,13 @@ impl Guide {
     }
 
     // The first message of a kind is to be sent before the one in front, which has its priority.
-    fn in_front(&self, messages: &[(u32, Numbered)], kind: usize) -> Option<Lesson> {
+    fn in_front(&self, messages: &[(u32, Numbered)], kind: usize) -> Option<LearnedConstraint> {
         let (head_prio, head) = messages.first()?;
         let (prio, first) = messages.iter().find(|message| (message.1).0 == kind)?;
         if prio != head_prio {
             return None;
         }
-        self.if_new(Lesson {
+        self.if_new(LearnedConstraint {
             first: *first,
             other: *head,
         })
@@ -418,7 +418,7 @@ impl Guide {
         messages: &[(u32, Numbered)],
         queue: usize,
         limit: u64,
-    ) -> Option<Lesson> {
+    ) -> Option<LearnedConstraint> {
         let mut best = None;
         let mut least = u64::MAX;
         for process in 0..self.made.len() {
@@ -427,47 +427,47 @@ impl Guide {
                 && task.queue == queue
                 && task.begin <= limit
                 && task.end < least
-                && let Some(lesson) = self.in_front(messages, task.kind)
+                && let Some(constraint) = self.in_front(messages, task.kind)
             {
                 least = task.end;
-                best = Some(lesson);
+                best = Some(constraint);
             }
         }
         best
     }
 
     // A message is to be sent before one whose send may come after it, so that there is room.
-    fn room_behind(&self, messages: &[(u32, Numbered)], task: &Task, limit: u64) -> Option<Lesson> {
+    fn room_behind(&self, messages: &[(u32, Numbered)], task: &Task, limit: u64) -> Option<LearnedConstraint> {
         let mut best = None;
         let mut most = limit;
         for (_, number) in messages {
             let end = self.windows.sent_by(number.0, number.1);
             if end > most
                 && number.0 != task.kind
-                && let Some(lesson) = self.if_new(Lesson {
+                && let Some(constraint) = self.if_new(LearnedConstraint {
                     first: (task.kind, self.sent_of(task)),
                     other: *number,
                 })
             {
                 most = end;
-                best = Some(lesson);
+                best = Some(constraint);
             }
         }
         best
     }
 
-    // A lesson about two messages of which none was drawn.
-    fn if_new(&self, lesson: Lesson) -> Option<Lesson> {
-        let turned = Lesson {
-            first: lesson.other,
-            other: lesson.first,
+    // A constraint about two messages of which none was drawn.
+    fn if_new(&self, constraint: LearnedConstraint) -> Option<LearnedConstraint> {
+        let turned = LearnedConstraint {
+            first: constraint.other,
+            other: constraint.first,
         };
-        let is_old = lesson.first == lesson.other
+        let is_old = constraint.first == constraint.other
             || self
-                .lessons
+                .constraints
                 .iter()
-                .any(|one| *one == lesson || *one == turned);
-        if is_old { None } else { Some(lesson) }
+                .any(|one| *one == constraint || *one == turned);
+        if is_old { None } else { Some(constraint) }
     }
 
     // Lets the next call of a process take effect.
