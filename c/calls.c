@@ -67,14 +67,14 @@ static bool is_good(const struct mq_attr *attr, bool is_written)
     return is_good_word(first, is_written) && is_good_word(last, is_written);
 }
 
-/* A home with room for another description; PROCESSES if there is none. */
-static unsigned roomy_home(void)
+/* A dispatcher with room for another description; PROCESSES if there is none. */
+static unsigned roomy_dispatcher(void)
 {
     for (unsigned round = 0; round < 2; ++round) {
         for (uint32_t d = 0; d < DESCRIPTIONS; ++d)
             if (the_program.tables.descriptions[d].made == 0 &&
-                program_take_home(program_home_of(d)))
-                return program_home_of(d);
+                program_take_dispatcher(program_dispatcher_of(d)))
+                return program_dispatcher_of(d);
         program_sweep();
     }
     return PROCESSES;
@@ -86,17 +86,17 @@ static int open_description(const yak_opening *opening, bool nonblock, const cha
                             uint32_t *answer, uint32_t *d)
 {
     opened with = {.opening = *opening, .whose = FOR_DESCRIPTION};
-    const unsigned home = roomy_home();
-    if (home == PROCESSES)
+    const unsigned dispatcher = roomy_dispatcher();
+    if (dispatcher == PROCESSES)
         return ENFILE;
     with.made = ++the_program.opens != 0 ? the_program.opens : ++the_program.opens;
-    *answer = did_open(home, &with, (const uint8_t *)name, len, d);
+    *answer = did_open(dispatcher, &with, (const uint8_t *)name, len, d);
     /* The dead may hold queues that have lost their names. */
     if (*answer == YAK_NOSPC && the_program.is_logged) {
         program_sweep();
-        *answer = did_open(home, &with, (const uint8_t *)name, len, d);
+        *answer = did_open(dispatcher, &with, (const uint8_t *)name, len, d);
     }
-    *d = program_description(home, *d);
+    *d = program_description(dispatcher, *d);
     if (*answer == YAK_DONE)
         the_program.nonblock[*d] = nonblock;
     return 0;
@@ -181,11 +181,11 @@ int mq_close(mqd_t mqdes)
         program_here->me->numbers[mqdes - FIRST] = 0;
     }
     if (!program_is_held(d)) {
-        answer = d < DESCRIPTIONS ? program_close_description(d) : did_close(HOME, PER_HOME);
+        answer = d < DESCRIPTIONS ? program_close_description(d) : did_close(DISPATCHER, PER_DISPATCHER);
         /* It holds what could not be closed. */
         if (answer != YAK_DONE && d < DESCRIPTIONS)
             program_here->me->numbers[mqdes - FIRST] = (uint8_t)(d + 1);
-        answered = program_note_answers(program_home_of(d));
+        answered = program_note_answers(program_dispatcher_of(d));
     }
     if (d < DESCRIPTIONS && program_here->me->numbers[mqdes - FIRST] == 0)
         program_drop_poll(d);
@@ -208,8 +208,8 @@ int mq_unlink(const char *name)
     /* What the dead hold is not to outlive the name. */
     if (the_program.is_logged)
         program_sweep();
-    program_mirror_all((const uint8_t *)name, len);
-    answer = did_unlink(HOME, (const uint8_t *)name, len);
+    program_replicate_all((const uint8_t *)name, len);
+    answer = did_unlink(DISPATCHER, (const uint8_t *)name, len);
     program_leave();
     explored_gave(yak_errno(answer), 0);
     return result(answer);
@@ -245,7 +245,7 @@ static int exchange(mqd_t mqdes, const struct mq_attr *set, struct mq_attr *befo
     if ((error = program_enter()) != 0)
         return fails(error);
     d = program_number(mqdes);
-    MADE(answer, yak_proved_getattr(&the_program.processes[program_home_of(d)], program_there(d),
+    MADE(answer, yak_proved_getattr(&the_program.processes[program_dispatcher_of(d)], program_there(d),
                                     &attributes));
     if (answer == YAK_DONE) {
         attributes.nonblock = the_program.nonblock[d];
@@ -296,13 +296,13 @@ static int error_of(outcome it)
     }
 }
 
-/* What is left of a send or a receive that the home has tried: a wait, the wakes and notices for
+/* What is left of a send or a receive that the dispatcher has tried: a wait, the wakes and notices for
  * others, and a warning. Leaves the lock. */
 static __attribute__((noinline)) outcome go_on(uint32_t d, const request *asked,
                                                yak_message *message, uint32_t answer)
 {
     outcome end = {.answer = answer};
-    unsigned process = HOME;
+    unsigned process = DISPATCHER;
     uint32_t answered = 0;
     int cancelling = -1;
     bool warns = false;
@@ -311,7 +311,7 @@ static __attribute__((noinline)) outcome go_on(uint32_t d, const request *asked,
     if (answer == YAK_AGAIN && !the_program.nonblock[d])
         end = program_wait(&process, d, asked, message, &cancelling);
     if (end.fate < LOST) {
-        answered = program_note_answers(process != HOME ? process : program_home_of(d));
+        answered = program_note_answers(process != DISPATCHER ? process : program_dispatcher_of(d));
         if (is_done(end) && the_program.tables.registered != 0)
             program_collect_notices(d, &found);
         if (is_done(end) && the_program.polls != 0)
@@ -350,16 +350,16 @@ static inline __attribute__((always_inline)) int make(const char *call, bool is_
         if ((error = program_enter()) != 0)
             return fails(error);
         if (__builtin_expect(the_program.is_logged, false) &&
-            the_program.tables.helpers != the_program.tables.idle && program_has_dead_waiter())
+            the_program.tables.waiters != the_program.tables.idle && program_has_dead_waiter())
             program_sweep();
         d = program_number(mqdes);
         answer = program_try(is_send, d, bytes, len, prio, message);
         if (__builtin_expect(the_program.is_logged, false) && answer == YAK_DONE)
             log_message(is_send, d, bytes, len, prio);
         if (__builtin_expect(answer == YAK_DONE && the_program.until_large >= 0 &&
-                                 (the_program.tables.registered | the_program.stranded |
+                                 (the_program.tables.registered | the_program.overflow |
                                   the_program.polls |
-                                  the_program.processes[program_home_of(d)].answered) == 0,
+                                  the_program.processes[program_dispatcher_of(d)].answered) == 0,
                              1)) {
             program_leave();
             explored_moved(is_send, d, 0, bytes, is_send ? len : message->len);

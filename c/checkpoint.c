@@ -85,37 +85,37 @@ typedef struct holder {
 static holder find_holder(unsigned slot, bool reads)
 {
     const tables *all = &the_program.tables;
-    for (unsigned i = 0; i < PROCESSES * PER_HOME; ++i)
-        if (all->mirrors[i / PER_HOME][i % PER_HOME] == slot + 1)
-            return (holder){i / PER_HOME, i % PER_HOME, true};
+    for (unsigned i = 0; i < PROCESSES * PER_DISPATCHER; ++i)
+        if (all->replicas[i / PER_DISPATCHER][i % PER_DISPATCHER] == slot + 1)
+            return (holder){i / PER_DISPATCHER, i % PER_DISPATCHER, true};
     for (uint32_t d = 0; d < DESCRIPTIONS; ++d) {
         const description *it = &all->descriptions[d];
         if (it->made != 0 && it->queue == slot && (!reads || it->access != 1))
-            return (holder){program_home_of(d), program_there(d), true};
+            return (holder){program_dispatcher_of(d), program_there(d), true};
     }
     return (holder){0, 0, false};
 }
 
-/* Opens a queue by its name by a helper, in place of its first descriptor. All queues that have
+/* Opens a queue by its name by a waiter, in place of its first descriptor. All queues that have
  * lost their names are written by then, so nobody else looks for that. */
 static holder open_holder(unsigned slot)
 {
-    const unsigned process = (unsigned)__builtin_ctz(the_program.tables.helpers);
+    const unsigned process = (unsigned)__builtin_ctz(the_program.tables.waiters);
     const queue *it = &the_program.tables.queues[slot];
     const yak_opening opening = {.access = 2, .nonblock = true};
-    yak_process *helper = &the_program.processes[process];
+    yak_process *waiter = &the_program.processes[process];
     uint32_t answer, d = 0;
-    MADE(answer, yak_proved_close(helper, 0));
-    MADE(answer, yak_proved_open(helper, it->name, it->len, &opening, &d));
+    MADE(answer, yak_proved_close(waiter, 0));
+    MADE(answer, yak_proved_open(waiter, it->name, it->len, &opening, &d));
     return (holder){process, d, answer == YAK_DONE};
 }
 
-/* Writes the messages of a queue, which process HOME is to send by descriptor 0. Those of a queue
+/* Writes the messages of a queue, which process DISPATCHER is to send by descriptor 0. Those of a queue
  * from which nobody can receive any more, now and ever, only count. */
 static bool put_messages(writer *to, unsigned slot)
 {
     static uint8_t bytes[MOST_BYTES];
-    record it = {.what = DID_SEND, .process = HOME};
+    record it = {.what = DID_SEND, .process = DISPATCHER};
     yak_attributes now = {0};
     yak_message message = {0};
     holder by =
@@ -173,22 +173,22 @@ static bool put_queue(writer *to, unsigned slot)
         .queue = (uint8_t)slot,
         .whose = FOR_NOBODY,
     };
-    put_open(to, HOME, 0, it);
+    put_open(to, DISPATCHER, 0, it);
     if (!put_messages(to, slot))
         return false;
-    put_close(to, HOME, 0);
+    put_close(to, DISPATCHER, 0);
     return true;
 }
 
 /* For whom a process holds a descriptor; FOR_NOBODY if it does not. */
 static opened held_by(unsigned process, uint32_t d)
 {
-    const uint8_t mirror = the_program.tables.mirrors[process][d];
+    const uint8_t replica = the_program.tables.replicas[process][d];
     const description *it;
-    if (program_is_helper(process))
+    if (program_is_waiter(process))
         return (opened){.opening = {.access = 2},
-                        .queue = (uint8_t)(mirror - 1),
-                        .whose = mirror != 0 ? FOR_MIRROR : FOR_NOBODY};
+                        .queue = (uint8_t)(replica - 1),
+                        .whose = replica != 0 ? FOR_REPLICA : FOR_NOBODY};
     it = &the_program.tables.descriptions[program_description(process, d)];
     return (opened){.opening = {.access = it->access, .nonblock = true},
                     .made = it->made,
@@ -200,7 +200,7 @@ static opened held_by(unsigned process, uint32_t d)
  * at the end. */
 static void put_descriptors(writer *to, unsigned process)
 {
-    uint32_t count = PER_HOME;
+    uint32_t count = PER_DISPATCHER;
     while (count != 0 && held_by(process, count - 1).whose == FOR_NOBODY)
         --count;
     for (uint32_t d = 0; d < count; ++d) {
@@ -221,7 +221,7 @@ static void put_unlinks(writer *to)
     for (unsigned slot = 0; slot < QUEUES; ++slot) {
         const queue *it = &the_program.tables.queues[slot];
         char name[LONGEST_NAME];
-        record head = {.what = DID_UNLINK, .process = HOME};
+        record head = {.what = DID_UNLINK, .process = DISPATCHER};
         if (!it->is_there || it->is_bound)
             continue;
         head.len = (uint32_t)name_of(slot, name);
@@ -234,7 +234,7 @@ static void put_registrations(writer *to)
     for (uint32_t d = 0; d < DESCRIPTIONS; ++d) {
         const registration *it = &the_program.tables.registrations[d];
         const record head = {.what = DID_NOTIFY,
-                             .process = (uint8_t)program_home_of(d),
+                             .process = (uint8_t)program_dispatcher_of(d),
                              .d = (uint8_t)program_there(d),
                              .is_on = true,
                              .len = d};
@@ -273,7 +273,7 @@ static void put_waits(writer *to)
     }
 }
 
-/* Those that have lost their names are first, since what helpers hold of the others can be let go.
+/* Those that have lost their names are first, since what waiters hold of the others can be let go.
  */
 static bool put_queues(writer *to, bool is_bound)
 {

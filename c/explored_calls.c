@@ -174,7 +174,7 @@ static bool has_entry(uint64_t place)
     int at;
     if (program_enter_aside(&at) != 0)
         return false;
-    READ(answer, yak_proved_entry(&the_program.processes[HOME], place, &none, 0, &len));
+    READ(answer, yak_proved_entry(&the_program.processes[DISPATCHER], place, &none, 0, &len));
     program_unlock(at);
     return answer == YAK_SHORT;
 }

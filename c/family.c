@@ -198,7 +198,7 @@ static bool is_dead(owner *it, uint32_t state)
 bool program_has_dead_waiter(void)
 {
     const tables *all = &the_program.tables;
-    for (uint32_t left = all->helpers & ~all->idle; left != 0; left &= left - 1) {
+    for (uint32_t left = all->waiters & ~all->idle; left != 0; left &= left - 1) {
         const owner *it = &the_program.owners[all->waits[__builtin_ctz(left)].owner];
         if (is_marked(it) && it != program_here->me && milliseconds() - it->looked >= LOOKED)
             return true;
@@ -267,8 +267,8 @@ static void bury(unsigned number)
             if (!program_is_held(d))
                 program_close_description(d);
         }
-    the_program.stranded -= it->stranded;
-    it->stranded = 0;
+    the_program.overflow -= it->overflow;
+    it->overflow = 0;
     the_program.polls -= it->polls;
     it->polls = 0;
     it->due_count = 0;
@@ -292,13 +292,13 @@ void program_sweep(void)
 void program_mend(void)
 {
     notices found = {0};
-    the_program.stranded = 0;
+    the_program.overflow = 0;
     the_program.polls = 0;
     for (unsigned i = 0; i < the_program.owners_used; ++i) {
         owner *it = &the_program.owners[i];
         if (atomic_load(&it->state) == OWNER_FREE)
             continue;
-        the_program.stranded += it->stranded;
+        the_program.overflow += it->overflow;
         the_program.polls += it->polls;
         for (unsigned n = 0; n < NUMBERS; ++n)
             if (it->numbers[n] != 0 &&
@@ -330,7 +330,7 @@ static owner *take_place(void)
             ++it->life;
             it->forked = milliseconds();
             it->pid = getpid();
-            it->stranded = 0;
+            it->overflow = 0;
             it->own_threads = 0;
             it->polls = 0;
             it->due_count = 0;
@@ -398,7 +398,7 @@ enum { PICTURE_PARTS = 5 };
 static size_t part_in_use(unsigned i, char **from)
 {
     const arena *all = &the_program.arena;
-    const uint32_t busy = the_program.tables.helpers & ~the_program.tables.idle;
+    const uint32_t busy = the_program.tables.waiters & ~the_program.tables.idle;
     switch (i) {
     case 0:
         *from = (char *)program_at;

@@ -226,7 +226,7 @@ void program_leave_waking(uint32_t answered)
         program_tell_unlocked(true);
     /* One call of the kernel sets the lock free, wakes the waiter, and one that sleeps for the
        lock. */
-    if (syscall(SYS_futex, &the_program.news[last], FUTEX_WAKE_OP, last == HOME ? OWNERS * 1024 : 1,
+    if (syscall(SYS_futex, &the_program.news[last], FUTEX_WAKE_OP, last == DISPATCHER ? OWNERS * 1024 : 1,
                 1, PROGRAM_WORD, FUTEX_OP(FUTEX_OP_SET, 0, FUTEX_OP_CMP_LT, 0)) < 0) {
         program_wake_them(1u << last);
         if (__atomic_exchange_n(PROGRAM_WORD, 0, __ATOMIC_RELEASE) < 0)

@@ -72,7 +72,7 @@ void log_message(bool is_send, uint32_t d, const uint8_t *bytes, size_t len, uin
     }
     it->size = (uint32_t)whole;
     it->what = is_send ? DID_SEND : DID_RECEIVE;
-    it->process = (uint8_t)program_home_of(d);
+    it->process = (uint8_t)program_dispatcher_of(d);
     it->d = (uint8_t)program_there(d);
     it->is_on = false;
     it->prio = prio;
@@ -109,8 +109,8 @@ static void settle(unsigned slot)
     bool is_held = all->queues[slot].is_bound;
     for (uint32_t d = 0; d < DESCRIPTIONS && !is_held; ++d)
         is_held = all->descriptions[d].made != 0 && all->descriptions[d].queue == slot;
-    for (unsigned i = 0; i < PROCESSES * PER_HOME && !is_held; ++i)
-        is_held = all->mirrors[i / PER_HOME][i % PER_HOME] == slot + 1;
+    for (unsigned i = 0; i < PROCESSES * PER_DISPATCHER && !is_held; ++i)
+        is_held = all->replicas[i / PER_DISPATCHER][i % PER_DISPATCHER] == slot + 1;
     the_program.tables.queues[slot].is_there = is_held;
 }
 
@@ -126,28 +126,28 @@ static void apply_open(unsigned process, uint32_t d, const opened *it, const uin
         of->len = len;
         memcpy(of->name, name, len);
     }
-    if (it->whose == FOR_MIRROR)
-        the_program.tables.mirrors[process][d] = (uint8_t)(it->queue + 1);
+    if (it->whose == FOR_REPLICA)
+        the_program.tables.replicas[process][d] = (uint8_t)(it->queue + 1);
     if (it->whose != FOR_DESCRIPTION)
         return;
     to = &the_program.tables.descriptions[program_description(process, d)];
     to->made = it->made;
     to->queue = it->queue;
     to->access = (uint8_t)it->opening.access;
-    the_program.tables.helpers &= ~(1u << process);
+    the_program.tables.waiters &= ~(1u << process);
     the_program.tables.idle &= ~(1u << process);
 }
 
-/* A home whose last description is closed becomes a helper again. */
+/* A dispatcher whose last description is closed becomes a waiter again. */
 static void apply_close(unsigned process, uint32_t d)
 {
     tables *all = &the_program.tables;
     uint32_t index = program_description(process, d);
     unsigned slot;
-    if (program_is_helper(process)) {
-        if ((slot = all->mirrors[process][d]) == 0)
+    if (program_is_waiter(process)) {
+        if ((slot = all->replicas[process][d]) == 0)
             return;
-        all->mirrors[process][d] = 0;
+        all->replicas[process][d] = 0;
         settle(slot - 1);
         return;
     }
@@ -157,13 +157,13 @@ static void apply_close(unsigned process, uint32_t d)
     all->registered -= all->registrations[index].is_set;
     all->registrations[index].is_set = false;
     settle(all->descriptions[index].queue);
-    if (process == HOME)
+    if (process == DISPATCHER)
         return;
-    for (index = program_description(process, 0); index % PER_HOME != PER_HOME - 1; ++index)
+    for (index = program_description(process, 0); index % PER_DISPATCHER != PER_DISPATCHER - 1; ++index)
         if (all->descriptions[index].made != 0)
             return;
     if (all->descriptions[index].made == 0) {
-        all->helpers |= 1u << process;
+        all->waiters |= 1u << process;
         all->idle |= 1u << process;
     }
 }
@@ -502,7 +502,7 @@ bool log_replay(void)
     arena_turn();
     memset(the_program.processes, 0, sizeof the_program.processes);
     memset(&the_program.tables, 0, sizeof the_program.tables);
-    the_program.tables.helpers = the_program.tables.idle = UINT32_MAX & ~(1u << HOME);
+    the_program.tables.waiters = the_program.tables.idle = UINT32_MAX & ~(1u << DISPATCHER);
     if (make(the_program.processes, PROCESSES) != YAK_DONE)
         return false;
     for (const char *it = from; it != end && answer == YAK_DONE; it += ((const record *)it)->size)

@@ -23,7 +23,7 @@ enum {
     DID_START,
     DID_COLLECT,
     DID_END,
-    DID_KEEP /* the wait of a helper has ended before, and its answer is kept */
+    DID_KEEP /* the wait of a waiter has ended before, and its answer is kept */
 };
 
 /* Behind it come what the kind has of its own, and the bytes of a name or a message. */
@@ -38,7 +38,7 @@ typedef struct record {
 } record;
 
 /* For whom a descriptor is opened: one of no table is closed soon. */
-enum { FOR_DESCRIPTION, FOR_MIRROR, FOR_NOBODY };
+enum { FOR_DESCRIPTION, FOR_REPLICA, FOR_NOBODY };
 
 /* What an open has of its own. */
 typedef struct opened {
@@ -59,11 +59,11 @@ uint32_t did_start(unsigned process, pending *it, const request *asked, yak_mess
 uint32_t did_collect(unsigned process, uint8_t *buf, size_t len, yak_message *message);
 uint32_t did_end(unsigned process, uint8_t *buf, size_t len, yak_message *message,
                  const yak_moment *now);
-/* Takes the next notice of a home. It counts only once log_take_notice is called. */
+/* Takes the next notice of a dispatcher. It counts only once log_take_notice is called. */
 uint32_t did_next_notice(unsigned process, uint64_t *value);
 void log_take_notice(unsigned process, uint32_t d);
 
-/* Notes a send or a receive of a home that is done. */
+/* Notes a send or a receive of a dispatcher that is done. */
 void log_message(bool is_send, uint32_t d, const uint8_t *bytes, size_t len, uint32_t prio);
 
 /* Writes a record into a log, in which it counts for nothing yet, and where the next one begins;

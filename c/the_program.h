@@ -1,12 +1,12 @@
 /* the_program.h: what the exported calls of libyakyrombe-mqueue are made of.
  *
  * One system of the library serves the whole program, with its forked children. Its process 1 is a
- * home: it holds a descriptor for each open description of the program, always nonblocking, and
+ * dispatcher: it holds a descriptor for each open description of the program, always nonblocking, and
  * makes each call on it. If a send or a receive is refused with YAK_AGAIN, and the description is
- * blocking, it is made again by a helper, the lowest of the processes that are not homes and have
+ * blocking, it is made again by a waiter, the lowest of the processes that are not dispatchers and have
  * no open wait, which opens the queue too when it is first needed there, and keeps the call until
  * its wait ends. So the order of messages, who is served and every refusal are the library's. If
- * the program has more than 16 open descriptions, helpers become homes, from process 32 down.
+ * the program has more than 16 open descriptions, waiters become dispatchers, from process 32 down.
  *
  * All of this lies in memory that parent and forked children share (arena.h), and is guarded by one
  * lock, which is held for the time of a call and never while a call waits. If a process dies inside
@@ -36,10 +36,10 @@
 
 enum {
     PROCESSES = 32,
-    HOME = 0,  /* the first home; it stands for no helper, and its word is that of stranded calls */
+    DISPATCHER = 0,  /* the first dispatcher; it stands for no waiter, and its word is that of overflow calls */
     HOMES = 8, /* at the most */
-    PER_HOME = 16, /* descriptors that a process of the library holds */
-    DESCRIPTIONS = HOMES * PER_HOME,
+    PER_DISPATCHER = 16, /* descriptors that a process of the library holds */
+    DESCRIPTIONS = HOMES * PER_DISPATCHER,
     NUMBERS = 128, /* descriptors of one process of the machine */
     OWNERS = 1024, /* processes of the machine that share the arena */
     QUEUES = 64,   /* as in the library */
@@ -68,7 +68,7 @@ typedef struct queue {
     uint8_t name[LONGEST_NAME];
 } queue;
 
-/* An open description: number i is descriptor i % 16 of home i / 16. */
+/* An open description: number i is descriptor i % 16 of dispatcher i / 16. */
 typedef struct description {
     unsigned made; /* which open of the program it is from, counted from 1; 0 if there is none */
     uint8_t queue;
@@ -87,7 +87,7 @@ typedef struct registration {
     uint64_t serial;
 } registration;
 
-/* The open wait of a helper. The bytes of a send, or those of a receive that has ended, are kept
+/* The open wait of a waiter. The bytes of a send, or those of a receive that has ended, are kept
  * beside it (ARENA_KEPT). */
 typedef struct pending {
     bool is_open;
@@ -96,7 +96,7 @@ typedef struct pending {
     bool has_ended; /* the library has no wait any more, and its answer is kept here */
     uint8_t queue;
     uint16_t owner;
-    uint32_t d;     /* the helper's descriptor */
+    uint32_t d;     /* the waiter's descriptor */
     uint64_t order; /* waits are begun in it */
     uint32_t prio;
     size_t len;
@@ -111,10 +111,10 @@ typedef struct tables {
     queue queues[QUEUES];
     description descriptions[DESCRIPTIONS];
     registration registrations[DESCRIPTIONS];
-    uint8_t mirrors[PROCESSES][PER_HOME]; /* by a helper's descriptor: its queue and 1, or 0 */
+    uint8_t replicas[PROCESSES][PER_DISPATCHER]; /* by a waiter's descriptor: its queue and 1, or 0 */
     pending waits[PROCESSES];
-    uint32_t helpers; /* the processes that are not homes, by bits */
-    uint32_t idle;    /* the helpers without an open wait */
+    uint32_t waiters; /* the processes that are not dispatchers, by bits */
+    uint32_t idle;    /* the waiters without an open wait */
     uint32_t registered;
 } tables;
 
@@ -137,7 +137,7 @@ typedef struct owner {
        exec. */
     pthread_mutex_t alive;
     uint8_t numbers[NUMBERS]; /* a description and 1, or 0 */
-    uint32_t stranded;
+    uint32_t overflow;
     uint32_t own_threads;  /* threads of the library */
     _Atomic uint32_t futex_word; /* on which its notifier sleeps */
     uint32_t polls;        /* how many descriptors for poll it has */
@@ -178,7 +178,7 @@ typedef struct waiting {
     uint32_t d;
     yak_moment since;
     bool is_cancelled;
-    unsigned process; /* HOME if no helper was left */
+    unsigned process; /* DISPATCHER if no waiter was left */
     const void *frame;
     int cancelling; /* as of an ending */
     uint8_t name[LONGEST_NAME];
@@ -202,7 +202,7 @@ typedef struct program {
     unsigned waited; /* how many waits were opened */
     unsigned closes; /* how often a description was closed */
     uint64_t serials;
-    uint32_t stranded; /* how many calls wait without a helper */
+    uint32_t overflow; /* how many calls wait without a waiter */
     uint32_t polls;    /* how many descriptors for poll there are, of all processes */
     yak_process processes[PROCESSES];
     tables tables;
@@ -210,9 +210,9 @@ typedef struct program {
     /* The names of the queues in the reports, also of those that have lost theirs. */
     size_t lens[QUEUES];
     uint8_t names[QUEUES][LONGEST_NAME];
-    unsigned seen_closes[PROCESSES];  /* at which a helper has let go what nobody holds */
-    _Atomic uint32_t news[PROCESSES]; /* how often there was news for the wait of a helper, and for
-                                         those without one by the home's */
+    unsigned seen_closes[PROCESSES];  /* at which a waiter has let go what nobody holds */
+    _Atomic uint32_t news[PROCESSES]; /* how often there was news for the wait of a waiter, and for
+                                         those without one by the dispatcher's */
     unsigned log;                     /* which of the two counts */
     char *log_next[2];
     size_t log_limit;     /* in bytes: then it is made short */
@@ -407,27 +407,27 @@ static inline uint32_t program_number(int mqdes)
     return number < NUMBERS ? program_here->me->numbers[number] - 1u : (uint32_t)DESCRIPTIONS;
 }
 
-/* The process of the library that holds a description, and by which descriptor; the first home and
+/* The process of the library that holds a description, and by which descriptor; the first dispatcher and
  * a number that it does not hold if there is no such description. */
-static inline unsigned program_home_of(uint32_t d)
+static inline unsigned program_dispatcher_of(uint32_t d)
 {
-    return d < PER_HOME || d >= DESCRIPTIONS ? (unsigned)HOME : PROCESSES - d / PER_HOME;
+    return d < PER_DISPATCHER || d >= DESCRIPTIONS ? (unsigned)DISPATCHER : PROCESSES - d / PER_DISPATCHER;
 }
 
 static inline uint32_t program_there(uint32_t d)
 {
-    return d < DESCRIPTIONS ? d % PER_HOME : (uint32_t)PER_HOME;
+    return d < DESCRIPTIONS ? d % PER_DISPATCHER : (uint32_t)PER_DISPATCHER;
 }
 
-/* The description that a home holds by a descriptor. */
-static inline uint32_t program_description(unsigned home, uint32_t d)
+/* The description that a dispatcher holds by a descriptor. */
+static inline uint32_t program_description(unsigned dispatcher, uint32_t d)
 {
-    return (home == HOME ? 0 : PROCESSES - home) * PER_HOME + d;
+    return (dispatcher == DISPATCHER ? 0 : PROCESSES - dispatcher) * PER_DISPATCHER + d;
 }
 
-static inline bool program_is_helper(unsigned process)
+static inline bool program_is_waiter(unsigned process)
 {
-    return (the_program.tables.helpers & 1u << process) != 0;
+    return (the_program.tables.waiters & 1u << process) != 0;
 }
 
 /* Whether two descriptions are of one queue. */
@@ -438,35 +438,35 @@ static inline bool program_is_same_queue(uint32_t one, uint32_t other)
     return first->made != 0 && second->made != 0 && first->queue == second->queue;
 }
 
-/* A send or a receive by a home, which never waits: YAK_AGAIN if it would. */
+/* A send or a receive by a dispatcher, which never waits: YAK_AGAIN if it would. */
 static inline __attribute__((always_inline)) uint32_t program_try(bool is_send, uint32_t d,
                                                                   uint8_t *bytes, size_t len,
                                                                   uint32_t prio,
                                                                   yak_message *message)
 {
-    yak_process *home = &the_program.processes[program_home_of(d)];
+    yak_process *dispatcher = &the_program.processes[program_dispatcher_of(d)];
     const uint32_t there = program_there(d);
     uint32_t answer;
     if (is_send)
-        MADE(answer, yak_proved_start_send(home, there, bytes, len, prio));
+        MADE(answer, yak_proved_start_send(dispatcher, there, bytes, len, prio));
     else
-        MADE(answer, yak_proved_start_receive(home, there, bytes, len, message));
+        MADE(answer, yak_proved_start_receive(dispatcher, there, bytes, len, message));
     program_count(is_send && answer == YAK_DONE ? len : 0);
     return answer;
 }
 
-/* An idle helper that holds the queue of this description too, by which descriptor; or HOME if
+/* An idle waiter that holds the queue of this description too, by which descriptor; or DISPATCHER if
  * there is none. */
 unsigned program_choose(uint32_t d, uint32_t *there);
-/* A helper whose wait has ended lets go what nobody holds any more. */
+/* A waiter whose wait has ended lets go what nobody holds any more. */
 void program_release(unsigned process);
-/* Lets all idle helpers hold the queue with this name, before it loses its name. */
-void program_mirror_all(const uint8_t *name, size_t len);
-/* Makes a helper a home: false if it has an open wait, or keeps a descriptor. */
-bool program_take_home(unsigned process);
-/* Closes a description that nobody holds any more, and what helpers hold for it. */
+/* Lets all idle waiters hold the queue with this name, before it loses its name. */
+void program_replicate_all(const uint8_t *name, size_t len);
+/* Makes a waiter a dispatcher: false if it has an open wait, or keeps a descriptor. */
+bool program_take_dispatcher(unsigned process);
+/* Closes a description that nobody holds any more, and what waiters hold for it. */
 uint32_t program_close_description(uint32_t d);
-/* The bytes beside the open wait of a helper; null if memory was refused. */
+/* The bytes beside the open wait of a waiter; null if memory was refused. */
 uint8_t *program_kept(unsigned process);
 
 /* Notes inside the lock whose waits the last call of a process has answered, and after it wakes
@@ -494,7 +494,7 @@ typedef struct outcome {
     };
 } outcome;
 
-/* Makes a call that the home would wait in, by the process that is written then, and waits until it
+/* Makes a call that the dispatcher would wait in, by the process that is written then, and waits until it
  * is answered. The lock is held before it, not while it sleeps, and after it but for what `fate`
  * says. After a wait cancellation is disabled, and its state from before is written. */
 outcome program_wait(unsigned *process, uint32_t d, const request *asked, yak_message *message,

@@ -224,7 +224,7 @@ static void *receive_other(void *of)
     return 0;
 }
 
-static void jumps_without_helper(void)
+static void jumps_without_waiter(void)
 {
     pthread_t threads[IN_ORDER];
     for (int i = 0; i < IN_ORDER; ++i)
@@ -396,7 +396,7 @@ int main(void)
     other = fresh("/yak-jumped-other");
     jumps();
     jumps_out_of_send();
-    jumps_without_helper();
+    jumps_without_waiter();
     ends();
     jumps_and_is_cancelled();
     for (int i = 0; i < 2; ++i) {
