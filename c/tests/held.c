@@ -1,7 +1,7 @@
 /* What a process of the library holds for a descriptor is kept in mind if memory for its close was
  * refused, and closed later. Linked with --wrap=mprotect, by which the library's memory is refused,
  * and run with YAK_JOURNAL. In one child after the other the close falls on another place of the
- * journal, whose growth is refused in some. */
+ * journal, whose allocation is refused in some. */
 #define _GNU_SOURCE
 #include <errno.h>
 #include <fcntl.h>

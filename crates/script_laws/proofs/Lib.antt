@@ -14,7 +14,7 @@ pub mod Joins
 pub mod Courses
 pub mod Runners
 pub mod Weaving
-pub mod Growth
+pub mod Allocation
 pub mod Sitting
 pub mod Resting
 pub mod Beginning

@@ -47,7 +47,7 @@ impl Logged for Notes {
     ghost stays = { λ p more before others h. h };
 }
 
-// One growth may be refused from outside.
+// One allocation may be refused from outside.
 fn no_notes<R: Print>(rt: &R, alloc: Global, title: u32, room: usize) -> Result<Notes, AllocError>
     ensures { IfOk result (λ s. s.items.items ≡ []) }
 {
@@ -109,7 +109,7 @@ fn look<L: Lock<Notes>, R: Wait>(rt: &R, lock: &L, seat: L::Seat) -> (L::Seat, O
     (lock.leave(inside, notes), latest)
 }
 
-/// A lock for so many processes. One growth may be refused from outside: then the state that comes back is as it was, and is
+/// A lock for so many processes. One allocation may be refused from outside: then the state that comes back is as it was, and is
 /// tried once more.
 fn lock_for<L: Lock<Notes>, R: Print>(
     rt: &R,

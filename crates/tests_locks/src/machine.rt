@@ -9,7 +9,7 @@ use std::process::Abort;
 use std::test::Fail;
 use tests_refusals::{refuse_all, say_refused};
 
-// The start. One growth may be refused from outside, and after the start every one.
+// The start. One allocation may be refused from outside, and after the start every one.
 fn start<R: Print>(rt: &R, alloc: Global, n: u32) -> Result<World, AllocError>
     requires { 1 ≤ n }
     ensures { IfOk result (λ world. count world ≡ n) }

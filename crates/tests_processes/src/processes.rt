@@ -37,7 +37,7 @@ struct Pair<L: Look<Guarded>> {
     two: Process<L>,
 }
 
-// Queues for two processes, and those in a vector. One growth may be refused from outside.
+// Queues for two processes, and those in a vector. One allocation may be refused from outside.
 fn make_two<L: Look<Guarded>, R: Abort + Print>(rt: &R, alloc: Global) -> (Mq<L>, Vec<Process<L>>)
     ensures { result.1.items ≡ tickets_from result.0 1 2 }
 {
@@ -60,7 +60,7 @@ fn make_pair<L: Look<Guarded>, R: Abort + Print>(rt: &R, alloc: Global) -> Pair<
     Pair { mq, one, two }
 }
 
-// Room for two processes. One growth may be refused from outside.
+// Room for two processes. One allocation may be refused from outside.
 fn room<L: Look<Guarded>, R: Abort + Print>(rt: &R, alloc: Global) -> Vec<Process<L>>
     ensures { result.items ≡ [] }
 {

@@ -1,5 +1,5 @@
 //! Calls that wait and what they come to, notices, the most queues and descriptors, and calls with numbers out of all bounds.
-//! Each test is a table of steps. It passes, too, where any one growth is refused from outside: a refused call changes neither the
+//! Each test is a table of steps. It passes, too, where any one allocation is refused from outside: a refused call changes neither the
 //! journal nor the buffer, and is made once more.
 ghost use Rattle.std.specs.Prelude.{◌≡◌, ◌≤◌, IsTrue, None};
 ghost use Rattle.mq_model.specs.Waits.{open_wait};
@@ -178,7 +178,7 @@ fn state_of(books: &Books) -> u64 {
     }
 }
 
-// What came of it. Where a growth was refused, the journal and the buffer are as before, and the same is asked once more.
+// What came of it. Where a allocation was refused, the journal and the buffer are as before, and the same is asked once more.
 fn asked<A: Abort + Print>(
     rt: &A,
     trial: &mut Trial,

@@ -154,7 +154,7 @@ fn told(row: &mut Row, p: u32, asked: Call, given: &[u8], buf: &mut [u8]) -> Opt
     }
 }
 
-// The same, once more where one growth was refused from outside.
+// The same, once more where one allocation was refused from outside.
 fn told_at_last<P: Print>(
     rt: &P,
     row: &mut Row,

@@ -8,7 +8,7 @@ use std::io::Print;
 use std::test::Fail;
 use tests_refusals::{refuse_all, say_refused};
 
-// No message, and room for so many. One growth may be refused from outside, and after the making every one.
+// No message, and room for so many. One allocation may be refused from outside, and after the making every one.
 fn make<R: Print>(rt: &R, alloc: Global, cap: u32) -> Result<Slots, AllocError>
     requires cap { (1 ≤ cap) × (cap ≤ 4096) }
     ensures { IfOk result (λ slots. (slots.messages ≡ []) × (slots.cap ≡ cap)) }

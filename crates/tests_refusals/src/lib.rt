@@ -1,15 +1,15 @@
-//! What tests say where a growth of memory was refused from outside, which shows that nothing changed by it.
+//! What tests say where a allocation of memory was refused from outside, which shows that nothing changed by it.
 #![tactic(auto)]
 
 use std::alloc::Global;
 use std::io::Print;
 
-/// Says that a growth was refused, and where, once it was found that nothing had changed.
+/// Says that a allocation was refused, and where, once it was found that nothing had changed.
 pub fn say_refused<R: Print>(rt: &R, place: &str) {
     let _ = println!(rt; "refused: {place}");
 }
 
-// A growth of so many bytes is the mark after which a tool from outside may refuse every further one, also a second mark.
+// A allocation of so many bytes is the mark after which a tool from outside may refuse every further one, also a second mark.
 const MARK: usize = 16_777_213;
 
 /// A mark for a tool from outside, which may count what is asked for between two.
@@ -17,10 +17,10 @@ pub fn mark(alloc: Global) {
     let _ = Vec::<u8>::with_capacity(alloc, MARK);
 }
 
-/// From here on a tool from outside may refuse every growth. Says so where it does.
+/// From here on a tool from outside may refuse every allocation. Says so where it does.
 pub fn refuse_all<R: Print>(rt: &R, alloc: Global) {
     mark(alloc);
     if Vec::<u8>::with_capacity(alloc, MARK).is_err() {
-        say_refused(rt, "every growth from here on");
+        say_refused(rt, "every allocation from here on");
     }
 }

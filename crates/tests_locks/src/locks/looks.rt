@@ -77,7 +77,7 @@ fn visit<L: Look<Bell>, R: Wait>(rt: &R, lock: &L, seat: L::Seat) -> L::Seat
     lock.leave(inside, bell)
 }
 
-// One growth may be refused from outside: then the state that comes back is as it was, and is tried once more.
+// One allocation may be refused from outside: then the state that comes back is as it was, and is tried once more.
 fn lock_for_two<L: Look<Bell>, R: Print>(rt: &R, alloc: Global) -> Option<(L, Vec<L::Seat>)>
     ensures { IfSome result (λ r. map L.ticket r.1.items ≡ tickets_from (L.id r.0) 1 2) }
 {

@@ -14,7 +14,7 @@ use std::sync::Wait;
 use std::time::Clock;
 use tests_refusals::{refuse_all, say_refused};
 
-// A system of one process with these bounds, and that process in a vector. One growth may be refused from outside.
+// A system of one process with these bounds, and that process in a vector. One allocation may be refused from outside.
 fn make_one<L: Look<Guarded>, R: Abort + Print>(
     rt: &R,
     alloc: Global,
@@ -34,7 +34,7 @@ fn make_one<L: Look<Guarded>, R: Abort + Print>(
     }
 }
 
-// Room for a process. One growth may be refused from outside.
+// Room for a process. One allocation may be refused from outside.
 fn room_for_one<L: Look<Guarded>, R: Abort + Print>(rt: &R, alloc: Global) -> Vec<Process<L>>
     ensures { result.items ≡ [] }
 {
@@ -80,7 +80,7 @@ fn expect_alone<L: Look<Guarded>, R: Wait + Clock + Abort + Print>(
     }
 }
 
-// A system with these bounds, whose one process takes the steps while every growth may be refused from outside. Gives how many
+// A system with these bounds, whose one process takes the steps while every allocation may be refused from outside. Gives how many
 // entries the journal has at the end.
 fn after<L: Look<Guarded>, R: Wait + Clock + Abort + Print>(
     rt: &R,

@@ -1,4 +1,4 @@
-//! The exit of a process with 1 to 16 descriptors, where any one growth may be refused from outside.
+//! The exit of a process with 1 to 16 descriptors, where any one allocation may be refused from outside.
 ghost use Rattle.std.specs.Prelude.{◌≡◌};
 
 use super::steps::{Ask, CREATE, Told, asked, asked_once};
@@ -64,7 +64,7 @@ fn closed<L: Look<Guarded>, R: Wait + Clock + Abort + Print>(
     first
 }
 
-// An exit closes all. Where a growth is refused it has closed the lower ones alone, and the next exit closes the others.
+// An exit closes all. Where a allocation is refused it has closed the lower ones alone, and the next exit closes the others.
 fn expect_exit<L: Look<Guarded>, R: Wait + Clock + Abort + Print>(
     rt: &R,
     mq: &Mq<L>,

@@ -40,7 +40,7 @@ fn opens<L: Look<Guarded>, A: Abort>(rt: &A, mq: &Mq<L>, guard: Guard<L>) -> (Pr
     (process, opened == Err(Fault::NoMemory))
 }
 
-// The process that has opened a queue. A growth may be refused from outside.
+// The process that has opened a queue. A allocation may be refused from outside.
 fn opened<L: Look<Guarded>, R: Abort + Print>(rt: &R, mq: &Mq<L>, guard: Guard<L>) -> Process<L>
     requires made { guard.process.lock ≡ mq.now }
     requires free { IsFree guard.process }

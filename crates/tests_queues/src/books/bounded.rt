@@ -1,4 +1,4 @@
-//! Queues whose journal has bounds. All their memory is taken at the making, so these tests pass, too, where each growth after it is
+//! Queues whose journal has bounds. All their memory is taken at the making, so these tests pass, too, where each allocation after it is
 //! refused.
 use super::Ask::{
     Close, Collect, Entries, Getattr, NextNotice, Notify, Open, Receive, ReplyAt, Send, Setattr,
@@ -20,7 +20,7 @@ use std::io::Print;
 use std::process::Abort;
 use tests_refusals::{refuse_all, say_refused};
 
-// The queues of five processes with these bounds. One growth may be refused from outside, and after the making every one.
+// The queues of five processes with these bounds. One allocation may be refused from outside, and after the making every one.
 fn make_bounded<A: Abort + Print>(rt: &A, alloc: Global, entries: u64, bytes: u64) -> Trial {
     let books = match Books::bounded(alloc, 5, entries, bytes) {
         Ok(books) => books,

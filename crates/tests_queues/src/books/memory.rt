@@ -1,4 +1,4 @@
-//! The calls that take no memory, while every growth may be refused from outside.
+//! The calls that take no memory, while every allocation may be refused from outside.
 ghost use Rattle.std.specs.Prelude.{◌≤◌, OnOk};
 
 use super::Ask::{
@@ -85,7 +85,7 @@ const UNLINK: Entry = Entry {
     reply: Reply::Refused(Fault::NoEntry),
 };
 
-// Room for one entry and two bytes. One growth may be refused from outside, and then the journal is as before.
+// Room for one entry and two bytes. One allocation may be refused from outside, and then the journal is as before.
 fn make_room<A: Abort + Print>(rt: &A, journal: &mut Journal) -> Result<(), AllocError>
     ensures { OnOk result ((1 ≤ journal.new.entry_room) × (2 ≤ journal.new.byte_room)) }
 {

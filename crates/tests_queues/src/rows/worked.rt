@@ -367,7 +367,7 @@ fn withdrawn_early(alloc: Global, journal: &Journal) -> Option<Journal> {
     Some(other)
 }
 
-// The same, once more where one growth was refused from outside.
+// The same, once more where one allocation was refused from outside.
 fn withdrawn_too_early<P: Print>(rt: &P, alloc: Global, journal: &Journal) -> Option<Journal> {
     match withdrawn_early(alloc, journal) {
         Some(other) => Some(other),

@@ -1,11 +1,11 @@
-/* Preloaded in front of a program's allocator: refuses growths, and says of each that it did.
+/* Preloaded in front of a program's allocator: refuses allocations, and says of each that it did.
  *
- * GROWTH=N      refuses the Nth growth, from 1
- * GROWTH=marked refuses every growth after the first mark
- * GROWTH=counted refuses none, and at each mark writes to file descriptor F how many bytes were asked for since the mark before
- * GROWTH_FD=F   writes a byte to file descriptor F for each growth that it refuses
+ * ALLOCATION=N      refuses the Nth allocation, from 1
+ * ALLOCATION=marked refuses every allocation after the first mark
+ * ALLOCATION=counted refuses none, and at each mark writes to file descriptor F how many bytes were asked for since the mark before
+ * ALLOCATION_FD=F   writes a byte to file descriptor F for each allocation that it refuses
  *
- * A growth is a call of malloc, calloc, realloc or of a function for aligned memory. One of 16,777,213 bytes is a mark, which is not
+ * A allocation is a call of malloc, calloc, realloc or of a function for aligned memory. One of 16,777,213 bytes is a mark, which is not
  * counted. No header is needed and nothing is linked, so any C compiler for the C library of the programs builds it. */
 
 typedef unsigned long size;
@@ -43,12 +43,12 @@ static void count(size bytes) {
   do
     text[--first] = (char)('0' + value % 10);
   while (value /= 10);
-  write((int)number(getenv("GROWTH_FD")), text + first, sizeof text - first);
+  write((int)number(getenv("ALLOCATION_FD")), text + first, sizeof text - first);
 }
 
-/* Whether this growth is to be refused. */
+/* Whether this allocation is to be refused. */
 static int is_refused(size bytes) {
-  const char *wanted = getenv("GROWTH");
+  const char *wanted = getenv("ALLOCATION");
   if (!wanted)
     return 0;
   if (*wanted == 'c') {
@@ -64,7 +64,7 @@ static int is_refused(size bytes) {
   } else if (bytes == MARK || __atomic_add_fetch(&seen, 1, __ATOMIC_SEQ_CST) != number(wanted)) {
     return 0;
   }
-  write((int)number(getenv("GROWTH_FD")), "x", 1);
+  write((int)number(getenv("ALLOCATION_FD")), "x", 1);
   *__errno_location() = OUT_OF_MEMORY;
   return 1;
 }
