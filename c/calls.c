@@ -181,7 +181,8 @@ int mq_close(mqd_t mqdes)
         program_here->me->numbers[mqdes - FIRST] = 0;
     }
     if (!program_is_held(d)) {
-        answer = d < DESCRIPTIONS ? program_close_description(d) : did_close(DISPATCHER, PER_DISPATCHER);
+        answer =
+            d < DESCRIPTIONS ? program_close_description(d) : did_close(DISPATCHER, PER_DISPATCHER);
         /* It holds what could not be closed. */
         if (answer != YAK_DONE && d < DESCRIPTIONS)
             program_here->me->numbers[mqdes - FIRST] = (uint8_t)(d + 1);
@@ -245,8 +246,8 @@ static int exchange(mqd_t mqdes, const struct mq_attr *set, struct mq_attr *befo
     if ((error = program_enter()) != 0)
         return fails(error);
     d = program_number(mqdes);
-    MADE(answer, yak_proved_getattr(&the_program.processes[program_dispatcher_of(d)], program_there(d),
-                                    &attributes));
+    MADE(answer, yak_proved_getattr(&the_program.processes[program_dispatcher_of(d)],
+                                    program_there(d), &attributes));
     if (answer == YAK_DONE) {
         attributes.nonblock = the_program.nonblock[d];
         if (set != 0)
@@ -296,8 +297,8 @@ static int error_of(outcome it)
     }
 }
 
-/* What is left of a send or a receive that the dispatcher has tried: a wait, the wakes and notices for
- * others, and a warning. Leaves the lock. */
+/* What is left of a send or a receive that the dispatcher has tried: a wait, the wakes and notices
+ * for others, and a warning. Leaves the lock. */
 static __attribute__((noinline)) outcome go_on(uint32_t d, const request *asked,
                                                yak_message *message, uint32_t answer)
 {

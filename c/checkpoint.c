@@ -110,8 +110,8 @@ static holder open_holder(unsigned slot)
     return (holder){process, d, answer == YAK_DONE};
 }
 
-/* Writes the messages of a queue, which process DISPATCHER is to send by descriptor 0. Those of a queue
- * from which nobody can receive any more, now and ever, only count. */
+/* Writes the messages of a queue, which process DISPATCHER is to send by descriptor 0. Those of a
+ * queue from which nobody can receive any more, now and ever, only count. */
 static bool put_messages(writer *to, unsigned slot)
 {
     static uint8_t bytes[MOST_BYTES];

@@ -92,8 +92,8 @@ void program_wake_next(void)
 static void sleep_for_lock(int seen)
 {
     const struct timespec delay = {.tv_nsec = LONGEST_SLEEP};
-    if (syscall(SYS_futex, PROGRAM_WORD, FUTEX_WAIT, seen, &delay, 0, 0) >= 0 || errno != ETIMEDOUT ||
-        kill(seen & FUTEX_TID_MASK, 0) == 0 || errno != ESRCH)
+    if (syscall(SYS_futex, PROGRAM_WORD, FUTEX_WAIT, seen, &delay, 0, 0) >= 0 ||
+        errno != ETIMEDOUT || kill(seen & FUTEX_TID_MASK, 0) == 0 || errno != ESRCH)
         return;
     __atomic_compare_exchange_n(PROGRAM_WORD, &seen, (int)(FUTEX_WAITERS | FUTEX_OWNER_DIED), false,
                                 __ATOMIC_RELAXED, __ATOMIC_RELAXED);
@@ -226,8 +226,9 @@ void program_leave_waking(uint32_t answered)
         program_tell_unlocked(true);
     /* One call of the kernel sets the lock free, wakes the waiter, and one that sleeps for the
        lock. */
-    if (syscall(SYS_futex, &the_program.news[last], FUTEX_WAKE_OP, last == DISPATCHER ? OWNERS * 1024 : 1,
-                1, PROGRAM_WORD, FUTEX_OP(FUTEX_OP_SET, 0, FUTEX_OP_CMP_LT, 0)) < 0) {
+    if (syscall(SYS_futex, &the_program.news[last], FUTEX_WAKE_OP,
+                last == DISPATCHER ? OWNERS * 1024 : 1, 1, PROGRAM_WORD,
+                FUTEX_OP(FUTEX_OP_SET, 0, FUTEX_OP_CMP_LT, 0)) < 0) {
         program_wake_them(1u << last);
         if (__atomic_exchange_n(PROGRAM_WORD, 0, __ATOMIC_RELEASE) < 0)
             program_wake_next();

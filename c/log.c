@@ -159,7 +159,8 @@ static void apply_close(unsigned process, uint32_t d)
     settle(all->descriptions[index].queue);
     if (process == DISPATCHER)
         return;
-    for (index = program_description(process, 0); index % PER_DISPATCHER != PER_DISPATCHER - 1; ++index)
+    for (index = program_description(process, 0); index % PER_DISPATCHER != PER_DISPATCHER - 1;
+         ++index)
         if (all->descriptions[index].made != 0)
             return;
     if (all->descriptions[index].made == 0) {

@@ -27,8 +27,8 @@ static void renew(uint32_t d)
     uint64_t count = 1;
     uint32_t answer;
     const int error = errno;
-    MADE(answer, yak_proved_getattr(&the_program.processes[program_dispatcher_of(d)], program_there(d),
-                                    &attributes));
+    MADE(answer, yak_proved_getattr(&the_program.processes[program_dispatcher_of(d)],
+                                    program_there(d), &attributes));
     if (answer == YAK_DONE && (attributes.curmsgs > 0) != it->is_raised) {
         it->is_raised = !it->is_raised;
         if (it->is_raised)

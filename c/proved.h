@@ -39,7 +39,7 @@ uint32_t yak_proved_room(yak_process *process, yak_room_left *room);
 uint32_t yak_proved_nobody_can_call(yak_process *process);
 /* Empties the handle, also if its process has an open wait. */
 uint32_t yak_proved_free(yak_process *process);
-/* Which futex_word the process sleeps on (wait.h). */
+/* Which futex word the process sleeps on (wait.h). */
 uint32_t yak_proved_futex_word(yak_process *process, uint32_t *futex_word);
 
 #pragma GCC visibility pop

@@ -1,12 +1,13 @@
 /* the_program.h: what the exported calls of libyakyrombe-mqueue are made of.
  *
  * One system of the library serves the whole program, with its forked children. Its process 1 is a
- * dispatcher: it holds a descriptor for each open description of the program, always nonblocking, and
- * makes each call on it. If a send or a receive is refused with YAK_AGAIN, and the description is
- * blocking, it is made again by a waiter, the lowest of the processes that are not dispatchers and have
- * no open wait, which opens the queue too when it is first needed there, and keeps the call until
- * its wait ends. So the order of messages, who is served and every refusal are the library's. If
- * the program has more than 16 open descriptions, waiters become dispatchers, from process 32 down.
+ * dispatcher: it holds a descriptor for each open description of the program, always nonblocking,
+ * and makes each call on it. If a send or a receive is refused with YAK_AGAIN, and the description
+ * is blocking, it is made again by a waiter, the lowest of the processes that are not dispatchers
+ * and have no open wait, which opens the queue too when it is first needed there, and keeps the
+ * call until its wait ends. So the order of messages, who is served and every refusal are the
+ * library's. If the program has more than 16 open descriptions, waiters become dispatchers, from
+ * process 32 down.
  *
  * All of this lies in memory that parent and forked children share (arena.h), and is guarded by one
  * lock, which is held for the time of a call and never while a call waits. If a process dies inside
@@ -36,8 +37,9 @@
 
 enum {
     PROCESSES = 32,
-    DISPATCHER = 0,  /* the first dispatcher; it stands for no waiter, and its word is that of overflow calls */
-    HOMES = 8, /* at the most */
+    DISPATCHER = 0,      /* the first dispatcher; it stands for no waiter, and its word is that of
+                            overflow calls */
+    HOMES = 8,           /* at the most */
     PER_DISPATCHER = 16, /* descriptors that a process of the library holds */
     DESCRIPTIONS = HOMES * PER_DISPATCHER,
     NUMBERS = 128, /* descriptors of one process of the machine */
@@ -111,7 +113,8 @@ typedef struct tables {
     queue queues[QUEUES];
     description descriptions[DESCRIPTIONS];
     registration registrations[DESCRIPTIONS];
-    uint8_t replicas[PROCESSES][PER_DISPATCHER]; /* by a waiter's descriptor: its queue and 1, or 0 */
+    uint8_t replicas[PROCESSES]
+                    [PER_DISPATCHER]; /* by a waiter's descriptor: its queue and 1, or 0 */
     pending waits[PROCESSES];
     uint32_t waiters; /* the processes that are not dispatchers, by bits */
     uint32_t idle;    /* the waiters without an open wait */
@@ -138,10 +141,10 @@ typedef struct owner {
     pthread_mutex_t alive;
     uint8_t numbers[NUMBERS]; /* a description and 1, or 0 */
     uint32_t overflow;
-    uint32_t own_threads;  /* threads of the library */
+    uint32_t own_threads;        /* threads of the library */
     _Atomic uint32_t futex_word; /* on which its notifier sleeps */
-    uint32_t polls;        /* how many descriptors for poll it has */
-    uint64_t due[DUE];     /* serials of its notices that a thread of its own is to take */
+    uint32_t polls;              /* how many descriptors for poll it has */
+    uint64_t due[DUE];           /* serials of its notices that a thread of its own is to take */
     unsigned due_count;
 } owner;
 
@@ -407,11 +410,12 @@ static inline uint32_t program_number(int mqdes)
     return number < NUMBERS ? program_here->me->numbers[number] - 1u : (uint32_t)DESCRIPTIONS;
 }
 
-/* The process of the library that holds a description, and by which descriptor; the first dispatcher and
- * a number that it does not hold if there is no such description. */
+/* The process of the library that holds a description, and by which descriptor; the first
+ * dispatcher and a number that it does not hold if there is no such description. */
 static inline unsigned program_dispatcher_of(uint32_t d)
 {
-    return d < PER_DISPATCHER || d >= DESCRIPTIONS ? (unsigned)DISPATCHER : PROCESSES - d / PER_DISPATCHER;
+    return d < PER_DISPATCHER || d >= DESCRIPTIONS ? (unsigned)DISPATCHER
+                                                   : PROCESSES - d / PER_DISPATCHER;
 }
 
 static inline uint32_t program_there(uint32_t d)
@@ -455,8 +459,8 @@ static inline __attribute__((always_inline)) uint32_t program_try(bool is_send, 
     return answer;
 }
 
-/* An idle waiter that holds the queue of this description too, by which descriptor; or DISPATCHER if
- * there is none. */
+/* An idle waiter that holds the queue of this description too, by which descriptor; or DISPATCHER
+ * if there is none. */
 unsigned program_choose(uint32_t d, uint32_t *there);
 /* A waiter whose wait has ended lets go what nobody holds any more. */
 void program_release(unsigned process);
@@ -494,9 +498,9 @@ typedef struct outcome {
     };
 } outcome;
 
-/* Makes a call that the dispatcher would wait in, by the process that is written then, and waits until it
- * is answered. The lock is held before it, not while it sleeps, and after it but for what `fate`
- * says. After a wait cancellation is disabled, and its state from before is written. */
+/* Makes a call that the dispatcher would wait in, by the process that is written then, and waits
+ * until it is answered. The lock is held before it, not while it sleeps, and after it but for what
+ * `fate` says. After a wait cancellation is disabled, and its state from before is written. */
 outcome program_wait(unsigned *process, uint32_t d, const request *asked, yak_message *message,
                      int *cancelling);
 /* Ends the open wait of this thread for another call of the thread; inside the lock. ENOMEM if it

@@ -1,10 +1,10 @@
 /* How a call by a handle waits: for the lock, and for the call of another process that answers it.
  *
- * A futex_word is a word of the library that is 1 if a thread may sleep on it. A thread that is about to
- * sleep stores 1, looks once more at what it waits for, and sleeps while the word is 1. A thread
- * that changes what others wait for stores 0 and wakes one. Word 0 is the futex_word of the lock, word j
- * that of process j's flag, and word YAK_ANSWER_WORD_ + j that of its answer. A missed wake-up
- * makes a sleep late and does not lose it, since each sleep has an end. */
+ * A futex word is a word of the library that is 1 if a thread may sleep on it. A thread that is
+ * about to sleep stores 1, looks once more at what it waits for, and sleeps while the word is 1. A
+ * thread that changes what others wait for stores 0 and wakes one. Word 0 is the futex word of the
+ * lock, word j that of process j's flag, and word YAK_ANSWER_WORD_ + j that of its answer. A missed
+ * wake-up makes a sleep late and does not lose it, since each sleep has an end. */
 #define _GNU_SOURCE
 /* quick.h must not define yak_send and yak_receive: they are below. */
 #define YAK_DEFINES_CALLS_
@@ -86,7 +86,7 @@ void yak_wake_on_(yak_word_ word, int most)
 #endif
 }
 
-/* The half of a futex_word that is 0 or 1. */
+/* The half of a futex word that is 0 or 1. */
 static yak_word_ low_half(uint64_t *futex_word)
 {
     const yak_word_ half = {
@@ -95,7 +95,7 @@ static yak_word_ low_half(uint64_t *futex_word)
     return half;
 }
 
-/* Sleeps on a futex_word that was announced, for so many nanoseconds at the most. */
+/* Sleeps on a futex word that was announced, for so many nanoseconds at the most. */
 static void sleep_on(uint64_t *futex_word, int64_t nanos)
 {
     struct timespec until;
@@ -112,7 +112,7 @@ static void announce(uint64_t *futex_word)
     __atomic_store_n(futex_word, 1, __ATOMIC_SEQ_CST);
 }
 
-/* Wakes one that announced that it sleeps on the futex_word. */
+/* Wakes one that announced that it sleeps on the futex word. */
 static void wake(uint64_t *futex_word)
 {
     if (__atomic_load_n(futex_word, __ATOMIC_SEQ_CST) == 1) {
@@ -156,8 +156,8 @@ void yak_follow_(const yak_turns_ *them)
     is_watched = turns != 0 || __tsan_acquire != 0;
 }
 
-/* Where ThreadSanitizer keeps the order: at an address that no access has, since a store to a futex_word
- * would begin it anew. */
+/* Where ThreadSanitizer keeps the order: at an address that no access has, since a store to a futex
+ * word would begin it anew. */
 static void *order_of(const yak_process *process)
 {
     return (char *)process->futex_words + 4;
@@ -199,7 +199,8 @@ static __attribute__((noinline)) void rest(yak_process *process, unsigned *tries
     if (yak_spin_(tries, YAK_SPINS_) || process->futex_words == 0 ||
         yak_proved_futex_word(process, &futex_word) != YAK_DONE || futex_word > YAK_ANSWER_WORD_)
         return;
-    wake(&process->futex_words[process->number]); /* its own flag, which the last try may have lowered */
+    wake(&process->futex_words[process->number]); /* its own flag, which the last try may have
+                                                     lowered */
     if (*tries != YAK_SPINS_ + 1 + futex_word) {
         *tries = YAK_SPINS_ + 1 + futex_word;
         announce(&process->futex_words[futex_word]);
@@ -316,29 +317,29 @@ static int64_t time_left(const yak_moment *until, yak_moment now, int64_t most)
     return left < 0 ? 0 : left < most ? left : most;
 }
 
-/* The doubt of a process after it has looked for an answer. It doubts if one in four of its last
+/* The misses of a process after it has looked for an answer. It doubts if one in four of its last
  * looks or more was in vain, and after so many waits tries again. */
-static uint64_t learn(uint64_t doubt, bool was_answered)
+static uint64_t learn(uint64_t misses, bool was_answered)
 {
-    if (doubt >= YAK_MOST_MISSES_ + YAK_WAITS_WITH_FEW_POLLS_)
+    if (misses >= YAK_MOST_MISSES_ + YAK_WAITS_WITH_FEW_POLLS_)
         return YAK_MOST_MISSES_ - YAK_FOR_A_MISS_;
-    if (doubt >= YAK_MOST_MISSES_)
-        return doubt + 1;
-    return !was_answered ? doubt + YAK_FOR_A_MISS_ : doubt != 0 ? doubt - 1 : 0;
+    if (misses >= YAK_MOST_MISSES_)
+        return misses + 1;
+    return !was_answered ? misses + YAK_FOR_A_MISS_ : misses != 0 ? misses - 1 : 0;
 }
 
 /* Looks with pauses, and says whether the open wait still is not answered. */
-static bool looks_in_vain(yak_process *process)
+static bool polls_fail(yak_process *process)
 {
     uint64_t *word = &process->futex_words[YAK_MISSES_WORD_ + process->number];
-    const uint64_t doubt = __atomic_load_n(word, __ATOMIC_RELAXED);
-    const unsigned most = doubt < YAK_MOST_MISSES_ ? YAK_LONG_POLLS_ : YAK_SHORT_POLLS_;
+    const uint64_t misses = __atomic_load_n(word, __ATOMIC_RELAXED);
+    const unsigned most = misses < YAK_MOST_MISSES_ ? YAK_LONG_POLLS_ : YAK_SHORT_POLLS_;
     unsigned tries = 0;
     bool in_vain;
     do
         in_vain = yak_answered(process) == YAK_WAITS;
     while (in_vain && yak_spin_(&tries, most));
-    __atomic_store_n(word, learn(doubt, !in_vain), __ATOMIC_RELAXED);
+    __atomic_store_n(word, learn(misses, !in_vain), __ATOMIC_RELAXED);
     return in_vain;
 }
 
@@ -348,7 +349,7 @@ static bool await_answer(yak_process *process, const waiting *it, int64_t nanos)
 {
     if (SELDOM(turns != 0)) {
         turns->await_answer(process, it->until, it->call, it->d);
-    } else if (process->futex_words != 0 && looks_in_vain(process)) {
+    } else if (process->futex_words != 0 && polls_fail(process)) {
         uint64_t *futex_word = &process->futex_words[YAK_ANSWER_WORD_ + process->number];
         announce(futex_word);
         if (yak_answered(process) == YAK_WAITS)

@@ -9,7 +9,8 @@
 /* The constants of waiting. Behind each stands the line of the proved library that has the same
  * one, as FILE: LINE; checks/pages compares the two. */
 enum {
-    /* The futex_word on which a process sleeps until its wait is answered is this word and its number. */
+    /* The futex word on which a process sleeps until its wait is answered is this word and its
+       number. */
     YAK_ANSWER_WORD_ = 32, /* fast_mutex/src/futex_words.rt: process.saturating_add(32) */
     /* The word in which a process keeps its doubt is this one and its number. */
     YAK_MISSES_WORD_ = 64, /* fast_mutex/src/futex_words.rt: process.saturating_add(64) */
@@ -20,9 +21,10 @@ enum {
     YAK_LONG_POLLS_ = 7,  /* fast_mutex/src/futex_words.rt: const LONG_POLLS: u32 = 7; */
     YAK_SHORT_POLLS_ = 1, /* fast_mutex/src/futex_words.rt: const SHORT_POLLS: u32 = 1; */
     /* From which doubt on that is, by how much looks in vain raise it, and for how many waits. */
-    YAK_MOST_MISSES_ = 12,     /* fast_mutex/src/futex_words.rt: const MOST_MISSES: u64 = 12; */
-    YAK_FOR_A_MISS_ = 3,       /* fast_mutex/src/futex_words.rt: const FOR_A_MISS: u64 = 3; */
-    YAK_WAITS_WITH_FEW_POLLS_ = 64, /* fast_mutex/src/futex_words.rt: const WAITS_WITH_FEW_POLLS: u64 = 64; */
+    YAK_MOST_MISSES_ = 12, /* fast_mutex/src/futex_words.rt: const MOST_MISSES: u64 = 12; */
+    YAK_FOR_A_MISS_ = 3,   /* fast_mutex/src/futex_words.rt: const FOR_A_MISS: u64 = 3; */
+    YAK_WAITS_WITH_FEW_POLLS_ =
+        64, /* fast_mutex/src/futex_words.rt: const WAITS_WITH_FEW_POLLS: u64 = 64; */
     /* The shortest and the longest pause between two looks, in turns of a loop. */
     YAK_SHORT_PAUSE_ = 1024, /* fast_mutex/src/pauses.rt: const SHORTEST: u32 = 1_024; */
     YAK_LONG_PAUSE_ = 16384, /* fast_mutex/src/pauses.rt: const LONGEST: u32 = 16_384; */

@@ -5,7 +5,7 @@
  * ALLOCATION=counted refuses none, and at each mark writes to file descriptor F how many bytes were asked for since the mark before
  * ALLOCATION_FD=F   writes a byte to file descriptor F for each allocation that it refuses
  *
- * A allocation is a call of malloc, calloc, realloc or of a function for aligned memory. One of 16,777,213 bytes is a mark, which is not
+ * An allocation is a call of malloc, calloc, realloc or of a function for aligned memory. One of 16,777,213 bytes is a mark, which is not
  * counted. No header is needed and nothing is linked, so any C compiler for the C library of the programs builds it. */
 
 typedef unsigned long size;

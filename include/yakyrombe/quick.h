@@ -28,8 +28,8 @@ uint32_t yak_receive_on_(yak_process *process, uint32_t d, uint8_t *buf, size_t 
 /* Inline in each file that calls it, and a function of its own in none. */
 #define YAK_INLINE_ extern inline __attribute__((gnu_inline, always_inline))
 
-/* Whether a call came inside and is done, and nobody may sleep until what it changed. A futex_word is 0
- * or 1. */
+/* Whether a call came inside and is done, and nobody may sleep until what it changed. A futex word
+ * is 0 or 1. */
 YAK_INLINE_ bool yak_is_through_(const yak_process *process, uint32_t answer)
 {
     const uint64_t *futex_words = process->futex_words;

@@ -6,7 +6,7 @@ ghost use Rattle.bench_workloads.specs.Ready.{IsReady};
 use crate::course::Course;
 use bench_line::fault::WorkFault;
 use fast_mutex::Look;
-use mq::{Guarded, Mq, SleepTimes, Process};
+use mq::{Guarded, Mq, Process, SleepTimes};
 use mq_model::entries::{Access, Attr, OpenFlags};
 use mq_model::faults::Fault;
 use mq_model::names::Name;

@@ -92,7 +92,7 @@ pub extern "C" fn yak_free(alloc: Global, process: &mut Handle) -> u32
     system::free(alloc, process)
 }
 
-/// Writes which of the futex_words of its system a process sleeps on, from 0: that of y, of the flag of a process that it waits for on its way
+/// Writes which of the futex words of its system a process sleeps on, from 0: that of y, of the flag of a process that it waits for on its way
 /// into the lock, or of its own answer. A hint.
 #[unsafe(no_mangle)]
 pub extern "C" fn yak_futex_word(alloc: Global, process: &mut Handle, futex_word: &mut u32) -> u32

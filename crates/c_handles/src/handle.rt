@@ -21,7 +21,7 @@ pub struct Handle {
     answered: u32,
     // the number of its process
     number: u32,
-    // the futex_words of its system
+    // the futex words of its system
     futex_words: *const u64,
     // so that no two handles of an array share a cache line, which each call of either would take from the other
     apart: [u64; 12],
@@ -53,7 +53,7 @@ impl Handle {
         Some(self.seal.take(alloc))
     }
 
-    /// Takes the member out for good, and forgets the futex_words of its system, which may end with it.
+    /// Takes the member out for good, and forgets the futex words of its system, which may end with it.
     pub fn end(&mut self, alloc: Global) -> Option<Box<Member>>
         ensures some { IfSome result (λ member. self.old.seal.member ≡ Some member.value) }
         ensures none { IfNone result (self.old.seal.member ≡ None) }

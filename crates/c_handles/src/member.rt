@@ -60,7 +60,7 @@ impl Member {
         standing::answered_others(&self.standing)
     }
 
-    /// The futex_words of its system.
+    /// The futex words of its system.
     pub fn futex_words(&self) -> Option<*const u64> {
         self.mq.futex_words()
     }

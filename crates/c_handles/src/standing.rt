@@ -142,7 +142,7 @@ pub fn look(mq: &FastMq, standing: &mut Standing) -> Option<bool>
     }
 }
 
-/// Which of the futex_words of its system the process sleeps on: that of what keeps it out of the lock, or of its answer.
+/// Which of the futex words of its system the process sleeps on: that of what keeps it out of the lock, or of its answer.
 pub fn futex_word(standing: &Standing) -> u32
     requires { is_there standing.now ≡ true }
 {

@@ -1,16 +1,16 @@
-//! The wait for an answer, by the looks of any lock.
+//! The wait for an answer, by polls, over any lock.
 ghost use Rattle.std.specs.Prelude.{◌≡◌, ◌||◌, true};
 
+use crate::backoff::Backoff;
 use crate::lock::Look;
 use crate::logged::Logged;
-use crate::backoff::Backoff;
 use std::sync::Wait;
 use std::time::Duration;
 
-/// The wait for an answer, which each lock with looks has. It stands apart from `Look`, so that code that never waits can look.
+/// The wait for an answer, for each lock that has polls. It is apart from `Look`, so that code that never waits can poll.
 pub trait AwaitAnswer<S: Logged>: Look<S> {
-    /// Looks until the wait is answered, for about so long at the most: a few times at once, and then it sleeps until the process
-    /// whose stay answers the wait wakes it. It says what the last look said.
+    /// Polls until the wait is answered, for about `at_most` at the longest: first a few times, and then it sleeps until the process that
+    /// answers the wait wakes it. Returns what the last poll found.
     fn await_answer<R: Wait>(&self, rt: &R, seat: &mut Self::Seat, at_most: Duration) -> bool
         requires { (Self.ticket seat.old).lock ≡ Self.id self.now }
         ensures ticket { Self.ticket seat.new ≡
@@ -26,7 +26,7 @@ impl<S: Logged, L: Look<S>> AwaitAnswer<S> for L {
     }
 }
 
-// Looks with backoff that grow, so that a wait which is answered soon hears of it at once.
+// Polls, and backs off longer each time, so that a wait that is answered soon ends at once.
 fn look_some_times<S: Logged, L: Look<S>>(lock: &L, seat: &mut L::Seat) -> bool
     requires { (L.ticket seat.old).lock ≡ L.id lock.now }
     ensures { L.ticket seat.new ≡ record (L.ticket seat.old) {
@@ -36,18 +36,18 @@ fn look_some_times<S: Logged, L: Look<S>>(lock: &L, seat: &mut L::Seat) -> bool
     let futex_words = lock.futex_words();
     let process = L::number(seat);
     let mut backoff = Backoff::new();
-    for _ in 0..futex_words.looks(process) {
+    for _ in 0..futex_words.polls(process) {
         if lock.answered(seat) {
             futex_words.learn(process, true);
             return true;
         }
-        backoff.pause(futex_words);
+        backoff.back_off(futex_words);
     }
     futex_words.learn(process, false);
     false
 }
 
-// Announces that it may sleep, looks, sleeps until it is woken or the time is over, and looks again.
+// Announces that it may sleep, polls, sleeps until it is woken or the time is over, and polls again.
 fn look_after_sleep<S: Logged, L: Look<S>, R: Wait>(
     lock: &L,
     rt: &R,

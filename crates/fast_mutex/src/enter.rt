@@ -1,33 +1,33 @@
-//! The entry that waits, by the steps of any lock.
+//! Acquiring a lock by its steps, with a wait if another process holds it.
 ghost use Rattle.std.specs.Prelude.{◌≡◌, ◌≤◌, ◌+◌, true, false, []};
 ghost use Rattle.fast_mutex.specs.Items.{Grows};
 
+use crate::backoff::Backoff;
 use crate::lock::Lock;
 use crate::logged::Logged;
-use crate::backoff::Backoff;
 use std::sync::Wait;
 
-/// How many steps an entry takes that meets nobody.
+/// How many steps an acquisition takes if it meets nobody (Lamport's fast path).
 pub const FAST_PATH_STEPS: u32 = 5;
 
-// How often a walk that can't go on backoff before it sleeps.
+// How often an acquisition that can't go on backs off before it sleeps.
 const MOST_PAUSES: u32 = 12;
 
-/// The entry that waits, which each lock has. It stands apart from `Lock`, so that code that never waits can use a lock.
+/// Acquiring with a wait, for each lock. It is apart from `Lock`, so that code that never waits can use a lock.
 pub trait Enter<S: Logged>: Lock<S> {
-    /// Takes at most [`FAST_PATH_STEPS`] steps, and none once the walk has come in. It never waits.
+    /// Takes at most [`FAST_PATH_STEPS`] steps, and none once the lock is acquired. It never waits.
     fn take_fast_path(&self, walk: Self::Walk) -> Self::Walk
         requires { (Self.walking walk).lock ≡ Self.id self.now }
         ensures ticket { Self.walking result ≡ Self.walking walk }
         ensures few { Self.walk_accesses result ≤ Self.walk_accesses walk + 5 };
 
-    /// Takes the walk on until it has come in, which waits until nobody else is inside.
+    /// Takes steps until the lock is acquired, and waits while another process holds it.
     fn come_in<R: Wait>(&self, rt: &R, walk: Self::Walk) -> Self::Walk
         requires { (Self.walking walk).lock ≡ Self.id self.now }
         ensures ticket { Self.walking result ≡ Self.walking walk }
         ensures inside { Self.is_in result ≡ true };
 
-    /// Waits until nobody else is inside, and takes the state.
+    /// Acquires the lock, waiting while another process holds it, and takes the state.
     fn enter<R: Wait>(&self, rt: &R, seat: Self::Seat) -> (Self::Inside, S)
         requires { (Self.ticket seat).lock ≡ Self.id self.now }
         ensures stay { Self.stay result.0 ≡ record (Self.ticket seat) { left = S.items result.1 } }
@@ -39,13 +39,13 @@ pub trait Enter<S: Logged>: Lock<S> {
         ensures number { (1 ≤ (Self.ticket seat).number) ×
             ((Self.ticket seat).number ≤ (Self.id self.now).count) };
 
-    /// Wakes who sleeps until this process has left, or until its last stay answered a wait. Where nobody sleeps it is a few loads.
-    /// Who is not woken so looks again after some milliseconds.
+    /// Wakes the threads that sleep until this process releases the lock, or until its last critical section answers their waits. If
+    /// nobody sleeps it is a few loads. A thread that is not woken polls again after some milliseconds.
     fn wake(&self, seat: &Self::Seat);
 }
 
 impl<S: Logged, L: Lock<S>> Enter<S> for L {
-    // In straight line the compiler knows where the walk stands at each step.
+    // In a straight line the compiler knows at which step the acquisition is.
     #[inline(always)]
     fn take_fast_path(&self, walk: L::Walk) -> L::Walk {
         let walk = next(self, walk);
@@ -75,7 +75,7 @@ impl<S: Logged, L: Lock<S>> Enter<S> for L {
     }
 }
 
-// The walk that has to wait lies in places of its own, so that one that has come in is never more than the registers that hold it.
+// An acquisition that waits has variables of its own, so that one that meets nobody stays in registers.
 #[inline(always)]
 fn wait_apart<S: Logged, L: Lock<S>, R: Wait>(lock: &L, rt: &R, walk: L::Walk) -> L::Walk
     requires { (L.walking walk).lock ≡ L.id lock.now }
@@ -87,9 +87,9 @@ fn wait_apart<S: Logged, L: Lock<S>, R: Wait>(lock: &L, rt: &R, walk: L::Walk) -
     waited
 }
 
-// Step by step. After a step that left the walk where it was it backoff, longer each time, and after some backoff it takes a sleep_apart; once the
-// walk has moved, or been asleep, it begins anew. It never yields: beside a busy thread a yield costs that thread's whole slice.
-// It stands apart, so that the way of an entry that meets nobody has no more than that needs.
+// Goes step by step. After a step that did not bring it further it backs off, longer each time, and after some of these it sleeps. Once
+// it got further, or slept, backoff begins again with the shortest. It never yields: beside a busy thread a yield costs that thread's
+// whole time slice. It is outlined, so that an acquisition that meets nobody has only the code that it needs.
 #[inline(never)]
 fn wait_in<S: Logged, L: Lock<S>, R: Wait>(lock: &L, rt: &R, mut walk: L::Walk) -> L::Walk
     requires { (L.walking walk).lock ≡ L.id lock.now }
@@ -113,14 +113,14 @@ fn wait_in<S: Logged, L: Lock<S>, R: Wait>(lock: &L, rt: &R, mut walk: L::Walk) 
             backoff = Backoff::new();
             paused = 0;
         } else {
-            backoff.pause(lock.futex_words());
+            backoff.back_off(lock.futex_words());
             paused += 1;
         }
     }
     unreachable!()
 }
 
-// Announces that it sleeps, takes the next step, and sleeps until it is woken where that has not moved the walk.
+// Announces that it sleeps, takes the next step, and sleeps until it is woken if the step did not bring it further.
 fn sleep_apart<S: Logged, L: Lock<S>, R: Wait>(lock: &L, rt: &R, walk: L::Walk) -> (L::Walk, bool)
     requires lock { (L.walking walk).lock ≡ L.id lock.now }
     requires outside { L.is_in walk ≡ false }
@@ -137,7 +137,7 @@ fn sleep_apart<S: Logged, L: Lock<S>, R: Wait>(lock: &L, rt: &R, walk: L::Walk) 
     (walk, has_moved)
 }
 
-// The next step, where the walk has not come in.
+// The next step, unless the lock is acquired.
 #[inline(always)]
 fn next<S: Logged, L: Lock<S>>(lock: &L, walk: L::Walk) -> L::Walk
     requires { (L.walking walk).lock ≡ L.id lock.now }

@@ -7,8 +7,8 @@ ghost use Rattle.fast_mutex.specs.Word.{lock_id, made_with};
 ghost use Rattle.fast_mutex.specs.Fast.{is_inside, ticket_of, stay_of, accesses_of};
 ghost use Rattle.fast_mutex.specs.declared.lock.Path.TheVariants.{Fast};
 
-use crate::futex_words::FutexWords;
 use crate::fast::{FastInside, FastMutex, FastSeat, Walk};
+use crate::futex_words::FutexWords;
 use crate::lock::{Lock, Look, Missing, Path};
 use crate::logged::Logged;
 use lamport_core::At;

@@ -1,23 +1,23 @@
-//! The words that threads sleep on. They are no words of a lock, and nothing is proved of them: a sleep has an end of its own, so
-//! who misses a wake is late and not lost.
+//! The futex words on which threads sleep. The lock's algorithm never reads them, and nothing is proved of them: every sleep ends by
+//! itself, so a thread that misses a wake-up is late, not lost.
 use std::alloc::{AllocError, Global};
 use std::sync::Wait;
 use std::sync::atomic::AtomicU64;
 use std::sync::atomic::Ordering::SeqCst;
 use std::time::Duration;
 
-// The futex_words of a lock for the most processes, that of y, of each flag b[j], and of the answer of each process, and behind them the misses
-// of each process. Then a word that stays as it is, with fifteen on either side of it that nobody touches: who backoff loads it again and
-// again, and would take what lies beside it, also what the allocator put behind these words, out of the cache of the one inside.
+// Enough for the most processes: the futex word of y, one for each flag b[j], one for the answer to each process, and then the misses of
+// each process. Behind them is a word that never changes, with fifteen unused words on either side. A thread that backs off loads it again
+// and again. Without the unused words it would take its neighbours, or what the allocator puts next, out of the cache of the lock's holder.
 const WORDS: u32 = 128;
 
-const STILL: usize = 112;
+const UNCHANGED: usize = 112;
 
-// How long a walk sleeps at the most before it takes its next step anyway, in milliseconds.
+// The longest sleep of a thread that waits for the lock, in milliseconds. Then it takes its next step anyway.
 const LONGEST_SLEEP: u64 = 10;
 
-// How often a process looks for its answer before it sleeps, and how often where it doubts that this is worth it: where of its last looks
-// one in four or more was in vain. It doubts for so many waits, and then tries again.
+// Adaptive spinning. A process polls for its answer some seven times before it sleeps, or once if at least one in four of its recent waits
+// missed, that is, no poll found the answer. It polls once for the next 64 waits, and then tries seven times again.
 const LONG_POLLS: u32 = 7;
 
 const SHORT_POLLS: u32 = 1;
@@ -28,12 +28,13 @@ const FOR_A_MISS: u64 = 3;
 
 const WAITS_WITH_FEW_POLLS: u64 = 64;
 
-/// FutexWords, each a word that is 1 where somebody may sleep on it. Who is about to sleep announces it, looks once more at what it waits
-/// for, and sleeps while the word is 1; who changes that rings. All are sequentially consistent.
+/// Futex words. Each is 1 if a thread may sleep on it. A thread that is about to sleep stores 1, checks once more what it waits for, and
+/// sleeps while the word is 1. A thread that changes what others wait for stores 0 and wakes one. All accesses are sequentially
+/// consistent.
 #[derive(Drop)]
 pub struct FutexWords {
     words: Vec<AtomicU64>,
-    // how many walks sleep, or are about to
+    // how many threads that wait for the lock sleep, or are about to
     sleepers: AtomicU64,
 }
 
@@ -49,17 +50,17 @@ impl FutexWords {
         })
     }
 
-    /// The futex_word of y.
+    /// The futex word of y.
     pub(crate) fn of_y() -> u32 {
         0
     }
 
-    /// The futex_word of the flag b[process].
+    /// The futex word of the flag b[process].
     pub(crate) fn of_flag(process: u32) -> u32 {
         process
     }
 
-    // The futex_word of the answer of a process.
+    // The futex word of the answer to a process.
     fn of_answer(process: u32) -> u32 {
         process.saturating_add(32)
     }
@@ -70,14 +71,14 @@ impl FutexWords {
         }
     }
 
-    // Sleeps where it was announced, until the futex_word rings, and no longer than that.
+    // Sleeps while the announced futex word is 1, for `at_most` at the longest.
     fn sleep<R: Wait>(&self, rt: &R, futex_word: u32, at_most: Duration) {
         if let Some(word) = self.words.get(futex_word as usize) {
             word.park_timeout(rt, 1, at_most);
         }
     }
 
-    // Wakes one that sleeps on this futex_word, where that was announced.
+    // Wakes one thread that announced that it sleeps on this futex word.
     fn wake(&self, futex_word: u32) {
         if let Some(word) = self.words.get(futex_word as usize)
             && word.load(SeqCst) == 1
@@ -87,20 +88,20 @@ impl FutexWords {
         }
     }
 
-    /// Says that a walk may sleep on this futex_word, and wakes one that sleeps until it has lowered its own flag.
+    /// Announces a sleep on this futex word, and wakes one thread that sleeps until this one lowers its own flag.
     pub(crate) fn announce_sleep(&self, futex_word: u32, own: u32) {
         self.wake(own);
         self.sleepers.fetch_add(1, SeqCst);
         self.set(futex_word, 1);
     }
 
-    /// Sleeps until the futex_word rings, where its last look was in vain.
+    /// Sleeps until another thread wakes it, if its last step did not bring it further.
     pub(crate) fn sleep_until_free<R: Wait>(&self, rt: &R, futex_word: u32) {
         self.sleep(rt, futex_word, Duration::from_millis(LONGEST_SLEEP));
     }
 
-    /// Ends what was announced. Who was woken so announces for those that still sleep, and the next departure wakes the next. Nobody may
-    /// come to lower a flag again, so who slept on its futex_word wakes the next there.
+    /// Ends an announced sleep. The thread that was woken announces for those that still sleep, and the next release wakes the next one.
+    /// Perhaps no other thread lowers that flag again, so a thread that slept on a flag's word wakes the next one there itself.
     pub(crate) fn end_sleep(&self, futex_word: u32) {
         if self.sleepers.fetch_sub(1, SeqCst) != 1 {
             self.set(futex_word, 1);
@@ -110,22 +111,23 @@ impl FutexWords {
         }
     }
 
-    /// Says that a process may sleep until it is answered.
+    /// Announces that a process may sleep until it is answered.
     pub(crate) fn announce_wait(&self, process: u32) {
         self.set(FutexWords::of_answer(process), 1);
     }
 
-    /// Sleeps until the process is answered, where its last look was in vain, and no longer than that.
+    /// Sleeps until the process is answered, if its last poll found no answer, for `at_most` at the longest.
     pub(crate) fn sleep_until_answered<R: Wait>(&self, rt: &R, process: u32, at_most: Duration) {
         self.sleep(rt, FutexWords::of_answer(process), at_most);
     }
 
-    /// Takes back that the process may sleep.
+    /// Takes the announcement back.
     pub(crate) fn end_wait(&self, process: u32) {
         self.set(FutexWords::of_answer(process), 0);
     }
 
-    /// Wakes one that sleeps until this process has left, and those whose waits it answered. Where nobody sleeps this is one load.
+    /// Wakes one thread that sleeps until this process releases the lock, and those whose waits it answered. If nobody sleeps, it is one
+    /// load.
     #[inline(always)]
     pub(crate) fn wake_after(&self, process: u32, answered: u32) {
         if self.sleepers.load(SeqCst) != 0 {
@@ -136,7 +138,7 @@ impl FutexWords {
         }
     }
 
-    // Apart, as the next, so that a departure that wakes nobody is short.
+    // Outlined, as the next function is, so that a release that wakes nobody is short.
     #[cold]
     #[inline(never)]
     fn wake_walks(&self, process: u32) {
@@ -144,7 +146,7 @@ impl FutexWords {
         self.wake(FutexWords::of_flag(process));
     }
 
-    // Wakes the processes whose bits are set, that of process p by bit p - 1, where they sleep until they are answered.
+    // Wakes the processes that sleep until they are answered and whose bits are set: bit p - 1 stands for process p.
     #[cold]
     #[inline(never)]
     fn wake_answered(&self, answered: u32) {
@@ -157,17 +159,17 @@ impl FutexWords {
         }
     }
 
-    /// Passes the time of so many loads. A loop that only says that it spins does nothing here, and is left out by the compiler.
+    /// Takes the time of a number of loads. The compiler leaves out a loop that only says that it spins.
     pub(crate) fn load_again(&self, loads: u32) {
-        if let Some(word) = self.words.get(STILL) {
+        if let Some(word) = self.words.get(UNCHANGED) {
             for _ in 0..loads {
                 let _ = word.load(SeqCst);
             }
         }
     }
 
-    /// How often a process looks for its answer before it sleeps.
-    pub(crate) fn looks(&self, process: u32) -> u32 {
+    /// How often a process polls for its answer before it sleeps.
+    pub(crate) fn polls(&self, process: u32) -> u32 {
         if self.misses(process) < MOST_MISSES {
             LONG_POLLS
         } else {
@@ -175,7 +177,7 @@ impl FutexWords {
         }
     }
 
-    /// What the process learns from these looks: whether one was true.
+    /// Updates the misses of a process after its polls: whether one found the answer.
     pub(crate) fn learn(&self, process: u32, was_answered: bool) {
         let misses = self.misses(process);
         let next = if misses >= MOST_MISSES + WAITS_WITH_FEW_POLLS {
@@ -203,9 +205,9 @@ impl FutexWords {
         }
     }
 
-    /// The first of the 65 futex_words, for those who sleep on them outside of Rattle: that of y, then of each flag b[j], then of the answer of
-    /// each process. A thread sleeps while its word is 1, which it stores before its last look, and is woken by who stores 0. They stay
-    /// where they are as long as the lock is there.
+    /// The address of the first of the 65 futex words, for threads that sleep on them outside Rattle: that of y, then one for each flag
+    /// b[j], then one for the answer to each process. A thread stores 1, checks once more, and sleeps while the word is 1. The thread that
+    /// stores 0 wakes it. The words stay at their addresses as long as the lock lives.
     pub fn address(&self) -> Option<*const u64> {
         match self.words.first() {
             Some(word) => Some(word.as_ptr() as *const u64),

@@ -2,21 +2,21 @@
 #![tactic(auto)]
 
 mod await_answer;
-mod futex_words;
+mod backoff;
 mod enter;
 mod fast;
 mod fast_lock;
+mod futex_words;
 mod lock;
 mod logged;
-mod backoff;
 mod seats;
 mod slot;
 mod word;
 
 pub use await_answer::AwaitAnswer;
-pub use futex_words::FutexWords;
 pub use enter::{Enter, FAST_PATH_STEPS};
 pub use fast::{FastInside, FastMutex, FastSeat, Walk};
+pub use futex_words::FutexWords;
 pub use lock::{Lock, Look, Missing, Path};
 pub use logged::Logged;
 pub use word::{WordInside, WordLock, WordSeat, WordWalk};

@@ -437,7 +437,12 @@ impl Heuristic {
     }
 
     // A message is to be sent before one whose send may come after it, so that there is room.
-    fn room_behind(&self, messages: &[(u32, Numbered)], task: &Task, limit: u64) -> Option<LearnedConstraint> {
+    fn room_behind(
+        &self,
+        messages: &[(u32, Numbered)],
+        task: &Task,
+        limit: u64,
+    ) -> Option<LearnedConstraint> {
         let mut best = None;
         let mut most = limit;
         for (_, number) in messages {

@@ -2,8 +2,8 @@
 use crate::places::Names;
 use histories::operation::{Operation, Outcome};
 use mq_model::entries::Call;
-use mq_model::faults::Fault;
 use mq_model::error_order::attributes_given;
+use mq_model::faults::Fault;
 use std::alloc::{AllocError, Global};
 
 /// What an operation needs of its queue, and what it does to it.

@@ -15,7 +15,7 @@ pub enum JournalFault {
     BadLine(u64),
     /// A read failed, whatever its error: an interrupted one too, which is not tried again.
     Input,
-    /// A allocation was refused.
+    /// An allocation was refused.
     NoMemory,
 }
 

@@ -23,8 +23,8 @@ use crate::parts::{
 };
 use crate::places::{Kind, ordered};
 use mq_model::entries::Attr;
-use mq_model::journals::Journal;
 use mq_model::error_order::{DEFAULT_ATTRIBUTES, attributes_given};
+use mq_model::journals::Journal;
 use std::alloc::{AllocError, Global};
 
 // Adds what is written of a kind, of the record at a place.

@@ -49,7 +49,7 @@ impl<L: Look<Guarded>> Acquisition<L> {
         self.number
     }
 
-    /// Which of the futex_words it sleeps on, outside of Rattle, where steps do not take it inside (see [`Mq::futex_words`]).
+    /// Which of the futex words it sleeps on, outside of Rattle, where steps do not take it inside (see [`Mq::futex_words`]).
     pub fn futex_word(&self) -> u32 {
         L::futex_word(&self.walk)
     }

@@ -10,16 +10,16 @@ mod guard;
 mod guarded;
 mod judging;
 mod monotonic;
-mod sleep_times;
 mod process;
 mod returned;
+mod sleep_times;
 mod stays;
 mod system;
 
 pub use acquisition::Acquisition;
-pub use guard::Guard;
 use fast_mutex::FastMutex;
 pub use fast_mutex::Missing;
+pub use guard::Guard;
 pub use guarded::{Guarded, LoggedRecord};
 pub use judging::verdict;
 pub use monotonic::Monotonic;
@@ -36,9 +36,9 @@ pub use mq_model::names::Name;
 pub use mq_state::collected::Collected;
 pub use mq_state::memory::memory_of;
 pub use mq_state::replay::{Cause, Departure, replay};
-pub use sleep_times::SleepTimes;
 pub use process::Process;
 pub use returned::Returned;
+pub use sleep_times::SleepTimes;
 pub use system::Mq;
 
 /// The system over Lamport's lock.

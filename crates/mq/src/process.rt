@@ -127,7 +127,7 @@ impl<L: Look<Guarded>> Process<L> {
         }
     }
 
-    /// Which of the futex_words it sleeps on, outside of Rattle, until its wait is answered (see [`Mq::futex_words`]).
+    /// Which of the futex words it sleeps on, outside of Rattle, until its wait is answered (see [`Mq::futex_words`]).
     pub fn futex_word(&self) -> u32 {
         self.number().saturating_add(32)
     }

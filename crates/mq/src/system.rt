@@ -113,7 +113,7 @@ impl<L: Look<Guarded>> Mq<L> {
     }
 
     /// The queues of n processes, none yet, and the processes 1 to n in order, each of which has left the empty journal.
-    /// `Invalid` where n is not from 1 to 32, else `NoMemory` where a allocation was refused.
+    /// `Invalid` where n is not from 1 to 32, else `NoMemory` where an allocation was refused.
     pub fn new(alloc: Global, n: u32) -> Result<(Mq<L>, Vec<Process<L>>), Fault>
         ensures invalid { ((1 ≤ n) × (n ≤ 32)) ⊎ (result ≡ Err Invalid) }
         ensures faults { IfErr result (λ e. (e ≡ NoMemory) ⊎

@@ -10,9 +10,9 @@ use crate::expected::reply_to;
 use crate::tables;
 use crate::tables::Tables;
 use mq_model::entries::Call;
+use mq_model::error_order::is_over;
 use mq_model::forms::{is_payload, is_process};
 use mq_model::journals::Journal;
-use mq_model::error_order::is_over;
 use mq_model::replies::is_same;
 
 fn may_call(journal: &Journal, k: u64, tables: &Tables, p: u32, call: Call) -> bool

@@ -17,9 +17,9 @@ use crate::scan_notices::{next_notice, registered};
 use crate::tables;
 use crate::tables::Tables;
 use mq_model::entries::{Attr, Call, Description, OpenFlags, Reply};
-use mq_model::journals::Journal;
 use mq_model::error_order;
 use mq_model::error_order::{NotifyFacts, OpenFacts, ReceiveFacts, SendFacts, StatusFacts};
+use mq_model::journals::Journal;
 use mq_model::owners::WaitKind;
 
 // How many queues exist, which counts where the name of an open is not bound.

@@ -10,8 +10,8 @@ ghost use Rattle.mq_checker.specs.CheckerTables.{TablesMirror};
 
 use crate::tables::{Tables, is_held};
 use mq_model::entries::{Attr, Call, Description, Entry, Reply};
-use mq_model::journals::Journal;
 use mq_model::error_order::{DEFAULT_ATTRIBUTES, attributes_given};
+use mq_model::journals::Journal;
 
 /// The entry at a place, of which only what the caller reads is made.
 #[inline(always)]

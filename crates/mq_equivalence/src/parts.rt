@@ -17,8 +17,8 @@ use crate::standing::{Kind, standing};
 use mq_checker::scan_names::{entry_at, held};
 use mq_checker::scan_notices::registered;
 use mq_model::entries::{Access, Attr, Deadline, Description, Entry, Registration, Reply};
-use mq_model::journals::Journal;
 use mq_model::error_order::{DEFAULT_ATTRIBUTES, attributes_given};
+use mq_model::journals::Journal;
 use std::alloc::{AllocError, Global};
 use std::cmp;
 

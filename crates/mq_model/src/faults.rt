@@ -28,7 +28,7 @@ pub enum Fault {
     NoEntry,
     /// 64 queues exist.
     NoSpace,
-    /// A allocation was refused. Nothing has changed.
+    /// An allocation was refused. Nothing has changed.
     NoMemory,
     /// The call would wait, and its deadline has passed; or the deadline passed while it waited.
     TimedOut,

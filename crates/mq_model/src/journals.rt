@@ -86,7 +86,7 @@ impl Journal {
         })
     }
 
-    /// Makes room for that many more entries and payload bytes. It fails only where a allocation was refused, and then loses no
+    /// Makes room for that many more entries and payload bytes. It fails only where an allocation was refused, and then loses no
     /// room. Where there is room for the bytes, none is made.
     #[inline(always)]
     pub fn reserve(&mut self, entries: usize, bytes: usize) -> Result<(), AllocError>

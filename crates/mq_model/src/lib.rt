@@ -4,10 +4,10 @@
 pub mod bounds;
 pub mod clock;
 pub mod entries;
+pub mod error_order;
 pub mod faults;
 pub mod forms;
 pub mod journals;
-pub mod error_order;
 pub mod limits;
 pub mod names;
 pub mod owners;

@@ -2,7 +2,7 @@
 //!
 //! Each call is made by a process p from 1 to n that has no open wait, appends exactly one entry, the call with the reply
 //! that the definitions give, and returns that reply. A call that replies `Refused(NoMemory)` or `Refused(JournalFull)` has no
-//! entry and changes nothing. The first comes only where a allocation was refused, and never with bounds; the second only with bounds, and
+//! entry and changes nothing. The first comes only where an allocation was refused, and never with bounds; the second only with bounds, and
 //! exactly where the call finds the journal full.
 ghost use Rattle.std.specs.Prelude.{◌≡◌, ◌≢◌, ◌<◌, ◌≤◌, IfOk, IfErr, IfSome, IsSome, IsTrue, ◌↔◌, Some, None, length, [], All, true, false, ◌&&◌, is_none};
 ghost use Rattle.mq_model.specs.Deadlines.{is_over};

@@ -10,7 +10,7 @@ use Rattle.script_orders.specs.Stage.{fresh}
 use Rattle.script_orders.specs.declared.plan.Planned.{Planned}
 use Rattle.script_runner.specs.Runs.{NoneWaits}
 use Rattle.script_text.specs.Script.{WrittenCall}
-use Rattle.script_laws.proofs.Allocation.{AllLeft}
+use Rattle.script_laws.proofs.Growth.{AllLeft}
 use Rattle.script_laws.proofs.Sitting.{AllSit}
 
 abbrev shown : Vec Planned Global → List Plan

@@ -14,7 +14,7 @@ pub mod Joins
 pub mod Courses
 pub mod Runners
 pub mod Weaving
-pub mod Allocation
+pub mod Growth
 pub mod Sitting
 pub mod Resting
 pub mod Beginning

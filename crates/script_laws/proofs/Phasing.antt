@@ -21,7 +21,7 @@ use Rattle.script_runner.specs.Runs.{NoneWaits, RunsAfter, RunsPhases, RunsWhole
 use Rattle.script_text.specs.Script.{Whole, WrittenCall}
 use Rattle.script_laws.specs.RunLaws.{AreAmplePhases, AreFound, AreTold, AreToldBefore, IsAmple, IsAmpleAfter, phase_replies, phase_told, replies_after, whole_replies}
 use Rattle.script_laws.proofs.Beginning.{all-begin, all-left-with, count-from, in-order}
-use Rattle.script_laws.proofs.Allocation.{AllLeft, AreEnds, IsEnd, all-grow, meeting, phase-grows, phases-end}
+use Rattle.script_laws.proofs.Growth.{AllLeft, AreEnds, IsEnd, all-grow, meeting, phase-grows, phases-end}
 use Rattle.script_laws.proofs.Joins.{all-left, all-right}
 use Rattle.script_laws.proofs.Resting.{AllThrough, next-begins, still, tells}
 use Rattle.script_laws.proofs.Runners.{AreOnCourse, Frame, Runner, ends_in, programs_in, seats_in, staged}

@@ -20,7 +20,7 @@ use Rattle.script_text.specs.declared.reply.Completion.{Completion}
 use Rattle.script_laws.specs.RunLaws.{HadMemory, IsAmplePhase}
 use Rattle.script_laws.proofs.Course.{AreLines, Course, Move}
 use Rattle.script_laws.proofs.Coursing.{came-through, course-of-calls, free-at-end}
-use Rattle.script_laws.proofs.Allocation.{AllLeft}
+use Rattle.script_laws.proofs.Growth.{AllLeft}
 use Rattle.script_laws.proofs.Moving.{IsAt}
 use Rattle.script_laws.proofs.Runners.{Runner, ends_in, programs_in, seats_in}
 

@@ -24,7 +24,7 @@ use Rattle.script_text.specs.declared.reply.Completion.{Completion}
 use Rattle.script_laws.specs.RunLaws.{AreFound}
 use Rattle.script_laws.specs.StandLaws.{AreAmpleEnds, ComesToStand, IsAmpleEnd, IsAmpleStop, Stands, replies_before, stand_told}
 use Rattle.script_laws.proofs.Course.{Move}
-use Rattle.script_laws.proofs.Allocation.{AllGrown, AllLeft, AreEnds, IsEnd, by-calls, all-grow, calls-grow, end-then, meeting, phase-ends}
+use Rattle.script_laws.proofs.Growth.{AllGrown, AllLeft, AreEnds, IsEnd, by-calls, all-grow, calls-grow, end-then, meeting, phase-ends}
 use Rattle.script_laws.proofs.Halting.{one-halts, waits-by}
 use Rattle.script_laws.proofs.Halted.{Rests, halted-course, halted-still, halted-tells}
 use Rattle.script_laws.proofs.Phasing.{Reached, all-of, frame_of, new-reached, phase-runs, phases-told, told-found, then-after}

@@ -40,7 +40,7 @@ use text_io::output::write_all;
 /// process that has calls makes them in a thread of its own, and meets the gate before each.
 /// `RunFault::BadCall`: a line of the script is at fault, and this is the first one. `RunFault::Input`: a read failed, and
 /// nothing is written. `RunFault::Output`: a write failed; the replies of the phases before are written, and of what it was to
-/// write a front part. `RunFault::NoMemory`: a allocation outside a call, or a thread, was refused; the replies of the phases before
+/// write a front part. `RunFault::NoMemory`: an allocation outside a call, or a thread, was refused; the replies of the phases before
 /// are written, and nothing of that phase.
 /// `RunFault::Deadlock`: in a phase all processes that are not through with their calls wait, and nothing answers these waits; the replies
 /// of the phases before are written, and nothing of that phase.

@@ -12,7 +12,7 @@ use std::alloc::{AllocError, Global};
 use std::sync::Wait;
 
 /// The workers, where all are through with their calls. `Stop::Stuck`: some wait for ever, in the calls of these lines.
-/// `Stop::NoMemory`: a allocation was refused.
+/// `Stop::NoMemory`: an allocation was refused.
 pub fn settled<L: Look<Guarded>, R: Wait>(
     rt: &R,
     alloc: Global,

@@ -12,7 +12,7 @@ ghost use Rattle.script_text.specs.declared.reply.Outcome.TheVariants as outcome
 
 use crate::peers::{Peer, calling};
 use fast_mutex::Look;
-use mq::{Collected, Guarded, Mq, SleepTimes, Process};
+use mq::{Collected, Guarded, Mq, Process, SleepTimes};
 use mq_model::entries::Call;
 use script_text::reply::Outcome;
 use std::sync::Wait;

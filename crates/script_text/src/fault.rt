@@ -12,7 +12,7 @@ use std::fmt;
 pub enum ScriptFault {
     /// The script is at fault in this line, counted from 1.
     BadCall(u64),
-    /// A allocation was refused.
+    /// An allocation was refused.
     NoMemory,
 }
 

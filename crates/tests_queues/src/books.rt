@@ -178,7 +178,7 @@ fn state_of(books: &Books) -> u64 {
     }
 }
 
-// What came of it. Where a allocation was refused, the journal and the buffer are as before, and the same is asked once more.
+// What came of it. Where an allocation was refused, the journal and the buffer are as before, and the same is asked once more.
 fn asked<A: Abort + Print>(
     rt: &A,
     trial: &mut Trial,

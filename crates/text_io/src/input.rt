@@ -14,7 +14,7 @@ use std::io::Read;
 pub enum ReadFault {
     /// A read failed, whatever its error: an interrupted one too, which is not tried again.
     Failed,
-    /// A allocation was refused.
+    /// An allocation was refused.
     NoMemory,
 }
 

@@ -42,12 +42,7 @@ impl<L: Look<Guarded>> Process<L> {
     {
         let len = bytes.len() as u64;
         let call = Call::MqSend { d, prio, len };
-        in_one_stay!(
-            self,
-            rt,
-            mq,
-            |guard| guard.make(mq, call, bytes, &mut [])
-        )
+        in_one_stay!(self, rt, mq, |guard| guard.make(mq, call, bytes, &mut []))
     }
 
     /// Receives the oldest message of the highest priority into the front of the buffer, or begins to wait for one: `None`, and
@@ -171,12 +166,7 @@ impl<L: Look<Guarded>> Process<L> {
     {
         let len = bytes.len() as u64;
         let call = Call::MqSend { d, prio, len };
-        let sent = in_one_stay!(
-            self,
-            rt,
-            mq,
-            |guard| guard.make(mq, call, bytes, &mut [])
-        );
+        let sent = in_one_stay!(self, rt, mq, |guard| guard.make(mq, call, bytes, &mut []));
         match sent {
             Ok(true) => Ok(()),
             Ok(false) => {

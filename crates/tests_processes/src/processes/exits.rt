@@ -64,7 +64,7 @@ fn closed<L: Look<Guarded>, R: Wait + Clock + Abort + Print>(
     first
 }
 
-// An exit closes all. Where a allocation is refused it has closed the lower ones alone, and the next exit closes the others.
+// An exit closes all. Where an allocation is refused it has closed the lower ones alone, and the next exit closes the others.
 fn expect_exit<L: Look<Guarded>, R: Wait + Clock + Abort + Print>(
     rt: &R,
     mq: &Mq<L>,

@@ -197,7 +197,7 @@ pub fn asked_once<L: Look<Guarded>, R: Wait + Clock>(
     }
 }
 
-/// What a process is told. Where a allocation was refused the buffer is as before, and it asks once more.
+/// What a process is told. Where an allocation was refused the buffer is as before, and it asks once more.
 pub fn asked<L: Look<Guarded>, R: Wait + Clock + Print>(
     rt: &R,
     mq: &Mq<L>,

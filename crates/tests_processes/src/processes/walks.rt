@@ -40,7 +40,7 @@ fn opens<L: Look<Guarded>, A: Abort>(rt: &A, mq: &Mq<L>, guard: Guard<L>) -> (Pr
     (process, opened == Err(Fault::NoMemory))
 }
 
-// The process that has opened a queue. A allocation may be refused from outside.
+// The process that has opened a queue. An allocation may be refused from outside.
 fn opened<L: Look<Guarded>, R: Abort + Print>(rt: &R, mq: &Mq<L>, guard: Guard<L>) -> Process<L>
     requires made { guard.process.lock ≡ mq.now }
     requires free { IsFree guard.process }
@@ -55,11 +55,7 @@ fn opened<L: Look<Guarded>, R: Abort + Print>(rt: &R, mq: &Mq<L>, guard: Guard<L
 }
 
 // The process comes in by its fifth step and not before.
-fn in_by_the_fifth<L: Look<Guarded>, A: Abort>(
-    rt: &A,
-    mq: &Mq<L>,
-    process: Process<L>,
-) -> Guard<L>
+fn in_by_the_fifth<L: Look<Guarded>, A: Abort>(rt: &A, mq: &Mq<L>, process: Process<L>) -> Guard<L>
     requires { process.lock ≡ mq.now }
     ensures { result.process ≡ process }
 {

@@ -21,7 +21,7 @@ use std::io::Print;
 use std::process::Abort;
 use tests_refusals::say_refused;
 
-// The queues of five processes that go on from a journal. If a allocation is refused, the journal comes back and is given once more.
+// The queues of five processes that go on from a journal. If an allocation is refused, the journal comes back and is given once more.
 pub(super) fn resume<A: Abort + Print>(rt: &A, alloc: Global, journal: Journal) -> Trial {
     let before = fingerprint(&journal);
     let books = match Books::resume(alloc, 5, journal) {
