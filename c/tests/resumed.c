@@ -11,7 +11,14 @@
 #include <pthread.h>
 #include <string.h>
 
-enum { PROCESSES = 5, MSGSIZE = 16, MESSAGES = 1000, ROUNDS = 20, MOST_NANOS = 2000000 };
+enum {
+    PROCESSES = 5,
+    MSGSIZE = 16,
+    MESSAGES = 1000,
+    ROUNDS = 20,
+    MOST_NANOS = 2000000,
+    ROOM = 1000
+};
 
 typedef uint32_t resumes(yak_process *processes, size_t count, const uint8_t *journal, size_t len,
                          uint64_t *line);
@@ -104,6 +111,21 @@ static uint32_t resume(resumes *by, journal from, size_t count, uint64_t *line)
     return by(processes, count, (const uint8_t *)from.text, from.len, line);
 }
 
+/* With bounds that leave room. */
+static uint32_t resume_bounded(yak_process *first, size_t count, const uint8_t *text, size_t len,
+                               uint64_t *line)
+{
+    return yak_resume_bounded(first, count, ROOM, ROOM, text, len, line);
+}
+
+static uint64_t lines_of(journal from)
+{
+    uint64_t lines = 0;
+    for (size_t i = 0; i < from.len; ++i)
+        lines += from.text[i] == '\n';
+    return lines;
+}
+
 /* ---- what goes on ---- */
 
 /* A queue without a name has a message, process 2 a gap before its descriptor and a notice, 3 and 4
@@ -181,12 +203,11 @@ static void rest_is_there(void)
 /* All goes on after the journal, the first time with an answered wait. */
 static void all_goes_on(resumes *by, journal from)
 {
-    uint64_t line = 77, entries = 0;
+    const uint64_t entries = lines_of(from);
+    uint64_t line = 77;
     yak_message message;
     journal collected;
     uint8_t none[1];
-    for (size_t i = 0; i < from.len; ++i)
-        entries += from.text[i] == '\n';
     WANT(resume(by, from, PROCESSES, &line) == YAK_DONE && line == 77);
     WANT(yak_answered(&processes[4]) == YAK_DONE);
     WANT(yak_collect(&processes[4], none, 0, &message) == YAK_DONE);
@@ -194,7 +215,7 @@ static void all_goes_on(resumes *by, journal from)
     finish();
     WANT(collected.len > from.len && memcmp(collected.text, from.text, from.len) == 0);
     WANT(resume(by, collected, PROCESSES, &line) == YAK_DONE && line == 77);
-    if (by == yak_resume) {
+    if (by != yak_resume_short) {
         size_t len;
         uint8_t text[128];
         WANT(yak_entry(&processes[0], entries, text, sizeof text, &len) == YAK_DONE);
@@ -236,9 +257,8 @@ static void text_is_refused(resumes *by, const char *text, uint32_t answer, uint
 static void journals_are_refused(resumes *by, journal from)
 {
     const journal cut = {.text = from.text, .len = from.len - 1};
-    uint64_t entries = 0, line = 77;
-    for (size_t i = 0; i < from.len; ++i)
-        entries += from.text[i] == '\n';
+    const uint64_t entries = lines_of(from);
+    uint64_t line = 77;
     text_is_refused(by, "\n", YAK_BAD_LINE, 1);
     text_is_refused(by, "0 1 unlink \"/q\" -> ENOENT\n1 1 unlink -> ENOENT", YAK_BAD_LINE, 2);
     text_is_refused(by, "0 1 close 0 -> ok\n", YAK_ILLEGAL, 1);
@@ -263,6 +283,43 @@ static void memory_is_refused(resumes *by, journal from)
     }
     left = -1;
     WANT(refused > 10);
+    finish();
+}
+
+/* ---- bounds ---- */
+
+static uint32_t resume_within(journal from, uint64_t entries, uint64_t bytes)
+{
+    uint64_t line = 77;
+    const uint32_t answer = yak_resume_bounded(processes, PROCESSES, entries, bytes,
+                                               (const uint8_t *)from.text, from.len, &line);
+    WANT(line == 77 && (answer == YAK_DONE || blocks == 0));
+    return answer;
+}
+
+/* The least bounds are the journal's payload bytes, and an entry more for each of its three open
+ * waits. With these each wait can end, nothing else is done, and no call takes memory. */
+static void bounds_hold(journal from)
+{
+    const uint64_t entries = lines_of(from) + 3;
+    yak_room_left room;
+    yak_message message;
+    uint8_t none[1];
+    uint64_t bytes;
+    WANT(resume_within(from, ROOM, ROOM) == YAK_DONE && yak_room(&processes[0], &room) == YAK_DONE);
+    WANT(room.entries == ROOM - entries && room.bytes < ROOM);
+    bytes = ROOM - room.bytes;
+    finish();
+    WANT(resume_within(from, entries - 1, bytes) == YAK_JOURNALFULL);
+    WANT(resume_within(from, entries, bytes - 1) == YAK_JOURNALFULL);
+    WANT(resume_within(from, entries, bytes) == YAK_DONE);
+    left = 0;
+    WANT(yak_room(&processes[0], &room) == YAK_DONE && room.entries == 0 && room.bytes == 0);
+    WANT(yak_close(&processes[0], 0) == YAK_JOURNALFULL);
+    WANT(yak_collect(&processes[4], none, 0, &message) == YAK_DONE);
+    WANT(yak_end_wait(&processes[3], none, 0, &message, &LATE) == YAK_SHORT);
+    WANT(yak_close(&processes[4], 0) == YAK_JOURNALFULL);
+    left = -1;
     finish();
 }
 
@@ -310,16 +367,17 @@ static void many_are_quick(bool tells)
 
 int main(int count, char **words)
 {
-    resumes *const ways[] = {yak_resume, yak_resume_short};
+    resumes *const ways[] = {yak_resume, yak_resume_short, resume_bounded};
     const journal from = begin();
     (void)words;
     finish();
-    for (int i = 0; i < 2; ++i) {
+    for (int i = 0; i < 3; ++i) {
         all_goes_on(ways[i], from);
         none_is_new(ways[i]);
         journals_are_refused(ways[i], from);
         memory_is_refused(ways[i], from);
     }
+    bounds_hold(from);
     many_are_quick(count > 1);
     free(from.text);
     puts("well");

@@ -176,8 +176,9 @@ pub enum ResumeError {
     Illegal(u64),
     /// The entry of this line is of a process above the number of processes.
     Foreign(u64),
-    /// The journal is not to blame: [`Invalid`](Error::Invalid) if there are not 1 to 32
-    /// processes, or [`NoMemory`](Error::NoMemory).
+    /// No line is to blame: [`JournalFull`](Error::JournalFull) if the journal is too long for the
+    /// bounds, [`Invalid`](Error::Invalid) if there are not 1 to 32 processes, or
+    /// [`NoMemory`](Error::NoMemory).
     Refused(Error),
 }
 

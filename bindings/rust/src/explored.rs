@@ -6,7 +6,9 @@
 //! turn when it can be made, or when its deadline passes.
 
 use crate::raw::machine::{self, Queue, NEVER_BLOCKS, TRY};
-use crate::raw::{self, answer, errno_of, Attributes, Message, Moment, Opening, RoomLeft, Storage};
+use crate::raw::{
+    self, answer, errno_of, Attributes, Kept, Message, Moment, Opening, RoomLeft, Storage,
+};
 use std::cell::RefCell;
 use std::collections::HashMap;
 use std::sync::atomic::{AtomicBool, Ordering};
@@ -133,9 +135,9 @@ impl Handle {
 
     /// As `of_system`, for a system that goes on from a journal. What it has is not told, so no
     /// exploration makes one.
-    pub fn resumed(count: usize, journal: &[u8], short: bool) -> Result<Vec<Handle>, (u32, u64)> {
+    pub fn resumed(count: usize, journal: &[u8], kept: Kept) -> Result<Vec<Handle>, (u32, u64)> {
         assert!(!machine::decides(), "a model resumes no system, and makes no journal short");
-        let handles = raw::Handle::resumed(count, journal, short)?;
+        let handles = raw::Handle::resumed(count, journal, kept)?;
         Ok(handles.into_iter().map(|raw| Handle { raw, told: None }).collect())
     }
 

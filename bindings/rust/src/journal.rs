@@ -2,7 +2,7 @@
 
 use crate::error::{Error, ResumeError};
 use crate::process::{done, OpenWait};
-use crate::raw::{answer, Moment};
+use crate::raw::{answer, Kept, Moment};
 use crate::system::MOST_PROCESSES;
 use crate::time::Limit;
 use crate::Handle;
@@ -67,7 +67,7 @@ impl Journal {
     /// # Errors
     /// The line that is to blame, if the journal is not legal; [`NoMemory`](Error::NoMemory).
     pub fn compacted(&self) -> Result<Journal, ResumeError> {
-        let handles = Handle::resumed(MOST_PROCESSES, self.0.as_bytes(), true)
+        let handles = Handle::resumed(MOST_PROCESSES, self.0.as_bytes(), Kept::Short)
             .map_err(|(answer, line)| ResumeError::of_answer(answer, line))?;
         let short = text_of(&handles[0]);
         Handle::finish(handles);

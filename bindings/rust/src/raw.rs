@@ -51,6 +51,18 @@ pub enum Storage {
     },
 }
 
+/// What a system that goes on from a journal stores of it.
+#[derive(Clone, Copy, Debug, PartialEq, Eq)]
+pub enum Kept {
+    Whole,
+    /// A short journal in its place.
+    Short,
+    Bounded {
+        entries: u64,
+        bytes: u64,
+    },
+}
+
 impl Storage {
     pub fn is_stored(self) -> bool {
         matches!(self, Storage::All | Storage::Bounded { .. })
@@ -141,6 +153,15 @@ extern "C" {
     fn yak_resume(
         processes: *mut Fields,
         count: usize,
+        journal: *const u8,
+        len: usize,
+        line: *mut u64,
+    ) -> u32;
+    fn yak_resume_bounded(
+        processes: *mut Fields,
+        count: usize,
+        entries: u64,
+        bytes: u64,
         journal: *const u8,
         len: usize,
         line: *mut u64,
@@ -284,14 +305,22 @@ impl Handle {
         }
     }
 
-    /// The same of a system that goes on from a journal, or from a short one in its place; beside
-    /// the number of the error the line that is to blame.
-    pub fn resumed(count: usize, journal: &[u8], short: bool) -> Result<Vec<Handle>, (u32, u64)> {
+    /// The same of a system that goes on from a journal; with the number of the error, the line that
+    /// is to blame.
+    pub fn resumed(count: usize, journal: &[u8], kept: Kept) -> Result<Vec<Handle>, (u32, u64)> {
         let (handles, first) = Handle::some(count);
-        let by = if short { yak_resume_short } else { yak_resume };
+        let (text, len) = (journal.as_ptr(), journal.len());
         let mut line = 0;
-        // SAFETY: as of `of_system`; `journal` has so many bytes, and `line` is borrowed.
-        let made = unsafe { by(first, count, journal.as_ptr(), journal.len(), &mut line) };
+        let made = match kept {
+            // SAFETY: as of `of_system`; the text has `len` bytes, and `line` is borrowed.
+            Kept::Whole => unsafe { yak_resume(first, count, text, len, &mut line) },
+            // SAFETY: the same.
+            Kept::Short => unsafe { yak_resume_short(first, count, text, len, &mut line) },
+            // SAFETY: the same.
+            Kept::Bounded { entries, bytes } => unsafe {
+                yak_resume_bounded(first, count, entries, bytes, text, len, &mut line)
+            },
+        };
         if made == answer::DONE {
             Ok(handles)
         } else {

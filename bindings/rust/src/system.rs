@@ -3,7 +3,7 @@
 use crate::error::{Error, ResumeError};
 use crate::journal::{Journal, Left};
 use crate::process::{refusal, Process};
-use crate::raw::{Moment, Storage};
+use crate::raw::{Kept, Moment, Storage};
 use crate::time::{moment_now, Clock, OwnClock};
 use crate::Handle;
 use std::fmt;
@@ -242,20 +242,35 @@ impl Builder {
     }
 
     /// As [`build`](Builder::build), for a system that goes on from a journal ([`System::resume`]),
-    /// with as many processes as were asked for. Its journal is stored, without bounds. The clock
-    /// should not be before the moments of the journal.
+    /// with as many processes as were asked for. Its journal is stored. Bounds
+    /// ([`bounded`](Builder::bounded)) hold for the whole journal. The clock should not be before
+    /// the moments of the journal.
+    ///
+    /// ```
+    /// use yakyrombe::{Error, Journal, ResumeError, System};
+    ///
+    /// let saved = Journal::from("0 1 unlink \"/q\" -> ENOENT\n");
+    /// assert!(System::builder().bounded(1, 2).resume(&saved).is_ok());
+    /// let refused = System::builder().bounded(1, 1).resume(&saved).unwrap_err();
+    /// assert_eq!(refused, ResumeError::Refused(Error::JournalFull));
+    /// ```
     ///
     /// # Errors
-    /// The line that is to blame; [`Invalid`](Error::Invalid) if there are not 1 to 32 processes;
-    /// [`NoMemory`](Error::NoMemory).
+    /// The line that is to blame; [`JournalFull`](Error::JournalFull) if the journal, with an entry
+    /// for the end of each open wait, is too long for the bounds; [`Invalid`](Error::Invalid) if
+    /// there are not 1 to 32 processes; [`NoMemory`](Error::NoMemory).
     pub fn resume(self, journal: &Journal) -> Result<(System, Vec<Process>), ResumeError> {
         if self.processes > MOST_PROCESSES {
             return Err(Error::Invalid.into());
         }
-        let handles = Handle::resumed(self.processes, journal.as_str().as_bytes(), false)
+        let (kept, storage) = match self.storage {
+            Storage::Bounded { entries, bytes } => (Kept::Bounded { entries, bytes }, self.storage),
+            _ => (Kept::Whole, Storage::All),
+        };
+        let handles = Handle::resumed(self.processes, journal.as_str().as_bytes(), kept)
             .map_err(|(answer, line)| ResumeError::of_answer(answer, line))?;
         let left = journal.left(self.processes);
-        Ok(self.journal(true).with(handles, left))
+        Ok(Builder { storage, ..self }.with(handles, left))
     }
 
     fn with(self, handles: Vec<Handle>, left: Vec<Left>) -> (System, Vec<Process>) {

@@ -9,6 +9,7 @@ ghost use Rattle.mq_equivalence.specs.Equivalence.{Equivalent};
 use c_handles::handle::Handle;
 use c_handles::numbers::{DONE, EMPTY};
 use c_handles::{resuming, system};
+use mq_model::bounds::Bounds;
 use std::alloc::Global;
 
 /// Makes a system with as many processes as there are handles, 1 to 32 of them and all empty, and puts its processes into them, in
@@ -62,10 +63,34 @@ pub extern "C" fn yak_resume(
     text: &[u8],
     line: &mut u64,
 ) -> u32
-    ensures { Resumes (λ written past. past ≡ written) text.now processes.old processes.new line.old
-        line.new result }
+    ensures { Resumes (λ written past. past ≡ written) None text.now processes.old processes.new
+        line.old line.new result }
 {
-    resuming::resume(alloc, processes, text, line)
+    resuming::resume(alloc, processes, None, text, line)
+}
+
+/// The same with bounds, as `yak_bounded`, which hold for the whole journal. Also `JOURNALFULL` if it is too long for them, with the entries
+/// that end its open waits.
+#[unsafe(no_mangle)]
+pub extern "C" fn yak_resume_bounded(
+    alloc: Global,
+    processes: &mut [Handle],
+    entries: u64,
+    bytes: u64,
+    text: &[u8],
+    line: &mut u64,
+) -> u32
+    ensures { Resumes (λ written past. past ≡ written)
+        (Some (record { entries = entries; bytes = bytes })) text.now processes.old processes.new
+        line.old line.new result }
+{
+    resuming::resume(
+        alloc,
+        processes,
+        Some(Bounds { entries, bytes }),
+        text,
+        line,
+    )
 }
 
 /// The same, with a short journal in place of this one, after which the queues reply alike. If a wait is answered and not collected, it
@@ -77,7 +102,8 @@ pub extern "C" fn yak_resume_short(
     text: &[u8],
     line: &mut u64,
 ) -> u32
-    ensures { Resumes Equivalent text.now processes.old processes.new line.old line.new result }
+    ensures { Resumes Equivalent None text.now processes.old processes.new line.old line.new
+        result }
 {
     resuming::resume_short(alloc, processes, text, line)
 }

@@ -1,7 +1,9 @@
 -- Systems that begin with a journal.
-use Rattle.std.specs.Prelude.{ℕ, ◌≡◌, ◌<◌, ◌+◌, ◌⊎◌, true, List, length, IfSome, None}
+use Rattle.std.specs.Prelude.{ℕ, ◌≡◌, ◌<◌, ◌+◌, ◌⊎◌, true, List, length, IfSome, Option}
 use Rattle.mq_model.specs.Record.{Past, record_at}
 use Rattle.mq_model.specs.Legality.{IsFirstIllegal}
+use Rattle.mq_model.specs.declared.bounds.Bounds.{Bounds}
+use Rattle.mq_state.specs.Replays.{is_too_long}
 use Rattle.journal_format.specs.Fitting.{AllFit}
 use Rattle.journal_format.specs.JournalFault.{StopsAt}
 use Rattle.journal_format.specs.Text.{journal_text}
@@ -36,22 +38,29 @@ pub record TextIsNoStart (n : ℕ) (text : List ℕ) (line code : ℕ) : Type 0 
   pub of_text : IsTextOf past text
   pub no_start : IsNoStart n past line code
 
--- why no system goes on from this text in these handles, with the line before and after: a line of it is not that of an entry, 29, or
--- another reason
-abbrev pub IsRefused : List ℕ → List Handle → ℕ → ℕ → ℕ → Type 0
-IsRefused text handles line after code =
-    (HasNoPlace handles code × (after ≡ line)) ⊎ ((code ≡ 11) × (after ≡ line)) ⊎ ((code ≡ 29) × StopsAt after text)
+-- the journal of a text, with the entries that end its open waits, exceeds the bounds
+pub record TextIsTooLong (bounds : Option Bounds) (text : List ℕ) : Type 0 where
+  pub past : Past
+  pub of_text : IsTextOf past text
+  pub too_long : is_too_long bounds past ≡ true
+
+-- why no system with these bounds goes on from this text in these handles, with the line before and after: memory was refused, 11, the
+-- journal is too long for the bounds, 13, a line of it is not that of an entry, 29, or another reason
+abbrev pub IsRefused : Option Bounds → List ℕ → List Handle → ℕ → ℕ → ℕ → Type 0
+IsRefused bounds text handles line after code =
+    (HasNoPlace handles code × (after ≡ line)) ⊎ ((code ≡ 11) × (after ≡ line))
+    ⊎ ((code ≡ 13) × (after ≡ line) × TextIsTooLong bounds text) ⊎ ((code ≡ 29) × StopsAt after text)
     ⊎ TextIsNoStart (length handles) text after code
 
--- a system was made that begins with a journal that is what this says of the one whose text it is
-pub record GoesOn (begins : Past → Past → Type 0) (text : List ℕ) (old new : List Handle) (code : ℕ) : Type 0 where
+-- a system with these bounds was made that begins with a journal that is what this says of the one whose text it is
+pub record GoesOn (begins : Past → Past → Type 0) (bounds : Option Bounds) (text : List ℕ) (old new : List Handle) (code : ℕ) : Type 0 where
   pub written : Past
   pub of_text : IsTextOf written text
   pub past : Past
   pub begun : begins written past
-  pub fills : Fills None true past old new code
+  pub fills : Fills bounds true past old new code
 
 -- the making of a system that begins so, with the line before and after
-abbrev pub Resumes : (Past → Past → Type 0) → List ℕ → List Handle → List Handle → ℕ → ℕ → ℕ → Type 0
-Resumes begins text old new line after code =
-    (GoesOn begins text old new code × (after ≡ line)) ⊎ (IsRefused text old line after code × (new ≡ old))
+abbrev pub Resumes : (Past → Past → Type 0) → Option Bounds → List ℕ → List Handle → List Handle → ℕ → ℕ → ℕ → Type 0
+Resumes begins bounds text old new line after code =
+    (GoesOn begins bounds text old new code × (after ≡ line)) ⊎ (IsRefused bounds text old line after code × (new ≡ old))

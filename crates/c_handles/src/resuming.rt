@@ -3,6 +3,7 @@ ghost use Rattle.std.specs.Prelude.{◌≡◌, ◌≤◌, ◌<◌, ◌⊎◌, tr
 ghost use Rattle.std.specs.List.{list_all};
 ghost use Rattle.mq_model.specs.Waits.{wait_deadline};
 ghost use Rattle.mq_equivalence.specs.Equivalence.{Equivalent};
+ghost use Rattle.mq_state.specs.Replays.{is_too_long};
 ghost use Rattle.c_handles.specs.Resumes.{IsNoStart, IsRefused, IsTextOf, Resumes};
 ghost use Rattle.c_handles.specs.Systems.{Fills, is_empty};
 
@@ -14,6 +15,7 @@ use journal_format::fault::JournalFault;
 use journal_format::text::read_journal;
 use mq::{Deadline, FastMq, Fault};
 use mq_equivalence::equivalence_is_reflexive;
+use mq_model::bounds::Bounds;
 use mq_model::journals::Journal;
 use mq_state::books::Books;
 use mq_state::replay::Misfit;
@@ -21,23 +23,30 @@ use mq_state::rewriting::Unwritten;
 use std::alloc::{AllocError, Global};
 
 /// Makes a system as [`new`](crate::system::new) that goes on from the journal whose text this is, as if its calls had been made on the
-/// system. If the journal is refused, the line is written that is the reason.
-pub fn resume(alloc: Global, processes: &mut [Handle], text: &[u8], line: &mut u64) -> u32
-    ensures { Resumes (λ written past. past ≡ written) text.now processes.old processes.new line.old
-        line.new result }
+/// system, within bounds if there are any. If the journal is refused, the line is written that is the reason.
+pub fn resume(
+    alloc: Global,
+    processes: &mut [Handle],
+    bounds: Option<Bounds>,
+    text: &[u8],
+    line: &mut u64,
+) -> u32
+    ensures { Resumes (λ written past. past ≡ written) bounds text.now processes.old processes.new
+        line.old line.new result }
 {
-    match begun(alloc, processes, text, line) {
+    match begun(alloc, processes, bounds, text, line) {
         Ok(books) => hand_over(alloc, books, processes),
         Err(code) => code,
     }
 }
 
-/// The same, with a short journal in place of this one, after which the queues reply alike. If a wait is answered and not collected, it
+/// The same without bounds, with a short journal in place of this one, after which the queues reply alike. If a wait is answered and not collected, it
 /// begins with the journal itself.
 pub fn resume_short(alloc: Global, processes: &mut [Handle], text: &[u8], line: &mut u64) -> u32
-    ensures { Resumes Equivalent text.now processes.old processes.new line.old line.new result }
+    ensures { Resumes Equivalent None text.now processes.old processes.new line.old line.new
+        result }
 {
-    match begun(alloc, processes, text, line) {
+    match begun(alloc, processes, None, text, line) {
         Ok(books) => match shortened(alloc, books) {
             Ok(books) => hand_over(alloc, books, processes),
             Err(_) => Fault::NoMemory.number(),
@@ -47,15 +56,21 @@ pub fn resume_short(alloc: Global, processes: &mut [Handle], text: &[u8], line: 
 }
 
 // The queues, for these handles, that go on from the journal whose text this is; or the number of why there are none.
-fn begun(alloc: Global, processes: &[Handle], text: &[u8], line: &mut u64) -> Result<Books, u32>
+fn begun(
+    alloc: Global,
+    processes: &[Handle],
+    bounds: Option<Bounds>,
+    text: &[u8],
+    line: &mut u64,
+) -> Result<Books, u32>
     ensures text { IfOk result (λ books. IsTextOf books.records text.now) }
     ensures count { IfOk result (λ books. (books.n ≡ length processes.now) × (1 ≤ books.n) ×
         (books.n ≤ 32)) }
-    ensures stored { IfOk result (λ books. (books.bounds ≡ None) × (books.stored ≡ true)) }
+    ensures stored { IfOk result (λ books. (books.bounds ≡ bounds) × (books.stored ≡ true)) }
     ensures empty { IfOk result (λ books. list_all is_empty processes.now ≡ true) }
     ensures same { IfOk result (λ books. line.new ≡ line.old) }
     ensures refused { IfErr result (λ code.
-        IsRefused text.now processes.now line.old line.new code) }
+        IsRefused bounds text.now processes.now line.old line.new code) }
 {
     let Some(n) = count_of(processes) else {
         return Err(Fault::Invalid.number());
@@ -64,7 +79,7 @@ fn begun(alloc: Global, processes: &[Handle], text: &[u8], line: &mut u64) -> Re
         return Err(FULL);
     }
     match read_journal(alloc, text) {
-        Ok(journal) => stocked(alloc, n, journal, line),
+        Ok(journal) => stocked(alloc, n, bounds, journal, line),
         Err(JournalFault::BadLine(bad)) => {
             *line = bad;
             Err(BAD_LINE)
@@ -75,16 +90,23 @@ fn begun(alloc: Global, processes: &[Handle], text: &[u8], line: &mut u64) -> Re
 }
 
 // The queues of n processes that go on from a journal; or the number of why there are none.
-fn stocked(alloc: Global, n: u32, journal: Journal, line: &mut u64) -> Result<Books, u32>
+fn stocked(
+    alloc: Global,
+    n: u32,
+    bounds: Option<Bounds>,
+    journal: Journal,
+    line: &mut u64,
+) -> Result<Books, u32>
     requires { (1 ≤ n) × (n ≤ 32) }
     ensures records { IfOk result (λ books. books.records ≡ journal.records) }
     ensures count { IfOk result (λ books. books.n ≡ n) }
-    ensures stored { IfOk result (λ books. (books.bounds ≡ None) × (books.stored ≡ true)) }
+    ensures stored { IfOk result (λ books. (books.bounds ≡ bounds) × (books.stored ≡ true)) }
     ensures same { IfOk result (λ books. line.new ≡ line.old) }
     ensures refused { IfErr result (λ code. ((code ≡ 11) × (line.new ≡ line.old)) ⊎
+        ((code ≡ 13) × (line.new ≡ line.old) × (is_too_long bounds journal.records ≡ true)) ⊎
         IsNoStart n journal.records line.new code) }
 {
-    match Books::resume(alloc, n, journal) {
+    match Books::resume_within(alloc, n, bounds, journal) {
         Ok(books) => Ok(books),
         Err(refused) => {
             let count = refused.journal.len();
@@ -100,6 +122,7 @@ fn stocked(alloc: Global, n: u32, journal: Journal, line: &mut u64) -> Result<Bo
                     *line = place + 1;
                     Err(FOREIGN)
                 }
+                Misfit::TooLong => Err(Fault::JournalFull.number()),
             }
         }
     }

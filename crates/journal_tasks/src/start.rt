@@ -63,6 +63,7 @@ pub fn start_after(
             Misfit::NoMemory => Err(AllocError),
             Misfit::Illegal(departure) => Ok(Err(NoStart::Illegal(departure.place))),
             Misfit::Foreign(place) => Ok(Err(NoStart::Foreign(place))),
+            Misfit::TooLong => unreachable!(),
         },
     }
 }

@@ -16,12 +16,16 @@ use Rattle.mq_model.proofs.OpenCount.{open_waits-counted}
 use Rattle.mq_model.specs.Owners.{waits_count}
 use Rattle.mq_state.specs.Pool.{IsPooled}
 use Rattle.mq_state.specs.Requests.{without_deadline, IsGiven}
-use Rattle.mq_state.specs.Kept.{HasRoomWithin, IsKeptBy, IsCalled, IsRoomRefused, HasEntryRoom}
+use Rattle.mq_state.specs.Tables.{AreAtMost}
+use Rattle.mq_state.specs.Kept.{AreThoseOf, HasRoomWithin, IsKeptBy, IsCalled, IsRoomRefused, HasEntryRoom}
 use Rattle.mq_state.specs.declared.tables.Tables.{Tables}
 
 -- the tables count the open waits
+pub waits-counted : (past : Past) (t : Tables) → AreThoseOf past t → AreAtMost t.n past → waits_count t.owners.items ≡ open_waits past
+waits-counted past t tables few = open_waits-counted past t.owners.items t.n tables.legal tables.mirror.lines tables.mirror.owner_count tables.few few
+
 pub waits-open : (j : Shown) (t : Tables) → IsKeptBy j t → waits_count t.owners.items ≡ open_waits j.records
-waits-open j t kept = open_waits-counted j.records t.owners.items t.n kept.tables.legal kept.tables.mirror.lines kept.tables.mirror.owner_count kept.tables.few kept.processes
+waits-open j t kept = waits-counted j.records t kept.tables kept.processes
 
 -- where they are not, and there is no room, there are no bounds
 pub unbounded : (o : Option Bounds) (j : Shown) (w k m : ℕ) → HasRoomWithin o j → exceeds o (length j.records + w + k) (payload_bytes j.records + m) ≡ false → ((w + k ≤ j.entry_room) → (m ≤ j.byte_room) → ⊥) → o ≡ None

@@ -68,6 +68,11 @@ abbrev pub HasRoomWithin : Option Bounds → Shown → Type 0
 HasRoomWithin None j = Unit {0}
 HasRoomWithin (Some b) j = (b.entries ≤ length j.records + j.entry_room) × (b.bytes ≤ payload_bytes j.records + j.byte_room)
 
+-- room for so many more entries and payload bytes is all that the bounds allow after these records
+abbrev pub IsRoomWithin : Option Bounds → Past → ℕ → ℕ → Type 0
+IsRoomWithin None past entries bytes = Unit {0}
+IsRoomWithin (Some b) past entries bytes = (b.entries ≤ length past + entries) × (b.bytes ≤ payload_bytes past + bytes)
+
 -- the tables are those of the journal, which has entries of the first n processes alone, and there is room for the entry that ends each
 -- open wait and for all that the bounds allow; what can still be asked for can be read, and with bounds the journal is stored
 pub record IsKeptBy (j : Shown) (t : Tables) : Type 0 where

@@ -1,13 +1,15 @@
 -- Where and why a journal is not legal.
-use Rattle.std.specs.Prelude.{ℕ, ◌≡◌, ◌≢◌, ◌<◌, ◌&&◌, Bool, true, false, nat_le, length, IfSome}
+use Rattle.std.specs.Prelude.{ℕ, ◌≡◌, ◌≢◌, ◌<◌, ◌+◌, ◌&&◌, Bool, true, false, nat_le, length, IfSome, Option}
 use Rattle.mq_model.specs.Limits.{most_processes}
-use Rattle.mq_model.specs.Record.{Record, Past, record_at, first}
+use Rattle.mq_model.specs.Record.{Record, Past, record_at, first, payload_bytes}
+use Rattle.mq_model.specs.Bounds.{exceeds, open_waits}
+use Rattle.mq_model.specs.declared.bounds.Bounds.{Bounds}
 use Rattle.mq_model.specs.Legality.{reply_to, may_call, is_payload, IsFirstIllegal}
 use Rattle.mq_state.specs.declared.replay.Cause.{Cause}
 use Rattle.mq_state.specs.declared.replay.Cause.TheVariants.{Process, Turn, Payload, Reply}
 use Rattle.mq_state.specs.declared.replay.Departure.{Departure}
 use Rattle.mq_state.specs.declared.replay.Misfit.{Misfit}
-use Rattle.mq_state.specs.declared.replay.Misfit.TheVariants.{NoMemory, Illegal, Foreign}
+use Rattle.mq_state.specs.declared.replay.Misfit.TheVariants.{NoMemory, Illegal, Foreign, TooLong}
 
 abbrev pub has_process : Record → Bool
 has_process r = nat_le 1 r.entry.process && nat_le r.entry.process most_processes
@@ -30,8 +32,13 @@ pub record IsDeparture (past : Past) (d : Departure) : Type 0 where
   pub first_illegal : IsFirstIllegal past d.place
   pub cause : IfSome (record_at past d.place) (λ r. IsCause (first d.place past) r d.cause)
 
--- why no queues of n processes go on from these records
-abbrev pub IsMisfit : Past → ℕ → Misfit → Type 0
-IsMisfit past n NoMemory = Unit {0}
-IsMisfit past n (Illegal d) = IsDeparture past d
-IsMisfit past n (Foreign k) = (k < length past) × IfSome (record_at past k) (λ r. n < r.entry.process)
+-- the records, with the entries that end their open waits, exceed the bounds
+abbrev pub is_too_long : Option Bounds → Past → Bool
+is_too_long bounds past = exceeds bounds (length past + open_waits past) (payload_bytes past)
+
+-- why no queues of n processes with these bounds go on from these records
+abbrev pub IsMisfit : Past → ℕ → Option Bounds → Misfit → Type 0
+IsMisfit past n bounds NoMemory = Unit {0}
+IsMisfit past n bounds (Illegal d) = IsDeparture past d
+IsMisfit past n bounds (Foreign k) = (k < length past) × IfSome (record_at past k) (λ r. n < r.entry.process)
+IsMisfit past n bounds TooLong = is_too_long bounds past ≡ true

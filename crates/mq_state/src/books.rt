@@ -11,7 +11,8 @@ ghost use Rattle.mq_model.specs.Descriptors.{lowest_held};
 ghost use Rattle.mq_model.specs.Legality.{Appends, Legal, may_call};
 ghost use Rattle.mq_state.specs.Buffers.{filled, collected, collected_into, collected_by, into_by, waiting_call, waiting_room, room_of, FitsOutcome, received_by};
 ghost use Rattle.mq_ledger.specs.Ledgers.{CanRead};
-ghost use Rattle.mq_state.specs.Kept.{AreThoseOf, IsKeptBy, IsMade, IsWhole, HasRoomWithin};
+ghost use Rattle.mq_state.specs.Kept.{AreThoseOf, IsKeptBy, IsMade, IsWhole, HasNotices, HasRoomWithin};
+ghost use Rattle.mq_state.specs.Pool.{IsPooled};
 ghost use Rattle.mq_state.specs.Requests.{Brings};
 ghost use Rattle.mq_state.specs.Room.{NobodyCanCall, room_left};
 ghost use Rattle.mq_model.specs.Messages.{is_send, is_receive};
@@ -158,9 +159,28 @@ impl Books {
         ensures bounds { IfOk result (λ b. b.bounds ≡ None) }
         ensures stored { IfOk result (λ b. b.stored ≡ true) }
         ensures back { IfErr result (λ r. r.journal.records ≡ journal.records) }
-        ensures why { IfErr result (λ r. IsMisfit journal.records n r.why) }
+        ensures why { IfErr result (λ r. IsMisfit journal.records n None r.why) }
     {
-        let Ok(inner) = empty_inner(alloc, n) else {
+        Books::resume_within(alloc, n, None, journal)
+    }
+
+    /// The same within bounds, if there are any. They hold for the whole journal: its entries, those that end its open waits, and those of
+    /// later calls. A journal that is too long for them is refused too. All the memory that later calls could need is taken here.
+    pub fn resume_within(
+        alloc: Global,
+        n: u32,
+        bounds: Option<Bounds>,
+        journal: Journal,
+    ) -> Result<Books, Refused>
+        requires { (1 ≤ n) × (n ≤ 32) }
+        ensures records { IfOk result (λ b. b.records ≡ journal.records) }
+        ensures processes { IfOk result (λ b. b.n ≡ n) }
+        ensures bounds { IfOk result (λ b. b.bounds ≡ bounds) }
+        ensures stored { IfOk result (λ b. b.stored ≡ true) }
+        ensures back { IfErr result (λ r. r.journal.records ≡ journal.records) }
+        ensures why { IfErr result (λ r. IsMisfit journal.records n bounds r.why) }
+    {
+        let Ok(inner) = empty_inner(alloc, n, bounds) else {
             return Err(Refused {
                 journal,
                 why: Misfit::NoMemory,
@@ -533,16 +553,18 @@ impl Books {
     }
 }
 
-// The queues of n processes that nobody called yet, without bounds.
-fn empty_inner(alloc: Global, n: u32) -> Result<Box<Inner>, AllocError>
+// The queues of n processes that nobody called yet. Their journal has no room.
+fn empty_inner(alloc: Global, n: u32, bounds: Option<Bounds>) -> Result<Box<Inner>, AllocError>
     requires { (1 ≤ n) × (n ≤ 32) }
     ensures tables { IfOk result (λ s. AreThoseOf [] s.value.tables) }
+    ensures pool { IfOk result (λ s. IsPooled None s.value.tables) }
+    ensures notices { IfOk result (λ s. HasNotices bounds 0 n s.value.tables.inboxes.items) }
     ensures processes { IfOk result (λ s. s.value.tables.n ≡ n) }
-    ensures bounds { IfOk result (λ s. s.value.tables.bounds ≡ None) }
+    ensures bounds { IfOk result (λ s. s.value.tables.bounds ≡ bounds) }
 {
     let inner = Inner {
         journal: Ledger::stored(Journal::new(alloc)),
-        tables: Tables::new(alloc, n, None, false)?,
+        tables: Tables::new(alloc, n, bounds, false)?,
     };
     Ok(Box::new(alloc, inner)?)
 }
@@ -550,19 +572,28 @@ fn empty_inner(alloc: Global, n: u32) -> Result<Box<Inner>, AllocError>
 // The same after the calls of a journal.
 fn restock(mut inner: Box<Inner>, mut journal: Journal) -> Result<Box<Inner>, Refused>
     requires tables { AreThoseOf [] inner.value.tables }
-    requires bounds { inner.value.tables.bounds ≡ None }
+    requires pool { IsPooled None inner.value.tables }
+    requires notices { HasNotices inner.value.tables.bounds 0 inner.value.tables.n
+        inner.value.tables.inboxes.items }
     ensures whole { IfOk result (λ s. IsWhole s.value.journal s.value.tables) }
     ensures records { IfOk result (λ s. s.value.journal.records ≡ journal.records) }
     ensures processes { IfOk result (λ s. s.value.tables.n ≡ inner.value.tables.n) }
-    ensures unbounded { IfOk result (λ s. s.value.tables.bounds ≡ None) }
+    ensures bounds { IfOk result (λ s. s.value.tables.bounds ≡ inner.value.tables.bounds) }
     ensures stored { IfOk result (λ s. s.value.journal.stored ≡ true) }
     ensures back { IfErr result (λ r. r.journal.records ≡ journal.records) }
-    ensures why { IfErr result (λ r. IsMisfit journal.records inner.value.tables.n r.why) }
+    ensures why { IfErr result (λ r. IsMisfit journal.records inner.value.tables.n
+        inner.value.tables.bounds r.why) }
 {
     if let Err(why) = follow_all(&mut inner.tables, &journal) {
         return Err(Refused { journal, why });
     }
-    if journal.reserve(inner.tables.open_waits(), 0).is_err() {
+    let Some((entries, bytes)) = inner.tables.room_to_go_on(&journal) else {
+        return Err(Refused {
+            journal,
+            why: Misfit::TooLong,
+        });
+    };
+    if journal.reserve(entries, bytes).is_err() {
         return Err(Refused {
             journal,
             why: Misfit::NoMemory,

@@ -1,9 +1,10 @@
 //! Whether a journal is legal, and where and why it is not, in time nearly linear in its length: the tables of the queues say what
 //! each call replies, and note each entry.
-ghost use Rattle.std.specs.Prelude.{◌≡◌, ◌↔◌, IfOk, IfErr, OnOk, IfSome, None, []};
+ghost use Rattle.std.specs.Prelude.{◌≡◌, ◌↔◌, IfOk, IfErr, OnOk, IfSome, None, [], length};
 ghost use Rattle.mq_model.specs.Legality.{Legal, IsLegalNext};
 ghost use Rattle.mq_ledger.specs.Ledgers.{IsReadable};
-ghost use Rattle.mq_state.specs.Kept.{AreThoseOf};
+ghost use Rattle.mq_state.specs.Kept.{AreThoseOf, HasNotices};
+ghost use Rattle.mq_state.specs.Pool.{IsPooled};
 ghost use Rattle.mq_state.specs.Tables.{AreAtMost};
 
 use crate::prefixes::Prefix;
@@ -45,6 +46,8 @@ pub enum Misfit {
     Illegal(Departure),
     /// The entry at this place is of a process above the last.
     Foreign(u64),
+    /// The journal, with the entries that end its open waits, exceeds the bounds.
+    TooLong,
 }
 
 ghost use Rattle.mq_state.specs.Replays.{IsCause, IsDeparture, IsMisfit};
@@ -92,14 +95,18 @@ pub fn replay(alloc: Global, journal: &Journal) -> Result<Option<Departure>, All
     Ok(None)
 }
 
-// Notes all entries of a journal in the tables of an empty one. They have no bounds.
+// Notes all entries of a journal in the tables of an empty one. It reports no journal that is too long for the bounds.
 pub(crate) fn follow_all(tables: &mut Tables, journal: &Journal) -> Result<(), Misfit>
     requires empty { AreThoseOf [] tables.old }
-    requires unbounded { tables.old.bounds ≡ None }
+    requires pool { IsPooled None tables.old }
+    requires notices { HasNotices tables.old.bounds 0 tables.old.n tables.old.inboxes.items }
     ensures tables { OnOk result (AreThoseOf journal.now.records tables.new) }
+    ensures pool { OnOk result (IsPooled None tables.new) }
+    ensures notices { OnOk result (HasNotices tables.old.bounds (length journal.now.records)
+        tables.old.n tables.new.inboxes.items) }
     ensures processes { OnOk result (AreAtMost tables.old.n journal.now.records) }
-    ensures same { (tables.new.n ≡ tables.old.n) × (tables.new.bounds ≡ None) }
-    ensures misfit { IfErr result (IsMisfit journal.now.records tables.old.n) }
+    ensures same { (tables.new.n ≡ tables.old.n) × (tables.new.bounds ≡ tables.old.bounds) }
+    ensures misfit { IfErr result (IsMisfit journal.now.records tables.old.n tables.old.bounds) }
 {
     for place in 0..journal.len() {
         let past = Prefix::first(journal, place);

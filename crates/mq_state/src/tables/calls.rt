@@ -165,7 +165,7 @@ impl Tables {
         self.note_waiting(moved);
     }
 
-    // Makes the room that the next entry of a journal needs, and notes it with its payload. The tables have no bounds.
+    // Makes the room that the next entry of a journal needs, and notes it with its payload.
     pub(crate) fn follow(
         &mut self,
         journal: &Prefix<'_>,
@@ -177,12 +177,15 @@ impl Tables {
         requires next { IsLegalNext journal.now.records
             (record { entry = entry; payload = payload.now }) }
         requires at_most { entry.process ≤ self.old.n }
-        requires unbounded { self.old.bounds ≡ None }
+        requires pool { IsPooled None self.old }
         ensures tables { OnOk result (AreThoseOf (record { entry = entry; payload = payload.now } ∷
             journal.now.records) self.new) }
+        ensures notice_room { OnOk result ((k : ℕ) →
+            room_in self.old.inboxes.items k ≤ room_in self.new.inboxes.items k + 1) }
+        ensures pool { OnOk result (IsPooled None self.new) }
         ensures err { OnErr result (AreThoseOf journal.now.records self.new) }
         ensures n { self.new.n ≡ self.old.n }
-        ensures bounds { self.new.bounds ≡ None }
+        ensures bounds { self.new.bounds ≡ self.old.bounds }
     {
         self.make_notice_room(entry.process, entry.call, entry.reply)?;
         let fresh = self.fresh_slots(entry.call, entry.reply)?;

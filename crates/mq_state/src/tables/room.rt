@@ -1,11 +1,15 @@
 //! Which calls can still be made, and what the journal has room for.
-ghost use Rattle.std.specs.Prelude.{◌≡◌, ◌↔◌, IsTrue};
-ghost use Rattle.mq_state.specs.Kept.{IsKeptBy};
+ghost use Rattle.std.specs.Prelude.{◌≡◌, ◌≤◌, ◌↔◌, IsTrue, IfSome, None};
+ghost use Rattle.mq_model.specs.Owners.{waits_count};
+ghost use Rattle.mq_state.specs.Kept.{AreThoseOf, IsKeptBy, IsRoomWithin};
+ghost use Rattle.mq_state.specs.Replays.{is_too_long};
+ghost use Rattle.mq_state.specs.Tables.{AreAtMost};
 ghost use Rattle.mq_state.specs.Room.{NobodyCanCall, can_call, is_full, room_left};
 
 use crate::tables::Tables;
 use mq_ledger::ledger::Ledger;
 use mq_model::bounds::Bounds;
+use mq_model::journals::Journal;
 use mq_model::owners;
 
 impl Tables {
@@ -33,6 +37,28 @@ impl Tables {
             }
         }
         true
+    }
+
+    /// The room, in entries and payload bytes, that a journal needs to go on: for the entries that end the open waits, and for all that
+    /// the bounds still allow. `None` if the journal is too long for the bounds.
+    pub fn room_to_go_on(&self, journal: &Journal) -> Option<(usize, usize)>
+        requires tables { AreThoseOf journal.now.records self.now }
+        requires processes { AreAtMost self.now.n journal.now.records }
+        ensures none { (result ≡ None) ↔ IsTrue (is_too_long self.now.bounds journal.now.records) }
+        ensures waits { IfSome result (λ room. waits_count self.now.owners.items ≤ room.0) }
+        ensures within { IfSome result (λ room.
+            IsRoomWithin self.now.bounds journal.now.records room.0 room.1) }
+    {
+        let waits = self.open_waits();
+        let Some(bounds) = self.bounds else {
+            return Some((waits, 0));
+        };
+        let entries = bounds.entries.checked_sub(journal.len())?;
+        let bytes = bounds.bytes.checked_sub(journal.payload_bytes())?;
+        if entries < waits as u64 {
+            return None;
+        }
+        Some((entries as usize, bytes as usize))
     }
 
     /// For how many more entries and payload bytes the journal has room, where it has bounds.
