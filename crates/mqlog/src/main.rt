@@ -3,6 +3,7 @@
 
 mod command;
 mod pages;
+mod progress;
 mod task;
 #[cfg(test)]
 mod tests;
@@ -19,6 +20,7 @@ use journal_tasks::{
 use mq::Guarded;
 use mq_model::journals::Journal;
 use pages::{head_of, judge_to_page};
+use progress::with_progress;
 use script_runner::{Plain, RunFault};
 use std::alloc::{Alloc, Global};
 use std::fmt::Display;
@@ -228,12 +230,13 @@ fn state<R: Read>(
 }
 
 fn judge<R: Read>(
-    rt: &(impl Print + Eprint + AllocGlobal),
+    rt: &(impl Print + Eprint + AllocGlobal + Threads + Wait + Clock + Sync + Files),
     file: Option<&str>,
     input: &mut R,
     question: Question,
 ) -> ExitCode {
-    match judge_history(rt.alloc(), input, &mut io::writer(rt), question) {
+    let search = || judge_history(rt.alloc(), input, &mut io::writer(rt), question);
+    match with_progress(rt, "judge", search) {
         Ok(status) => ExitCode::from(status),
         Err(fault) => failed(rt, file, fault),
     }
@@ -317,12 +320,13 @@ fn history<R: Read>(
 }
 
 fn orders<R: Read>(
-    rt: &(impl Print + Eprint + AllocGlobal),
+    rt: &(impl Print + Eprint + AllocGlobal + Threads + Wait + Clock + Sync + Files),
     file: Option<&str>,
     input: &mut R,
     trial: Trial,
 ) -> ExitCode {
-    match try_orders(rt.alloc(), input, &mut io::writer(rt), trial) {
+    let search = || try_orders(rt.alloc(), input, &mut io::writer(rt), trial);
+    match with_progress(rt, "orders", search) {
         Ok(ending) => ended(rt, file, ending),
         Err(fault) => stopped(rt, file, fault),
     }
@@ -337,7 +341,7 @@ fn ended(rt: &impl Eprint, file: Option<&str>, ending: Ending) -> ExitCode {
 
 // Tries the orders of a script in the state that the journal `past` leaves.
 fn orders_after<R: Read>(
-    rt: &(impl Print + Eprint + AllocGlobal + Input + Files),
+    rt: &(impl Print + Eprint + AllocGlobal + Threads + Wait + Clock + Sync + Input + Files),
     past: Source<'_>,
     file: Option<&str>,
     input: &mut R,
@@ -354,7 +358,7 @@ fn orders_after<R: Read>(
 
 // The same with the journal that `entries` has, of the file `past`.
 fn orders_from<J: Read, R: Read>(
-    rt: &(impl Print + Eprint + AllocGlobal),
+    rt: &(impl Print + Eprint + AllocGlobal + Threads + Wait + Clock + Sync + Files),
     past: Option<&str>,
     entries: &mut J,
     file: Option<&str>,
@@ -365,7 +369,8 @@ fn orders_from<J: Read, R: Read>(
         Ok(journal) => journal,
         Err(fault) => return failed(rt, past, LogFault::from(fault)),
     };
-    match try_orders_after(rt.alloc(), journal, input, &mut io::writer(rt), trial) {
+    let search = || try_orders_after(rt.alloc(), journal, input, &mut io::writer(rt), trial);
+    match with_progress(rt, "orders", search) {
         Ok(Ok(ending)) => ended(rt, file, ending),
         Ok(Err(why)) => {
             say(rt, past, &why);

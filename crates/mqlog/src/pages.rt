@@ -1,5 +1,6 @@
 //! Pages that are put together here: of a journal whose threads are known, and of a judgement.
 
+use crate::progress::with_progress;
 use crate::{failed, not_opened};
 use journal_page::{FRONT, HEAD, TAIL, page_of_text};
 use journal_tasks::{LogFault, Question, judge_history};
@@ -7,6 +8,9 @@ use std::alloc::AllocGlobal;
 use std::io::{Eprint, ErrorKind, Print, Read, Write};
 use std::process::ExitCode;
 use std::rt::Files;
+use std::sync::Wait;
+use std::thread::Threads;
+use std::time::Clock;
 use std::{fs, io};
 
 /// What stands before the lines of a journal in a page: with the lines of a file that names the
@@ -33,7 +37,7 @@ pub fn head_of(
 
 /// Judges a history, and writes what it comes to as a page, with the journal that explains it.
 pub fn judge_to_page<R: Read>(
-    rt: &(impl Print + Eprint + AllocGlobal + Files),
+    rt: &(impl Print + Eprint + AllocGlobal + Threads + Wait + Clock + Sync + Files),
     file: Option<&str>,
     input: &mut R,
     question: Question,
@@ -43,7 +47,8 @@ pub fn judge_to_page<R: Read>(
         budget: question.budget,
     };
     let mut said = Vec::new(rt.alloc());
-    let status = match judge_history(rt.alloc(), input, &mut said, asked) {
+    let search = || judge_history(rt.alloc(), input, &mut said, asked);
+    let status = match with_progress(rt, "judge", search) {
         Ok(status) => status,
         Err(fault) => return failed(rt, file, fault),
     };
