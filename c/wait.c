@@ -123,10 +123,10 @@ static void wake(uint64_t *futex_word)
 
 bool yak_spin_(unsigned *tries, unsigned most)
 {
-    unsigned left = YAK_SHORT_PAUSE_;
+    unsigned left = YAK_SHORT_BACKOFF_;
     if (*tries >= most)
         return false;
-    for (unsigned i = 0; i < *tries && left < YAK_LONG_PAUSE_; ++i)
+    for (unsigned i = 0; i < *tries && left < YAK_LONG_BACKOFF_; ++i)
         left *= 2;
     for (; left != 0; --left)
         __asm__ volatile("" ::: "memory"); /* so that the loop stays */

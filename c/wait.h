@@ -26,8 +26,8 @@ enum {
     YAK_WAITS_WITH_FEW_POLLS_ =
         64, /* fast_mutex/src/futex_words.rt: const WAITS_WITH_FEW_POLLS: u64 = 64; */
     /* The shortest and the longest pause between two looks, in turns of a loop. */
-    YAK_SHORT_PAUSE_ = 1024, /* fast_mutex/src/pauses.rt: const SHORTEST: u32 = 1_024; */
-    YAK_LONG_PAUSE_ = 16384, /* fast_mutex/src/pauses.rt: const LONGEST: u32 = 16_384; */
+    YAK_SHORT_BACKOFF_ = 1024, /* fast_mutex/src/backoff.rt: const SHORTEST: u32 = 1_024; */
+    YAK_LONG_BACKOFF_ = 16384, /* fast_mutex/src/backoff.rt: const LONGEST: u32 = 16_384; */
     /* The longest sleep on the way into the lock, in milliseconds. */
     YAK_LOCK_SLEEP_ = 10, /* fast_mutex/src/futex_words.rt: const LONGEST_SLEEP: u64 = 10; */
     /* The first and the longest sleep of a wait for an answer, in milliseconds. */
