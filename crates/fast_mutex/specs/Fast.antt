@@ -1,6 +1,7 @@
--- The rule of Lamport's lock, and what each step on its words tells.
--- The words are x, y and the flags b[1] to b[n]. Words and points are a world that keeps the condition of
--- `lamport_core`, and the state is at home exactly where no process is inside.
+-- The rule of Lamport's lock, and what each access to its words tells the proof. The words are x, y
+-- and the flags b[1] to b[n], and then the words s. Words and points form a world that satisfies
+-- `Safe` of `lamport_core`. The state is in its slot if and only if no process is in its critical
+-- section.
 use Rattle.std.specs.Prelude.{◌≡◌, ◌≢◌, ◌==◌, ◌||◌, ◌⊎◌, ℕ, zero, suc, ◌+◌, ◌≤◌, Bool, true, false, cond, List, [], ◌∷◌, ◌++◌, length, slice_index, Option as Opt, Some, None, refl}
 use Rattle.std.specs.List.{AllByRecursion as Each}
 use Rattle.std.specs.Coded.{×_prop, le_prop, Coded-set, coded_ℕ}
@@ -21,18 +22,19 @@ use Rattle.fast_mutex.specs.declared.seats.About.{About}
 use Rattle.fast_mutex.specs.declared.fast.view.Plan.{Plan}
 use Rattle.fast_mutex.specs.declared.fast.view.View.{View}
 
--- a process at this point is inside
+-- a process at this point is in its critical section
 abbrev pub is_inside : At → Bool
 is_inside Fast = true
 is_inside Slow = true
 is_inside _ = false
 
--- The flag of process k, which is up where its word is 1. Process 1 has the first of these words.
+-- The flag of process k is up if its word is 1. Process 1 has the first of these words.
 abbrev pub flag_in : List ℕ → ℕ → Bool
 flag_in flags zero = false
 flag_in flags (suc k) = slice_index flags k == 1
 
--- these words, the last of which are the words s, and n processes at these points are a world that keeps the condition
+-- These words, the last of which are the words s, and n processes at these points form a world that
+-- satisfies `Safe`.
 pub record IsSafeWorld (n : ℕ) (words marks : List ℕ) (at : ℕ → At) : Type 0 where
   pub x : ℕ
   pub y : ℕ
@@ -46,34 +48,34 @@ module _ {I : Type 0} where
   abbrev pub plan_of : List I → List ℕ → Bool → Plan I
   plan_of next stored told = record { next = next; stored = stored; told = told }
 
-  -- of a seat that is outside, and was not told
+  -- of a seat outside the critical section, of whose process no poll was true
   abbrev pub no_plan : Plan I
   no_plan = plan_of [] [] false
 
   abbrev pub seat_view : At → List I → Fixed → List (Claim I) → Plan I → ℕ → View I
   seat_view at found fixed claims plan accesses = record { at = at; found = found; fixed = fixed; claims = claims; plan = plan; accesses = accesses }
 
-  -- By one access the seat goes on to a point.
+  -- One access takes the seat to a point.
   abbrev pub view_at : At → View I → View I
   view_at p v = seat_view p v.found v.fixed v.claims v.plan (v.accesses + 1)
 
-  -- By one access the seat goes inside, and finds this list.
+  -- One access takes the seat into the critical section, with this list found.
   abbrev pub view_inside : At → List I → View I → View I
   view_inside p found v = seat_view p found v.fixed v.claims (plan_of found [] v.plan.told) (v.accesses + 1)
 
-  -- By one access, a look, the seat was told what the word shows.
+  -- One access, a poll, tells the seat what the word shows.
   abbrev pub view_told : Bool → View I → View I
   view_told shown v = seat_view v.at v.found v.fixed v.claims (plan_of v.plan.next v.plan.stored (v.plan.told || shown)) (v.accesses + 1)
 
-  -- By one access the seat stored the word s of process p as the list `given` has it.
+  -- By one access the seat stored the word s of process p, from the list `given`.
   abbrev pub view_marked : ℕ → List I → View I → View I
   view_marked p given v = seat_view v.at v.found v.fixed v.claims (plan_of given (p ∷ v.plan.stored) v.plan.told) (v.accesses + 1)
 
-  -- the seat has another plan, and has made so many accesses
+  -- the seat with another plan and this number of accesses
   abbrev pub view_planned : Plan I → ℕ → View I → View I
   view_planned plan accesses v = seat_view v.at v.found v.fixed v.claims plan accesses
 
-  -- of seats at rest
+  -- how a view stands for seats at rest
   abbrev pub resting : Resting (View I) I
   resting = record {
     fixed = λ v. v.fixed;
@@ -94,13 +96,15 @@ module _ {I : Type 0} where
 
 -- the rule
 module _ {S I : Type 0} (shows : S → List I) (fixes : S → List ℕ) (author : I → ℕ) (answered : ℕ → List I → Bool) (about : About S) where
-  -- the process of the seat stands at its point, and those joined to it at Rest
+  -- The process of the seat is at its point, and the processes joined to it are at Rest.
   abbrev pub Stands : (ℕ → At) → At → List (Claim I) → Type 0
   Stands at p [] = p ≡ Rest
   Stands at p (c ∷ cs) = (at c.0 ≡ p) × Each (λ (d : Claim I). at d.0 ≡ Rest) cs
 
-  -- Who is inside found the current list, and knows the list to come and the words that it stored. Who is outside and
-  -- was told has its word at 1. Each claim's number is that of a process, and the current list is the claim's with items of others in front.
+  -- In the critical section, the seat has found the current list, and its plan has the list to come
+  -- and the processes whose words it stored. Outside, if a poll of the process was true, its word s
+  -- is 1. The number of each claim is that of a process, and the current list extends the claim's
+  -- list by items of other processes only.
   pub record Fits (at : ℕ → At) (course : Course I) (v : View I) : Type 0 where
     pub stands : Stands at v.at v.claims
     pub found : is_inside v.at ≡ true → v.found ≡ course.now
@@ -108,11 +112,13 @@ module _ {S I : Type 0} (shows : S → List I) (fixes : S → List ℕ) (author 
     pub told : is_inside v.at ≡ false → v.plan.told ≡ true → mark_in course.marks (number_in v.claims) ≡ 1
     pub good : Each (IsGood fixes author about v.fixed course.now) v.claims
 
-  -- the list to come is the current one, or that with items of the process inside in front
+  -- The list to come is the current one, or extends it by items of the process in its critical
+  -- section.
   abbrev pub Comes : (ℕ → At) → Course I → Type 0
   Comes at c = (c.next ≡ c.now) ⊎ ((k : ℕ) × (is_inside (at k) ≡ true) × GrowsBy author k c.now c.next)
 
-  -- `at` has the points of the processes, and `course` the current list, the list to come and the words s
+  -- `at` has the points of the processes, and `course` the current list, the list to come and the
+  -- words s.
   pub record KeepsRule (s : State (Opt S) (View I)) : Type 0 where
     pub at : ℕ → At
     pub course : Course I
@@ -126,8 +132,8 @@ module _ {S I : Type 0} (shows : S → List I) (fixes : S → List ℕ) (author 
     pub once : (k : ℕ) → sum_over (λ (v : View I). times k v.claims) s.views ≤ 1
     pub total : sum_over (λ (v : View I). length v.claims) s.views ≡ about.count
 
--- The lines that store, but for the store of 0 to y: their points, the word and the value that process k stores, and
--- the point after. At other points no line stores, and what these say there is asked by nobody.
+-- The lines that store, except the store of 0 to y: their points, the word and the value that
+-- process k stores, and the point after the line. The values at other points are never used.
 abbrev pub stores_line : At → Bool
 stores_line Rest = true
 stores_line Start = true
@@ -160,8 +166,8 @@ after_store SlowB = Scan 1
 after_store Leaving = Rest
 after_store p = p
 
--- The lines that load: the points of those that admit nobody and of those that may, the word, and the point after a
--- line that admits nobody, by what it found.
+-- The lines that load: the points of those that cannot acquire the lock, the points of those that
+-- may, the word, and the point after a line that did not acquire it, by the value found.
 abbrev pub loads_line : At → Bool
 loads_line TestY = true
 loads_line AwaitY = true
@@ -186,7 +192,8 @@ after_load n (Scan j) found = after_Scan n j (found == 1)
 after_load n SlowAwait found = after_SlowAwait found
 after_load n p found = p
 
--- The points after a line that may admit: where it finds the own number, and where not.
+-- The points after a line that may acquire the lock: if it found the process's own number, and if
+-- it did not.
 abbrev pub point_admitted : At → At
 point_admitted TestX = Fast
 point_admitted SlowY = Slow
@@ -197,29 +204,31 @@ point_refused TestX = SlowB
 point_refused SlowY = SlowAwait
 point_refused p = p
 
--- The step is on this word with this value, and with no value to compare; a load has 0 for its value.
+-- The access is to this word with this value, and compares with nothing. A load has 0 as its value.
 module _ {S : Type 0} where
   abbrev pub IsOn : Step (Opt S) → ℕ → ℕ → Type 0
   IsOn t word value = (t.word ≡ word) × (t.first ≡ value) × (t.second ≡ 0)
 
 module _ {S I : Type 0} where
-  -- A line that stores, and is not the store of 0 to y. What a store tells as found is the value stored. Any other
-  -- access tells the word that it found, and no seat could show that this is the value.
+  -- A line that stores, except the store of 0 to y. A store reports the value stored as the one
+  -- found. No other kind of access does: it reports the word that it found, and no seat could show
+  -- that this is the value.
   pub record IsStore (t : Step (Opt S)) (me : Me (Opt S) (View I)) (found : ℕ) (me' : Me (Opt S) (View I)) : Type 0 where
     pub line : stores_line me.0.at ≡ true
     pub on : IsOn t (word_stored (number_in me.0.claims) me.0.at) (value_stored (number_in me.0.claims) me.0.at)
     pub stores : found ≡ value_stored (number_in me.0.claims) me.0.at
     pub goes : me' ≡ (view_at (after_store me.0.at) me.0, me.1)
 
-  -- a line that loads, and admits nobody
+  -- a line that loads and cannot acquire the lock
   pub record IsLoad (t : Step (Opt S)) (me : Me (Opt S) (View I)) (found : ℕ) (me' : Me (Opt S) (View I)) : Type 0 where
     pub line : loads_line me.0.at ≡ true
     pub on : IsOn t (word_loaded me.0.at) 0
     pub goes : me' ≡ (view_at (after_load me.0.fixed.0 me.0.at found) me.0, me.1)
 
 module _ {S I : Type 0} (answered : ℕ → List I → Bool) where
-  -- The load of the own word s, outside: the seat is told where the word is 1. Who was told before finds 1, and so does
-  -- whose wait is answered in the list that it left.
+  -- The load of the process's own word s, outside the critical section. It tells the seat whether
+  -- the word is 1. It finds 1 if an earlier poll did, or if the list that the process left answers
+  -- its wait.
   pub record IsLook (t : Step (Opt S)) (me : Me (Opt S) (View I)) (found : ℕ) (me' : Me (Opt S) (View I)) : Type 0 where
     pub rests : me.0.at ≡ Rest
     pub on : IsOn t (me.0.fixed.0 + 1 + number_in me.0.claims) 0
@@ -228,8 +237,9 @@ module _ {S I : Type 0} (answered : ℕ → List I → Bool) where
     pub left : answered (number_in me.0.claims) (last_left me.0.claims) ≡ true → found ≡ 1
 
 module _ {S I : Type 0} (shows : S → List I) (fixes : S → List ℕ) (author : I → ℕ) (answered : ℕ → List I → Bool) where
-  -- A line that loads, and admits a seat exactly where it finds its number: the seat then has the state, whose list has
-  -- grown from the one that it left by others' items. Where the seat was told, the list answers its wait.
+  -- A line that loads, and acquires the lock if and only if it finds the number of the process.
+  -- Then the seat has the state, whose list extends the one that the process left by items of
+  -- others. If a poll of the process was true, the list answers its wait.
   pub record IsTest (t : Step (Opt S)) (me : Me (Opt S) (View I)) (found : ℕ) (me' : Me (Opt S) (View I)) : Type 0 where
     pub line : tests_line me.0.at ≡ true
     pub on : IsOn t (word_loaded me.0.at) 0
@@ -244,7 +254,7 @@ module _ {S I : Type 0} (shows : S → List I) where
   list_in ((i, None) ∷ slots) = []
   list_in ((i, Some st) ∷ slots) = shows st
 
-  -- the store of a word s, inside, with the state in its slot
+  -- the store of a word s, in the critical section, with the state in the slot of the seat
   pub record IsMark (answered : ℕ → List I → Bool) (t : Step (Opt S)) (me : Me (Opt S) (View I)) (found : ℕ) (me' : Me (Opt S) (View I)) : Type 0 where
     pub inside : is_inside me.0.at ≡ true
     pub process : ℕ
@@ -267,16 +277,18 @@ module _ {S I : Type 0} (shows : S → List I) where
 
 -- giving the state back
 module _ {I : Type 0} (answered : ℕ → List I → Bool) where
-  -- a list may be the one to come: the first store of a stay fixes it
+  -- A list may be the one to come: the first store of a word s in a critical section fixes it.
   abbrev pub MayCome : Plan I → List I → Type 0
   MayCome plan given = (given ≡ plan.next) ⊎ (plan.stored ≡ [])
 
-  -- the words of n processes show the list that is given back, those that this stay did not store too
+  -- The words s of n processes match the list that is given back, those that this process did not
+  -- store too.
   abbrev pub Shows : ℕ → List I → Plan I → List I → Type 0
   Shows n found plan given = MayCome plan given × ((q : ℕ) → 1 ≤ q → q ≤ n → has q plan.stored ≡ false → answered q found ≡ answered q given)
 
 module _ {S I : Type 0} (shows : S → List I) (fixes : S → List ℕ) (author : I → ℕ) (answered : ℕ → List I → Bool) where
-  -- the seat of one process is inside, and has in its slot the state to give back, whose list has grown by its own items
+  -- The seat of one process is in its critical section. Its slot has the state to give back, whose
+  -- list has grown only by items of the process.
   pub record IsReady (me : Me (Opt S) (View I)) : Type 0 where
     pub inside : is_inside me.0.at ≡ true
     pub alone : me.0.claims ≡ (number_in me.0.claims, last_left me.0.claims) ∷ []
@@ -285,14 +297,15 @@ module _ {S I : Type 0} (shows : S → List I) (fixes : S → List ℕ) (author 
     pub may : MayCome answered me.0.plan (list_in shows me.1)
 
 module _ {S I : Type 0} where
-  -- what the seat of process k knows, outside and inside
+  -- what the seat of process k knows, outside and inside its critical section
   abbrev pub ticket_of : ℕ → Seat (Opt S) (View I) → Ticket I
   ticket_of k s = record { lock = lock_id s.table_id s.me.0.fixed; number = k; left = last_left s.me.0.claims; told = s.me.0.plan.told }
 
   abbrev pub stay_of : ℕ → Seat (Opt S) (View I) → Ticket I
   stay_of k s = record { lock = lock_id s.table_id s.me.0.fixed; number = k; left = s.me.0.found; told = s.me.0.plan.told }
 
-  -- how many accesses to words of the lock the seat has made: each load and each store of one is one
+  -- The number of accesses that the seat has made to words of the lock. Each load and each store
+  -- counts as one.
   abbrev pub accesses_of : Seat (Opt S) (View I) → ℕ
   accesses_of s = s.me.0.accesses
 
@@ -301,7 +314,8 @@ module _ {S I : Type 0} (fixes : S → List ℕ) where
   abbrev pub IsSeatOf : TableId → About S → Seat (Opt S) (View I) → Type 0
   IsSeatOf table about s = lock_id s.table_id s.me.0.fixed ≡ lock_id table (made_with fixes about)
 
--- what a walk holds: inside the slot, whose state it carries
+-- what an acquisition holds: at a point inside the critical section the slot, empty, since the
+-- acquisition itself has the state
 module _ {S : Type 0} where
   abbrev pub slots_at : At → List (ℕ × Opt S)
   slots_at p = cond (is_inside p) ((0, None) ∷ []) []
@@ -315,7 +329,7 @@ module _ {I : Type 0} where
   abbrev pub state_at : At → List I → Fixed → Opt (List I × List ℕ)
   state_at p found fixed = cond (is_inside p) (Some (found, fixed.1)) None
 
--- the count of the steps of a pass is one fact at each point, which a ghost field has to know
+-- The count of the steps at each point is a fact with one proof, as a ghost field requires.
 pub counted_prop : (n : ℕ) (p : At) (k : ℕ) → IsProp (IsCounted n p k)
 counted_prop n Rest k = Coded-set coded_ℕ k 0
 counted_prop n Start k = le_prop

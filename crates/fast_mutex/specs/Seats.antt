@@ -1,4 +1,5 @@
--- The seats of a lock as they are dealt out when it is made, and joined again when it ends. This is the same for each lock.
+-- The seats of a lock. They are dealt out when it is made, and joined again when it ends. Every
+-- lock does this in the same way.
 use Rattle.std.specs.Prelude.{◌≡◌, ℕ, zero, suc, ◌+◌, ◌≤◌, Bool, false, cond, eqb, List, [], ◌∷◌, ◌++◌, length, Option as Opt, Some}
 use Rattle.std.specs.List.{AllByRecursion as Each}
 use mathlib.Core.Option.{some}
@@ -26,7 +27,7 @@ sum_over f [] = 0
 sum_over f (v ∷ vs) = f v + sum_over f vs
 
 module _ {I : Type 0} where
-  -- the claims of n seats from number k on, all of which have left this list
+  -- the claims of n seats from number k on, each of which has left this list
   abbrev pub new_claims : List I → ℕ → ℕ → List (Claim I)
   new_claims left k zero = []
   new_claims left k (suc n) = (k, left) ∷ new_claims left (suc k) n
@@ -44,7 +45,7 @@ module _ {I : Type 0} where
   other_claims [] = []
   other_claims (c ∷ cs) = cs
 
-  -- the claims once the first seat has left the list `now`
+  -- the claims after the first seat has left the list `now`
   abbrev pub claims_after : List I → List (Claim I) → List (Claim I)
   claims_after now [] = []
   claims_after now (c ∷ cs) = (c.0, now) ∷ cs
@@ -58,17 +59,19 @@ abbrev pub made_with : {S : Type 0} → (S → List ℕ) → About S → Fixed
 made_with fixes about = (about.count, fixes about.state.value)
 
 module _ {S I : Type 0} (fixes : S → List ℕ) (author : I → ℕ) (about : About S) where
-  -- a claim's number is that of a process, and the current list is the claim's with items of others in front
+  -- A claim's number is that of a process, and the current list extends the claim's by items of
+  -- others only.
   abbrev pub IsGood : Fixed → List I → Claim I → Type 0
   IsGood fixed now c = (fixed ≡ made_with fixes about) × (1 ≤ c.0) × (c.0 ≤ about.count) × Grows author c.0 c.1 now []
 
--- How a view of a lock stands for a seat at rest, outside. What a seat knows besides the fixed part and its claims, `rest` leaves as it was.
+-- How a view of a lock stands for a seat at rest, outside the critical section. `rest` changes the
+-- fixed part and the claims, and nothing else that the seat knows.
 pub record Resting (V I : Type 0) : Type 0 where
   pub fixed : V → Fixed
   pub claims : V → List (Claim I)
   pub told : V → Bool
   pub rest : V → Fixed → List (Claim I) → V
-  -- the view of a seat that is spent
+  -- the view of a seat that was joined to another
   pub blank : V
   pub rest_fixed : (v : V) (f : Fixed) (cs : List (Claim I)) → fixed (rest v f cs) ≡ f
   pub rest_claims : (v : V) (f : Fixed) (cs : List (Claim I)) → claims (rest v f cs) ≡ cs
@@ -80,14 +83,14 @@ module _ {V I : Type 0} (r : Resting V I) where
   abbrev pub fresh : Fixed → List (Claim I) → V
   fresh f cs = r.rest r.blank f cs
 
-  -- a seat splits: one goes on with the first claim, one with the others
+  -- A seat splits: one part gets the first claim, the other the rest.
   abbrev pub view_of_first : V → V
   view_of_first v = fresh (r.fixed v) (first_claim (r.claims v))
 
   abbrev pub view_of_others : V → V
   view_of_others v = fresh (r.fixed v) (other_claims (r.claims v))
 
-  -- one seat takes in the claims of another, which is then spent
+  -- One seat takes the claims of another, which is then used up.
   abbrev pub joint_view : V → V → V
   joint_view v w = fresh (r.fixed v) (r.claims w ++ r.claims v)
 
@@ -96,7 +99,7 @@ module _ {V I : Type 0} (r : Resting V I) where
   claim_of k v = (k, last_left (r.claims v))
 
 module _ {S V I : Type 0} (r : Resting V I) where
-  -- the seat of process k alone is at rest
+  -- The seat of process k, and of no other, is at rest.
   abbrev pub IsAlone : ℕ → Me (Opt S) V → Type 0
   IsAlone k me = me ≡ (r.rest me.0 (r.fixed me.0) (claim_of r k me.0 ∷ []), [])
 
@@ -104,12 +107,14 @@ module _ {S V I : Type 0} (r : Resting V I) where
   abbrev pub ticket_of : ℕ → Seat (Opt S) V → Ticket I
   ticket_of k s = record { lock = lock_id s.table_id (r.fixed s.me.0); number = k; left = last_left (r.claims s.me.0); told = r.told s.me.0 }
 
--- The first seat has the claims of all, who have left the list of the state that the lock was made with.
+-- The first seat has the claims of all processes. Each has left the list of the state that the lock
+-- was made with.
 module _ {S V I : Type 0} (r : Resting V I) (shows : S → List I) (fixes : S → List ℕ) where
   abbrev pub first_view : About S → V
   first_view about = fresh r (made_with fixes about) (new_claims (shows about.state.value) 1 about.count)
 
--- What the rule of a lock has to keep: seats at rest split and join, and who has all claims finds the state at home.
+-- What the rule of a lock has to keep: seats at rest split and join, and a seat with all claims
+-- finds the state in its slot.
 pub record Deals {S V I : Type 0} (r : Resting V I) (shows : S → List I) (fixes : S → List ℕ) (author : I → ℕ) (about : About S) (holds : State (Opt S) V → Type 0) : Type 0 where
   pub splits : (id : ℕ) (v : V) (f : Fixed) (c : Claim I) (cs : List (Claim I)) → v ≡ fresh r f (c ∷ cs) → Splits holds id v (view_of_others r v) (view_of_first r v)
   pub joins : (id : ℕ) (v : V) (other : ℕ) (w : V) (f : Fixed) (cs ds : List (Claim I)) → v ≡ r.rest v f cs → w ≡ r.rest w f ds → Joins holds id v other w (joint_view r v w) r.blank

@@ -1,4 +1,4 @@
-//! The wait for an answer, by polls, over any lock.
+//! Waiting until the wait of a process is answered, for every lock that can be polled.
 ghost use Rattle.std.specs.Prelude.{◌≡◌, ◌||◌, true};
 
 use crate::backoff::Backoff;
@@ -7,10 +7,11 @@ use crate::logged::Logged;
 use std::sync::Wait;
 use std::time::Duration;
 
-/// The wait for an answer, for each lock that has polls. It is apart from `Look`, so that code that never waits can poll.
+/// Waiting for an answer. It is a trait of its own, so that code that never waits can poll.
 pub trait AwaitAnswer<S: Logged>: Look<S> {
-    /// Polls until the wait is answered, for about `at_most` at the longest: first a few times, and then it sleeps until the process that
-    /// answers the wait wakes it. Returns what the last poll found.
+    /// Polls until the wait is answered, for about `at_most` at the longest. It polls a few times,
+    /// and then sleeps until the process that answers the wait wakes it. Returns what the last poll
+    /// found.
     fn await_answer<R: Wait>(&self, rt: &R, seat: &mut Self::Seat, at_most: Duration) -> bool
         requires { (Self.ticket seat.old).lock ≡ Self.id self.now }
         ensures ticket { Self.ticket seat.new ≡
@@ -26,7 +27,8 @@ impl<S: Logged, L: Look<S>> AwaitAnswer<S> for L {
     }
 }
 
-// Polls, and backs off longer each time, so that a wait that is answered soon ends at once.
+// Polls a few times, with a longer backoff after each, so that a wait that is soon answered ends
+// without a sleep.
 fn look_some_times<S: Logged, L: Look<S>>(lock: &L, seat: &mut L::Seat) -> bool
     requires { (L.ticket seat.old).lock ≡ L.id lock.now }
     ensures { L.ticket seat.new ≡ record (L.ticket seat.old) {
@@ -47,7 +49,8 @@ fn look_some_times<S: Logged, L: Look<S>>(lock: &L, seat: &mut L::Seat) -> bool
     false
 }
 
-// Announces that it may sleep, polls, sleeps until it is woken or the time is over, and polls again.
+// Announces that it may sleep, polls, sleeps until it is woken or the time is over, and polls
+// again.
 fn look_after_sleep<S: Logged, L: Look<S>, R: Wait>(
     lock: &L,
     rt: &R,

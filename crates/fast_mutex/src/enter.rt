@@ -1,4 +1,4 @@
-//! Acquiring a lock by its steps, with a wait if another process holds it.
+//! Acquiring a lock step by step, with a wait while another process holds it.
 ghost use Rattle.std.specs.Prelude.{◌≡◌, ◌≤◌, ◌+◌, true, false, []};
 ghost use Rattle.fast_mutex.specs.Items.{Grows};
 
@@ -10,10 +10,11 @@ use std::sync::Wait;
 /// How many steps an acquisition takes if it meets nobody (Lamport's fast path).
 pub const FAST_PATH_STEPS: u32 = 5;
 
-// How often an acquisition that can't go on backs off before it sleeps.
+// How often an acquisition that makes no progress backs off before it sleeps.
 const MOST_PAUSES: u32 = 12;
 
-/// Acquiring with a wait, for each lock. It is apart from `Lock`, so that code that never waits can use a lock.
+/// Acquiring with a wait, for every lock. It is a trait of its own, so that code that never waits
+/// can use a lock.
 pub trait Enter<S: Logged>: Lock<S> {
     /// Takes at most [`FAST_PATH_STEPS`] steps, and none once the lock is acquired. It never waits.
     fn take_fast_path(&self, walk: Self::Walk) -> Self::Walk
@@ -39,13 +40,15 @@ pub trait Enter<S: Logged>: Lock<S> {
         ensures number { (1 ≤ (Self.ticket seat).number) ×
             ((Self.ticket seat).number ≤ (Self.id self.now).count) };
 
-    /// Wakes the threads that sleep until this process releases the lock, or until its last critical section answers their waits. If
-    /// nobody sleeps it is a few loads. A thread that is not woken polls again after some milliseconds.
+    /// Wakes the threads that sleep until this process releases the lock, and those whose waits its
+    /// last critical section answered. If nobody sleeps, it is a load or two. A thread that is not
+    /// woken polls again after some milliseconds.
     fn wake(&self, seat: &Self::Seat);
 }
 
 impl<S: Logged, L: Lock<S>> Enter<S> for L {
-    // In a straight line the compiler knows at which step the acquisition is.
+    // The steps stand in a straight line, so that the compiler knows at which step the acquisition
+    // is.
     #[inline(always)]
     fn take_fast_path(&self, walk: L::Walk) -> L::Walk {
         let walk = next(self, walk);
@@ -75,7 +78,8 @@ impl<S: Logged, L: Lock<S>> Enter<S> for L {
     }
 }
 
-// An acquisition that waits has variables of its own, so that one that meets nobody stays in registers.
+// The acquisition is moved into variables of its own here, so that one that meets nobody stays in
+// registers.
 #[inline(always)]
 fn wait_apart<S: Logged, L: Lock<S>, R: Wait>(lock: &L, rt: &R, walk: L::Walk) -> L::Walk
     requires { (L.walking walk).lock ≡ L.id lock.now }
@@ -87,9 +91,10 @@ fn wait_apart<S: Logged, L: Lock<S>, R: Wait>(lock: &L, rt: &R, walk: L::Walk) -
     waited
 }
 
-// Goes step by step. After a step that did not bring it further it backs off, longer each time, and after some of these it sleeps. Once
-// it got further, or slept, backoff begins again with the shortest. It never yields: beside a busy thread a yield costs that thread's
-// whole time slice. It is outlined, so that an acquisition that meets nobody has only the code that it needs.
+// Takes step after step. After a step without progress it backs off, each time longer, and after
+// twelve such steps it sleeps. Backoff starts again with the shortest pause after progress or a
+// sleep. It never yields: beside a busy thread, a yield costs a whole time slice of that thread. It
+// is outlined, so that an acquisition that meets nobody has only the code that it needs.
 #[inline(never)]
 fn wait_in<S: Logged, L: Lock<S>, R: Wait>(lock: &L, rt: &R, mut walk: L::Walk) -> L::Walk
     requires { (L.walking walk).lock ≡ L.id lock.now }
@@ -120,7 +125,8 @@ fn wait_in<S: Logged, L: Lock<S>, R: Wait>(lock: &L, rt: &R, mut walk: L::Walk) 
     unreachable!()
 }
 
-// Announces that it sleeps, takes the next step, and sleeps until it is woken if the step did not bring it further.
+// Announces that it sleeps, takes the next step, and if that makes no progress, sleeps until it is
+// woken.
 fn sleep_apart<S: Logged, L: Lock<S>, R: Wait>(lock: &L, rt: &R, walk: L::Walk) -> (L::Walk, bool)
     requires lock { (L.walking walk).lock ≡ L.id lock.now }
     requires outside { L.is_in walk ≡ false }

@@ -1,8 +1,10 @@
-//! Lamport's lock: Algorithm 2 of "A Fast Mutual Exclusion Algorithm" (1987) over atomic words. In this module alone
-//! its words are touched, and each line of the algorithm touches one word, by one load or one store.
+//! Lamport's lock: Algorithm 2 of "A Fast Mutual Exclusion Algorithm" (1987) over atomic words.
+//! Only this module has access to the words. Each line of the algorithm accesses one word, by one
+//! load or one store.
 //!
-//! Of n processes, word 0 is x, word 1 is y, word i + 1 is the flag b[i] of process i, 1 where it is true, and word
-//! n + 1 + i is s[i], 1 where the wait of process i is answered. The state lies in the one slot of the table.
+//! Word 0 is x, and word 1 is y. For n processes, word i + 1 is the flag b[i] of process i, 1 if it
+//! is up. Word n + 1 + i is s[i], 1 if the wait of process i is answered. The state is in the one
+//! slot of the table, except while a process is in its critical section.
 ghost use Rattle.std.specs.Prelude.{ℕ, slice_index, ◌≡◌, ◌<◌, ◌≤◌, ◌+◌, ◌-◌, ◌*◌, ◌||◌, ◌⊎◌, ◌↔◌, [], ◌∷◌, true, false, Some, None, map, length, IfOk, IfErr, IsOk};
 ghost use Rattle.std.specs.List.{All};
 ghost use Rattle.lamport_core.specs.Line.{IsLine, IsCounted, one_more, pass_steps};
@@ -35,10 +37,12 @@ const Y: usize = 1;
 
 type TableSeat<S> = Seat<Option<S>, View<<S as Logged>::Item>>;
 
-/// Lamport's lock, by loads and stores alone. Without contention an entry takes five steps and an exit two.
+/// Lamport's lock, by loads and stores alone. Without contention an acquisition takes five steps
+/// and a release two.
 ///
-/// It keeps any state that may be dropped. Nothing is said of who comes next, nor that a process that waits gets in.
-/// A walk that is not taken further can keep all others out.
+/// It guards any state that may be dropped. There is no guarantee which process is next, or that a
+/// waiting process ever acquires the lock. A `Walk` that takes no further steps can keep all others
+/// out.
 #[derive(Drop)]
 pub struct FastMutex<S: Logged> {
     table: Table<Option<S>, View<S::Item>, About<S>, FastRule<S>, Global>,
@@ -49,11 +53,12 @@ pub struct FastMutex<S: Logged> {
         (count ≤ 32) },
 }
 
-/// The right of one process to enter a `FastMutex`. The process is at rest.
+/// The right of one process to acquire a `FastMutex`. The process is outside its critical section.
 pub type FastSeat<S> = LockSeat<S, View<<S as Logged>::Item>>;
 
-/// An entry that is taken step by step. It holds the state once it is inside, for `FastMutex::admitted`. One that is
-/// dropped can keep all others out, as one that is not taken further.
+/// An acquisition in progress, step by step. Once the lock is acquired it holds the state, which
+/// `FastMutex::admitted` returns. If it is dropped or takes no further steps, it can keep all
+/// others out.
 #[derive(Drop)]
 pub struct Walk<S: Logged> {
     number: u32,
@@ -77,7 +82,7 @@ pub struct Walk<S: Logged> {
     ghost counted: { IsCounted seat.me.0.fixed.0 at steps } by { counted_prop seat.me.0.fixed.0 at steps },
 }
 
-/// One stay of a process inside a `FastMutex`. `leave` spends it.
+/// The guard of a critical section. `leave` consumes it.
 pub struct FastInside<S: Logged> {
     number: u32,
     at: At,
@@ -96,16 +101,16 @@ pub struct FastInside<S: Logged> {
     ghost counted: { IsCounted seat.me.0.fixed.0 at steps } by { counted_prop seat.me.0.fixed.0 at steps },
 }
 
-// One step more, of a count that stops at the greatest number.
+// One step more. The count stops at the greatest number.
 fn one_more(steps: u64) -> u64
     ensures { result ≡ one_more steps }
 {
     steps.saturating_add(1)
 }
 
-// The lines of an entry, a function for each. Each touches one word once.
+// The lines of an acquisition, one function each. Each accesses one word once.
 impl<S: Logged> FastMutex<S> {
-    // b[i] := true, the first step of a pass
+    // b[i] := true, the first step of each attempt
     #[inline(always)]
     fn raise_b(&self, mut walk: Walk<S>) -> Walk<S>
         requires lock { IsSeatOf S.fixed self.now.table.shared.table_id
@@ -141,7 +146,7 @@ impl<S: Logged> FastMutex<S> {
         walk
     }
 
-    // load y: on where it is 0, else back
+    // load y: go on if it is 0, else back out
     #[inline(always)]
     fn test_y(&self, mut walk: Walk<S>) -> Walk<S>
         requires lock { IsSeatOf S.fixed self.now.table.shared.table_id
@@ -158,7 +163,7 @@ impl<S: Logged> FastMutex<S> {
         walk
     }
 
-    // b[i] := false, on the way back
+    // b[i] := false, when backing out
     fn back_b(&self, mut walk: Walk<S>) -> Walk<S>
         requires lock { IsSeatOf S.fixed self.now.table.shared.table_id
             self.now.table.shared.key walk.seat }
@@ -175,7 +180,7 @@ impl<S: Logged> FastMutex<S> {
         walk
     }
 
-    // load y: begin again where it is 0, else wait
+    // load y: start again if it is 0, else wait
     fn await_y(&self, mut walk: Walk<S>) -> Walk<S>
         requires lock { IsSeatOf S.fixed self.now.table.shared.table_id
             self.now.table.shared.key walk.seat }
@@ -209,7 +214,7 @@ impl<S: Logged> FastMutex<S> {
         walk
     }
 
-    // load x: inside where it is i, else the slow path
+    // load x: acquired if it is i, else the slow path
     #[inline(always)]
     fn test_x(&self, mut walk: Walk<S>) -> Walk<S>
         requires lock { IsSeatOf S.fixed self.now.table.shared.table_id
@@ -251,7 +256,7 @@ impl<S: Logged> FastMutex<S> {
         walk
     }
 
-    // load b[j]: on where it is false, else again
+    // load b[j]: the next flag if it is down, else again
     fn scan(&self, mut walk: Walk<S>, j: u32) -> Walk<S>
         requires lock { IsSeatOf S.fixed self.now.table.shared.table_id
             self.now.table.shared.key walk.seat }
@@ -274,7 +279,7 @@ impl<S: Logged> FastMutex<S> {
         walk
     }
 
-    // load y after the scan: inside where it is i, else wait
+    // load y after the scan: acquired if it is i, else wait
     fn slow_y(&self, mut walk: Walk<S>) -> Walk<S>
         requires lock { IsSeatOf S.fixed self.now.table.shared.table_id
             self.now.table.shared.key walk.seat }
@@ -298,7 +303,7 @@ impl<S: Logged> FastMutex<S> {
         walk
     }
 
-    // load y after the scan: begin again where it is 0, else wait
+    // load y after the scan: start again if it is 0, else wait
     fn slow_await(&self, mut walk: Walk<S>) -> Walk<S>
         requires lock { IsSeatOf S.fixed self.now.table.shared.table_id
             self.now.table.shared.key walk.seat }
@@ -315,9 +320,9 @@ impl<S: Logged> FastMutex<S> {
     }
 }
 
-// An entry step by step.
+// An acquisition step by step.
 impl<S: Logged> FastMutex<S> {
-    /// An entry that has not begun: at `At::Rest`, with no word touched.
+    /// An acquisition that has not begun: it is at `At::Rest`, and no word has been accessed.
     #[inline(always)]
     pub fn begin(&self, seat: FastSeat<S>) -> Walk<S>
         requires { IsSeatOf S.fixed self.now.table.shared.table_id
@@ -341,7 +346,7 @@ impl<S: Logged> FastMutex<S> {
         }
     }
 
-    /// The point of the walk, which says what its next step does.
+    /// The point of the acquisition, which says what its next step does.
     #[inline(always)]
     pub fn at(walk: &Walk<S>) -> At
         ensures { result ≡ walk.now.at }
@@ -377,7 +382,7 @@ impl<S: Logged> FastMutex<S> {
         }
     }
 
-    /// The walk that has come in, as a stay and the state.
+    /// The guard and the state, once the lock is acquired.
     #[inline(always)]
     pub fn admitted(walk: Walk<S>) -> (FastInside<S>, S)
         requires inside { is_inside walk.at ≡ true }
@@ -417,7 +422,7 @@ impl<S: Logged> FastMutex<S> {
 
 // The words s.
 impl<S: Logged> FastMutex<S> {
-    // s[process] := 1 where the list that is given back answers its wait, else 0
+    // s[process] := 1 if the list to be given back answers its wait, else 0
     fn set_mark(&self, mut seat: TableSeat<S>, process: u32, mark: u64) -> TableSeat<S>
         requires lock { IsSeatOf S.fixed self.now.table.shared.table_id
             self.now.table.shared.key seat }
@@ -436,7 +441,8 @@ impl<S: Logged> FastMutex<S> {
         seat
     }
 
-    // Stores the word s of each process whose answer is not the same after the stay as before it.
+    // Stores the word s of each process whose answer differs between `before` and `after` the
+    // critical section.
     fn set_marks(&self, mut seat: TableSeat<S>, before: u32, after: u32) -> TableSeat<S>
         requires lock { IsSeatOf S.fixed self.now.table.shared.table_id
             self.now.table.shared.key seat }
@@ -468,7 +474,7 @@ impl<S: Logged> FastMutex<S> {
         seat
     }
 
-    // load s[i], outside
+    // Loads s[i], outside the critical section.
     pub(crate) fn look(&self, seat: &mut FastSeat<S>) -> bool
         requires { IsSeatOf S.fixed self.now.table.shared.table_id self.now.table.shared.key
             seat.old.seat }
@@ -487,13 +493,13 @@ impl<S: Logged> FastMutex<S> {
     }
 }
 
-// What threads sleep on. It is no word of the table, and no step of the algorithm.
+// The futex words. They are not words of the table, and no step of the algorithm accesses them.
 impl<S: Logged> FastMutex<S> {
     pub(crate) fn futex_words(&self) -> &FutexWords {
         &self.futex_words
     }
 
-    // A walk waits at y, or at the flag that its scan has come to.
+    // An acquisition waits at y, or at the flag that its scan has reached.
     pub(crate) fn futex_word_of(walk: &Walk<S>) -> u32 {
         match walk.at {
             At::Scan(j) => FutexWords::of_flag(j),
@@ -501,15 +507,15 @@ impl<S: Logged> FastMutex<S> {
         }
     }
 
-    // That of its flag, which it lowers on its way to where it waits.
+    // The futex word of the process's own flag, which it lowers before it waits.
     pub(crate) fn own_futex_word_of(walk: &Walk<S>) -> u32 {
         FutexWords::of_flag(walk.number)
     }
 }
 
-// The bodies of the lock's calls, which `fast_lock` names.
+// The bodies of the calls of `Lock` for `FastMutex` (`fast_lock.rt`).
 impl<S: Logged> FastMutex<S> {
-    // the words s that change, y := 0, and then b[i] := false
+    // Stores the words s that change, then y := 0, then b[i] := false.
     #[inline(always)]
     pub(crate) fn depart(&self, inside: FastInside<S>, state: S) -> FastSeat<S>
         requires lock { IsSeatOf S.fixed self.now.table.shared.table_id self.now.table.shared.key
@@ -563,7 +569,8 @@ impl<S: Logged> FastMutex<S> {
         seat.number
     }
 
-    // The words that a lock begins with: all are 0 but the words s of those whose waits are answered in the state's list.
+    // The words of a new lock. All are 0 except the words s of the processes whose waits the
+    // state's list answers.
     fn first_words(count: u32, state: &S) -> [u64; 66]
         requires { (1 ≤ count) × (count ≤ 32) }
         ensures low { (i : ℕ) → i < count + 2 → slice_index result i ≡ 0 }
@@ -578,7 +585,8 @@ impl<S: Logged> FastMutex<S> {
         words
     }
 
-    // A lock with the state at home, and the seat at its table that has the numbers of all.
+    // A lock with the state in its slot, and the one seat at its table, which stands for all
+    // processes.
     fn furnish(
         alloc: Global,
         count: u32,

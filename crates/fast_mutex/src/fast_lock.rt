@@ -1,4 +1,5 @@
-//! Lamport's lock as a `Lock`. It stands outside the module that has the words: an entry is made of public steps.
+//! `FastMutex` implements `Lock` and `Look`. This module has no access to the words: an acquisition
+//! consists of public steps.
 ghost use Rattle.std.specs.Prelude.{◌≡◌, ◌≤◌, ◌+◌, ◌↔◌, [], length, IfOk, IfErr, IsOk};
 ghost use Rattle.std.specs.List.{All};
 ghost use Rattle.lamport_core.specs.declared.At.TheVariants.{Fast as FastAt, Slow as SlowAt};
@@ -55,7 +56,8 @@ impl<S: Logged + Drop> Lock<S> for FastMutex<S> {
         FastMutex::begin(self, seat)
     }
 
-    /// One line. It does not move at `At::AwaitY`, `At::Scan` and `At::SlowAwait`, while the algorithm waits there.
+    /// One line. While the algorithm waits, at `At::AwaitY`, `At::Scan` and `At::SlowAwait`, it
+    /// makes no progress.
     #[inline(always)]
     fn step(&self, walk: Walk<S>) -> (Walk<S>, bool) {
         let before = FastMutex::at(&walk);
@@ -80,7 +82,7 @@ impl<S: Logged + Drop> Lock<S> for FastMutex<S> {
         FastMutex::admitted(walk)
     }
 
-    /// `Path::Fast` exactly where the walk came in at `At::Fast`.
+    /// `Path::Fast` if and only if the lock was acquired at `At::Fast`.
     fn path(inside: &FastInside<S>) -> Path
         ensures { (inside.now.at ≡ FastAt) ↔ (result ≡ Fast) }
     {
@@ -90,7 +92,7 @@ impl<S: Logged + Drop> Lock<S> for FastMutex<S> {
         }
     }
 
-    /// The steps of the walk: 5 on the fast path, and at least n + 7 on the slow path.
+    /// The steps of the acquisition: 5 on the fast path, and at least n + 7 on the slow path.
     fn steps(inside: &FastInside<S>) -> u64
         ensures steps { result ≡ inside.now.steps }
         ensures fast { inside.now.at ≡ FastAt → result ≡ 5 }

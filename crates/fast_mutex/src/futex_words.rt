@@ -126,8 +126,8 @@ impl FutexWords {
         self.set(FutexWords::of_answer(process), 0);
     }
 
-    /// Wakes one thread that sleeps until this process releases the lock, and those whose waits it answered. If nobody sleeps, it is one
-    /// load.
+    /// Wakes one thread that sleeps until this process releases the lock, and the threads of the
+    /// processes whose waits it answered. If nobody sleeps, it is one load.
     #[inline(always)]
     pub(crate) fn wake_after(&self, process: u32, answered: u32) {
         if self.sleepers.load(SeqCst) != 0 {

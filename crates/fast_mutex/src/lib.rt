@@ -1,4 +1,5 @@
-//! Locks that hand a state from process to process, and say what each finds when it enters.
+//! Locks that hand a state from process to process. Their contracts say what each process finds
+//! when it acquires the lock.
 #![tactic(auto)]
 
 mod await_answer;

@@ -1,4 +1,5 @@
-//! The seats of a lock: dealt out when it is made, joined again when it ends. Both are the same for each lock.
+//! The seats of a lock: dealt out when it is made, joined again when it ends. Every lock does both
+//! in the same way.
 ghost use Rattle.std.specs.Prelude.{◌≡◌, ◌<◌, ◌≤◌, ◌+◌, ◌-◌, [], map, length, suc, vec_len, vec_capacity};
 ghost use Rattle.std.specs.List.{All};
 ghost use Rattle.fast_mutex.specs.Items.{ticket_with, tickets_with, Grows};
@@ -11,31 +12,32 @@ use std::alloc::Global;
 use std::marker::PhantomData;
 use std::snapshot::Snapshot;
 
-/// What the table is made with: the number of processes, and the state as it was given.
+/// What the table is made with: the number of processes, and the state given to `new`.
 #[derive(Drop)]
 pub struct About<S> {
     pub count: u32,
     pub state: Snapshot<S>,
 }
 
-/// What a seat at the table knows, of a lock whose states have items `I`.
+/// The ghost state of a seat at the table, for a lock whose state shows items `I`.
 pub trait RestView<I> {
-    // of seats at rest
+    // how a view stands for seats outside the critical section
     ghost resting: { Resting Self I };
 }
 
-/// The right of one process to enter a lock, by its seat at the table. The process is outside.
+/// The right of one process to acquire a lock, as a seat at its table. The process is outside its
+/// critical section.
 #[derive(Drop)]
 pub struct LockSeat<S: Logged, V: RestView<S::Item>> {
     pub(crate) number: u32,
-    // whose waits the last stay answered, that of process p by bit p - 1
+    // the processes whose waits the last critical section answered: bit p - 1 stands for process p
     pub(crate) answered: u32,
     pub(crate) seat: Seat<Option<S>, V>,
     ghost range: { (1 ≤ number) × (number ≤ (V.resting.fixed seat.me.0).0) },
     ghost alone: { IsAlone V.resting number seat.me },
 }
 
-/// A new seat gets the first claim.
+/// A split: the new seat gets the first claim.
 struct DealsFirst<I> {
     of: PhantomData<I>,
 }
@@ -48,7 +50,7 @@ impl<I, V: RestView<I>> Split<V> for DealsFirst<I> {
     ghost right = { view_of_first V.resting };
 }
 
-/// A seat takes in the claims of another.
+/// A join: one seat takes the claims of another.
 struct TakesIn<I> {
     of: PhantomData<I>,
 }
@@ -61,7 +63,7 @@ impl<I, V: RestView<I>> Join<V> for TakesIn<I> {
     ghost spent = { V.resting.blank };
 }
 
-// Deals a seat of its own to the first of the processes that `first` stands for.
+// Splits off a seat for the first of the processes that `first` stands for.
 fn deal_one<S: Logged, V: RestView<S::Item>, R: TableRule<Option<S>, V, About<S>>>(
     shared: &Shared<Option<S>, V, About<S>, R>,
     first: &mut Seat<Option<S>, V>,
@@ -97,7 +99,7 @@ fn deal_one<S: Logged, V: RestView<S::Item>, R: TableRule<Option<S>, V, About<S>
     }
 }
 
-/// Deals a seat to each process, from the seat that has the numbers of all.
+/// Deals a seat to each process, from the one seat that stands for all.
 pub(crate) fn deal<S: Logged, V: RestView<S::Item>, R: TableRule<Option<S>, V, About<S>>>(
     shared: &Shared<Option<S>, V, About<S>, R>,
     count: u32,
@@ -166,7 +168,8 @@ fn join_all<S: Logged, V: RestView<S::Item>, R: TableRule<Option<S>, V, About<S>
     all
 }
 
-/// Ends the table and takes the state: with all seats nobody is inside, so it is at home.
+/// Ends the table and takes the state. With all seats given no process is in its critical section,
+/// so the state is in its slot.
 pub(crate) fn close<S: Logged, V: RestView<S::Item>, R: TableRule<Option<S>, V, About<S>>>(
     table: Table<Option<S>, V, About<S>, R, Global>,
     seats: Vec<LockSeat<S, V>>,

@@ -1,4 +1,5 @@
-//! The one slot of a lock's table, where the state is at home. Nothing here touches a word.
+//! The one slot of a lock's table. It holds the state while no process is in its critical section.
+//! Nothing here accesses a word.
 ghost use Rattle.std.specs.Prelude.{◌≡◌, [], ◌∷◌, length, Some, None, IfOk, IfErr};
 ghost use Rattle.std.specs.Mem.Slots.{slots_items, slots_len, IsFull};
 ghost use mathlib.Core.Option.{some};
@@ -10,7 +11,8 @@ use std::alloc::{AllocError, Global};
 
 type Furnished<S, V, K, R> = (Table<Option<S>, V, K, R, Global>, Seat<Option<S>, V>);
 
-/// A table with the state at home, and its first seat. At want of memory it hands the state back.
+/// A table with the state in its slot, and its first seat. If memory is refused, the state comes
+/// back.
 pub(crate) fn furnish<S, V, K, R: TableRule<Option<S>, V, K>>(
     alloc: Global,
     words: &[u64],
@@ -75,7 +77,7 @@ pub(crate) fn put_in<S, V, K, R: TableRule<Option<S>, V, K>>(
     let None = before else { unreachable!() };
 }
 
-/// The state of a closed table.
+/// The state in the slot of a closed table.
 pub(crate) fn take_state<T>(mut closed: Closed<Option<T>, Global>) -> T
     requires one { slots_len closed.slots ≡ 1 }
     requires full { IsFull closed.slots }

@@ -1,4 +1,4 @@
-//! The rule of the words, and what each kind of step tells.
+//! The rule of the words, and what each kind of access tells the proof.
 use super::view::View;
 use crate::logged::Logged;
 use crate::seats::About;
@@ -18,7 +18,7 @@ impl<S: Logged> TableRule<Option<S>, View<S::Item>, About<S>> for FastRule<S> {
     ghost first = { first_view resting S.items S.fixed };
 }
 
-/// A store of x, of y := i or of the own flag.
+/// A store of x, of y := i or of the process's own flag.
 pub struct Stores;
 
 impl<S: Logged> Play<Option<S>, View<S::Item>> for Stores {
@@ -27,7 +27,7 @@ impl<S: Logged> Play<Option<S>, View<S::Item>> for Stores {
     ghost then = { IsStore };
 }
 
-/// A load of y or of a flag, which admits nobody.
+/// A load of y or of a flag that cannot acquire the lock.
 pub struct Loads;
 
 impl<S: Logged> Play<Option<S>, View<S::Item>> for Loads {
@@ -36,7 +36,8 @@ impl<S: Logged> Play<Option<S>, View<S::Item>> for Loads {
     ghost then = { IsLoad };
 }
 
-/// The load of x at `At::TestX` and the load of y at `At::SlowY`, which admit where they find the seat's number.
+/// The load of x at `At::TestX` and the load of y at `At::SlowY`. They acquire the lock if they
+/// find the number of the process.
 pub struct Tests<S> {
     of: PhantomData<S>,
 }
@@ -47,7 +48,7 @@ impl<S: Logged> Play<Option<S>, View<S::Item>> for Tests<S> {
     ghost then = { IsTest S.items S.fixed S.author S.is_answered };
 }
 
-/// The load of the own word s, outside.
+/// The load of the process's own word s, outside the critical section.
 pub struct Looks<S> {
     of: PhantomData<S>,
 }
@@ -58,7 +59,7 @@ impl<S: Logged> Play<Option<S>, View<S::Item>> for Looks<S> {
     ghost then = { IsLook S.is_answered };
 }
 
-/// The store of a word s, inside, with the state in its slot.
+/// The store of a word s in the critical section, with the state back in its slot.
 pub struct Marks<S> {
     of: PhantomData<S>,
 }

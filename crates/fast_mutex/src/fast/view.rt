@@ -1,28 +1,30 @@
-//! What a seat at the table knows. No value of `View` is made.
+//! The ghost state of a seat at the table. No value of `View` exists at run time.
 use crate::seats::RestView;
 use lamport_core::At;
 use std::collections::LinkedList;
 
-/// What a stay stored ahead of its leaving, and what a look told.
+/// What the process has stored in its critical section, and what its polls found.
 pub struct Plan<I> {
-    /// While the seat is inside: the list that it will give back, once a word s is stored, and before that the list found.
+    /// In the critical section: the list that the process will give back, once it has stored a word
+    /// s. Before that it is the list found.
     pub next: LinkedList<I>,
-    /// The processes whose words s it stored in this stay.
+    /// The processes whose words s it has stored in this critical section.
     pub stored: LinkedList<u64>,
-    /// Whether a look since its last stay found the own wait answered.
+    /// Whether a poll since its last critical section found its own wait answered.
     pub told: bool,
 }
 
 pub struct View<I> {
     pub at: At,
-    /// The list found, while the seat is inside.
+    /// In the critical section: the list found.
     pub found: LinkedList<I>,
     /// The number of processes, and the fixed part of the state.
     pub fixed: (u64, LinkedList<u64>),
-    /// The number of this seat with the list that it last left, and those of the seats joined to it.
+    /// The number of this process with the list that it last left, and the same for each seat
+    /// joined to this one.
     pub claims: LinkedList<(u64, LinkedList<I>)>,
     pub plan: Plan<I>,
-    /// How many accesses to words of the table the seat has made.
+    /// The number of accesses that the seat has made to words of the table.
     pub accesses: u64,
 }
 
