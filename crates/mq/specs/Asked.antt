@@ -1,4 +1,4 @@
--- Which replies a call is given.
+-- Which replies each call may get.
 use Rattle.std.specs.Prelude.{Bool, true, false}
 use Rattle.mq_model.specs.declared.entries.Call.{Call}
 use Rattle.mq_model.specs.declared.entries.Call.TheVariants.{MqOpen, MqClose, MqUnlink, MqSend, MqReceive, MqGetattr, MqSetattr, MqNotify, NextNotice, Collect, MqTimedSend, MqTimedReceive, Withdraw}
@@ -46,12 +46,12 @@ abbrev pub is_withdrawn : Reply → Bool
 is_withdrawn (Withdrawn wait) = true
 is_withdrawn _ = false
 
--- a message was got at once
+-- a receive got a message at once
 abbrev pub gets_message : Reply → Bool
 gets_message (Got place admitted notified) = true
 gets_message _ = false
 
--- the replies that a call may be given
+-- the replies that a call may get
 abbrev pub may_reply : Call → Reply → Bool
 may_reply (MqOpen flags attr) reply = is_opened reply
 may_reply (MqClose d) reply = is_done reply

@@ -1,4 +1,5 @@
--- What a call of a process leaves behind. Lists of records are latest first, so that what came later stands in front.
+-- What a call of a process adds to the journal. Lists of records have the latest first, so later
+-- records are in front.
 use Rattle.std.specs.Prelude.{ℕ, ◌≡◌, ◌<◌, ◌≤◌, Bool, true, false, List, [], ◌∷◌, ◌++◌, length, map, slice_get, Option, Some, None, Result, Ok, Err, ◌⊎◌, OnOk, IfErr, if◌then◌else◌}
 use Rattle.fast_mutex.specs.Items.{LockId, Ticket, Grows}
 use Rattle.fast_mutex.specs.Marks.{answer_bits}
@@ -25,11 +26,12 @@ use Rattle.mq.specs.Says.{send_says, receive_says}
 abbrev pub author : Record → ℕ
 author r = r.entry.process
 
--- the record of a call that was given these bytes, a name or a message
+-- the record of a call with these bytes, a name or a message
 abbrev pub recorded : ℕ → Call → List ℕ → Reply → Record
 recorded p call given reply = record { entry = record { process = p; call = call; reply = reply }; payload = payload_of call reply given }
 
--- what a call adds to the journal: its record, or nothing for want of memory or because the journal is full
+-- What a call adds to the journal: its record, or nothing if memory was refused or the journal is
+-- full.
 abbrev pub made : ℕ → Call → List ℕ → Reply → Past
 made p call given reply = if has_entry reply then recorded p call given reply ∷ [] else []
 
@@ -58,7 +60,8 @@ bounds_of t = bounds_in t.lock.fixed
 abbrev pub IsFree : Ticket Record → Type 0
 IsFree t = open_wait t.left t.number ≡ None
 
--- of a process with this ticket, the length of the buffer that its open wait needs stands at the index of its number
+-- `rooms` has the buffer length that the open wait of the process with this ticket needs, at the
+-- index of its number.
 pub record IsRoomOf (rooms : List (Option ℕ)) (t : Ticket Record) : Type 0 where
   pub number : t.number < 33
   pub room : slice_get rooms t.number ≡ Some (waiting_room t.left t.number)
@@ -69,37 +72,39 @@ pub record WaitsIn (t : Ticket Record) (waited : Call) : Type 0 where
   pub room : waiting_room t.left t.number ≡ Some (room_of waited)
   pub deadline : wait_deadline t.left t.number ≡ deadline_of waited
 
--- how long a buffer the wait needs that a reply begins
+-- the buffer length that the wait needs which a reply begins
 abbrev pub wait_begun : Reply → ℕ → Option ℕ
 wait_begun Waits room = Some room
 wait_begun _ room = None
 
--- of one process and one lock: the journal now left is legal and begins with the one left before, and after that the
--- process's own records are just these
+-- For one process and one lock: the journal now left is legal and starts with the one left before.
+-- Of the records added since, the process's own are exactly `own`.
 pub record Calls (old new : Ticket Record) (own : Past) : Type 0 where
   pub lock : new.lock ≡ old.lock
   pub number : new.number ≡ old.number
   pub legal : Legal new.left
   pub grows : Grows author old.number old.left new.left own
 
--- a process that a look has told that its wait is answered has left a journal that answers it
+-- If a poll has told the process that its wait is answered, it has left a journal that answers it.
 abbrev pub KeepsTold : Ticket Record → Ticket Record → Type 0
 KeepsTold old new = old.told ≡ true → is_answered new.left new.number ≡ true
 
--- the journal that a call found: it added its record to it, and its reply is that the journal is full exactly where it was
+-- The journal that a call found. The call added its record to it, and its reply is `JournalFull` if
+-- and only if it found the journal full.
 pub record Found (old new : Ticket Record) (call : Call) (given : List ℕ) (reply : Reply) : Type 0 where
   pub journal : Past
   pub added : new.left ≡ made old.number call given reply ++ journal
   pub heeds : HeedsBounds (bounds_of old) journal old.number call given reply
 
--- a call in one stay: it left its record, or none for want of memory or because the journal is full, and its result is what the reply says
+-- A call in one critical section. It left its record, or none if memory was refused or the journal
+-- is full, and its result is what the reply says.
 pub record OneCall {R : Type 0} (says : Reply → Option R) (old new : Ticket Record) (call : Call) (given : List ℕ) (result : R) : Type 0 where
   pub reply : Reply
   pub calls : Calls old new (made old.number call given reply)
   pub found : Found old new call given reply
   pub says_so : says reply ≡ Some result
 
--- a receive in one stay: `before` is what the buffer held, `after` what it holds
+-- A receive in one critical section. The buffer held `before`, and now holds `after`.
 pub record ReceiveCall {R : Type 0} (says : Past → Reply → Option R) (old new : Ticket Record) (call : Call) (before after : List ℕ) (result : R) : Type 0 where
   pub reply : Reply
   pub calls : Calls old new (made old.number call [] reply)
@@ -107,8 +112,8 @@ pub record ReceiveCall {R : Type 0} (says : Past → Reply → Option R) (old ne
   pub says_so : says new.left reply ≡ Some result
   pub buffer : after ≡ filled new.left reply before
 
--- a collect that found the wait answered, by the entry at place `by` of the journal found: it left one record, and gives what
--- the wait came to
+-- A collect that found the wait answered, by the entry with sequence number `by` of the journal
+-- found. It left one record, and returns the outcome of the wait.
 pub record Collects (old new : Ticket Record) (result : Outcome) (before after : List ℕ) : Type 0 where
   pub found : Past
   pub by : ℕ
@@ -119,20 +124,21 @@ pub record Collects (old new : Ticket Record) (result : Outcome) (before after :
   pub value : collected found old.number ≡ Some result
   pub buffer : after ≡ collected_into found old.number before
 
--- a collect that found the wait not answered: it left nothing
+-- a collect that found the wait not answered: it left no record
 pub record StillWaits (old new : Ticket Record) : Type 0 where
   pub calls : Calls old new []
   pub wait : waiting_room new.left new.number ≡ waiting_room old.left old.number
   pub call : waiting_call new.left new.number ≡ waiting_call old.left old.number
   pub unanswered : is_answered new.left new.number ≡ false
 
--- a wait that a call began in its first stay, whose ticket after it was `begun`
+-- A wait that a call began in its first critical section. The ticket of the process after that was
+-- `begun`.
 pub record Begins (old begun : Ticket Record) (call : Call) (given : List ℕ) : Type 0 where
   pub calls : Calls old begun (recorded old.number call given Waits ∷ [])
   pub found : Found old begun call given Waits
 
--- a call that waited left two records, the wait and then the collect, which names the entry that answered the wait. The journal that
--- it leaves is the one in which the wait began with more in front
+-- A call that waited left two records: the wait, and then the collect, which names the entry that
+-- answered the wait. The journal that it leaves extends the one in which the wait began.
 pub record Waited (old new : Ticket Record) (call : Call) (given : List ℕ) (by : ℕ) : Type 0 where
   pub begun : Ticket Record
   pub begins : Begins old begun call given
@@ -145,35 +151,37 @@ pub record WaitedSend (old new : Ticket Record) (call : Call) (given : List ℕ)
   pub waited : Waited old new call given by
   pub is : result ≡ Ok tt
 
--- a receive that waited, and was then given the message of the send that answered it
+-- a receive that waited, and then got the message of the send that answered it
 pub record WaitedReceive (old new : Ticket Record) (call : Call) (before after : List ℕ) (result : Result Received Fault) : Type 0 where
   pub by : ℕ
   pub waited : Waited old new call [] by
   pub is : result ≡ Ok (received_at new.left by)
   pub buffer : after ≡ with_front (message_at new.left by) before
 
--- a send, in one stay or after a wait
+-- a send, without a wait or with one
 abbrev pub SendCall : Ticket Record → Ticket Record → ℕ → List ℕ → ℕ → Result (Unit {0}) Fault → Type 0
 SendCall old new d bytes prio result = OneCall send_says old new (MqSend d prio (length bytes)) bytes result ⊎ WaitedSend old new (MqSend d prio (length bytes)) bytes result
 
--- a receive, in one stay or after a wait
+-- a receive, without a wait or with one
 abbrev pub WholeReceive : Ticket Record → Ticket Record → ℕ → List ℕ → List ℕ → Result Received Fault → Type 0
 WholeReceive old new d before after result = ReceiveCall receive_says old new (MqReceive d (length before)) before after result ⊎ WaitedReceive old new (MqReceive d (length before)) before after result
 
--- the end of a wait that no entry answered: it left one record, the withdrawal of that wait at this moment
+-- The end of a wait that no entry answered. It left one record, the withdrawal of that wait at the
+-- time `now`.
 pub record WithdrawsAt (now : Deadline) (old new : Ticket Record) : Type 0 where
   pub wait : ℕ
   pub is : open_wait old.left old.number ≡ Some wait
   pub calls : Calls old new (recorded old.number (Withdraw now) [] (Withdrawn wait) ∷ [])
 
--- the same, at a moment that the clock can give
+-- the same, at a time that the clock can return
 pub record Withdraws (gives : Deadline → Type 0) (old new : Ticket Record) : Type 0 where
   pub now : Deadline
   pub moment : gives now
   pub withdraws : WithdrawsAt now old new
 
--- a timed call that waited until its deadline left two records, the wait and then its withdrawal, in a journal grown from the one in
--- which the wait began, and its result says so
+-- A timed call that waited until its deadline. It left two records, the wait and then its
+-- withdrawal, in a journal that extends the one in which the wait began. Its result says that it
+-- timed out.
 pub record Expired {R : Type 0} (gives : Deadline → Type 0) (old new : Ticket Record) (call : Call) (given : List ℕ) (result : Result R Fault) : Type 0 where
   pub now : Deadline
   pub moment : gives now
@@ -184,15 +192,15 @@ pub record Expired {R : Type 0} (gives : Deadline → Type 0) (old new : Ticket 
   pub calls : Calls old new (recorded old.number (Withdraw now) [] (Withdrawn wait) ∷ recorded old.number call given Waits ∷ [])
   pub is : result ≡ Err TimedOut
 
--- a send with a deadline, made at a moment that its clock can give: in one stay, after a wait that was answered, or after one that
--- was withdrawn
+-- A send with a deadline, made at a time that its clock can return: without a wait, after a wait
+-- that was answered, or after one that was withdrawn.
 pub record TimedSend (gives : Deadline → Type 0) (old new : Ticket Record) (d : ℕ) (bytes : List ℕ) (prio : ℕ) (until : Deadline) (result : Result (Unit {0}) Fault) : Type 0 where
   pub now : Deadline
   pub moment : gives now
   pub how : OneCall send_says old new (MqTimedSend d prio (length bytes) until now) bytes result ⊎ WaitedSend old new (MqTimedSend d prio (length bytes) until now) bytes result
       ⊎ Expired gives old new (MqTimedSend d prio (length bytes) until now) bytes result
 
--- a receive with a deadline, in the same way. One that was withdrawn leaves the buffer as it was
+-- A receive with a deadline, in the same way. If it was withdrawn, the buffer is unchanged.
 pub record TimedReceive (gives : Deadline → Type 0) (old new : Ticket Record) (d : ℕ) (before after : List ℕ) (until : Deadline) (result : Result Received Fault) : Type 0 where
   pub now : Deadline
   pub moment : gives now
@@ -203,25 +211,29 @@ pub record TimedReceive (gives : Deadline → Type 0) (old new : Ticket Record) 
 abbrev pub closes : ℕ → List ℕ → Past
 closes p ds = map (λ d. recorded p (MqClose d) [] Done) ds
 
--- each of them was of the lowest descriptor that the process then held, and made where the journal was not full
+-- Each of them closed the lowest descriptor that the process then held, when the journal was not
+-- full.
 abbrev pub AreInTurn : Option Bounds → Past → ℕ → List ℕ → Type 0
 AreInTurn bounds found p [] = Unit {0}
 AreInTurn bounds found p (d ∷ ds) = AreInTurn bounds found p ds × (lowest_held (closes p ds ++ found) p ≡ Some d) × (finds_full bounds (closes p ds ++ found) p (MqClose d) [] ≡ false)
 
--- from the journal found to the one left, process p closed descriptors, always its lowest, and none where the journal was full
+-- From the journal found to the one left, process p closed descriptors, always its lowest, and none
+-- when the journal was full.
 pub record Closing (bounds : Option Bounds) (found after : Past) (p : ℕ) : Type 0 where
   pub ds : List ℕ
   pub is : after ≡ closes p ds ++ found
   pub in_turn : AreInTurn bounds found p ds
 
--- an exit that stopped at descriptor d, the lowest that is still held: for its close memory was wanting, or the journal full
+-- An exit that stopped at descriptor d, the lowest that is still held. For its close memory was
+-- refused, or the journal was full.
 pub record Stops (bounds : Option Bounds) (left : Past) (p : ℕ) (fault : Fault) : Type 0 where
   pub d : ℕ
   pub lowest : lowest_held left p ≡ Some d
   pub unentered : has_entry (Refused fault) ≡ false
   pub heeds : HeedsBounds bounds left p (MqClose d) [] (Refused fault)
 
--- an exit: it left closes alone. After Ok no descriptor is held, and it fails by want of memory or because the journal is full
+-- An exit. It left only closes. If it succeeds, the process holds no descriptor. It fails only if
+-- memory is refused or the journal is full.
 pub record Exits (old new : Ticket Record) (result : Result (Unit {0}) Fault) : Type 0 where
   pub found : Past
   pub closing : Closing (bounds_of old) found new.left old.number
@@ -229,27 +241,29 @@ pub record Exits (old new : Ticket Record) (result : Result (Unit {0}) Fault) : 
   pub ok : OnOk result (lowest_held new.left new.number ≡ None)
   pub err : IfErr result (Stops (bounds_of old) new.left old.number)
 
--- inside the lock ----------------------------------------------------------------------------------------------------------
+-- inside the critical section
+-- ----------------------------------------------------------------------
 
 -- the answers of the processes 1 to 32 in a journal, as the bits of a number
 abbrev pub answered_bits : Past → ℕ
 answered_bits past = answer_bits (λ p. is_answered past p) 1 32
 
--- what who is inside knows of the journal found: the answers, and how many records there are
+-- What a process in its critical section knows of the journal found: which waits are answered, and
+-- how many records there are.
 pub record Knows (stay : Ticket Record) (answers places : ℕ) : Type 0 where
   pub answers_are : answers ≡ answered_bits stay.left
   pub places_are : places ≡ length stay.left
 
--- what a process without its seat shows
+-- what a process value without its seat shows
 abbrev pub no_ticket : Ticket Record
 no_ticket = record { lock = record { table = record { words = 0; slots = 0; views_name = 0; atom = 0; block = 0; offset = 0; slot_names = [] }; count = 0; fixed = [] }; number = 0; left = []; told = false }
 
--- what a process shows
+-- what a process value shows
 abbrev pub ticket_of : {A : Type 0} → (A → Ticket Record) → Option A → Ticket Record
 ticket_of f (Some seat) = f seat
 ticket_of f None = no_ticket
 
--- a process with this ticket came in as p, for this stay, and found these books
+-- A process with this ticket entered this critical section as process p, and found these books.
 pub record Came (old : Ticket Record) (system : LockId) (stay : Ticket Record) (books : Kept) (p : ℕ) : Type 0 where
   pub lock : stay.lock ≡ system
   pub number : stay.number ≡ old.number
@@ -263,12 +277,14 @@ pub record Came (old : Ticket Record) (system : LockId) (stay : Ticket Record) (
   pub grows : Grows author old.number old.left books.records []
   pub told : old.told ≡ true → is_answered books.records old.number ≡ true
 
--- a process on its way into the lock, or inside: the process that set out, and how many accesses to words of the lock it has made
+-- A process that is acquiring the lock or holds it: the process as it was before, and how many
+-- accesses to words of the lock it has made.
 pub record Entrant : Type 0 where
   pub process : Ticket Record
   pub accesses : ℕ
 
--- a process on its way in: its number, the room that its open wait needs, and that its lock is that of a system
+-- A process that is acquiring the lock: its number, the buffer length that its open wait needs, and
+-- that the lock is that of a system.
 pub record UnderWay (t : Ticket Record) (number : ℕ) (waits : Option ℕ) : Type 0 where
   pub number_is : number ≡ t.number
   pub waits_is : waits ≡ waiting_room t.left t.number

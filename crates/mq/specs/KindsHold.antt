@@ -1,4 +1,4 @@
--- What holds of each kind of calls.
+-- What holds of each kind of call.
 use Rattle.std.proofs.Common.{◌≡◌, ◌≢◌, Bool, true, false, [], Option, Some, None, Result, Ok, Err, refl, ap, sym, ◌∙◌}
 use Rattle.mq_model.specs.Record.{Past}
 use Rattle.mq_model.specs.Waits.{is_wait}
@@ -11,7 +11,7 @@ use Rattle.mq.specs.Says.{open_says, done_says, attributes_says, notice_says, st
 use Rattle.mq.specs.Asked.{gets_message}
 use Rattle.mq.specs.Kinds.{IsKind, open_kind, done_kind, attributes_kind, notice_kind, send_kind, receive_kind}
 
--- a call that says nothing of a wait does not wait
+-- a call without a result for a wait does not wait
 never-waits : {R : Type 0} (says : Reply → Option R) → says Waits ≡ None → (reply : Reply) (returned : R) → says reply ≡ Some returned → is_wait reply ≡ false
 never-waits says none Waits returned e = absurd (let bad : None ≡ Some returned = sym none ∙ e in cc)
 never-waits says none (Opened d c) returned e = refl

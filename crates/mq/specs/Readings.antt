@@ -1,4 +1,4 @@
--- An entry with its payload, as it is read.
+-- An entry and its payload, as a read returns them.
 use Rattle.std.specs.Prelude.{ℕ}
 use Rattle.std.specs.declared.vec.Vec.{Vec}
 use Rattle.std.specs.declared.alloc.Global.{Global}

@@ -1,4 +1,5 @@
--- What a call of a process returns, by the reply in its entry. None stands for a reply that the call is never given.
+-- What a call of a process returns, given the reply in its entry. None stands for a reply that the
+-- call never gets.
 use Rattle.std.specs.Prelude.{ℕ, ◌≤◌, Bool, true, false, Option, Some, None, Result, Ok, Err}
 use Rattle.mq_model.specs.Record.{Past}
 use Rattle.mq_model.specs.declared.entries.Status.{Status}
@@ -40,27 +41,27 @@ start_send_says Waits = Some (Ok false)
 start_send_says (Refused fault) = Some (Err fault)
 start_send_says _ = None
 
--- a send that did not wait
+-- a send without a wait
 abbrev pub send_says : Reply → Option (Result (Unit {0}) Fault)
 send_says (Queued notified) = Some (Ok tt)
 send_says (Handed wait) = Some (Ok tt)
 send_says (Refused fault) = Some (Err fault)
 send_says _ = None
 
--- the message that was got, by the journal left; or None: the receive waits
+-- the received message, from the journal left; or None if the receive waits
 abbrev pub start_receive_says : Past → Reply → Option (Result (Option Received) Fault)
 start_receive_says past (Got place admitted notified) = Some (Ok (Some (received_at past place)))
 start_receive_says past Waits = Some (Ok None)
 start_receive_says past (Refused fault) = Some (Err fault)
 start_receive_says past _ = None
 
--- a receive that did not wait
+-- a receive without a wait
 abbrev pub receive_says : Past → Reply → Option (Result Received Fault)
 receive_says past (Got place admitted notified) = Some (Ok (received_at past place))
 receive_says past (Refused fault) = Some (Err fault)
 receive_says past _ = None
 
--- a message that was received has room in a buffer of that length
+-- a received message fits in a buffer of that length
 abbrev pub FitsIn : Outcome → ℕ → Type 0
 FitsIn (GotMessage received) room = received.len ≤ room
 FitsIn Sent room = Unit {0}

@@ -1,4 +1,4 @@
-//! A process under way into the lock.
+//! A process that is acquiring the lock.
 
 use crate::guard::Guard;
 use crate::guarded::Guarded;
@@ -8,12 +8,13 @@ use fast_mutex::{Enter, FAST_PATH_STEPS, Look};
 use std::marker::Model;
 use std::sync::Wait;
 
-/// A process on its way into the lock, made by [`Process::acquisition`]. It goes on step by step, without waiting, until it is an
-/// [`Guard`], which makes one call and is a [`Process`] again. So code that must not wait can make calls, and do other work
-/// between the steps. Contracts see the process that set out, and how many accesses to words of the lock it has made.
+/// An acquisition of the lock in progress, made by [`Process::acquisition`]. It proceeds in steps
+/// that never wait, until it becomes a [`Guard`], which makes one call and becomes a [`Process`]
+/// again. So code that must not wait can make calls, and do other work between the steps. Contracts
+/// see the process that started it, and how many accesses to words of the lock it has made.
 ///
-/// From its first step on it stands in the way of the others: one that is dropped, or is not taken on to its end, can keep
-/// them out for good.
+/// After its first step it can keep the other processes out until it is finished. If it is dropped
+/// or abandoned, it can keep them out for good.
 #[derive(Drop)]
 pub struct Acquisition<L: Look<Guarded>> {
     number: u32,
@@ -35,7 +36,7 @@ impl<L: Look<Guarded>> Acquisition<L> {
     ghost use Rattle.std.specs.Prelude.{◌≡◌, ◌≤◌, ◌+◌, IfOk, IfErr};
     ghost use Rattle.mq_state.specs.Buffers.{waiting_room};
 
-    /// As [`Process::waiting`], of the process that set out.
+    /// As [`Process::waiting`], for the process that started the acquisition.
     pub fn waiting(&self) -> Option<usize>
         ensures { result ≡ waiting_room self.now.process.left self.now.process.number }
     {
@@ -49,14 +50,17 @@ impl<L: Look<Guarded>> Acquisition<L> {
         self.number
     }
 
-    /// Which of the futex words it sleeps on, outside of Rattle, where steps do not take it inside (see [`Mq::futex_words`]).
+    /// The futex word on which a thread outside Rattle sleeps if the steps do not acquire the lock
+    /// (see [`Mq::futex_words`]).
     pub fn futex_word(&self) -> u32 {
         L::futex_word(&self.walk)
     }
 
-    /// Takes at most so many atomic steps, each one access to a word of the lock, none of which waits. It stops once it is inside, and beyond
-    /// the fifth at a step that did not move it. No call promises that steps lead inside; where nobody else is under way five do, and with
-    /// others it is worth letting them run before the next try.
+    /// Takes at most `steps` atomic steps, each one access to a word of the lock. None of them
+    /// waits. It stops once the lock is acquired, and after the fifth step also at a step without
+    /// progress. There is no guarantee that steps ever acquire the lock. Five are enough if no
+    /// other process has the lock or is acquiring it. If others do, let them run before the next
+    /// try.
     #[inline(always)]
     pub fn advance(self, mq: &Mq<L>, steps: u32) -> Result<Guard<L>, Acquisition<L>>
         requires made { self.process.lock ≡ mq.now }
@@ -93,8 +97,9 @@ impl<L: Look<Guarded>> Acquisition<L> {
         on_its_way.go_on(mq, steps - FAST_PATH_STEPS)
     }
 
-    // The same, step by step. To look again and again for what was not there would take the words of the lock from who is inside. It stands
-    // apart, so that the way of an entry that meets nobody has no more than that needs.
+    // The same, one step at a time. It stops at a step without progress, because repeated polls
+    // would take the words of the lock out of the holder's cache. It is outlined, so that an
+    // acquisition that meets nobody has only the code that it needs.
     #[inline(never)]
     fn go_on(self, mq: &Mq<L>, steps: u32) -> Result<Guard<L>, Acquisition<L>>
         requires made { self.process.lock ≡ mq.now }
@@ -133,7 +138,7 @@ impl<L: Look<Guarded>> Acquisition<L> {
         })
     }
 
-    /// Takes the process inside, which waits until nobody else is there.
+    /// Acquires the lock, waiting while another process holds it.
     #[inline(always)]
     pub(crate) fn come_in<R: Wait>(self, rt: &R, mq: &Mq<L>) -> Guard<L>
         requires made { self.process.lock ≡ mq.now }
@@ -150,8 +155,8 @@ impl<L: Look<Guarded>> Acquisition<L> {
 impl<L: Look<Guarded>> Process<L> {
     ghost use Rattle.std.specs.Prelude.{◌≡◌};
 
-    /// Sets out for the lock: the next call of the process is that of the [`Guard`] that this leads to. Touches nothing that
-    /// others see.
+    /// Starts to acquire the lock. The process makes its next call through the [`Guard`] that this
+    /// leads to. It changes nothing that other processes see.
     #[inline(always)]
     pub fn acquisition(self, mq: &Mq<L>) -> Acquisition<L>
         requires made { self.lock ≡ mq.now }

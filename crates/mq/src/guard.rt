@@ -1,4 +1,4 @@
-//! A process inside the lock, and the calls that it can make there.
+//! A process in its critical section, and the calls that it can make there.
 ghost use Rattle.std.specs.Prelude.{◌≡◌};
 ghost use Rattle.mq.specs.Blocked.{is_blocked};
 ghost use Rattle.mq.specs.Calls.{wait_begun};
@@ -18,9 +18,11 @@ use mq_model::entries::{Call, Reply};
 use mq_state::books::Books;
 use std::marker::Model;
 
-/// A process inside the lock, where it makes one call, which never waits, and is a [`Process`] again. Contracts see the process
-/// that set out, so each call here promises what the call of [`Process`] does, and how many accesses to words of the lock it has made. While there is an `Guard` all others stay out, and for
-/// good where it is dropped.
+/// A process in its critical section. It makes one call, which never waits, and becomes a
+/// [`Process`] again. Contracts see the process as it was before the acquisition, so each call here
+/// has the contract of the same call of [`Process`]. They also see how many accesses to words of
+/// the lock it has made. While a `Guard` exists all other processes stay out. If it is dropped,
+/// they stay out for good.
 #[derive(Drop)]
 pub struct Guard<L: Look<Guarded>> {
     pub(crate) number: u32,
@@ -92,7 +94,7 @@ impl<L: Look<Guarded>> Guard<L> {
         (process_of(depart(mq, inside, state), self.waits), blocked)
     }
 
-    /// Leaves without a call.
+    /// Releases the lock without a call.
     pub fn leave(self, mq: &Mq<L>) -> Process<L>
         requires made { self.process.lock ≡ mq.now }
         ensures calls { Calls self.process result [] }
@@ -104,7 +106,7 @@ impl<L: Look<Guarded>> Guard<L> {
     }
 }
 
-// How long a buffer the wait needs that this reply begins.
+// The buffer length that the wait needs which this reply begins.
 #[inline(always)]
 fn wait_begun(reply: Reply, room: usize) -> Option<usize>
     ensures { result ≡ wait_begun reply room }

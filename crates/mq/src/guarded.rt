@@ -11,8 +11,8 @@ use mq_model::limits::PROCESSES;
 use mq_state::books::Books;
 use std::marker::Model;
 
-/// A record of the journal as contracts of the lock see it: an entry with its payload. It only gives those contracts their
-/// type; the queues keep their records in the journal and make no value of it.
+/// A record of the journal as the lock's contracts see it: an entry with its payload. Only
+/// contracts use this type; no value of it exists at run time.
 #[derive(Drop)]
 pub struct LoggedRecord {
     entry: Entry,
@@ -27,18 +27,19 @@ impl Model for LoggedRecord {
     ghost view = { λ r. record { entry = r.entry; payload = r.payload.items } };
 }
 
-/// The queues of one thread, guarded by a lock: its list is the journal, the latest record first, and its fixed part the
-/// number of processes, the bounds of the journal, and whether it is stored.
+/// The queues, guarded by a lock. The list that the lock's contracts see is the journal, the latest
+/// record first. The fixed part is the number of processes, the bounds of the journal, and whether
+/// it is stored.
 #[derive(Drop)]
 pub struct Guarded {
     pub(crate) books: Books,
-    // which waits are answered, that of process p by bit p - 1
+    // which waits are answered: bit p - 1 stands for process p
     answered: u32,
     ghost known: { answered ≡ answered_bits books.records },
 }
 
 impl Guarded {
-    /// The state to begin with.
+    /// The first state of a lock.
     pub(crate) fn holding(books: Books) -> Guarded
         ensures { result.books ≡ books }
     {
@@ -76,8 +77,8 @@ impl Logged for Guarded {
     ghost stays = { answered-stays };
 }
 
-/// The queues while a process is inside, with what it knows of the journal that it found: which waits were answered, and how
-/// many records there were.
+/// The queues during a critical section, with what was found at its start: which waits were
+/// answered, and how many records the journal had.
 #[derive(Drop)]
 pub(crate) struct Visit {
     pub(crate) books: Books,
@@ -101,7 +102,8 @@ impl Visit {
         }
     }
 
-    /// The state to give back. The answers are counted again only if there are more records.
+    /// The state to give back. Which waits are answered is worked out again only if there are more
+    /// records.
     #[inline(always)]
     pub(crate) fn end(self) -> Guarded
         requires places { self.places ≤ length self.books.records }
@@ -117,7 +119,8 @@ impl Visit {
         Guarded { books, answered }
     }
 
-    /// The state to give back after one call, which got this reply. The answers are counted anew only where it names a wait.
+    /// The state to give back after one call with this reply. Which waits are answered is worked
+    /// out again only if the reply names a wait.
     #[inline(always)]
     pub(crate) fn end_after(self, reply: Reply) -> Guarded
         requires quiet { is_some (named_wait reply) ≡ false →
@@ -138,7 +141,7 @@ impl Visit {
     }
 }
 
-// Which waits are answered, if `answered` has those of the first `places` records.
+// Which waits are answered, given that `answered` is right for the first `places` records.
 #[inline(always)]
 fn answered_now(books: &Books, answered: u32, places: u64) -> u32
     requires places { places ≤ length books.now.records }
@@ -163,7 +166,7 @@ fn names_wait(reply: Reply) -> bool
     }
 }
 
-// Which waits are answered, one by one.
+// Which waits are answered, looked up for one process after another.
 fn all_answered(books: &Books) -> u32
     ensures { result ≡ answered_bits books.now.records }
 {

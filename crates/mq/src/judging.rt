@@ -1,4 +1,4 @@
-//! The verdict on a journal.
+//! Checking a journal.
 ghost use Rattle.std.specs.Prelude.{◌↔◌, IsOk, IfErr};
 ghost use Rattle.mq_model.specs.Legality.{Legal, IsFirstIllegal};
 
@@ -7,8 +7,9 @@ use mq_model::journals::Journal;
 use mq_state::replay::replay;
 use std::alloc::Global;
 
-/// Whether a journal is legal, or the first place that is not: by a [`replay`], and where the memory for that is refused by
-/// [`check_history`], which takes none and the longer the more entries there are.
+/// Whether a journal is legal, or the sequence number of the first record that is not. It runs a
+/// [`replay`]. If memory for that is refused, it runs [`check_history`], which takes none, but
+/// takes time in the square of the journal's length.
 pub fn verdict(alloc: Global, journal: &Journal) -> Result<(), u64>
     ensures legal { IsOk result ↔ Legal journal.now.records }
     ensures first_illegal { IfErr result (IsFirstIllegal journal.now.records) }

@@ -1,8 +1,8 @@
 //! POSIX message queues that processes share, over any lock.
 //!
-//! All that a caller needs is named here. [`FastMq`] is the system over Lamport's lock, and [`FastProcess`] one of its processes.
-//! A caller owes two things at each call of a process, and the prover asks for them: that the process was made with this `Mq`, and
-//! that it has no open wait.
+//! Everything that a caller needs is exported here. [`FastMq`] is the system over Lamport's lock,
+//! and [`FastProcess`] one of its processes. The calls of a process require two things, which the
+//! prover checks: the process was made with this `Mq`, and for most calls it has no open wait.
 #![tactic(auto)]
 
 mod acquisition;
@@ -47,8 +47,8 @@ pub type FastMq = Mq<FastMutex<Guarded>>;
 /// A process of the system over Lamport's lock.
 pub type FastProcess = Process<FastMutex<Guarded>>;
 
-/// A process of that system on its way into the lock.
+/// A process of that system that is acquiring the lock.
 pub type FastAcquisition = Acquisition<FastMutex<Guarded>>;
 
-/// A process of that system inside the lock.
+/// A process of that system in its critical section.
 pub type FastGuard = Guard<FastMutex<Guarded>>;

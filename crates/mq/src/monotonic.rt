@@ -1,4 +1,4 @@
-//! A clock of real time.
+//! A monotonic clock.
 ghost use Rattle.std.specs.Prelude.{◌≡◌, true};
 ghost use Rattle.mq.specs.Moments.{moment_past};
 ghost use Rattle.mq_model.specs.Deadlines.{has_passed, is_moment};
@@ -8,8 +8,8 @@ use mq_model::entries::Deadline;
 use std::time::{Duration, Instant};
 use std::{io, time};
 
-/// A clock for timed calls: the time since it was started, by the monotonic clock of the system. Where the system cannot say, it gives
-/// the moment of its start.
+/// A clock for timed calls: the time since its start, by the monotonic clock of the operating
+/// system. If that cannot be read, it returns the time of its start.
 #[derive(Drop)]
 pub struct Monotonic<'a, R: time::Clock> {
     rt: &'a R,
@@ -17,7 +17,7 @@ pub struct Monotonic<'a, R: time::Clock> {
 }
 
 impl<'a, R: time::Clock> Monotonic<'a, R> {
-    /// A clock that starts now. Fails where the system's clock cannot be read.
+    /// A clock that starts now. Fails if the clock of the operating system cannot be read.
     pub fn start(rt: &'a R) -> io::Result<Monotonic<'a, R>> {
         let start = Instant::now(rt)?;
         Ok(Monotonic { rt, start })
@@ -27,8 +27,7 @@ impl<'a, R: time::Clock> Monotonic<'a, R> {
         self.start.elapsed(self.rt).unwrap_or(Duration::ZERO)
     }
 
-    /// The moment that comes when this time has passed: the deadline of a call that waits so long at most. It is no earlier than this
-    /// time past the start.
+    /// The deadline of a call that starts now and waits for at most `time`.
     pub fn after(&self, time: Duration) -> Deadline
         ensures moment { is_moment result ≡ true }
         ensures past { has_passed (moment_past time) result ≡ true }
@@ -48,7 +47,8 @@ impl<'a, R: time::Clock> Clock for Monotonic<'a, R> {
     }
 }
 
-// The moment so long after the start, or the last one where a deadline cannot hold its seconds.
+// This time after the start of the clock, or the last representable time if the seconds do not fit
+// a deadline.
 fn moment(time: Duration) -> Deadline
     ensures moment { is_moment result ≡ true }
     ensures past { result ≡ moment_past time }

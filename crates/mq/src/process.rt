@@ -3,7 +3,8 @@ ghost use Rattle.std.specs.Prelude.{◌≡◌, Some, IsSome};
 ghost use Rattle.mq_state.specs.Buffers.{waiting_room};
 ghost use Rattle.mq.specs.Calls.{ticket_of};
 
-// What a process comes to that enters with its seat, makes this of its stay, leaves, and wakes who sleeps until then.
+// Makes a call with the lock held: acquires the lock with the seat of the process, evaluates
+// `$made` with the guard, stores the process back, and wakes the threads that this call concerns.
 macro_rules! in_one_stay {
     ($process:ident, $rt:ident, $mq:ident, |$guard:ident| $made:expr) => {{
         let $guard = arrive($rt, $mq, &mut $process.seat, $process.waits);
@@ -52,7 +53,7 @@ impl<L: Look<Guarded>> Model for Process<L> {
         (ticket_of L.ticket p.seat).number) };
 }
 
-/// The process of a seat, with the room that its open wait needs.
+/// The process of a seat. `waits` is the buffer length that its open wait needs.
 #[inline(always)]
 pub(crate) fn process_of<L: Look<Guarded>>(seat: L::Seat, waits: Option<usize>) -> Process<L>
     requires { waits ≡ waiting_room (L.ticket seat).left (L.ticket seat).number }
@@ -90,8 +91,8 @@ impl<L: Look<Guarded>> Process<L> {
         }
     }
 
-    /// `None` where the process has no open wait, else the length of the buffer of the receive that waits, or 0 for a send.
-    /// Asks the process's own value alone.
+    /// `None` if the process has no open wait. Otherwise the buffer length of the waiting receive,
+    /// or 0 for a send. It does not access the lock.
     pub fn waiting(&self) -> Option<usize>
         ensures room { result ≡ waiting_room self.now.left self.now.number }
         ensures free { result ≡ None → IsFree self.now }
@@ -99,7 +100,7 @@ impl<L: Look<Guarded>> Process<L> {
         self.waits
     }
 
-    // The process that a call has made, once it has woken who sleeps until that call.
+    // The process after a call. It has woken the threads that sleep until that call.
     #[inline(always)]
     pub(super) fn settled(self, mq: &Mq<L>) -> Process<L>
         ensures { result ≡ self }
@@ -108,8 +109,9 @@ impl<L: Look<Guarded>> Process<L> {
         self
     }
 
-    /// Wakes who sleeps until what this process's last call has changed: each call of a `Process` ends with it, and a call of an
-    /// [`Guard`] leaves it to its caller. Where it is left out, those who sleep look some milliseconds later.
+    /// Wakes the threads that sleep until this process's last call. Each call of a `Process` ends
+    /// with it; after a call of a [`Guard`] the caller has to make it. A thread that is not woken
+    /// polls again after some milliseconds.
     #[inline(always)]
     pub fn wake_others(&self, mq: &Mq<L>) {
         match &self.seat {
@@ -118,8 +120,9 @@ impl<L: Look<Guarded>> Process<L> {
         }
     }
 
-    /// Whose waits the last call of the process answered, that of process p by bit p - 1: whom [`wake_others`](Process::wake_others)
-    /// wakes beside those who wait for the lock. A hint, of which nothing is proved.
+    /// The processes whose waits the last call of this process answered, as bits: bit p - 1 stands
+    /// for process p. [`wake_others`](Process::wake_others) wakes them, beside threads that wait
+    /// for the lock. It is a hint: no contract says that it is right.
     pub fn answered_others(&self) -> u32 {
         match &self.seat {
             Some(seat) => L::answered_by(seat),
@@ -127,14 +130,15 @@ impl<L: Look<Guarded>> Process<L> {
         }
     }
 
-    /// Which of the futex words it sleeps on, outside of Rattle, until its wait is answered (see [`Mq::futex_words`]).
+    /// The futex word on which a thread outside Rattle sleeps until the open wait is answered (see
+    /// [`Mq::futex_words`]).
     pub fn futex_word(&self) -> u32 {
         self.number().saturating_add(32)
     }
 
-    /// Makes one call in one stay, of whichever kind: with its name, the bytes of its message or none, and the buffer that a receive fills.
-    /// What it returns, and where it is refused, is as the method of its name has it, and `start_send` and `start_receive` for sends and
-    /// receives.
+    /// Makes one call of any kind, in one critical section. `given` is the name or the message, or
+    /// empty, and `buf` the buffer that a receive fills. The result and the errors are those of the
+    /// method of the same name; sends and receives are as `start_send` and `start_receive`.
     #[inline(always)]
     pub fn make<R: Wait, A: Returned>(
         &mut self,
@@ -158,8 +162,8 @@ impl<L: Look<Guarded>> Process<L> {
         in_one_stay!(self, rt, mq, |guard| guard.make(mq, call, given, buf))
     }
 
-    /// Opens the queue of that name (`mq_open`) and gives the lowest free descriptor. Refused with `Exists`, `NoEntry`, `Invalid`,
-    /// `TooManyOpen`, `NoSpace`, `NoMemory` or `JournalFull`.
+    /// Opens the queue of that name (`mq_open`) and returns the lowest free descriptor. Fails with
+    /// `Exists`, `NoEntry`, `Invalid`, `TooManyOpen`, `NoSpace`, `NoMemory` or `JournalFull`.
     pub fn open<R: Wait>(
         &mut self,
         rt: &R,
@@ -177,7 +181,7 @@ impl<L: Look<Guarded>> Process<L> {
         self.make(rt, mq, Call::MqOpen { flags, attr }, name.bytes(), &mut [])
     }
 
-    /// Closes descriptor d (`mq_close`). Refused with `BadDescriptor`, `NoMemory` or `JournalFull`.
+    /// Closes descriptor d (`mq_close`). Fails with `BadDescriptor`, `NoMemory` or `JournalFull`.
     pub fn close<R: Wait>(&mut self, rt: &R, mq: &Mq<L>, d: u32) -> Result<(), Fault>
         requires made { self.old.lock ≡ mq.now }
         requires free { IsFree self.old }
@@ -187,7 +191,8 @@ impl<L: Look<Guarded>> Process<L> {
         self.make(rt, mq, Call::MqClose { d }, &[], &mut [])
     }
 
-    /// Unbinds a name from its queue (`mq_unlink`). Refused with `NoEntry`, `NoMemory` or `JournalFull`.
+    /// Unbinds a name from its queue (`mq_unlink`). Fails with `NoEntry`, `NoMemory` or
+    /// `JournalFull`.
     pub fn unlink<R: Wait>(&mut self, rt: &R, mq: &Mq<L>, name: &Name) -> Result<(), Fault>
         requires made { self.old.lock ≡ mq.now }
         requires free { IsFree self.old }
@@ -197,8 +202,9 @@ impl<L: Look<Guarded>> Process<L> {
         self.make(rt, mq, Call::MqUnlink, name.bytes(), &mut [])
     }
 
-    /// Registers on the queue of descriptor d with the value of the notice, or removes the registration (`mq_notify`). Refused
-    /// with `BadDescriptor`, `Busy`, `NoMemory`, `JournalFull` or, a removal, `Invalid`.
+    /// Registers the process on the queue of descriptor d, with the value of the notice, or removes
+    /// its registration (`mq_notify`). Fails with `BadDescriptor`, `Busy`, `NoMemory` or
+    /// `JournalFull`, and a removal also with `Invalid`.
     pub fn notify<R: Wait>(
         &mut self,
         rt: &R,
@@ -214,7 +220,8 @@ impl<L: Look<Guarded>> Process<L> {
         self.make(rt, mq, Call::MqNotify { d, value }, &[], &mut [])
     }
 
-    /// The attributes of descriptor d (`mq_getattr`). Refused with `BadDescriptor`, `NoMemory` or `JournalFull`.
+    /// The attributes of descriptor d (`mq_getattr`). Fails with `BadDescriptor`, `NoMemory` or
+    /// `JournalFull`.
     pub fn getattr<R: Wait>(&mut self, rt: &R, mq: &Mq<L>, d: u32) -> Result<Status, Fault>
         requires made { self.old.lock ≡ mq.now }
         requires free { IsFree self.old }
@@ -224,8 +231,9 @@ impl<L: Look<Guarded>> Process<L> {
         self.make(rt, mq, Call::MqGetattr { d }, &[], &mut [])
     }
 
-    /// Sets the flag of descriptor d and gives the attributes from before (`mq_setattr`): of `new` its `nonblock` alone is used.
-    /// Refused with `BadDescriptor`, `NoMemory` or `JournalFull`.
+    /// Sets the nonblocking flag of descriptor d and returns the attributes from before
+    /// (`mq_setattr`). Only the field `nonblock` of `new` is used. Fails with `BadDescriptor`,
+    /// `NoMemory` or `JournalFull`.
     pub fn setattr<R: Wait>(
         &mut self,
         rt: &R,
@@ -243,7 +251,8 @@ impl<L: Look<Guarded>> Process<L> {
         self.make(rt, mq, Call::MqSetattr { d, nonblock }, &[], &mut [])
     }
 
-    /// The value of the oldest notice that the process has not yet taken. Refused with `NoMemory` or `JournalFull` alone.
+    /// Takes the oldest notice of the process and returns its value; `None` if there is none. Fails
+    /// with `NoMemory` or `JournalFull`.
     pub fn next_notice<R: Wait>(&mut self, rt: &R, mq: &Mq<L>) -> Result<Option<u64>, Fault>
         requires made { self.old.lock ≡ mq.now }
         requires free { IsFree self.old }
@@ -254,7 +263,7 @@ impl<L: Look<Guarded>> Process<L> {
     }
 }
 
-// Enters with the seat of a process, which waits until nobody else is inside.
+// Acquires the lock with the seat of a process, waiting while another process holds it.
 #[inline(always)]
 fn arrive<L: Look<Guarded>, R: Wait>(
     rt: &R,

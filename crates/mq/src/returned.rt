@@ -1,4 +1,4 @@
-//! What a call of a process returns, by the reply that it was given.
+//! What each kind of call of a process returns, given the reply.
 ghost use Rattle.std.specs.Prelude.{true, Some, None};
 
 use mq_model::entries::{Call, Received, Reply, Status};
@@ -6,7 +6,7 @@ use mq_model::faults::Fault;
 use mq_state::books::Books;
 use mq_state::collected::Answer;
 
-/// What a kind of call returns. The type is the kind.
+/// The result of a kind of call. The type determines the kind.
 pub trait Returned: Drop {
     ghost use Rattle.std.specs.Prelude.{◌≡◌, ◌≤◌, true, Some, None, length};
     ghost use Rattle.mq_model.specs.Messages.{is_receive};
@@ -19,7 +19,8 @@ pub trait Returned: Drop {
 
     ghost kind: { Kind Self };
 
-    /// Makes a call of this kind, by a way of its own where it is made often: what that does is known where the call is built.
+    /// Makes a call of this kind. Frequent kinds have a faster body of their own, since the kind is
+    /// known at compile time.
     #[inline(always)]
     fn ask(books: &mut Books, p: u32, call: Call, given: &[u8], buf: &mut [u8]) -> Answer
         requires process { (1 ≤ p) × (p ≤ books.old.n) }
@@ -33,7 +34,7 @@ pub trait Returned: Drop {
         books.ask(p, call, given, buf)
     }
 
-    /// What the call that was answered so returns.
+    /// The result of a call with this answer.
     fn of_answer(answer: Answer) -> Self
         requires replies { kind.replies answer.reply ≡ true }
         ensures { (past : Past) → answer.received ≡ received_by past answer.reply →
@@ -42,7 +43,7 @@ pub trait Returned: Drop {
     ghost is_kind: { IsKind kind };
 }
 
-/// Of an open: the descriptor.
+/// An open returns the descriptor.
 impl Returned for Result<u32, Fault> {
     ghost use Rattle.mq.specs.Kinds.{open_kind};
     ghost use Rattle.mq.specs.KindsHold.{open-is_kind};
@@ -61,7 +62,7 @@ impl Returned for Result<u32, Fault> {
     ghost is_kind = { open-is_kind };
 }
 
-/// Of a close, an unlink and a notify.
+/// A close, an unlink and a notify return nothing.
 impl Returned for Result<(), Fault> {
     ghost use Rattle.mq.specs.Kinds.{done_kind};
     ghost use Rattle.mq.specs.KindsHold.{done-is_kind};
@@ -80,7 +81,7 @@ impl Returned for Result<(), Fault> {
     ghost is_kind = { done-is_kind };
 }
 
-/// Of a getattr and a setattr.
+/// A getattr and a setattr return the attributes.
 impl Returned for Result<Status, Fault> {
     ghost use Rattle.mq.specs.Kinds.{attributes_kind};
     ghost use Rattle.mq.specs.KindsHold.{attributes-is_kind};
@@ -99,7 +100,7 @@ impl Returned for Result<Status, Fault> {
     ghost is_kind = { attributes-is_kind };
 }
 
-/// Of a look for the oldest notice.
+/// A request for the oldest notice returns its value, if there is one.
 impl Returned for Result<Option<u64>, Fault> {
     ghost use Rattle.mq.specs.Kinds.{notice_kind};
     ghost use Rattle.mq.specs.KindsHold.{notice-is_kind};
@@ -118,7 +119,7 @@ impl Returned for Result<Option<u64>, Fault> {
     ghost is_kind = { notice-is_kind };
 }
 
-/// Of a send: true where the message was accepted, false where it waits.
+/// A send returns true if the message was accepted, and false if it waits.
 impl Returned for Result<bool, Fault> {
     ghost use Rattle.mq.specs.Kinds.{send_kind};
     ghost use Rattle.mq.specs.KindsHold.{send-is_kind};
@@ -147,7 +148,7 @@ impl Returned for Result<bool, Fault> {
     ghost is_kind = { send-is_kind };
 }
 
-/// Of a receive: what it got, or `None` where it waits.
+/// A receive returns what it received, or `None` if it waits.
 impl Returned for Result<Option<Received>, Fault> {
     ghost use Rattle.mq.specs.Kinds.{receive_kind};
     ghost use Rattle.mq.specs.KindsHold.{receive-is_kind};

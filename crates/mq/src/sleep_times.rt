@@ -6,8 +6,9 @@ const FIRST_SLEEP: u64 = 10;
 
 const LONGEST_SLEEP: u64 = 80;
 
-/// The longest sleeps of a blocked call, one after the other: 10 milliseconds, and then each time twice as long, up to 80. The process
-/// that answers a wait wakes the one that waits. These times only bound how late a call can be that nobody woke.
+/// The upper bounds of the sleeps of a blocked call, one after the other: 10 milliseconds, and then
+/// each time twice as long, up to 80. The process that answers a wait wakes the waiting thread.
+/// These times only bound the delay if nobody does.
 #[derive(Drop)]
 pub struct SleepTimes {
     next: u64,

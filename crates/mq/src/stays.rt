@@ -1,4 +1,4 @@
-//! The two steps that touch the lock, once a walk has come in.
+//! The start and the end of a critical section, once the lock is acquired.
 ghost use Rattle.std.specs.Prelude.{◌≡◌, true, false, is_some};
 ghost use Rattle.fast_mutex.specs.Items.{GrowsBy};
 ghost use Rattle.mq_model.specs.Legality.{Legal};
@@ -11,7 +11,7 @@ use crate::system::Mq;
 use fast_mutex::Look;
 use mq_model::entries::Reply;
 
-/// The stay of a walk that has come in, of this process.
+/// Starts the critical section of this process, whose acquisition has the lock.
 #[inline(always)]
 pub(crate) fn begin<L: Look<Guarded>>(walk: L::Walk, process: u32) -> (L::Inside, Visit)
     requires inside { L.is_in walk ≡ true }
@@ -32,7 +32,7 @@ pub(crate) fn begin<L: Look<Guarded>>(walk: L::Walk, process: u32) -> (L::Inside
     (inside, Visit::begin(state))
 }
 
-/// Leaves, and gives the seat back.
+/// Releases the lock, and returns the seat.
 #[inline(always)]
 pub(crate) fn depart<L: Look<Guarded>>(mq: &Mq<L>, inside: L::Inside, visit: Visit) -> L::Seat
     requires lock { (L.stay inside).lock ≡ mq.now }
@@ -55,7 +55,7 @@ pub(crate) fn depart<L: Look<Guarded>>(mq: &Mq<L>, inside: L::Inside, visit: Vis
     mq.lock().leave(inside, visit.end())
 }
 
-/// The same after one call, which got this reply. No record is looked up.
+/// The same after one call with this reply. No record is looked up.
 #[inline(always)]
 pub(crate) fn depart_after<L: Look<Guarded>>(
     mq: &Mq<L>,

@@ -1,4 +1,4 @@
-//! The queues that processes share, and their making and end.
+//! The queues that processes share: how they are made and ended.
 ghost use Rattle.std.specs.Prelude.{ℕ, Some, ◌≡◌, ◌≤◌, ◌<◌, [], map, slice_get, vec_len, vec_capacity};
 ghost use Rattle.std.specs.List.{All};
 ghost use Rattle.mq_state.specs.Buffers.{waiting_room};
@@ -16,20 +16,22 @@ use std::alloc::Global;
 use std::marker::Model;
 use std::sync::Mutex;
 
-// Room for the seats of all processes, for `Mq::finish`, which takes no memory.
+// Reserved space for the seats of all processes, so that `Mq::finish` takes no memory.
 #[derive(Drop)]
 struct Room<T> {
     seats: Vec<T>,
     ghost shape: { (seats.items ≡ []) × (32 ≤ vec_capacity seats) },
 }
 
-/// Message queues that processes share, over a lock. Contracts see which lock it is, with the number of processes.
+/// Message queues that processes share, over a lock. Contracts see the identity of the lock, which
+/// includes the number of processes.
 #[derive(Drop)]
 pub struct Mq<L: Look<Guarded>> {
     lock: L,
     n: u32,
     stored: bool,
-    // Nothing ever locks it: threads share an `Mq`, and seats go from thread to thread but are not shared.
+    // It is never locked: the mutex only lets threads share an `Mq`, although seats may move
+    // between threads but not be shared.
     room: Mutex<Room<L::Seat>>,
 }
 
@@ -55,7 +57,7 @@ impl<L: Look<Guarded>> Mq<L> {
     ghost use Rattle.mq_model.specs.declared.faults.Fault.TheVariants.{Invalid, NoMemory};
     ghost use Rattle.mq.specs.Calls.{author, fixed_of, bounds_in, stored_in};
 
-    // The system over these queues of n processes. If memory is refused the queues come back.
+    // The system of n processes over these queues. If memory is refused, the queues come back.
     fn over(alloc: Global, n: u32, books: Books) -> Result<(Mq<L>, Vec<Process<L>>), Books>
         requires some { 1 ≤ n }
         requires few { n ≤ 32 }
@@ -89,9 +91,10 @@ impl<L: Look<Guarded>> Mq<L> {
         }
     }
 
-    /// The system that goes on from these queues, and its processes in order. Each has left their journal, and if it has an open wait
-    /// there it waits: `waiting` says so, and its next call is `collect` or `withdraw`. `Invalid` if the queues are of no process,
-    /// else `NoMemory` if an allocation was refused; then the queues come back.
+    /// A system that continues from these queues, and its processes in order. Each process counts
+    /// as having left their journal. If it has an open wait there, `waiting` says so, and its next
+    /// call is `collect` or `withdraw`. Fails with `Invalid` if the queues have no processes, or
+    /// with `NoMemory` if memory was refused. Then the queues come back.
     pub fn resume(alloc: Global, books: Books) -> Result<(Mq<L>, Vec<Process<L>>), (Books, Fault)>
         ensures count { IfOk result (λ r. r.0.count ≡ books.n) }
         ensures bounds { IfOk result (λ r. bounds_in r.0.fixed ≡ books.bounds) }
@@ -112,8 +115,9 @@ impl<L: Look<Guarded>> Mq<L> {
         }
     }
 
-    /// The queues of n processes, none yet, and the processes 1 to n in order, each of which has left the empty journal.
-    /// `Invalid` where n is not from 1 to 32, else `NoMemory` where an allocation was refused.
+    /// A system of n processes without queues, and the processes 1 to n in order, each of which has
+    /// left the empty journal. The journal is stored. Fails with `Invalid` if n is not from 1 to
+    /// 32, or with `NoMemory` if memory was refused.
     pub fn new(alloc: Global, n: u32) -> Result<(Mq<L>, Vec<Process<L>>), Fault>
         ensures invalid { ((1 ≤ n) × (n ≤ 32)) ⊎ (result ≡ Err Invalid) }
         ensures faults { IfErr result (λ e. (e ≡ NoMemory) ⊎
@@ -135,9 +139,10 @@ impl<L: Look<Guarded>> Mq<L> {
         }
     }
 
-    /// The same, with a journal that may hold so many entries and so many payload bytes, those of names and of messages. All the memory
-    /// that later calls could need is taken here, so that no call of a process is refused with `NoMemory`; a call that finds the journal
-    /// full is refused with `JournalFull`. `Invalid` where n is not from 1 to 32, else `NoMemory` where the memory was refused.
+    /// The same, with a journal of at most `entries` entries and `bytes` payload bytes, those of
+    /// names and messages. It takes all memory here, so no call of a process fails with `NoMemory`.
+    /// A call that finds no room fails with `JournalFull`. Fails itself with `Invalid` if n is not
+    /// from 1 to 32, or with `NoMemory` if memory was refused.
     pub fn bounded(
         alloc: Global,
         n: u32,
@@ -165,9 +170,10 @@ impl<L: Look<Guarded>> Mq<L> {
         }
     }
 
-    /// The queues of n processes whose journal is a history variable: contracts speak of it, and no byte of it is stored. What later replies
-    /// depend on is kept, and its memory serves again (see [`Books::unstored`]). `Invalid` if n is not from 1 to 32, else `NoMemory` if an
-    /// allocation was refused.
+    /// A system of n processes whose journal is a history variable: contracts speak of it, and no
+    /// byte of it is stored. It keeps only what later replies depend on, and uses that memory again
+    /// (see [`Books::unstored`]). Fails with `Invalid` if n is not from 1 to 32, or with `NoMemory`
+    /// if memory was refused.
     pub fn unstored(alloc: Global, n: u32) -> Result<(Mq<L>, Vec<Process<L>>), Fault>
         ensures invalid { ((1 ≤ n) × (n ≤ 32)) ⊎ (result ≡ Err Invalid) }
         ensures faults { IfErr result (λ e. (e ≡ NoMemory) ⊎
@@ -189,9 +195,10 @@ impl<L: Look<Guarded>> Mq<L> {
         }
     }
 
-    /// The same, but an open that creates a queue also takes the memory that later calls on it need (see [`Books::prepaid`]). Then no
-    /// send, receive, notify, collect or withdrawal takes memory, as tests show. `Invalid` if n is not from 1 to 32, else `NoMemory` if an
-    /// allocation was refused.
+    /// The same, but an open that creates a queue also takes the memory that later calls on it need
+    /// (see [`Books::prepaid`]). Then no send, receive, notify, collect or withdraw takes memory.
+    /// Tests show this; no contract says it. Fails with `Invalid` if n is not from 1 to 32, or with
+    /// `NoMemory` if memory was refused.
     pub fn prepaid(alloc: Global, n: u32) -> Result<(Mq<L>, Vec<Process<L>>), Fault>
         ensures invalid { ((1 ≤ n) × (n ≤ 32)) ⊎ (result ≡ Err Invalid) }
         ensures faults { IfErr result (λ e. (e ≡ NoMemory) ⊎
@@ -220,8 +227,9 @@ impl<L: Look<Guarded>> Mq<L> {
         self.stored
     }
 
-    /// Ends the queues and gives their stored journal, if all n processes are there; else everything comes back as it was.
-    /// Takes no memory, and never waits. Open waits are allowed. The journal has entries of the processes 1 to n alone.
+    /// Ends the system and returns its stored journal, if all n processes are given. Otherwise
+    /// everything comes back unchanged. Open waits are allowed. Takes no memory, and never waits.
+    /// The journal has entries of the processes 1 to n only.
     pub fn finish(self, processes: Vec<Process<L>>) -> Result<Journal, Missing<Mq<L>, Process<L>>>
         requires made { All (λ p. p.lock ≡ self) processes.items }
         requires stored { stored_in self.fixed ≡ true }
@@ -239,8 +247,9 @@ impl<L: Look<Guarded>> Mq<L> {
         }
     }
 
-    /// Ends queues whose journal is not stored, and gives its history, if all n processes are there; else everything comes back as it
-    /// was. The history has no bytes: what [`finish`](Mq::finish) promises of the journal holds of it.
+    /// Ends a system whose journal is not stored, and returns its history, if all n processes are
+    /// given. Otherwise everything comes back unchanged. The history has no bytes, but the contract
+    /// says the same about it as [`finish`](Mq::finish) says about the journal.
     pub fn finish_unstored(
         self,
         processes: Vec<Process<L>>,
@@ -261,8 +270,9 @@ impl<L: Look<Guarded>> Mq<L> {
         }
     }
 
-    /// Ends the system and gives the queues, from which another may go on, if all n processes are there; else everything comes back as it
-    /// was. Takes no memory, and never waits. Open waits are allowed.
+    /// Ends the system and returns the queues, from which another can continue, if all n processes
+    /// are given. Otherwise everything comes back unchanged. Open waits are allowed. Takes no
+    /// memory, and never waits.
     pub fn retire(self, processes: Vec<Process<L>>) -> Result<Books, Missing<Mq<L>, Process<L>>>
         requires { All (λ p. p.lock ≡ self) processes.items }
         ensures all { (vec_len processes ≡ self.count) ↔ IsOk result }
@@ -288,7 +298,8 @@ impl<L: Look<Guarded>> Mq<L> {
         }
     }
 
-    /// The words that threads sleep on, for those who sleep outside of Rattle (`FutexWords::address` of `fast_mutex`).
+    /// The futex words, for threads that sleep on them outside Rattle (`FutexWords::address` of
+    /// `fast_mutex`).
     pub fn futex_words(&self) -> Option<*const u64> {
         self.lock.futex_words().address()
     }
@@ -302,7 +313,7 @@ impl<L: Look<Guarded>> Mq<L> {
     }
 }
 
-// The room that the open wait of each process needs, that of process p at index p.
+// The buffer length that the open wait of each process needs. Index p is for process p.
 fn rooms_of(books: &Books) -> [Option<usize>; 33]
     ensures { (p : ℕ) → p < 33 →
         slice_get result p ≡ Some (waiting_room books.now.records p) }
@@ -314,7 +325,8 @@ fn rooms_of(books: &Books) -> [Option<usize>; 33]
     rooms
 }
 
-// The processes of these seats, in their order, with the room that the open wait of each needs at the index of its number.
+// The processes of these seats, in the same order. `rooms` has the buffer length that the open wait
+// of each process needs, at the index of its number.
 fn processes_of<L: Look<Guarded>>(
     seats: Vec<L::Seat>,
     rooms: &[Option<usize>; 33],
@@ -333,7 +345,7 @@ fn processes_of<L: Look<Guarded>>(
     processes
 }
 
-// The seats of these processes, in their order.
+// The seats of these processes, in the same order.
 fn seats_of<L: Look<Guarded>>(processes: Vec<Process<L>>, mut seats: Vec<L::Seat>) -> Vec<L::Seat>
     requires empty { seats.items ≡ [] }
     requires room { vec_len processes ≤ vec_capacity seats }

@@ -1,4 +1,4 @@
-//! The ends of a wait inside the lock.
+//! Ending a wait, in the critical section.
 ghost use Rattle.std.specs.Prelude.{◌≡◌, ◌≤◌, ◌↔◌, true, None, [], length, IsSome, IfSome};
 ghost use Rattle.mq_model.specs.Deadlines.{is_over};
 ghost use Rattle.mq_model.specs.Legality.{Appends};
@@ -48,8 +48,8 @@ impl<L: Look<Guarded>> Guard<L> {
         }
     }
 
-    /// Ends the open wait, whose deadline has passed at the moment `now`: collects what it came to, where it is answered, or else
-    /// withdraws it, which gives `None`. Takes no memory.
+    /// Ends the open wait, whose deadline has passed at the time `now`. If the wait is answered, it
+    /// is collected. Otherwise it is withdrawn, and the result is `None`. Takes no memory.
     pub fn end_wait(
         self,
         mq: &Mq<L>,
@@ -74,8 +74,7 @@ impl<L: Look<Guarded>> Guard<L> {
     }
 }
 
-// Ends the open wait of process p, whose deadline has passed at the moment `now`: collects what it came to, where it is answered, or
-// else withdraws it.
+// The same for process p of these queues.
 fn end_wait(books: &mut Books, p: u32, buf: &mut [u8], now: Deadline) -> Option<Collected>
     requires process { (1 ≤ p) × (p ≤ books.old.n) }
     requires wait { IsSome (open_wait books.old.records p) }

@@ -1,4 +1,4 @@
-//! The end of a process, inside the lock.
+//! The end of a process, in the critical section.
 ghost use Rattle.std.specs.Prelude.{◌≡◌, ◌≤◌, ◌∷◌, [], false, Some, None, OnOk, IfOk, IfErr};
 ghost use Rattle.mq_model.specs.Bounds.{finds_full};
 ghost use Rattle.mq_model.specs.Waits.{open_wait};
@@ -43,7 +43,7 @@ fn close_lowest(books: &mut Books, p: u32, d: u32) -> Result<(), Fault>
     }
 }
 
-// Closes all descriptors of process p in rising order, until one is refused.
+// Closes all descriptors of process p in rising order, until a close fails.
 fn close_all(books: &mut Books, p: u32) -> Result<(), Fault>
     requires process { (1 ≤ p) × (p ≤ books.old.n) }
     requires no_wait { open_wait books.old.records p ≡ None }

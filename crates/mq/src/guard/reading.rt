@@ -1,4 +1,5 @@
-//! Reading the journal inside the lock.
+//! Reading the journal in the critical section. Each call here releases the lock without a call of
+//! the queues.
 ghost use Rattle.std.specs.Prelude.{◌≡◌, IfOk};
 ghost use Rattle.std.specs.Option.{option_map};
 ghost use Rattle.mq_model.specs.Record.{record_at};
@@ -25,7 +26,7 @@ impl<L: Look<Guarded>> Guard<L> {
     ghost use Rattle.mq.specs.Calls.{Calls, KeepsTold, bounds_of, stored_in};
     ghost use Rattle.mq.specs.Readings.{record_of};
 
-    /// Checks the stored journal from its first entry on, as [`verdict`] does. It is legal. Leaves without a call.
+    /// Checks the stored journal from its first entry, as [`verdict`] does.
     pub fn check(self, alloc: Global, mq: &Mq<L>) -> (Process<L>, Result<(), u64>)
         requires made { self.process.lock ≡ mq.now }
         requires stored { stored_in self.process.lock.fixed ≡ true }
@@ -40,7 +41,8 @@ impl<L: Look<Guarded>> Guard<L> {
         (process_of(depart(mq, inside, state), self.waits), checked)
     }
 
-    /// The entry of the stored journal at a place, or `None` at its length and beyond. Leaves without a call.
+    /// The entry of the stored journal with this sequence number, or `None` if the journal has no
+    /// such entry.
     pub fn entry(self, mq: &Mq<L>, place: u64) -> (Process<L>, Option<Entry>)
         requires made { self.process.lock ≡ mq.now }
         requires stored { stored_in self.process.lock.fixed ≡ true }
@@ -55,8 +57,7 @@ impl<L: Look<Guarded>> Guard<L> {
         (process_of(depart(mq, inside, state), self.waits), entry)
     }
 
-    /// The entry of the stored journal at a place with its payload, or `None` at the length of the journal and beyond. Leaves without a call. The error is
-    /// that memory for the payload was refused.
+    /// The same with the payload of the entry. Fails if memory for the payload was refused.
     pub fn record(
         self,
         alloc: Global,
@@ -77,7 +78,7 @@ impl<L: Look<Guarded>> Guard<L> {
         (process_of(depart(mq, inside, state), self.waits), read)
     }
 
-    /// For how many more entries and payload bytes the journal has room, as [`Process::room`].
+    /// As [`Process::room`].
     pub fn room(self, mq: &Mq<L>) -> (Process<L>, Option<Bounds>)
         requires made { self.process.lock ≡ mq.now }
         ensures room { result.1 ≡ room_left (bounds_of self.process) result.0.left }
@@ -91,7 +92,7 @@ impl<L: Look<Guarded>> Guard<L> {
         (process_of(depart(mq, inside, state), self.waits), room)
     }
 
-    /// How many entries the journal has, as [`Process::journal_len`].
+    /// As [`Process::journal_len`].
     pub fn journal_len(self, mq: &Mq<L>) -> (Process<L>, u64)
         requires made { self.process.lock ≡ mq.now }
         ensures count { result.1 ≡ length result.0.left }
@@ -105,7 +106,7 @@ impl<L: Look<Guarded>> Guard<L> {
         (process_of(depart(mq, inside, state), self.waits), count)
     }
 
-    /// Whether nobody can make a call any more, as [`Process::nobody_can_call`].
+    /// As [`Process::nobody_can_call`].
     pub fn nobody_can_call(self, mq: &Mq<L>) -> (Process<L>, bool)
         requires made { self.process.lock ≡ mq.now }
         ensures nobody { IsTrue result.1 ↔ NobodyCanCall
@@ -121,7 +122,7 @@ impl<L: Look<Guarded>> Guard<L> {
     }
 }
 
-// The entry at a place with its payload, which is copied.
+// The entry with this sequence number and a copy of its payload.
 fn record_at(
     alloc: Global,
     journal: &Journal,

@@ -1,4 +1,5 @@
-//! Whether processes wait for one another, and what there is room for.
+//! Whether processes are deadlocked, how much room the journal has, and timed calls that do not
+//! block.
 
 use super::{Process, arrive};
 use crate::guarded::Guarded;
@@ -19,9 +20,10 @@ impl<L: Look<Guarded>> Process<L> {
     ghost use Rattle.mq.specs.Calls.{Calls, KeepsTold, IsFree, OneCall, ReceiveCall, WaitsIn, bounds_of};
     ghost use Rattle.mq.specs.Says.{start_send_says, start_receive_says};
 
-    /// Whether each of these processes is blocked: it has an open wait, and no entry names it. Asked once inside the lock, of the
-    /// journal found, which it leaves as it was; the process that asks may have an open wait, and keeps it. Takes no memory.
-    /// Where it is true of all processes that may still call, none of them ever goes on, but by a deadline.
+    /// Whether each of these processes is blocked: it has an open wait that no entry serves. It
+    /// acquires the lock once and changes nothing. The calling process may have an open wait, and
+    /// keeps it. Takes no memory. If it is true for all processes that may still call, none of them
+    /// ever continues, except by a deadline.
     pub fn are_blocked<R: Wait>(&mut self, rt: &R, mq: &Mq<L>, processes: &[u32]) -> bool
         requires made { self.old.lock ≡ mq.now }
         ensures blocked { result ≡ list_all (is_blocked self.new.left) processes.now }
@@ -33,9 +35,9 @@ impl<L: Look<Guarded>> Process<L> {
         in_one_stay!(self, rt, mq, |guard| guard.are_blocked(mq, processes))
     }
 
-    /// Whether no process can make a call any more, asked as [`Process::are_blocked`] is: no open wait is answered or has a
-    /// deadline, and where a process has no open wait the journal is full. Where it is true it stays so, and a blocked call never
-    /// returns.
+    /// Whether no process can make a call any more: each process either has an open wait, without a
+    /// deadline and not answered, or finds the journal full. It acquires the lock as
+    /// [`Process::are_blocked`] does. Once true it stays true, and a blocked call never returns.
     pub fn nobody_can_call<R: Wait>(&mut self, rt: &R, mq: &Mq<L>) -> bool
         requires made { self.old.lock ≡ mq.now }
         ensures nobody { IsTrue result ↔ NobodyCanCall
@@ -48,8 +50,9 @@ impl<L: Look<Guarded>> Process<L> {
         in_one_stay!(self, rt, mq, |guard| guard.nobody_can_call(mq))
     }
 
-    /// For how many more entries, beside those that end the open waits, and payload bytes the journal has room; `None` without
-    /// bounds. A send or a receive, which may wait, needs room for two entries, and any other call for one.
+    /// The number of entries and of payload bytes for which the journal still has room; `None`
+    /// without bounds. Room that is kept for the ends of open waits does not count. A send or a
+    /// receive needs room for two entries, because it may wait, and any other call for one.
     pub fn room<R: Wait>(&mut self, rt: &R, mq: &Mq<L>) -> Option<Bounds>
         requires made { self.old.lock ≡ mq.now }
         ensures room { result ≡ room_left (bounds_of self.old) self.new.left }
@@ -61,8 +64,7 @@ impl<L: Look<Guarded>> Process<L> {
         in_one_stay!(self, rt, mq, |guard| guard.room(mq))
     }
 
-    /// How many entries the journal has. Asked once inside the lock, of the journal found, which it leaves as it was; the process that
-    /// asks may have an open wait, and keeps it. Takes no memory.
+    /// The number of entries in the journal. It acquires the lock as [`Process::are_blocked`] does.
     pub fn journal_len<R: Wait>(&mut self, rt: &R, mq: &Mq<L>) -> u64
         requires made { self.old.lock ≡ mq.now }
         ensures count { result ≡ length self.new.left }
@@ -74,8 +76,9 @@ impl<L: Look<Guarded>> Process<L> {
         in_one_stay!(self, rt, mq, |guard| guard.journal_len(mq))
     }
 
-    /// Begins a send with a deadline at the moment `now`, without waiting for its admission: true where the queue or a waiting
-    /// receive took the message, false where the process now has an open wait. Refused as [`Process::timed_send`].
+    /// Starts a send with a deadline, at the time `now`, without waiting for its admission. True if
+    /// the queue or a waiting receive took the message, false if the process now has an open wait.
+    /// Fails as [`Process::timed_send`].
     pub fn start_timed_send<R: Wait>(
         &mut self,
         rt: &R,
@@ -104,8 +107,9 @@ impl<L: Look<Guarded>> Process<L> {
         self.make(rt, mq, call, bytes, &mut [])
     }
 
-    /// Begins a receive with a deadline at the moment `now`: `None` where the process now has an open wait, and else the message is
-    /// in the front of the buffer. Refused as [`Process::timed_receive`].
+    /// Starts a receive with a deadline, at the time `now`. `None` if the process now has an open
+    /// wait; otherwise the message is at the start of the buffer. Fails as
+    /// [`Process::timed_receive`].
     pub fn start_timed_receive<R: Wait>(
         &mut self,
         rt: &R,

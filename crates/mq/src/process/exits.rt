@@ -11,8 +11,9 @@ impl<L: Look<Guarded>> Process<L> {
     ghost use Rattle.std.specs.Prelude.{◌≡◌};
     ghost use Rattle.mq.specs.Calls.{IsFree, Exits};
 
-    /// Closes the descriptors of the process in rising order, in one stay, as the end of a process does. Refused with `NoMemory`
-    /// or `JournalFull` alone: then those closed so far stay closed, the others stand, and it may be called again.
+    /// Closes the descriptors of the process in rising order, in one critical section, as POSIX
+    /// does when a process ends. Fails only with `NoMemory` or `JournalFull`. Then those closed so
+    /// far stay closed, the others stay open, and it may be called again.
     pub fn exit<R: Wait>(&mut self, rt: &R, mq: &Mq<L>) -> Result<(), Fault>
         requires made { self.old.lock ≡ mq.now }
         requires free { IsFree self.old }

@@ -11,8 +11,8 @@ use mq_state::collected::Collected;
 use std::sync::Wait;
 use std::time::Duration;
 
-// The four calls here have the body of `Process::make` in place: it is too long to be inlined with them, and would tell the kind of call
-// apart only when it runs.
+// The four calls that start a send or a receive have the body of `Process::make` in place. It is
+// too long to be inlined into them, and would find out the kind of the call only at run time.
 impl<L: Look<Guarded>> Process<L> {
     ghost use Rattle.std.specs.Prelude.{◌≡◌, ◌≢◌, ◌≤◌, ◌||◌, true, false, Some, None, IsSome, IfSome, IfNone, IfOk, Ok, length, []};
     ghost use Rattle.mq_model.specs.Legality.{Legal};
@@ -22,8 +22,8 @@ impl<L: Look<Guarded>> Process<L> {
     ghost use Rattle.mq.specs.Says.{start_send_says, start_receive_says, FitsIn};
     ghost use Rattle.mq.specs.Calls.{IsFree, OneCall, ReceiveCall, SendCall, WholeReceive, WaitsIn, Collects, StillWaits};
 
-    /// Sends a message without waiting for its admission: true where the queue or a waiting receive took it, false where the
-    /// process now has an open wait. Refused as [`Process::send`].
+    /// Starts to send a message, without waiting for its admission. True if the queue or a waiting
+    /// receive took it, false if the process now has an open wait. Fails as [`Process::send`].
     pub fn start_send<R: Wait>(
         &mut self,
         rt: &R,
@@ -45,8 +45,8 @@ impl<L: Look<Guarded>> Process<L> {
         in_one_stay!(self, rt, mq, |guard| guard.make(mq, call, bytes, &mut []))
     }
 
-    /// Receives the oldest message of the highest priority into the front of the buffer, or begins to wait for one: `None`, and
-    /// the process then has an open wait. Refused as [`Process::receive`].
+    /// Receives the oldest message of the highest priority to the start of the buffer. If there is
+    /// none it returns `None`, and the process has an open wait. Fails as [`Process::receive`].
     pub fn start_receive<R: Wait>(
         &mut self,
         rt: &R,
@@ -67,8 +67,8 @@ impl<L: Look<Guarded>> Process<L> {
         in_one_stay!(self, rt, mq, |guard| guard.make(mq, call, &[], buf))
     }
 
-    /// Ends the open wait, if it is answered, and gives what it came to: a message that was received lies in the front of the
-    /// buffer then. Takes no memory.
+    /// Ends the open wait if it is answered, and returns its outcome. A received message is at the
+    /// start of the buffer. Takes no memory.
     pub fn collect<R: Wait>(&mut self, rt: &R, mq: &Mq<L>, buf: &mut [u8]) -> Option<Collected>
         requires made { self.old.lock ≡ mq.now }
         requires wait { IsSome (waiting_room self.old.left self.old.number) }
@@ -85,9 +85,10 @@ impl<L: Look<Guarded>> Process<L> {
         in_one_stay!(self, rt, mq, |guard| guard.collect(mq, buf))
     }
 
-    /// Whether the open wait is answered, by one look from outside the lock, which never waits. Where it is true, the next
-    /// `collect` is Some. It is false without an open wait, and true where the journal that the process last left answers the wait,
-    /// or where it was true before in that wait.
+    /// Whether the open wait is answered, by one poll from outside the lock. It never waits. If it
+    /// is true, the next `collect` returns `Some`. It is false without an open wait. It is true if
+    /// an earlier poll in this wait was true, or if the journal that the process last left answers
+    /// the wait.
     #[tactic(auto, using(crate::proofs::Answering::unanswered))]
     pub fn answered(&mut self, mq: &Mq<L>) -> bool
         requires made { self.old.lock ≡ mq.now }
@@ -106,8 +107,9 @@ impl<L: Look<Guarded>> Process<L> {
         mq.lock().answered(seat)
     }
 
-    /// As [`answered`](Process::answered), after as many looks as it takes until that is true, for about so long at the most: a few
-    /// looks at once, and then it sleeps until the call that answers the wait wakes it. Without an open wait it is false at once.
+    /// Polls until [`answered`](Process::answered) is true, for about `at_most` at the longest. It
+    /// polls a few times, and then sleeps until the call that answers the wait wakes it. Without an
+    /// open wait it returns false at once.
     #[tactic(auto, using(crate::proofs::Answering::unanswered))]
     pub fn await_answer<R: Wait>(&mut self, rt: &R, mq: &Mq<L>, at_most: Duration) -> bool
         requires made { self.old.lock ≡ mq.now }
@@ -126,7 +128,7 @@ impl<L: Look<Guarded>> Process<L> {
         mq.lock().await_answer(rt, seat, at_most)
     }
 
-    // Looks again and again until the wait is answered, and enters then.
+    // Polls until the wait is answered, and then acquires the lock and collects.
     fn await_outcome<R: Wait>(&mut self, rt: &R, mq: &Mq<L>, buf: &mut [u8]) -> Collected
         requires made { self.old.lock ≡ mq.now }
         requires wait { IsSome (waiting_room self.old.left self.old.number) }
@@ -149,8 +151,9 @@ impl<L: Look<Guarded>> Process<L> {
         }
     }
 
-    /// Sends a message of that priority (`mq_send`). Where the queue is full it waits until the message is admitted, unless the
-    /// descriptor does not block. Refused with `BadDescriptor`, `Invalid`, `MessageSize`, `Again`, `NoMemory` or `JournalFull`.
+    /// Sends a message of this priority (`mq_send`). If the queue is full, it waits until the
+    /// message is admitted, unless the descriptor is nonblocking. Fails with `BadDescriptor`,
+    /// `Invalid`, `MessageSize`, `Again`, `NoMemory` or `JournalFull`.
     pub fn send<R: Wait>(
         &mut self,
         rt: &R,
@@ -177,8 +180,9 @@ impl<L: Look<Guarded>> Process<L> {
         }
     }
 
-    /// Receives the oldest message of the highest priority into the front of the buffer (`mq_receive`). Where there is none it
-    /// waits for one, unless the descriptor does not block. Refused with `BadDescriptor`, `MessageSize`, `Again`, `NoMemory` or `JournalFull`.
+    /// Receives the oldest message of the highest priority to the start of the buffer
+    /// (`mq_receive`). If there is none, it waits for one, unless the descriptor is nonblocking.
+    /// Fails with `BadDescriptor`, `MessageSize`, `Again`, `NoMemory` or `JournalFull`.
     pub fn receive<R: Wait>(
         &mut self,
         rt: &R,

@@ -12,7 +12,8 @@ use mq_state::collected::Collected;
 use std::sync::Wait;
 use std::time::Duration;
 
-// The shortest sleep before a deadline, in nanoseconds: about what the system adds to one.
+// The shortest sleep before a deadline, in nanoseconds. It is about what the operating system adds
+// to each sleep.
 const SHORTEST_NAP: u64 = 50_000;
 
 impl<L: Look<Guarded>> Process<L> {
@@ -23,7 +24,8 @@ impl<L: Look<Guarded>> Process<L> {
     ghost use Rattle.mq.specs.Says.{FitsIn};
     ghost use Rattle.mq.specs.Calls.{IsFree, Collects, WithdrawsAt, Withdraws, TimedSend, TimedReceive};
 
-    // Ends the open wait, whose deadline has passed at the moment `now`: collects what it came to, or withdraws it.
+    // Ends the open wait, whose deadline has passed at the time `now`: collects it if it is
+    // answered, else withdraws it.
     fn end_wait<R: Wait>(
         &mut self,
         rt: &R,
@@ -46,7 +48,8 @@ impl<L: Look<Guarded>> Process<L> {
         in_one_stay!(self, rt, mq, |guard| guard.end_wait(mq, buf, now))
     }
 
-    // Looks until the wait is answered, or its deadline has passed: then it gives that moment.
+    // Polls until the wait is answered or its deadline has passed. In the second case it returns
+    // the time at which it found that.
     fn look_until<R: Wait, C: clock::Clock>(
         &mut self,
         rt: &R,
@@ -80,7 +83,8 @@ impl<L: Look<Guarded>> Process<L> {
         passed
     }
 
-    // Waits until the wait is answered, and collects what it came to, or until its deadline has passed, and withdraws it.
+    // Waits until the wait is answered, and collects it, or until its deadline has passed, and
+    // withdraws it.
     fn await_until<R: Wait, C: clock::Clock>(
         &mut self,
         rt: &R,
@@ -107,10 +111,11 @@ impl<L: Look<Guarded>> Process<L> {
         }
     }
 
-    /// Sends a message of that priority (`mq_timedsend`). Where the queue is full it waits until the message is admitted, or until the
-    /// clock gives the moment `until` or a later one: then it is refused with `TimedOut`, and the message is not sent. A message that can
-    /// be sent at once is sent, whatever the deadline. Refused as [`send`](Process::send), and, where it would wait, with `Invalid` if the
-    /// nanoseconds of `until` are not 0 to 999,999,999.
+    /// Sends a message of this priority (`mq_timedsend`). If the queue is full, it waits until the
+    /// message is admitted, or until the clock reaches `until`. Then it fails with `TimedOut`, and
+    /// the message is not sent. A message that can be sent at once is sent, whatever the deadline.
+    /// Fails as [`send`](Process::send), and if it would wait, with `Invalid` if the nanoseconds of
+    /// `until` are not from 0 to 999,999,999.
     pub fn timed_send<R: Wait, C: clock::Clock>(
         &mut self,
         rt: &R,
@@ -137,10 +142,11 @@ impl<L: Look<Guarded>> Process<L> {
         }
     }
 
-    /// Receives the oldest message of the highest priority into the front of the buffer (`mq_timedreceive`). Where there is none it
-    /// waits for one, or until the clock gives the moment `until` or a later one: then it is refused with `TimedOut`, and the buffer is as
-    /// it was. A message that is there is received, whatever the deadline. Refused as [`receive`](Process::receive), and, where it
-    /// would wait, with `Invalid` if the nanoseconds of `until` are not 0 to 999,999,999.
+    /// Receives the oldest message of the highest priority to the start of the buffer
+    /// (`mq_timedreceive`). If there is none, it waits for one, or until the clock reaches `until`.
+    /// Then it fails with `TimedOut`, and the buffer is unchanged. If there is a message it is
+    /// received, whatever the deadline. Fails as [`receive`](Process::receive), and if it would
+    /// wait, with `Invalid` if the nanoseconds of `until` are not from 0 to 999,999,999.
     pub fn timed_receive<R: Wait, C: clock::Clock>(
         &mut self,
         rt: &R,
@@ -169,8 +175,8 @@ impl<L: Look<Guarded>> Process<L> {
     }
 }
 
-// The time from one moment to a later one, no less than a sleep of the system takes. A clock that is lent need not be one of real time, so
-// it bounds a sleep and no more.
+// The time from `now` to `until`, and at least the shortest sleep. The clock that the caller lends
+// need not run in real time, so this only bounds a sleep.
 fn time_left(until: Deadline, now: Deadline) -> Duration {
     let seconds = until.sec.saturating_sub(now.sec);
     let nanos = seconds
