@@ -18,8 +18,8 @@ use Rattle.mq_state.specs.Tables.{TablesMirror, AreAtMost, HasNoticeRoom, AreCal
 use Rattle.mq_state.specs.WaitBits.{KnowWaits}
 use Rattle.mq_state.specs.declared.tables.Tables.{Tables}
 
--- what a `Books` shows: its records, the latest first, how many processes it has, the bounds of its journal, for how many more
--- payload bytes there is room, and whether the journal is stored
+-- What a `Books` shows: its records, the latest first, the number of its processes, the bounds of
+-- its journal, the room for further payload bytes, and whether the journal is stored.
 pub record Kept : Type 0 where
   pub records : Past
   pub n : ℕ
@@ -31,8 +31,8 @@ pub record Kept : Type 0 where
 abbrev pub Mirrors : Shown → Tables → Type 0
 Mirrors j t = TablesMirror j.records t.n t.owners.items t.queues.items t.inboxes.items
 
--- the tables are those of these records, which are legal, the lines of the queues know who waits, and there is room for the notice of
--- each registration
+-- The tables are those of these records, which are legal. The rows of the queues say which
+-- processes wait, and there is room for the notice of each registration.
 pub record AreThoseOf (past : Past) (t : Tables) : Type 0 where
   pub legal : Legal past
   pub few : t.n ≤ 32
@@ -42,7 +42,7 @@ pub record AreThoseOf (past : Past) (t : Tables) : Type 0 where
   pub notice_room : HasNoticeRoom t.queues.items t.inboxes.items
   pub calls : AreCalls past t.n t.calls.items
 
--- tables that say the same, with as much room for notices at least
+-- tables that say the same, with at least as much room for notices
 pub record SaysSame (old new : Tables) : Type 0 where
   pub n : new.n ≡ old.n
   pub bounds : new.bounds ≡ old.bounds
@@ -54,16 +54,18 @@ pub record SaysSame (old new : Tables) : Type 0 where
   pub notices : (p : ℕ) → notices_in new.inboxes.items p ≡ notices_in old.inboxes.items p
   pub room : (p : ℕ) → room_in old.inboxes.items p ≤ room_in new.inboxes.items p
 
--- for how many notices of each process there is room with bounds: for as many as there may be entries, and one from each queue
+-- The room for the notices of each process with bounds: as many as there may be entries, and one
+-- from each queue.
 abbrev pub notice_room : Option Bounds → ℕ
 notice_room None = 0
 notice_room (Some b) = b.entries + 64
 
--- that room, after so many entries, each of which brings a process one notice at most
+-- The same room, after this number of entries, each of which adds at most one notice.
 abbrev pub HasNotices : Option Bounds → ℕ → ℕ → List InboxShown → Type 0
 HasNotices bounds entries n inboxes = (p : ℕ) → p ≤ n → notice_room bounds ≤ entries + room_in inboxes p
 
--- there is room for as many entries and payload bytes as the bounds allow, those that are there included
+-- The journal has room for all entries and payload bytes that the bounds allow, those already there
+-- included.
 abbrev pub HasRoomWithin : Option Bounds → Shown → Type 0
 HasRoomWithin None j = Unit {0}
 HasRoomWithin (Some b) j = (b.entries ≤ length j.records + j.entry_room) × (b.bytes ≤ payload_bytes j.records + j.byte_room)
@@ -73,8 +75,9 @@ abbrev pub IsRoomWithin : Option Bounds → Past → ℕ → ℕ → Type 0
 IsRoomWithin None past entries bytes = Unit {0}
 IsRoomWithin (Some b) past entries bytes = (b.entries ≤ length past + entries) × (b.bytes ≤ payload_bytes past + bytes)
 
--- the tables are those of the journal, which has entries of the first n processes alone, and there is room for the entry that ends each
--- open wait and for all that the bounds allow; what can still be asked for can be read, and with bounds the journal is stored
+-- The tables are those of the journal, which has entries of the first n processes only. There is
+-- room for the entry that ends each open wait, and for everything that the bounds allow. What may
+-- still be read can be read, and with bounds the journal is stored.
 pub record IsKeptBy (j : Shown) (t : Tables) : Type 0 where
   pub tables : AreThoseOf j.records t
   pub processes : AreAtMost t.n j.records
@@ -84,19 +87,20 @@ pub record IsKeptBy (j : Shown) (t : Tables) : Type 0 where
   pub readable : IsReadable j
   pub stored : t.bounds ≢ None → j.stored ≡ true
 
--- the same, and the orders of the queues
+-- the same, and the message slots of the queues
 pub record IsWhole (j : Shown) (t : Tables) : Type 0 where
   pub kept : IsKeptBy j t
   pub pool : IsPooled None t
 
--- process p may make a call: it is one of the processes, and has no open wait
+-- process p may make a call: it is one of the processes and has no open wait
 pub record MayCall (j : Shown) (t : Tables) (p : ℕ) : Type 0 where
   pub kept : IsKeptBy j t
   pub pool : IsPooled None t
   pub process : (1 ≤ p) × (p ≤ t.n)
   pub no_wait : open_wait j.records p ≡ None
 
--- a call of process p got its reply: it has its entry, or none and the reply that memory was wanting or the journal is full
+-- A call of process p got its reply. It has its entry; or it has none, and the reply says that
+-- memory was refused or the journal is full.
 pub record IsCalled (j j' : Shown) (t t' : Tables) (p : ℕ) (call : Call) (given : List ℕ) (reply : Reply) : Type 0 where
   pub entry : has_entry reply ≡ true → Appends j.records j'.records p call given reply
   pub no_entry : has_entry reply ≡ false → j'.records ≡ j.records
@@ -108,9 +112,9 @@ pub record IsCalled (j j' : Shown) (t t' : Tables) (p : ℕ) (call : Call) (give
   pub bounds : t'.bounds ≡ t.bounds
   pub stored : j'.stored ≡ j.stored
 
--- what a call of process p with this reply made of the queues: its entry, or nothing where the reply has none, and then no room for
--- bytes is lost. The reply is that the journal is full exactly where the call finds it full, and with bounds never that memory was
--- wanting
+-- What a call of process p with this reply did. It appended its entry; or nothing if the reply has
+-- no entry, and then no room for bytes is lost. The reply is `JournalFull` if and only if the call
+-- finds the journal full, and never `NoMemory` with bounds.
 pub record IsMade (old new : Kept) (p : ℕ) (call : Call) (given : List ℕ) (reply : Reply) : Type 0 where
   pub entry : has_entry reply ≡ true → Appends old.records new.records p call given reply
   pub no_entry : has_entry reply ≡ false → new.records ≡ old.records
@@ -120,20 +124,21 @@ pub record IsMade (old new : Kept) (p : ℕ) (call : Call) (given : List ℕ) (r
   pub bounds : new.bounds ≡ old.bounds
   pub stored : new.stored ≡ old.stored
 
--- room for the entry, for the entry that ends each open wait, and for that of a wait that the entry begins. A collect or a
--- withdrawal itself stands in the room that was kept for it
+-- Room for the entry, for the entry that ends each open wait, and for that of a wait that the entry
+-- begins. A collect or a withdraw uses the room that was kept for it.
 abbrev pub HasEntryRoom : Reply → ℕ → ℕ → Type 0
 HasEntryRoom Waits waits room = waits + 2 ≤ room
 HasEntryRoom (Collected by) waits room = waits ≤ room
 HasEntryRoom (Withdrawn wait) waits room = waits ≤ room
 HasEntryRoom _ waits room = waits + 1 ≤ room
 
--- room that was asked for, with which there would be so many entries and payload bytes, is refused because the journal is full exactly
--- where that is more than the bounds allow, and with bounds for no other reason
+-- The result of a request for room, with which there would be this many entries and payload bytes.
+-- It is `JournalFull` if and only if that exceeds the bounds. With bounds it fails for no other
+-- reason.
 pub record IsRoomRefused (bounds : Option Bounds) (entries bytes : ℕ) (result : Result (Unit {0}) Fault) : Type 0 where
   pub full : exceeds bounds entries bytes ≡ true → result ≡ Err JournalFull
   pub room : exceeds bounds entries bytes ≡ false → (result ≡ Ok tt) ⊎ ((result ≡ Err NoMemory) × (bounds ≡ None))
 
--- a reply that refuses, but not for want of memory, took no room for bytes
+-- a reply with an error other than `NoMemory` used no room for bytes
 abbrev pub SparesBytes : Shown → Shown → Reply → Type 0
 SparesBytes j j' reply = (fault : Fault) → reply ≡ Refused fault → fault ≢ NoMemory → j'.byte_room ≡ j.byte_room

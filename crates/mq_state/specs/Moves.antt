@@ -1,4 +1,5 @@
--- What an entry moves: in the line of its queue, in the wait of its process, in the notices. Each table takes it from here.
+-- What an entry changes: in the row of its queue, in the wait of its process, in the notices. Each
+-- table uses these definitions.
 use Rattle.std.specs.Prelude.{Bool, true, false, length, is_some}
 use Rattle.std.specs.Option.{option_map}
 use Rattle.mq_model.specs.Record.{Past}
@@ -19,7 +20,8 @@ abbrev pub done_move : Call → LineMove
 done_move MqUnlink = LosesName
 done_move _ = Rests
 
--- a message that is queued enters, one that is received leaves, and a send that this admits enters then; an unlink takes the name
+-- A message that is queued enters. One that is received leaves, and the message of the send that
+-- this admits enters. An unlink removes the name.
 abbrev pub line_move : Past → Call → Reply → LineMove
 line_move past call (Queued notified) = Enters (priority_given call) (length past)
 line_move past call (Got place admitted notified) = Leaves place (option_map (slot_of past) admitted)
@@ -37,11 +39,11 @@ frees (MqClose d) = true
 frees MqUnlink = true
 frees _ = false
 
--- an entry after which its queue may be needed no longer
+-- an entry after which its queue may have no user left
 abbrev pub may_free : Call → Reply → Bool
 may_free call Done = frees call
 may_free call _ = false
 
--- what an entry with this call and reply moves
+-- what an entry with this call and reply changes
 abbrev pub moves_of : Past → Call → Reply → Moves
 moves_of past call reply = record { line = line_move past call reply; wait = wait_move reply; notified = is_some (notified reply); given = gives_notice reply; freed = may_free call reply }

@@ -1,9 +1,11 @@
--- Which message of a queue is received next, each message being its priority and the place of its send.
+-- Which message of a queue is received next. A message is its priority and the sequence number of
+-- its send.
 use Rattle.std.specs.Prelude.{ℕ, ℤ, pos, negsuc, Bool, ◌&&◌, ◌||◌, ◌==◌, nat_lt, nat_le, List, Option}
 use Rattle.std.specs.List.{find, list_all}
 use Rattle.mq_model.specs.declared.entries.Attr.{Attr}
 
--- of these two a is received first, or they are one: its priority is greater, or it is the same and a is the older
+-- Of these two messages a is received first, or they are the same: its priority is higher, or equal
+-- and a is older.
 abbrev pub goes_first : ℕ × ℕ → ℕ × ℕ → Bool
 goes_first a b = nat_lt b.0 a.0 || (a.0 == b.0 && nat_le a.1 b.1)
 
@@ -16,6 +18,6 @@ abbrev pub magnitude : ℤ → ℕ
 magnitude (pos n) = n
 magnitude (negsuc n) = 0
 
--- how many messages a queue with these attributes holds at most
+-- how many messages a queue with these attributes can hold
 abbrev pub slots_for : Attr → ℕ
 slots_for attributes = magnitude attributes.maxmsg

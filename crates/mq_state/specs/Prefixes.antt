@@ -1,4 +1,4 @@
--- What the first entries of a journal show: their records, and the room that the journal has.
+-- What a prefix of a journal shows: its records, and the room that the journal has.
 use Rattle.std.specs.Prelude.{◌≤◌, true, [], length}
 use Rattle.mq_model.specs.Record.{first}
 use Rattle.mq_ledger.specs.Ledgers.{Shown}

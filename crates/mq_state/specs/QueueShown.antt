@@ -2,9 +2,9 @@ use Rattle.std.specs.Prelude.{ℕ, Bool, List, Option}
 use Rattle.mq_model.specs.declared.entries.Attr.{Attr}
 use Rattle.mq_model.specs.declared.entries.Registration.{Registration}
 
--- what a queue of the table shows: the place of the open that created it, whether it is still bound to its name, the
--- registration that stands on it, its messages, the last to enter first, how many it has room for, its attributes, and as bits of a number
--- which processes wait on it
+-- What the row of a queue shows: the sequence number of the open that created it, whether it is
+-- still bound to its name, its registration, its messages, the last to enter first, how many it has
+-- room for, its attributes, and which processes wait on it, as the bits of a number.
 pub record QueueShown : Type 0 where
   pub place : ℕ
   pub named : Bool

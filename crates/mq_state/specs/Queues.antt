@@ -1,5 +1,6 @@
--- What the table of queues says of each, and what it becomes after one more entry. It defines nothing new: where a table
--- mirrors a journal, each word here is the definition of the same name over the journal.
+-- What the table of queues says about each queue, and what it becomes after one more entry. Nothing
+-- here is a new definition of the queues: if a table matches a journal, each word here equals the
+-- definition of the same name over the journal.
 use Rattle.std.specs.Prelude.{ℕ, ◌≡◌, ◌<◌, ◌≤◌, Bool, true, false, ◌&&◌, ◌||◌, not, ◌==◌, List, [], ◌∷◌, length, Option, Some, None, if◌then◌else◌, map, int_le, pos, reverse}
 use Rattle.std.specs.List.{find, filter, count_by, Contains}
 use Rattle.std.specs.Str.{bytes_eq}
@@ -51,16 +52,16 @@ is_bound_to past name x = x.named && bytes_eq (name_of past x.place) name
 unfoldable pub bound_in : Past → List QueueShown → List ℕ → Option ℕ
 bound_in past queues name = option_map (λ x. x.place) (find (λ x. x.named && bytes_eq (name_of past x.place) name) queues)
 
--- each number is below all after it
+-- each number is below all that follow
 abbrev pub Rises : List ℕ → Type 0
 Rises [] = Unit {0}
 Rises (k ∷ ks) = ((j : ℕ) → is_in ks j ≡ true → k < j) × Rises ks
 
--- the lines stand in the order in which the queues were created
+-- the rows are in the order in which the queues were created
 abbrev pub HaveRisingPlaces : List QueueShown → Type 0
 HaveRisingPlaces queues = Rises (map (λ x. x.place) queues)
 
--- the table with the line of queue q changed
+-- the table with the row of queue q changed
 abbrev pub changed : (QueueShown → QueueShown) → List QueueShown → ℕ → List QueueShown
 changed f [] q = []
 changed f (x ∷ queues) q = if x.place == q then f x ∷ queues else x ∷ changed f queues q
@@ -68,7 +69,8 @@ changed f (x ∷ queues) q = if x.place == q then f x ∷ queues else x ∷ chan
 unfoldable pub without_queue : List QueueShown → ℕ → List QueueShown
 without_queue queues q = filter (λ x. not (x.place == q)) queues
 
--- one line after an entry -------------------------------------------------------------------------------------------------
+-- one row after an entry
+-- ---------------------------------------------------------------------------
 
 abbrev pub with_slot : ℕ × ℕ → QueueShown → QueueShown
 with_slot s x = record { place = x.place; named = x.named; registration = x.registration; slots = s ∷ x.slots; cap = x.cap; attributes = x.attributes; waiting = x.waiting }
@@ -89,39 +91,41 @@ slots_after (Leaves place None) slots = without place slots
 slots_after (Leaves place (Some m)) slots = m ∷ without place slots
 slots_after _ slots = slots
 
--- the line of the entry's queue: whether it is still named, and its messages
+-- the row of the entry's queue: whether the queue still has its name, and its messages
 abbrev pub renewed : LineMove → QueueShown → QueueShown
 renewed m x = record { place = x.place; named = named_after m x.named; registration = x.registration; slots = slots_after m x.slots; cap = x.cap; attributes = x.attributes; waiting = x.waiting }
 
--- a message may come into the line: there is room for it, it has a priority, and was sent after those that are there
+-- A message may enter the queue: there is room, its priority is valid, and it was sent after those
+-- that are there.
 pub record MayEnter (prio place : ℕ) (x : QueueShown) : Type 0 where
   pub room : length x.slots < x.cap
   pub low : prio < 32768
   pub newest : (m : ℕ × ℕ) → Contains x.slots m → m.1 < place
 
--- the message that the line gives next was sent at this place
+-- the message that is received next was sent by this entry
 abbrev pub IsNextAt : ℕ → QueueShown → Type 0
 IsNextAt place x = option_map (λ m. m.1) (best_slot x.slots) ≡ Some place
 
--- what leaves the line is the message that is received next, and what enters it may
+-- The message that leaves is the one received next, and the message that enters may enter.
 abbrev pub Allows : LineMove → QueueShown → Type 0
 Allows (Enters prio place) x = MayEnter prio place x
 Allows (Leaves place None) x = IsNextAt place x
 Allows (Leaves place (Some m)) x = IsNextAt place x × MayEnter m.0 m.1 (without_slot place x)
 Allows _ x = Unit {0}
 
--- the line of queue q, if there is one, allows the move
+-- the row of queue q, if there is one, allows the change
 abbrev pub AllowsIn : List QueueShown → ℕ → LineMove → Type 0
 AllowsIn queues q m = (x : QueueShown) → queue_in queues q ≡ Some x → Allows m x
 
--- any line: its registration, where the entry's call is made on queue q
+-- any row: its registration, after an entry whose call is made on queue q
 abbrev pub reregistered : ℕ → ℕ → Entry → QueueShown → QueueShown
 reregistered q here e x = record { place = x.place; named = x.named; registration = registration_after (q == x.place) here e x.registration; slots = x.slots; cap = x.cap; attributes = x.attributes; waiting = x.waiting }
 
 abbrev pub released : List Owner → Bool → List QueueShown → ℕ → List QueueShown
 released owners freed queues q = if freed && not (is_named_in queues q || is_held_in owners q) then without_queue queues q else queues
 
--- the table after the entry at place `here`, made on queue q, which moves this; the table of processes is the one after it
+-- The table after entry `here`, made on queue q, with these changes. `owners` is the table of
+-- processes after the entry.
 abbrev pub noted_queues : List Owner → ℕ → Entry → ℕ → Moves → List QueueShown → List QueueShown
 noted_queues owners here e q moves queues = released owners moves.freed (map (reregistered q here e) (changed (renewed moves.line) queues q)) q
 
@@ -129,7 +133,8 @@ noted_queues owners here e q moves queues = released owners moves.freed (map (re
 abbrev pub fresh : ℕ → ℕ → Attr → QueueShown
 fresh here cap given = record { place = here; named = true; registration = None; slots = []; cap = cap; attributes = given; waiting = 0 }
 
--- the table says what the definitions say of the journal -----------------------------------------------------------------
+-- the table says what the definitions say about the journal
+-- ----------------------------------------
 
 abbrev pub slot_of : Past → ℕ → ℕ × ℕ
 slot_of past m = (priority past m, m)

@@ -20,14 +20,15 @@ is_in_turn past r = may_call past r.entry.process r.entry.call
 abbrev pub has_payload : Record → Bool
 has_payload r = is_payload r.entry.call r.entry.reply r.payload
 
--- why the record may not stand after these: the first of the four that is so. A wrong reply has the right one beside it
+-- Why the record may not follow these: the first of the four that holds. A wrong reply comes with
+-- the right one.
 abbrev pub IsCause : Past → Record → Cause → Type 0
 IsCause past r Process = has_process r ≡ false
 IsCause past r Turn = (has_process r ≡ true) × (is_in_turn past r ≡ false)
 IsCause past r Payload = (has_process r ≡ true) × (is_in_turn past r ≡ true) × (has_payload r ≡ false)
 IsCause past r (Reply expected) = (has_process r ≡ true) × (is_in_turn past r ≡ true) × (has_payload r ≡ true) × (expected ≡ reply_to past r.entry.process r.entry.call r.payload) × (r.entry.reply ≢ expected)
 
--- the records before the place are legal, the record at the place may not stand after them, and this is why
+-- The records before this place are legal, the record there may not follow them, and this is why.
 pub record IsDeparture (past : Past) (d : Departure) : Type 0 where
   pub first_illegal : IsFirstIllegal past d.place
   pub cause : IfSome (record_at past d.place) (λ r. IsCause (first d.place past) r d.cause)

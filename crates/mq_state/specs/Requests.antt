@@ -1,11 +1,12 @@
--- What a call brings, and how long a buffer it wants filled.
+-- What a call is given, and the length of the buffer that it fills.
 use Rattle.std.specs.Prelude.{ℕ, ◌≡◌, List, [], length, IsTrue}
 use Rattle.mq_model.specs.Name.{is_name}
 use Rattle.mq_model.specs.declared.entries.Call.{Call}
 use Rattle.mq_model.specs.declared.entries.Call.TheVariants.{MqOpen, MqUnlink, MqSend, MqReceive, Collect, MqTimedSend, MqTimedReceive, Withdraw}
 use Rattle.mq_state.specs.Buffers.{room_of}
 
--- what a call is given: a name, the bytes of its message, or none. The end of a wait is not made on request
+-- What a call is given: a name, the bytes of its message, or nothing. The end of a wait is not such
+-- a request.
 abbrev pub IsGiven : Call → List ℕ → Type 0
 IsGiven (MqOpen flags attr) given = IsTrue (is_name given)
 IsGiven MqUnlink given = IsTrue (is_name given)
@@ -15,7 +16,7 @@ IsGiven Collect given = ⊥
 IsGiven (Withdraw now) given = ⊥
 IsGiven _ given = given ≡ []
 
--- the same, with a buffer of this length, which only a receive wants filled
+-- the same, with a buffer of this length, which only a receive fills
 abbrev pub Brings : Call → List ℕ → ℕ → Type 0
 Brings call given room = (room_of call ≡ room) × IsGiven call given
 

@@ -1,4 +1,4 @@
--- The tables beside the journal say what the definitions say of it.
+-- The tables say what the definitions say about the journal.
 use Rattle.std.specs.Prelude.{ℕ, Bool, ◌≡◌, ◌+◌, ◌≤◌, ◌<◌, true, false, List, [], ◌∷◌, ◌++◌, ◌&&◌, ◌==◌, if◌then◌else◌, drop, All, slice_set, slice_index_or, length, Option, Some, None, int_le, pos}
 use Rattle.std.specs.Option.{unwrap_or}
 use Rattle.mq_model.specs.Names.{bound_queue, creates, attributes_given, are_within_limits}
@@ -29,7 +29,7 @@ use Rattle.mq_state.specs.Inboxes.{notices_in, room_in}
 abbrev pub AreAtMost : ℕ → Past → Type 0
 AreAtMost n past = All (λ r. r.entry.process ≤ n) past
 
--- process p's line and inbox stand at index p
+-- the row and the inbox of process p are at index p
 pub record TablesMirror (past : Past) (n : ℕ) (owners : List Owner) (queues : List QueueShown) (inboxes : List InboxShown) : Type 0 where
   pub owner_count : length owners ≡ n + 1
   pub inbox_count : length inboxes ≡ n + 1
@@ -37,30 +37,30 @@ pub record TablesMirror (past : Past) (n : ℕ) (owners : List Owner) (queues : 
   pub existing : QueuesMirror past queues
   pub notices : (p : ℕ) → notices_in inboxes p ≡ notices past p
 
--- the queue that an entry is made on: the one that an open or an unlink names, or that of the descriptor. Where there is
--- none it is the place of the entry, and so no queue's
+-- The queue that an entry is about: the one that an open or an unlink names, or that of the
+-- descriptor. If there is none, it is the sequence number of the entry, and so that of no queue.
 abbrev pub entry_queue : Past → ℕ → Call → List ℕ → ℕ
 entry_queue past p (MqOpen flags attr) name = unwrap_or (bound_queue past name) (length past)
 entry_queue past p MqUnlink name = unwrap_or (bound_queue past name) (length past)
 entry_queue past p call name = unwrap_or (called_queue past p call) (length past)
 
--- a process that waits already begins no wait, and one that does not wait ends none
+-- a process with an open wait begins none, and one without ends none
 abbrev pub MovesOwnWait : WaitMove → Option OpenWait → Type 0
 MovesOwnWait Stays wait = Unit {0}
 MovesOwnWait Begins wait = wait ≡ None
 MovesOwnWait Ends wait = (w : OpenWait) × (wait ≡ Some w)
 
--- the calls in which processes wait, after an entry of a process that moves its wait so
+-- the calls in which processes wait, after an entry of process p
 abbrev pub calls_noted : WaitMove → ℕ → Call → List Call → List Call
 calls_noted Begins p call calls = slice_set calls p call
 calls_noted _ p call calls = calls
 
--- the call in which each process waits stands at its index
+-- the call in which each process waits is at its index
 pub record AreCalls (past : Past) (n : ℕ) (calls : List Call) : Type 0 where
   pub count : length calls ≡ n + 1
   pub at : (p w : ℕ) → open_wait past p ≡ Some w → slice_index_or calls p Collect ≡ waiting_call past p
 
--- a new queue's messages have their room, and the table of queues has room for the queue
+-- The messages of a new queue have their room, and the table of queues has room for the queue.
 pub record IsFresh (call : Call) (queues : ℕ) (capacity : ℕ) (o : Held) : Type 0 where
   pub empty : o.messages ≡ []
   pub roomy : int_le (attributes_given call).maxmsg (pos o.cap) ≡ true
@@ -70,7 +70,7 @@ pub record IsFresh (call : Call) (queues : ℕ) (capacity : ℕ) (o : Held) : Ty
 abbrev pub CreatesWithin : Call → Reply → Type 0
 CreatesWithin call reply = creates call reply ≡ true → are_within_limits (Some (attributes_given call)) ≡ true
 
--- just an entry that creates its queue brings the queue's order
+-- an entry has the slots of a new queue if and only if it creates one
 abbrev pub BringsOrder : Call → Reply → ℕ → ℕ → Option Held → Type 0
 BringsOrder call reply queues capacity None = creates call reply ≡ false
 BringsOrder call reply queues capacity (Some o) = (creates call reply ≡ true) × IsFresh call queues capacity o
@@ -79,23 +79,24 @@ BringsOrder call reply queues capacity (Some o) = (creates call reply ≡ true) 
 abbrev pub HasNoticeRoom : List QueueShown → List InboxShown → Type 0
 HasNoticeRoom queues inboxes = (p : ℕ) → registrations_in queues p ≤ room_in inboxes p
 
--- there is room for the notice of the registration that a call makes: for as many as there are queues, since at most one
--- registration stands on each
+-- There is room for the notices of the registration that a call makes: as many as there are queues,
+-- since a queue has at most one registration.
 abbrev pub HasRoomToRegister : List QueueShown → List InboxShown → ℕ → Call → Reply → Type 0
 HasRoomToRegister queues inboxes p (MqNotify d (Some v)) reply = reply ≡ Done → length queues ≤ room_in inboxes p
 HasRoomToRegister queues inboxes p call reply = Unit {0}
 
--- how many notices an entry brings process p: one where it notifies a registration of the process
+-- How many notices an entry adds for process p: one if it notifies a registration of the process.
 abbrev pub notices_brought : Option Registration → Bool → ℕ → ℕ
 notices_brought None notified p = 0
 notices_brought (Some n) notified p = if notified && n.process == p then 1 else 0
 
--- the notices of process p after an entry: the registration of the entry's queue brings one, where the entry notifies it
+-- The notices of process p after an entry. If the entry notifies the registration on its queue,
+-- that adds one.
 abbrev pub notified_values : Option Registration → Bool → ℕ → List ℕ → List ℕ
 notified_values None notified p values = values
 notified_values (Some n) notified p values = if notified && n.process == p then values ++ n.value ∷ [] else values
 
--- and the oldest is taken out, where the entry gives it to its process
+-- and the oldest is removed if the entry gives it to its process
 abbrev pub noted_values : ℕ → Option Registration → Moves → ℕ → List ℕ → List ℕ
 noted_values process registered moves p values =
     if moves.given && process == p then drop 1 (notified_values registered moves.notified p values) else notified_values registered moves.notified p values

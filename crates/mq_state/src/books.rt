@@ -1,9 +1,10 @@
 //! The queues of one thread, with the journal of the calls made on them.
 //!
-//! Each call is made by a process p from 1 to n that has no open wait, appends exactly one entry, the call with the reply
-//! that the definitions give, and returns that reply. A call that replies `Refused(NoMemory)` or `Refused(JournalFull)` has no
-//! entry and changes nothing. The first comes only where an allocation was refused, and never with bounds; the second only with bounds, and
-//! exactly where the call finds the journal full.
+//! Each call is made by a process p from 1 to n that has no open wait. It appends exactly one
+//! entry, the call with the reply that the definitions give, and returns that reply. A call that
+//! replies `Refused(NoMemory)` or `Refused(JournalFull)` has no entry and changes nothing.
+//! `NoMemory` means that memory was refused, and never occurs with bounds. `JournalFull` occurs if
+//! and only if there are bounds and the call finds the journal full.
 ghost use Rattle.std.specs.Prelude.{◌≡◌, ◌≢◌, ◌<◌, ◌≤◌, IfOk, IfErr, IfSome, IsSome, IsTrue, ◌↔◌, Some, None, length, [], All, true, false, ◌&&◌, is_none};
 ghost use Rattle.mq_model.specs.Deadlines.{is_over};
 ghost use Rattle.mq_model.specs.Waits.{open_wait, wait_deadline, answered_by, is_answered};
@@ -35,20 +36,20 @@ use mq_model::names::Name;
 use std::alloc::{AllocError, Global};
 use std::marker::Model;
 
-/// The queues of one thread. It takes one word, so to hand it over, as a lock does, is cheap.
+/// The queues of one thread. The value is one word, so it is cheap to hand over, as a lock does.
 #[derive(Drop)]
 pub struct Books {
     inner: Box<Inner>,
 }
 
-/// No queues go on from this journal: it comes back as it was, with the cause.
+/// The queues cannot continue from this journal. It comes back unchanged, with the cause.
 #[derive(Debug, Drop)]
 pub struct Refused {
     pub journal: Journal,
     pub why: Misfit,
 }
 
-/// What a `Books` has.
+/// The inner state of a `Books`.
 #[derive(Drop)]
 struct Inner {
     journal: Ledger,
@@ -100,7 +101,7 @@ impl Books {
         })
     }
 
-    /// The queues of n processes: none yet, and an empty journal.
+    /// The queues of n processes: there are none yet, and the journal is empty.
     pub fn new(alloc: Global, n: u32) -> Result<Books, AllocError>
         requires { (1 ≤ n) × (n ≤ 32) }
         ensures empty { IfOk result (λ b. b.records ≡ []) }
@@ -111,8 +112,9 @@ impl Books {
         Books::start(alloc, n, None)
     }
 
-    /// The queues of n processes, whose journal may hold so many entries and so many payload bytes, those of names and of messages. All
-    /// the memory that later calls could need is taken here; the error is that it was refused.
+    /// The queues of n processes, with a journal of at most `entries` entries and `bytes` payload
+    /// bytes, those of names and messages. It takes all the memory that later calls need. Fails if
+    /// memory was refused.
     pub fn bounded(alloc: Global, n: u32, entries: u64, bytes: u64) -> Result<Books, AllocError>
         requires { (1 ≤ n) × (n ≤ 32) }
         ensures empty { IfOk result (λ b. b.records ≡ []) }
@@ -124,9 +126,10 @@ impl Books {
         Books::start(alloc, n, Some(Bounds { entries, bytes }))
     }
 
-    /// The queues of n processes whose journal is a history variable: contracts speak of it, and no byte of it is stored. What later replies
-    /// depend on is kept, and its memory serves again: the names of the queues that exist, and the messages that are present, that wait to be
-    /// accepted, or that were handed over and not yet collected. Without bounds.
+    /// The queues of n processes whose journal is a history variable: contracts speak of it, and no
+    /// byte of it is stored. It keeps only what later replies depend on, and uses that memory
+    /// again: the names of the queues that exist, and the messages that are present, wait to be
+    /// accepted, or were handed over and not yet collected. It has no bounds.
     pub fn unstored(alloc: Global, n: u32) -> Result<Books, AllocError>
         requires { (1 ≤ n) × (n ≤ 32) }
         ensures empty { IfOk result (λ b. b.records ≡ []) }
@@ -137,9 +140,11 @@ impl Books {
         Books::start_unstored(alloc, n, false)
     }
 
-    /// The same, but an open that creates a queue also takes the memory that later calls on it need: for as many messages of the greatest
-    /// size as it may hold, for one more for each process, which waits to send it or to collect it, and for notices. The open replies
-    /// `Refused(NoMemory)` where that can't be had. Then no send, receive, notify, collect or withdrawal takes memory, as tests show.
+    /// The same, but an open that creates a queue also takes the memory that later calls on it
+    /// need: for as many messages of the greatest size as the queue can hold, for one more for each
+    /// process, which waits to send or to collect it, and for notices. The open replies
+    /// `Refused(NoMemory)` if that is refused. Then no send, receive, notify, collect or withdraw
+    /// takes memory. Tests show this; no contract says it.
     pub fn prepaid(alloc: Global, n: u32) -> Result<Books, AllocError>
         requires { (1 ≤ n) × (n ≤ 32) }
         ensures empty { IfOk result (λ b. b.records ≡ []) }
@@ -150,8 +155,9 @@ impl Books {
         Books::start_unstored(alloc, n, true)
     }
 
-    /// The queues of n processes after the calls of a journal, which goes on with their calls, as if they had been made here. Refused where
-    /// the journal is not legal, or has an entry of a process above n, or where memory was refused: then the journal comes back.
+    /// The queues of n processes after the calls of a journal. Later calls extend it, as if its
+    /// calls had been made here. Fails if the journal is not legal, if it has an entry of a process
+    /// above n, or if memory was refused. Then the journal comes back.
     pub fn resume(alloc: Global, n: u32, journal: Journal) -> Result<Books, Refused>
         requires { (1 ≤ n) × (n ≤ 32) }
         ensures records { IfOk result (λ b. b.records ≡ journal.records) }
@@ -192,9 +198,10 @@ impl Books {
         }
     }
 
-    /// A call of process p, whichever: with its name, the bytes of its message or none, and the buffer that a receive fills. Replies as the
-    /// method of its name below, and says what a receive got. The ends of a wait are [`collect`](Books::collect) and
-    /// [`withdraw`](Books::withdraw).
+    /// Makes a call of process p, of any kind. `given` is its name or its message, or empty, and
+    /// `buf` the buffer that a receive fills. The reply is that of the method of the same name
+    /// below, with the length and the priority of the message that a receive got. A wait is ended
+    /// by [`collect`](Books::collect) or [`withdraw`](Books::withdraw).
     pub fn ask(&mut self, p: u32, call: Call, given: &[u8], buf: &mut [u8]) -> Answer
         requires process { (1 ≤ p) × (p ≤ self.old.n) }
         requires no_wait { open_wait self.old.records p ≡ None }
@@ -211,7 +218,7 @@ impl Books {
         tables.make(journal, p, call, given, buf)
     }
 
-    /// The same, of which the reply alone is wanted.
+    /// The same, and returns only the reply.
     pub fn make(&mut self, p: u32, call: Call, given: &[u8], buf: &mut [u8]) -> Reply
         requires process { (1 ≤ p) × (p ≤ self.old.n) }
         requires no_wait { open_wait self.old.records p ≡ None }
@@ -224,7 +231,8 @@ impl Books {
         self.ask(p, call, given, buf).reply
     }
 
-    /// An open of a name (`mq_open`). Replies `Opened`, or refuses with `Exists`, `NoEntry`, `Invalid`, `TooManyOpen` or `NoSpace`.
+    /// Opens a queue by its name (`mq_open`). Replies `Opened`, or fails with `Exists`, `NoEntry`,
+    /// `Invalid`, `TooManyOpen` or `NoSpace`.
     pub fn open(&mut self, p: u32, name: &Name, flags: OpenFlags, attr: Option<Attr>) -> Reply
         requires process { (1 ≤ p) × (p ≤ self.old.n) }
         requires no_wait { open_wait self.old.records p ≡ None }
@@ -233,7 +241,7 @@ impl Books {
         self.make(p, Call::MqOpen { flags, attr }, name.bytes(), &mut [])
     }
 
-    /// A close of descriptor d (`mq_close`). Replies `Done`, or refuses with `BadDescriptor`.
+    /// Closes descriptor d (`mq_close`). Replies `Done`, or fails with `BadDescriptor`.
     pub fn close(&mut self, p: u32, d: u32) -> Reply
         requires process { (1 ≤ p) × (p ≤ self.old.n) }
         requires no_wait { open_wait self.old.records p ≡ None }
@@ -242,7 +250,7 @@ impl Books {
         self.make(p, Call::MqClose { d }, &[], &mut [])
     }
 
-    /// An unlink of a name (`mq_unlink`). Replies `Done`, or refuses with `NoEntry`.
+    /// Unlinks a name (`mq_unlink`). Replies `Done`, or fails with `NoEntry`.
     pub fn unlink(&mut self, p: u32, name: &Name) -> Reply
         requires process { (1 ≤ p) × (p ≤ self.old.n) }
         requires no_wait { open_wait self.old.records p ≡ None }
@@ -251,7 +259,8 @@ impl Books {
         self.make(p, Call::MqUnlink, name.bytes(), &mut [])
     }
 
-    /// The attributes of descriptor d (`mq_getattr`). Replies `Attrs`, or refuses with `BadDescriptor`.
+    /// The attributes of descriptor d (`mq_getattr`). Replies `Attrs`, or fails with
+    /// `BadDescriptor`.
     pub fn getattr(&mut self, p: u32, d: u32) -> Reply
         requires process { (1 ≤ p) × (p ≤ self.old.n) }
         requires no_wait { open_wait self.old.records p ≡ None }
@@ -260,8 +269,8 @@ impl Books {
         self.make(p, Call::MqGetattr { d }, &[], &mut [])
     }
 
-    /// Another flag for descriptor d (`mq_setattr`): of `new` its `nonblock` alone is used. Replies `Attrs` from before, or refuses
-    /// with `BadDescriptor`.
+    /// Sets the nonblocking flag of descriptor d (`mq_setattr`). Only the field `nonblock` of `new`
+    /// is used. Replies with the `Attrs` from before, or fails with `BadDescriptor`.
     pub fn setattr(&mut self, p: u32, d: u32, new: Status) -> Reply
         requires process { (1 ≤ p) × (p ≤ self.old.n) }
         requires no_wait { open_wait self.old.records p ≡ None }
@@ -271,8 +280,9 @@ impl Books {
         self.make(p, Call::MqSetattr { d, nonblock }, &[], &mut [])
     }
 
-    /// A registration on the queue of descriptor d with the value of its notice, or the removal of one (`mq_notify`). Replies
-    /// `Done`, or refuses with `BadDescriptor`, `Busy` or, a removal, `Invalid`.
+    /// Registers process p on the queue of descriptor d, with the value of its notice, or removes
+    /// its registration (`mq_notify`). Replies `Done`, or fails with `BadDescriptor` or `Busy`, and
+    /// a removal with `Invalid`.
     pub fn notify(&mut self, p: u32, d: u32, value: Option<u64>) -> Reply
         requires process { (1 ≤ p) × (p ≤ self.old.n) }
         requires no_wait { open_wait self.old.records p ≡ None }
@@ -281,7 +291,7 @@ impl Books {
         self.make(p, Call::MqNotify { d, value }, &[], &mut [])
     }
 
-    /// The oldest notice that process p has not yet taken. Replies `Notice`.
+    /// Takes the oldest notice of process p. Replies `Notice`.
     pub fn next_notice(&mut self, p: u32) -> Reply
         requires process { (1 ≤ p) × (p ≤ self.old.n) }
         requires no_wait { open_wait self.old.records p ≡ None }
@@ -290,8 +300,9 @@ impl Books {
         self.make(p, Call::NextNotice, &[], &mut [])
     }
 
-    /// A send of a message to the queue of descriptor d (`mq_send`). Replies `Queued`, `Handed` or `Waits`, or refuses with
-    /// `BadDescriptor`, `Invalid`, `MessageSize` or `Again`. A send that is refused takes no room for the bytes of its message.
+    /// Sends a message to the queue of descriptor d (`mq_send`). Replies `Queued`, `Handed` or
+    /// `Waits`, or fails with `BadDescriptor`, `Invalid`, `MessageSize` or `Again`. A send that
+    /// fails takes no room for the bytes of its message.
     #[inline(always)]
     pub fn ask_send(&mut self, p: u32, d: u32, bytes: &[u8], prio: u32) -> Answer
         requires process { (1 ≤ p) × (p ≤ self.old.n) }
@@ -306,7 +317,7 @@ impl Books {
         tables.send(journal, p, d, bytes, prio)
     }
 
-    /// The same, of which the reply alone is wanted.
+    /// The same, and returns only the reply.
     pub fn send(&mut self, p: u32, d: u32, bytes: &[u8], prio: u32) -> Reply
         requires process { (1 ≤ p) × (p ≤ self.old.n) }
         requires no_wait { open_wait self.old.records p ≡ None }
@@ -318,8 +329,9 @@ impl Books {
         self.ask_send(p, d, bytes, prio).reply
     }
 
-    /// A receive from the queue of descriptor d (`mq_receive`). Replies `Got`, and then the front of the buffer holds the
-    /// message, or `Waits`; or refuses with `BadDescriptor`, `MessageSize` or `Again`.
+    /// Receives a message from the queue of descriptor d (`mq_receive`). Replies `Got`, with the
+    /// message at the start of the buffer, or `Waits`; or fails with `BadDescriptor`, `MessageSize`
+    /// or `Again`.
     #[inline(always)]
     pub fn ask_receive(&mut self, p: u32, d: u32, buf: &mut [u8]) -> Answer
         requires process { (1 ≤ p) × (p ≤ self.old.n) }
@@ -333,7 +345,7 @@ impl Books {
         tables.receive(journal, p, d, buf)
     }
 
-    /// The same, of which the reply alone is wanted.
+    /// The same, and returns only the reply.
     pub fn receive(&mut self, p: u32, d: u32, buf: &mut [u8]) -> Reply
         requires process { (1 ≤ p) × (p ≤ self.old.n) }
         requires no_wait { open_wait self.old.records p ≡ None }
@@ -343,9 +355,10 @@ impl Books {
         self.ask_receive(p, d, buf).reply
     }
 
-    /// A send of a message to the queue of descriptor d, made at the moment `now`, which would wait until the moment `until`
-    /// (`mq_timedsend`). Replies as [`send`](Books::send), and refuses besides, where that would wait, with `Invalid` if the nanoseconds of
-    /// `until` are not those of a moment, and with `TimedOut` if that moment is now or has passed.
+    /// Sends a message to the queue of descriptor d (`mq_timedsend`). The call is made at the time
+    /// `now` and may wait until the time `until`. Replies and fails as [`send`](Books::send). If
+    /// that would wait, it also fails with `Invalid` if the nanoseconds of `until` are out of
+    /// range, and with `TimedOut` if `until` is `now` or earlier.
     pub fn timed_send(
         &mut self,
         p: u32,
@@ -372,9 +385,10 @@ impl Books {
         self.make(p, call, bytes, &mut [])
     }
 
-    /// A receive from the queue of descriptor d, made at the moment `now`, which would wait until the moment `until`
-    /// (`mq_timedreceive`). Replies as [`receive`](Books::receive), and refuses besides, where that would wait, with `Invalid` if the
-    /// nanoseconds of `until` are not those of a moment, and with `TimedOut` if that moment is now or has passed.
+    /// Receives a message from the queue of descriptor d (`mq_timedreceive`). The call is made at
+    /// the time `now` and may wait until the time `until`. Replies and fails as
+    /// [`receive`](Books::receive). If that would wait, it also fails with `Invalid` if the
+    /// nanoseconds of `until` are out of range, and with `TimedOut` if `until` is `now` or earlier.
     pub fn timed_receive(
         &mut self,
         p: u32,
@@ -398,7 +412,8 @@ impl Books {
         self.make(p, call, &[], buf)
     }
 
-    /// `None` where process p has no open wait, else the length of the buffer of the receive that waits, or 0 for a send.
+    /// `None` if process p has no open wait. Otherwise the buffer length of the waiting receive, or
+    /// 0 for a send.
     pub fn waiting(&self, p: u32) -> Option<usize>
         ensures { result ≡ waiting_room self.now.records p }
     {
@@ -409,15 +424,15 @@ impl Books {
         }
     }
 
-    /// Process p has an open wait, and a later entry names it.
+    /// Whether process p has an open wait that a later entry answers.
     pub fn answered(&self, p: u32) -> bool
         ensures { result ≡ is_answered self.now.records p }
     {
         self.inner.tables.answer(p).is_some()
     }
 
-    /// Ends the open wait of process p, if it is answered, and gives what it came to. A message that was received lies in the
-    /// front of the buffer then. Takes no memory.
+    /// Ends the open wait of process p if it is answered, and returns its outcome. A received
+    /// message is at the start of the buffer. Takes no memory.
     pub fn collect(&mut self, p: u32, buf: &mut [u8]) -> Option<Collected>
         requires process { (1 ≤ p) × (p ≤ self.old.n) }
         requires wait { IsSome (open_wait self.old.records p) }
@@ -440,8 +455,9 @@ impl Books {
         Some(outcome)
     }
 
-    /// Ends the open wait of process p without an answer, if a timed call began it, no entry answers it, and its deadline has passed at
-    /// the moment `now`; then it is true. Takes no memory.
+    /// Ends the open wait of process p without an answer, and returns true, if a timed call began
+    /// it, no entry answers it, and its deadline has passed at the time `now`. Otherwise it returns
+    /// false and changes nothing. Takes no memory.
     pub fn withdraw(&mut self, p: u32, now: Deadline) -> bool
         requires process { (1 ≤ p) × (p ≤ self.old.n) }
         ensures value { result ≡ (is_none (answered_by self.old.records p) && is_over
@@ -472,8 +488,8 @@ impl Books {
         self.inner.tables.lowest_open(p)
     }
 
-    /// None of the processes can make any call, at whatever moment: the open waits are not answered and have no deadline, and where
-    /// a process has none the journal is full. So none ever can.
+    /// Whether no process can make any call, at whatever time: each either has an open wait,
+    /// without a deadline and not answered, or finds the journal full. Then no process ever can.
     pub fn nobody_can_call(&self) -> bool
         ensures { IsTrue result ↔ NobodyCanCall self.now.bounds self.now.records self.now.n }
     {
@@ -481,7 +497,8 @@ impl Books {
         tables.nobody_can_call(journal)
     }
 
-    /// For how many more entries, beside those that end the open waits, and payload bytes the journal has room; `None` without bounds.
+    /// The number of entries and of payload bytes for which the journal still has room; `None`
+    /// without bounds. Room that is kept for the ends of open waits does not count.
     pub fn room(&self) -> Option<Bounds>
         ensures { result ≡ room_left self.now.bounds self.now.records }
     {
@@ -489,7 +506,7 @@ impl Books {
         tables.room(journal)
     }
 
-    /// How many entries the journal has, stored or not.
+    /// The number of entries in the journal, stored or not.
     pub fn journal_len(&self) -> u64
         ensures count { result ≡ length self.now.records }
         ensures legal { Legal self.now.records }
@@ -515,8 +532,9 @@ impl Books {
         self.inner.journal.journal()
     }
 
-    /// A short journal after which the queues stand as they do now, but for the numbers of places and queues; its length goes by what is
-    /// alive, not by what was called. `Answered` where a wait is answered that its process has not yet collected.
+    /// A short journal that leads to the same state of the queues, up to the numbers of entries and
+    /// queues. Its length depends on what exists now, not on how many calls were made. Fails with
+    /// `Answered` if a process has not yet collected a wait that is answered.
     pub fn rewritten(&self, alloc: Global) -> Result<Journal, Unwritten>
         requires { self.now.stored ≡ true }
         ensures { IfOk result (λ journal. Legal journal.records) }
@@ -525,14 +543,14 @@ impl Books {
         rewrite(alloc, journal.journal(), tables)
     }
 
-    /// How many processes there are.
+    /// The number of processes.
     pub fn processes(&self) -> u32
         ensures { result ≡ self.now.n }
     {
         self.inner.tables.processes()
     }
 
-    /// The stored journal, which is all that is left.
+    /// Drops the queues and returns the stored journal.
     pub fn into_journal(self) -> Journal
         requires { self.stored ≡ true }
         ensures value { result.records ≡ self.records }
@@ -542,7 +560,8 @@ impl Books {
         Box::into_inner(self.inner).journal.into_journal()
     }
 
-    /// The history of a journal that is not stored, which is all that is left. It has no bytes: contracts say what it is.
+    /// Drops the queues and returns the history of a journal that is not stored. It has no bytes;
+    /// contracts say what it is.
     pub fn into_history(self) -> History
         requires { self.stored ≡ false }
         ensures value { result.past ≡ self.records }
@@ -603,7 +622,7 @@ fn restock(mut inner: Box<Inner>, mut journal: Journal) -> Result<Box<Inner>, Re
     Ok(inner)
 }
 
-// An empty journal, with room for all that the bounds allow.
+// An empty journal, with room for everything that the bounds allow.
 fn empty_journal(alloc: Global, bounds: Option<Bounds>) -> Result<Journal, AllocError>
     ensures empty { IfOk result (λ j. j.records ≡ []) }
     ensures room { IfOk result (λ j. HasRoomWithin bounds (record {
@@ -620,7 +639,7 @@ fn empty_journal(alloc: Global, bounds: Option<Bounds>) -> Result<Journal, Alloc
     }
 }
 
-// Process p may end its wait so.
+// Whether process p may withdraw its wait by this call.
 fn may_withdraw(journal: &Ledger, tables: &Tables, p: u32, call: Call) -> bool
     requires { IsKeptBy journal.now tables.now }
     ensures { result ≡ may_call journal.now.records p call }
@@ -654,7 +673,7 @@ fn waiting_call(journal: &Ledger, tables: &Tables, p: u32) -> Call
     }
 }
 
-// What a wait in a call comes to, which the entry at place `by` answers.
+// The outcome of a wait in this call, given that the entry with sequence number `by` answers it.
 fn outcome(journal: &Ledger, call: Call, by: u64, buf: &mut [u8]) -> Collected
     requires readable { is_receive call ≡ true → CanRead journal.now by }
     requires room { FitsOutcome journal.now.records call by (length buf.old) }

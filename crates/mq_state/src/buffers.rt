@@ -1,4 +1,4 @@
-//! Messages in the journal, and the buffers that they are put into.
+//! Copying messages from the journal into buffers.
 ghost use Rattle.std.specs.Prelude.{◌≡◌, ◌≤◌, length};
 ghost use Rattle.mq_ledger.specs.Ledgers.{CanRead, CanReadGiven};
 ghost use Rattle.mq_state.specs.Buffers.{message_at, received_at, received_by, with_front, filled, Fits};
@@ -8,7 +8,8 @@ use crate::prefixes::Prefix;
 use mq_ledger::ledger::Ledger;
 use mq_model::entries::{Received, Reply};
 
-/// Puts the message that was sent at a place into the front of the buffer, and gives its length and its priority.
+/// Copies the message sent by entry `place` to the start of the buffer, and returns its length and
+/// priority.
 pub fn put_message(journal: &Ledger, place: u64, buf: &mut [u8]) -> Received
     requires readable { CanRead journal.now place }
     requires room { length (message_at journal.now.records place) ≤ length buf.old }
@@ -22,7 +23,8 @@ pub fn put_message(journal: &Ledger, place: u64, buf: &mut [u8]) -> Received
     received
 }
 
-/// Puts the message that a reply gives into the front of the buffer, and gives its length and its priority.
+/// Copies the message that a reply hands out, if any, to the start of the buffer, and returns its
+/// length and priority.
 #[inline(always)]
 pub fn fill(journal: &Ledger, reply: Reply, buf: &mut [u8]) -> Option<Received>
     requires readable { CanReadGiven journal.now reply }

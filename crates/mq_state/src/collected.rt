@@ -1,4 +1,4 @@
-//! What an open wait comes to.
+//! The outcome of an open wait.
 ghost use Rattle.std.specs.Prelude.{◌≡◌, None};
 ghost use Rattle.mq_model.specs.declared.entries.Reply.{Reply};
 
@@ -7,14 +7,14 @@ use mq_model::entries::{Received, Reply};
 use mq_model::faults::Fault;
 use mq_model::journals::Journal;
 
-/// What the open wait of a process came to: its message was admitted, or it has received one.
+/// The outcome of an open wait: its message was admitted, or a message was received.
 #[derive(Clone, Copy, Debug, PartialEq, Eq)]
 pub enum Collected {
     Sent,
     Got(Received),
 }
 
-/// The reply to a call, and if it gives a message the length and the priority of that.
+/// The reply to a call, and if the call got a message, its length and priority.
 #[derive(Clone, Copy, Debug, PartialEq, Eq)]
 pub struct Answer {
     pub reply: Reply,
@@ -22,7 +22,7 @@ pub struct Answer {
 }
 
 impl Answer {
-    /// The call is refused.
+    /// The answer of a call that failed.
     pub(crate) fn refused(fault: Fault) -> Answer
         ensures { result ≡ record { reply = Reply.Refused fault; received = None } }
     {
@@ -36,14 +36,14 @@ impl Answer {
 ghost use Rattle.mq_state.specs.Buffers.{received_at};
 ghost use Rattle.mq_ledger.specs.Ledgers.{CanRead};
 
-/// The length and the priority of the message that was sent at a place.
+/// The length and the priority of the message sent by entry `place`.
 pub fn received(journal: &Journal, place: u64) -> Received
     ensures { result ≡ received_at journal.now.records place }
 {
     received_from(&Prefix::of(journal), place)
 }
 
-/// The same, of a message that can be read.
+/// The same, for a message that can be read.
 #[inline(always)]
 pub(crate) fn received_from(journal: &Prefix<'_>, place: u64) -> Received
     requires { CanRead journal.now place }

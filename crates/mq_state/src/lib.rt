@@ -1,4 +1,4 @@
-//! The message queues of one thread: each call appends the entry that the definitions say.
+//! The message queues of one thread. Each call appends the entry that the definitions determine.
 #![tactic(auto)]
 
 pub mod books;

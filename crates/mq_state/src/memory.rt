@@ -2,9 +2,10 @@
 ghost use Rattle.std.specs.Prelude.{◌≡◌, ◌<◌, ◌^◌, IfSome, IsNone, ◌↔◌, ◌≤◌};
 ghost use Rattle.mq_state.specs.Memory.{memory_of};
 
-/// How many bytes of memory [`Books::bounded`](crate::books::Books::bounded) takes for so many processes, entries and payload bytes, on a
-/// machine with addresses of 64 bits; `None` where that is more than a u64 holds. Of it 5,256,248 are for the 64 queues, whatever
-/// the bounds.
+/// How many bytes of memory [`Books::bounded`](crate::books::Books::bounded) takes for these
+/// numbers of processes, entries and payload bytes, on a machine with 64-bit addresses. `None` if
+/// the number does not fit in a u64. For the 64 queues it takes 5,256,248 bytes, whatever the
+/// bounds.
 pub fn memory_of(n: u32, entries: u64, bytes: u64) -> Option<u64>
     ensures some { IfSome result (λ total. total ≡ memory_of n entries bytes) }
     ensures none { IsNone result ↔ (2 ^ 64 ≤ memory_of n entries bytes) }

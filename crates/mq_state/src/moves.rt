@@ -1,4 +1,4 @@
-//! What an entry moves, computed once for all tables.
+//! What an entry changes, computed once for all tables.
 ghost use Rattle.std.specs.Prelude.{◌≡◌};
 ghost use Rattle.std.specs.Option.{option_map};
 ghost use Rattle.mq_state.specs.Queues.{slot_of};
@@ -9,20 +9,22 @@ ghost use Rattle.mq_ledger.specs.Ledgers.{CanRead, CanReadAdmitted};
 use crate::prefixes::Prefix;
 use mq_model::entries::{Call, Entry, Reply};
 
-/// What happens in the line of the entry's queue. A message is its priority and the place of its send.
+/// What an entry changes in the row of its queue. A message is its priority and the sequence number
+/// of its send.
 #[derive(Clone, Copy)]
 pub enum LineMove {
     /// Nothing.
     Rests,
     /// A message enters.
     Enters(u32, u64),
-    /// The message that was sent at a place leaves, and the message of the send that this admits enters.
+    /// The message of this send leaves, and if the receive admits a waiting send, the message of
+    /// that one enters.
     Leaves(u64, Option<(u32, u64)>),
     /// The queue is no longer bound to its name.
     LosesName,
 }
 
-/// What happens to the wait of the entry's process.
+/// What an entry changes in the wait of its process.
 #[derive(Clone, Copy)]
 pub enum WaitMove {
     /// Nothing.
@@ -33,22 +35,22 @@ pub enum WaitMove {
     Ends,
 }
 
-/// What an entry moves.
+/// What an entry changes.
 #[derive(Clone, Copy)]
 pub struct Moves {
-    /// In the line of its queue.
+    /// In the row of its queue.
     pub line: LineMove,
     /// In the wait of its process.
     pub wait: WaitMove,
-    /// The registration on its queue is notified.
+    /// Whether the registration on its queue is notified.
     pub notified: bool,
-    /// Its process is given its oldest notice.
+    /// Whether its process takes its oldest notice.
     pub given: bool,
-    /// Nobody may need its queue any longer.
+    /// Whether its queue may have lost its last user.
     pub freed: bool,
 }
 
-// The message of the send that is admitted, as its priority and its place.
+// The message of the send that is admitted, as its priority and its sequence number.
 #[inline(always)]
 fn message(journal: &Prefix<'_>, admitted: Option<u64>) -> Option<(u32, u64)>
     requires { CanReadAdmitted journal.now admitted }
@@ -60,7 +62,7 @@ fn message(journal: &Prefix<'_>, admitted: Option<u64>) -> Option<(u32, u64)>
     }
 }
 
-// The same, of a send at a place. Few receives admit one: the others have no room for this code.
+// The same for one send. Few receives admit one, so it is outlined to keep the others short.
 #[inline(never)]
 fn slot_of(journal: &Prefix<'_>, place: u64) -> (u32, u64)
     requires { CanRead journal.now place }
@@ -69,7 +71,8 @@ fn slot_of(journal: &Prefix<'_>, place: u64) -> (u32, u64)
     (journal.priority(place), place)
 }
 
-/// Whether nobody may need the queue of an entry any longer: an unlink or a close was done.
+/// Whether the queue of an entry may have lost its last user: the entry is a successful unlink or
+/// close.
 #[inline(always)]
 pub fn frees(entry: Entry) -> bool {
     match entry.reply {
@@ -81,7 +84,7 @@ pub fn frees(entry: Entry) -> bool {
     }
 }
 
-/// What the next entry of a journal moves.
+/// What the next entry of a journal changes.
 #[inline(always)]
 pub fn moves_of(journal: &Prefix<'_>, entry: Entry) -> Moves
     requires { CanReadAdmitted journal.now (admits entry.reply) }

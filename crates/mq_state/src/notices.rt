@@ -23,7 +23,7 @@ impl Model for Inbox {
 }
 
 impl Inbox {
-    /// No notice, and room for so many. Room for none takes no memory.
+    /// No notices, and room for this many. Without room it takes no memory.
     pub fn new(alloc: Global, room: usize) -> Result<Inbox, AllocError>
         ensures values { IfOk result (λ b. b.values ≡ []) }
         ensures room { IfOk result (λ b. room ≤ b.room) }
@@ -33,7 +33,7 @@ impl Inbox {
         })
     }
 
-    /// Makes room for that many more notices.
+    /// Makes room for `more` further notices.
     pub fn reserve(&mut self, more: usize) -> Result<(), AllocError>
         ensures values { self.new.values ≡ self.old.values }
         ensures room { self.old.room ≤ self.new.room }
@@ -43,7 +43,7 @@ impl Inbox {
         self.values.reserve(more)
     }
 
-    /// Adds a notice after the others, in room that is there.
+    /// Appends a notice. There must be room for it.
     pub fn push(&mut self, value: u64)
         requires { 0 < self.old.room }
         ensures values { self.new.values ≡ self.old.values ++ value ∷ [] }
@@ -52,7 +52,7 @@ impl Inbox {
         self.values.push_back_reserved(value);
     }
 
-    /// Takes the oldest notice out.
+    /// Removes the oldest notice.
     pub fn pop(&mut self)
         ensures values { self.new.values ≡ drop 1 self.old.values }
         ensures room { self.old.room ≤ self.new.room }
@@ -67,12 +67,12 @@ impl Inbox {
         self.values.front().copied()
     }
 
-    /// The notice with so many older ones.
+    /// The notice with this many older ones.
     pub fn nth(&self, index: usize) -> Option<u64> {
         self.values.get(index).copied()
     }
 
-    /// How many notices there are.
+    /// The number of notices.
     pub fn len(&self) -> usize
         ensures { result ≡ length self.now.values }
     {
@@ -91,7 +91,7 @@ pub fn first(inboxes: &[Inbox], p: u32) -> Option<u64>
     }
 }
 
-/// Process p's inbox has a notice more, in room that is there.
+/// Appends a notice to the inbox of process p. There must be room for it.
 pub fn push(inboxes: &mut [Inbox], p: u32, value: u64)
     requires { 0 < room_in inboxes.old p }
     ensures notices { (k : ℕ) → notices_in inboxes.new k ≡
@@ -102,7 +102,7 @@ pub fn push(inboxes: &mut [Inbox], p: u32, value: u64)
     inboxes[p as usize].push(value);
 }
 
-/// The oldest notice of process p is taken.
+/// Removes the oldest notice of process p.
 pub fn take(inboxes: &mut [Inbox], p: u32)
     requires { p < length inboxes.old }
     ensures notices { (k : ℕ) → notices_in inboxes.new k ≡
@@ -112,7 +112,7 @@ pub fn take(inboxes: &mut [Inbox], p: u32)
     inboxes[p as usize].pop();
 }
 
-/// Makes room for that many more notices of process p.
+/// Makes room for `more` further notices of process p.
 pub fn make_room(inboxes: &mut [Inbox], p: u32, more: usize) -> Result<(), AllocError>
     requires { p < length inboxes.old }
     ensures same { (k : ℕ) → notices_in inboxes.new k ≡ notices_in inboxes.old k }
@@ -123,7 +123,7 @@ pub fn make_room(inboxes: &mut [Inbox], p: u32, more: usize) -> Result<(), Alloc
     inboxes[p as usize].reserve(more)
 }
 
-/// Inboxes of so many processes, with no notice, and room for so many notices of each.
+/// The inboxes of `count` processes, without notices, and each with room for `room` of them.
 pub fn empty(alloc: Global, count: usize, room: usize) -> Result<Vec<Inbox>, AllocError>
     ensures count { IfOk result (λ v. length v.items ≡ count) }
     ensures empty { IfOk result (λ v. (k : ℕ) → notices_in v.items k ≡ []) }

@@ -1,4 +1,4 @@
-//! The first entries of a journal, which the tables can be those of.
+//! Prefixes of a journal. The tables can be those of any prefix.
 ghost use Rattle.std.specs.Prelude.{◌≡◌, ◌≤◌, length, true};
 ghost use Rattle.std.specs.Option.{option_map};
 ghost use Rattle.mq_model.specs.Record.{first, record_at};
@@ -9,7 +9,8 @@ use mq_ledger::ledger::{Ledger, priority_in};
 use mq_model::journals::Journal;
 use std::marker::Model;
 
-/// The first entries of a journal, all or some. It shows their records, and the room that the journal has.
+/// A prefix of a journal, perhaps all of it. It shows the records, and the room that the journal
+/// has.
 #[derive(Drop)]
 pub struct Prefix<'a> {
     source: Source<'a>,
@@ -35,7 +36,7 @@ impl<'a> Model for Prefix<'a> {
 }
 
 impl<'a> Prefix<'a> {
-    /// The whole of the journal that the tables stand beside.
+    /// The whole journal of a system.
     #[inline(always)]
     pub fn whole(ledger: &'a Ledger) -> Prefix<'a>
         ensures { result ≡ ledger.now }
@@ -69,7 +70,7 @@ impl<'a> Prefix<'a> {
         }
     }
 
-    /// How many entries there are.
+    /// The number of entries.
     #[inline(always)]
     pub fn len(&self) -> u64
         ensures { result ≡ length self.now.records }
@@ -77,7 +78,7 @@ impl<'a> Prefix<'a> {
         self.len
     }
 
-    /// The priority of the message that was sent at a place that can be read.
+    /// The priority of the message sent by entry `place`, if that can be read.
     #[inline(always)]
     pub fn priority(&self, place: u64) -> u32
         ensures { CanRead self.now place → result ≡ priority self.now.records place }
@@ -91,7 +92,7 @@ impl<'a> Prefix<'a> {
         }
     }
 
-    /// The payload of the entry at a place that can be read.
+    /// The payload of entry `place`, if that can be read.
     #[inline(always)]
     pub fn payload(&self, place: u64) -> Option<&[u8]>
         ensures { CanRead self.now place →

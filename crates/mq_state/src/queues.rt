@@ -1,4 +1,5 @@
-//! The queues that exist: which are still named, who is registered on them, and their messages.
+//! The table of the queues that exist: which still have their names, the registrations on them, and
+//! their messages.
 ghost use Rattle.std.specs.Prelude.{◌≡◌, ◌<◌, ◌^◌, ◌==◌, ◌++◌, ◌∷◌, [], IfOk, position, length, Some, None, map, ℕ, vec_len, vec_capacity, ◌≤◌, int_le, pos, true, All};
 ghost use Rattle.std.specs.Option.{option_map};
 ghost use Rattle.std.specs.Str.{bytes_eq};
@@ -18,7 +19,8 @@ use mq_slots::Slots;
 use std::alloc::{AllocError, Global};
 use std::marker::Model;
 
-/// A queue that exists, named by the place of the open that created it.
+/// The row of a queue that exists. The queue is named by the sequence number of the open that
+/// created it.
 #[derive(Debug, Drop)]
 pub struct Queue {
     place: u64,
@@ -26,7 +28,7 @@ pub struct Queue {
     registration: Option<Registration>,
     attributes: Attr,
     slots: Slots,
-    // the processes with an open wait on the queue, that of process p being the bit of 2^p
+    // the processes with an open wait on the queue: bit p stands for process p
     waiting: u64,
 }
 
@@ -43,7 +45,7 @@ impl Model for Queue {
 impl Queue {
     ghost use Rattle.mq_state.specs.Queues.{with_slot, without_slot, MayEnter, IsNextAt};
 
-    /// A queue that was just created at a place.
+    /// A queue that was just created by entry `place`.
     pub fn new(place: u64, attributes: Attr, slots: Slots) -> Queue
         requires { slots.messages ≡ [] }
         ensures { result ≡ fresh place slots.cap attributes }
@@ -58,21 +60,21 @@ impl Queue {
         }
     }
 
-    /// The place of the open that created the queue.
+    /// The sequence number of the open that created the queue.
     pub fn place(&self) -> u64
         ensures { result ≡ self.now.place }
     {
         self.place
     }
 
-    /// The queue is still bound to its name.
+    /// Whether the queue is still bound to its name.
     pub fn is_named(&self) -> bool
         ensures { result ≡ self.now.named }
     {
         self.named
     }
 
-    /// The registration that stands on the queue.
+    /// The registration on the queue.
     pub fn registration(&self) -> Option<Registration>
         ensures { result ≡ self.now.registration }
     {
@@ -86,7 +88,7 @@ impl Queue {
         self.waiting
     }
 
-    /// The places of the messages, rising. Nothing is promised of them.
+    /// The sequence numbers of the messages, rising. No contract says which they are.
     pub fn message_places(&self, alloc: Global) -> Result<Vec<u64>, AllocError> {
         self.slots.places(alloc)
     }
@@ -104,7 +106,7 @@ impl Queue {
         self.attributes
     }
 
-    /// How many messages are present.
+    /// The number of messages present.
     pub fn len(&self) -> usize
         ensures count { result ≡ length self.now.slots }
         ensures bound { result < 2 ^ 63 }
@@ -112,7 +114,7 @@ impl Queue {
         self.slots.len()
     }
 
-    /// The message that is received next, as its priority and its place.
+    /// The message that is received next, as its priority and its sequence number.
     pub fn best(&self) -> Option<(u32, u64)>
         ensures { result ≡ best_slot self.now.slots }
     {
@@ -127,7 +129,7 @@ impl Queue {
         self.slots.push(prio, place);
     }
 
-    // Takes out the message that is received next, if there is one.
+    // Removes the message that is received next, if there is one.
     #[inline(always)]
     fn pop(&mut self)
         ensures { (place : ℕ) → IsNextAt place self.old → self.new ≡ without_slot place self.old }
@@ -135,7 +137,7 @@ impl Queue {
         let _ = self.slots.pop();
     }
 
-    /// The order in which the queue's messages stood.
+    /// The message slots of the queue.
     pub fn into_slots(self) -> Slots
         ensures { result.cap ≡ self.cap }
     {
@@ -143,7 +145,8 @@ impl Queue {
         slots
     }
 
-    /// Notes what an entry made on this queue moves in it: which message leaves and which enters, and whether it is still named.
+    /// Updates the row for an entry on this queue: which message leaves, which enters, and whether
+    /// the queue still has its name.
     #[inline(always)]
     pub fn note(&mut self, line: LineMove)
         requires { Allows line self.old }
@@ -162,7 +165,7 @@ impl Queue {
         }
     }
 
-    /// Notes what the entry at place `here`, made on queue `queue`, does to the registration.
+    /// Updates the registration for entry `here`, made on queue `queue`.
     pub fn note_registration(&mut self, queue: u64, here: u64, entry: Entry)
         ensures { self.new ≡ reregistered queue here entry self.old }
     {
@@ -171,7 +174,7 @@ impl Queue {
     }
 }
 
-/// How many messages a queue with these attributes, which are within the limits, holds at most.
+/// How many messages a queue with these attributes can hold.
 pub fn slots_for(attributes: Attr) -> u32
     requires { are_within_limits (Some attributes) ≡ true }
     ensures value { result ≡ slots_for attributes }
@@ -182,7 +185,7 @@ pub fn slots_for(attributes: Attr) -> u32
     attributes.maxmsg as u32
 }
 
-/// The index of queue q, found by halves, since the places of the lines rise.
+/// The index of queue q, by binary search: the rows are in the order of their sequence numbers.
 pub fn index_of(queues: &[Queue], q: u64) -> Option<usize>
     requires { HaveRisingPlaces queues.now }
     ensures { result ≡ position (λ x. x.place == q) queues.now }
@@ -204,7 +207,7 @@ pub fn index_of(queues: &[Queue], q: u64) -> Option<usize>
     }
 }
 
-/// The index of queue q, which may be this one. Where it is not, the queue is looked for.
+/// The index of queue q. It tries `hint` first, and searches only if that is wrong.
 #[inline(always)]
 pub fn index_from(queues: &[Queue], q: u64, hint: usize) -> Option<usize>
     requires { HaveRisingPlaces queues.now }
@@ -225,7 +228,7 @@ pub fn find(queues: &[Queue], q: u64) -> Option<&Queue>
     queues.iter().find(|x| x.place() == q)
 }
 
-/// Queue q, which has perhaps this index.
+/// Queue q. It tries the index `hint` first.
 #[inline(always)]
 pub fn find_from(queues: &[Queue], q: u64, hint: usize) -> Option<&Queue>
     requires { HaveRisingPlaces queues.now }
@@ -237,8 +240,8 @@ pub fn find_from(queues: &[Queue], q: u64, hint: usize) -> Option<&Queue>
     }
 }
 
-/// What the line of a queue says: its limits, how many messages are present, which is received next, the registration that stands, and
-/// as bits which processes wait.
+/// What the row of a queue says: its limits, the number of messages present, the one received next,
+/// the registration, and which processes wait, as bits.
 #[derive(Clone, Copy, Debug)]
 pub struct LineFacts {
     pub attributes: Attr,
@@ -248,7 +251,7 @@ pub struct LineFacts {
     pub waiting: u64,
 }
 
-/// The line of queue q, found once, perhaps at this index.
+/// The row of queue q, looked up once. It tries the index `hint` first.
 #[tactic(auto, unfolding(crate::specs::Queues::slots_in, crate::specs::Queues::registration_in, crate::specs::Queues::attributes_in, crate::specs::Queues::waiting_in))]
 #[inline(always)]
 pub fn line(queues: &[Queue], q: u64, hint: usize) -> LineFacts
@@ -278,7 +281,7 @@ pub fn line(queues: &[Queue], q: u64, hint: usize) -> LineFacts
     }
 }
 
-/// The registration that stands on queue q.
+/// The registration on queue q.
 #[tactic(auto, unfolding(crate::specs::Queues::registration_in))]
 pub fn registration(queues: &[Queue], q: u64) -> Option<Registration>
     ensures { result ≡ registration_in queues.now q }
@@ -289,7 +292,7 @@ pub fn registration(queues: &[Queue], q: u64) -> Option<Registration>
     }
 }
 
-/// Queue q is still bound to its name.
+/// Whether queue q is still bound to its name.
 #[tactic(auto, unfolding(crate::specs::Queues::is_named_in))]
 pub fn is_named(queues: &[Queue], q: u64) -> bool
     ensures { result ≡ is_named_in queues.now q }
@@ -300,7 +303,7 @@ pub fn is_named(queues: &[Queue], q: u64) -> bool
     }
 }
 
-// The queue that was created at a place has this name.
+// Whether the queue that entry `place` created has this name.
 fn has_name(journal: &Prefix<'_>, place: u64, name: &[u8]) -> bool
     ensures { CanRead journal.now place →
         result ≡ bytes_eq (name_of journal.now.records place) name.now }
@@ -326,7 +329,7 @@ pub fn bound(journal: &Prefix<'_>, queues: &[Queue], name: &[u8]) -> Option<u64>
     None
 }
 
-// The queue is still bound to this name.
+// Whether the queue is still bound to this name.
 fn is_bound(journal: &Prefix<'_>, queue: &Queue, name: &[u8]) -> bool
     requires { CanRead journal.now queue.now.place }
     ensures { result ≡ is_bound_to journal.now.records name.now queue.now }
@@ -334,7 +337,7 @@ fn is_bound(journal: &Prefix<'_>, queue: &Queue, name: &[u8]) -> bool
     queue.is_named() && has_name(journal, queue.place(), name)
 }
 
-// Keeps an order, emptied, for a queue to come, where there is a place for it.
+// Keeps the slots, emptied, for a later queue, if there is room for them.
 fn keep(spares: &mut Vec<Slots>, mut slots: Slots)
     ensures capacity { vec_capacity spares.new ≡ vec_capacity spares.old }
     ensures kept { vec_len spares.old < vec_capacity spares.old →
@@ -346,14 +349,14 @@ fn keep(spares: &mut Vec<Slots>, mut slots: Slots)
     }
 }
 
-// The index of the first line of queue q.
+// The index of the first row of queue q.
 fn first_at(queues: &[Queue], q: u64) -> Option<usize>
     ensures { result ≡ position (λ x. x.place == q) queues.now }
 {
     queues.iter().position(|x| x.place() == q)
 }
 
-// Queue q exists no longer. Its order is kept for a queue to come.
+// Removes queue q, which no longer exists. Its slots are kept for a later queue.
 fn remove(queues: &mut Vec<Queue>, spares: &mut Vec<Slots>, q: u64)
     ensures items { queues.new.items ≡ without_queue queues.old.items q }
     ensures room { (vec_len queues.new ≤ vec_len queues.old) ×
@@ -369,7 +372,8 @@ fn remove(queues: &mut Vec<Queue>, spares: &mut Vec<Slots>, q: u64)
     }
 }
 
-// Notes what an entry moves in the line of its queue, which has perhaps this index, and gives the index where it was found.
+// Updates the row of queue q, at the index `hint` if that is right. Returns the index if it had to
+// search.
 #[inline(always)]
 fn renew(queues: &mut [Queue], q: u64, line: LineMove, hint: usize) -> Option<usize>
     requires rising { HaveRisingPlaces queues.old }
@@ -386,7 +390,7 @@ fn renew(queues: &mut [Queue], q: u64, line: LineMove, hint: usize) -> Option<us
     found
 }
 
-// Notes an entry made on queue q in the registration of each line.
+// Updates the registration in each row for an entry on queue q.
 #[inline(always)]
 fn note_registrations(queues: &mut [Queue], q: u64, here: u64, entry: Entry)
     ensures { queues.new ≡ map (reregistered q here entry) queues.old }
@@ -399,7 +403,7 @@ fn note_registrations(queues: &mut [Queue], q: u64, here: u64, entry: Entry)
     }
 }
 
-// Gives back the place of queue q, where an entry may have freed it and nobody needs it.
+// Removes queue q if the entry may have taken its last user and it no longer exists.
 #[inline(always)]
 fn release(owners: &[Owner], freed: bool, queues: &mut Vec<Queue>, spares: &mut Vec<Slots>, q: u64)
     ensures items { queues.new.items ≡ released owners.now freed queues.old.items q }
@@ -415,9 +419,10 @@ fn release(owners: &[Owner], freed: bool, queues: &mut Vec<Queue>, spares: &mut 
     }
 }
 
-/// Notes the entry at place `here`, made on queue q, which moves this, where the table of processes has noted it. A queue that it
-/// creates is added apart. The order of a queue that exists no longer joins the spare ones. The line of queue q has perhaps the index
-/// `hint`, and where it was looked for, the index is given.
+/// Updates the table for entry `here`, made on queue q, after the table of processes was updated.
+/// It does not add a queue that the entry creates; `add` does. The slots of a queue that no longer
+/// exists join the spare ones. It tries the index `hint` first, and returns the index of queue q if
+/// it had to search.
 #[inline(always)]
 pub fn note(
     queues: &mut Vec<Queue>,
@@ -446,7 +451,7 @@ pub fn note(
     found
 }
 
-/// Notes in the line of queue q, if there is one, which processes wait on it.
+/// Sets which processes wait on queue q, if that exists.
 pub fn set_waiting(queues: &mut [Queue], q: u64, bits: u64)
     ensures { queues.new ≡ changed (with_waiting bits) queues.old q }
 {
@@ -455,7 +460,7 @@ pub fn set_waiting(queues: &mut [Queue], q: u64, bits: u64)
     }
 }
 
-/// Adds the queue that the entry at place `here` creates with these limits, in room that is there.
+/// Adds the queue that entry `here` creates with these limits. There must be room for it.
 pub fn add(queues: &mut Vec<Queue>, here: u64, attributes: Attr, slots: Slots)
     requires empty { slots.messages ≡ [] }
     requires room { vec_len queues.old < vec_capacity queues.old }
@@ -465,7 +470,7 @@ pub fn add(queues: &mut Vec<Queue>, here: u64, attributes: Attr, slots: Slots)
     queues.push_reserved(Queue::new(here, attributes, slots));
 }
 
-/// So many orders, each with room for the messages of any queue.
+/// This number of spare sets of slots, each with room for the messages of any queue.
 pub fn spare_orders(alloc: Global, count: usize) -> Result<Vec<Slots>, AllocError>
     ensures spare { IfOk result (λ v. All IsSpare v.items) }
     ensures count { IfOk result (λ v. length v.items ≡ count) }

@@ -1,5 +1,5 @@
-//! Whether a journal is legal, and where and why it is not, in time nearly linear in its length: the tables of the queues say what
-//! each call replies, and note each entry.
+//! Whether a journal is legal, and if not, where and why, in time nearly linear in its length. The
+//! tables of the queues determine the reply to each call, and are updated for each entry.
 ghost use Rattle.std.specs.Prelude.{◌≡◌, ◌↔◌, IfOk, IfErr, OnOk, IfSome, None, [], length};
 ghost use Rattle.mq_model.specs.Legality.{Legal, IsLegalNext};
 ghost use Rattle.mq_ledger.specs.Ledgers.{IsReadable};
@@ -16,17 +16,18 @@ use mq_model::limits::PROCESSES;
 use mq_model::replies::is_same;
 use std::alloc::{AllocError, Global};
 
-/// Why an entry may not stand after those before it: of these the first that is so.
+/// Why an entry may not follow those before it. If several causes hold, the first of these is
+/// reported.
 #[derive(Clone, Copy, Debug, PartialEq, Eq)]
 pub enum Cause {
-    /// The process is none of 1 to 32.
+    /// The number of the process is not from 1 to 32.
     Process,
-    /// The process may not make this call now: it waits, and the call is none that ends the wait, or it collects or withdraws out of
-    /// turn.
+    /// The process may not make this call now. It has an open wait and the call does not end a
+    /// wait, or it collects or withdraws when it may not.
     Turn,
-    /// The payload is not the name, or the message, that belongs to the call and its reply.
+    /// The payload is not the name or message that belongs to the call and its reply.
     Payload,
-    /// The call gives this reply, and not that of the entry.
+    /// The call gets this reply, not that of the entry.
     Reply(Reply),
 }
 
@@ -37,14 +38,14 @@ pub struct Departure {
     pub cause: Cause,
 }
 
-/// Why no queues of so many processes go on from a journal.
+/// Why queues of this number of processes cannot continue from a journal.
 #[derive(Clone, Copy, Debug, PartialEq, Eq)]
 pub enum Misfit {
     /// Memory was refused.
     NoMemory,
     /// The journal is not legal.
     Illegal(Departure),
-    /// The entry at this place is of a process above the last.
+    /// The entry with this sequence number is of a process above the last.
     Foreign(u64),
     /// The journal, with the entries that end its open waits, exceeds the bounds.
     TooLong,
@@ -52,7 +53,7 @@ pub enum Misfit {
 
 ghost use Rattle.mq_state.specs.Replays.{IsCause, IsDeparture, IsMisfit};
 
-// Why an entry may not stand after those that the tables are those of, if it may not.
+// Why an entry may not follow the entries of the tables; `None` if it may.
 fn cause_at(past: &Prefix<'_>, tables: &Tables, entry: Entry, payload: &[u8]) -> Option<Cause>
     requires readable { IsReadable past.now }
     requires tables { AreThoseOf past.now.records tables.now }
@@ -77,8 +78,9 @@ fn cause_at(past: &Prefix<'_>, tables: &Tables, entry: Entry, payload: &[u8]) ->
     None
 }
 
-/// Where a journal first departs from the definitions, and why, or `None` where it is legal: `check_history` gives the same places. It
-/// reads the journal once. The error is that memory was refused: beside the journal it takes that of the queues which exist at a time.
+/// The first entry that is not legal, and why, or `None` if the journal is legal. `check_history`
+/// returns the same sequence number. It reads the journal once. Fails if memory was refused. Beside
+/// the journal it takes memory for the queues that exist at any one time.
 pub fn replay(alloc: Global, journal: &Journal) -> Result<Option<Departure>, AllocError>
     ensures legal { IfOk result (λ found. (found ≡ None) ↔ Legal journal.now.records) }
     ensures departure { IfOk result (λ found. IfSome found (IsDeparture journal.now.records)) }

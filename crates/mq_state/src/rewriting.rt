@@ -1,8 +1,10 @@
-//! A journal written anew, short: it makes what is alive, by calls of the same processes, in an order in which each is replied to as wanted.
+//! Rewriting a journal as a short one, which leads to the same state by calls of the same
+//! processes, in an order in which each gets the reply that is needed.
 //!
-//! First the notices, over a queue of their own; then the queues, in the order in which they were created, and their messages; then, process by
-//! process, the descriptors (with others for the numbers between, which are closed again) and the registrations; then the names that are bound no
-//! more; and last the waits, in their order. Process 1 makes what is no process's own.
+//! First come the notices, over a queue made for them; then the queues, in the order in which they
+//! were created, and their messages; then for each process the descriptors (with others for the
+//! numbers between, which are closed again) and the registrations; then the unlinks of names; and
+//! last the waits, in their order. Process 1 makes the calls that belong to no process.
 ghost use Rattle.std.specs.Prelude.{IfOk};
 ghost use Rattle.mq_model.specs.Legality.{Legal};
 
@@ -15,14 +17,14 @@ use mq_model::limits::{DESCRIPTORS, PROCESSES};
 use mq_model::owners;
 use std::alloc::{AllocError, Global};
 
-/// Why a journal was not written anew.
+/// Why a journal was not rewritten.
 #[derive(Clone, Copy, Debug, PartialEq, Eq)]
 pub enum Unwritten {
     /// Memory was refused.
     NoMemory,
-    /// A wait is answered, and its process has not yet collected.
+    /// A process has not yet collected a wait that is answered.
     Answered,
-    /// A call was not replied to as wanted. This is not met.
+    /// A call did not get the reply that is needed. This is not known to happen.
     Unexpected,
 }
 
@@ -32,10 +34,10 @@ impl From<AllocError> for Unwritten {
     }
 }
 
-// The process that makes what is no process's own.
+// The process that makes the calls which belong to no process.
 const HELPER: u32 = 1;
 
-/// The journal that makes what is alive after this one, whose tables these are.
+/// The short journal that leads to the state of these tables, which are those of `journal`.
 pub(crate) fn rewrite(
     alloc: Global,
     journal: &Journal,
@@ -60,7 +62,7 @@ pub(crate) fn rewrite(
     Ok(trail.into_journal())
 }
 
-// Makes a call that is not refused.
+// Makes a call that must not fail.
 fn make(trail: &mut Trail, p: u32, call: Call, given: &[u8]) -> Result<(), Unwritten> {
     if let Reply::Refused(_) = trail.reply(p, call, given) {
         return Err(Unwritten::Unexpected);
@@ -75,7 +77,8 @@ fn owners_answered(tables: &Tables) -> bool {
     tables.owners.iter().any(|owner| owner.answer.is_some())
 }
 
-// The names under which the queues are made: their own, and others for those that have lost theirs.
+// The names under which the queues are created: their own, or spare ones for those that have lost
+// theirs.
 fn names_of(alloc: Global, journal: &Journal, queues: &[Queue]) -> Result<Vec<Vec<u8>>, Unwritten> {
     let mut names = Vec::new(alloc);
     let mut next = 0;
@@ -105,7 +108,7 @@ fn own_name(alloc: Global, journal: &Journal, queue: &Queue) -> Result<Vec<u8>, 
     }
 }
 
-// A name that no queue has, with a number from `next` on.
+// A name that no queue has, with a number of at least `next`.
 fn spare_name(
     alloc: Global,
     journal: &Journal,
@@ -157,7 +160,7 @@ fn name_at(names: &[Vec<u8>], i: usize) -> Result<&[u8], Unwritten> {
     Ok(&names[i])
 }
 
-// Opens a queue that has this name.
+// Opens an existing queue.
 fn open(
     trail: &mut Trail,
     p: u32,
@@ -174,7 +177,7 @@ fn open(
     make(trail, p, Call::MqOpen { flags, attr: None }, name)
 }
 
-// Creates a queue, under the lowest descriptor of process p.
+// Creates a queue, at the lowest free descriptor of process p.
 fn create(trail: &mut Trail, p: u32, name: &[u8], attr: Attr) -> Result<(), Unwritten> {
     let flags = OpenFlags::read_write().create();
     let attr = Some(attr);
@@ -205,7 +208,8 @@ fn bring_notices(
     Ok(())
 }
 
-// The notices of process p, each by a message to the queue of the notices, which is received again.
+// Produces the notices of process p, each by a message to the queue of the notices, which is
+// received again.
 fn bring_to(trail: &mut Trail, tables: &Tables, p: u32, name: &[u8]) -> Result<(), Unwritten> {
     let limits = Attr {
         maxmsg: 1,
@@ -230,7 +234,7 @@ fn bring_to(trail: &mut Trail, tables: &Tables, p: u32, name: &[u8]) -> Result<(
     close(trail, p, 0)
 }
 
-// How many notices process p has not yet taken.
+// The number of notices that process p has not yet taken.
 fn notice_count(tables: &Tables, p: u32) -> usize {
     let p = p as usize;
     if p >= tables.inboxes.len() {
@@ -276,7 +280,7 @@ fn fill_queues(
     Ok(())
 }
 
-// Sends the message of the send at a place.
+// Sends the message of the send at `place` again.
 fn send_again(trail: &mut Trail, journal: &Journal, place: u64) -> Result<(), Unwritten> {
     let Some(entry) = journal.entry(place) else {
         return Err(Unwritten::Unexpected);
@@ -289,7 +293,7 @@ fn send_again(trail: &mut Trail, journal: &Journal, place: u64) -> Result<(), Un
     make(trail, HELPER, Call::MqSend { d: 0, prio, len }, bytes)
 }
 
-// The descriptors of process p, each under its number.
+// Opens the descriptors of process p, each under its number.
 fn open_descriptors(
     trail: &mut Trail,
     tables: &Tables,
@@ -326,7 +330,7 @@ fn last_held(tables: &Tables, p: u32) -> Option<u32> {
     last
 }
 
-// What process p holds under descriptor d, or else under another.
+// What process p holds under descriptor d, or if nothing, under descriptor `other`.
 fn held_or(tables: &Tables, p: u32, d: u32, other: u32) -> Option<Description> {
     match owners::held(&tables.owners, p, d) {
         Some(h) => Some(h),
@@ -334,7 +338,7 @@ fn held_or(tables: &Tables, p: u32, d: u32, other: u32) -> Option<Description> {
     }
 }
 
-// The index of the queue that was created at a place.
+// The index of the queue that entry `place` created.
 fn index_of(queues: &[Queue], place: u64) -> usize {
     for i in 0..queues.len() {
         if queues[i].place() == place {
@@ -344,7 +348,7 @@ fn index_of(queues: &[Queue], place: u64) -> usize {
     usize::MAX
 }
 
-// The registrations of process p.
+// Makes the registrations of process p.
 fn register(trail: &mut Trail, queues: &[Queue], p: u32) -> Result<(), Unwritten> {
     for i in 0..queues.len() {
         if let Some(n) = queues[i].registration() {
@@ -366,7 +370,7 @@ fn unlink_names(trail: &mut Trail, queues: &[Queue], names: &[Vec<u8>]) -> Resul
     Ok(())
 }
 
-// The calls that wait, in their order.
+// Makes the calls that wait, in their order.
 fn begin_waits(
     alloc: Global,
     trail: &mut Trail,
@@ -380,7 +384,7 @@ fn begin_waits(
     Ok(())
 }
 
-// The places of the open waits, rising.
+// The sequence numbers of the open waits, rising.
 fn waiting_places(alloc: Global, tables: &Tables) -> Result<Vec<u64>, AllocError> {
     let mut places = Vec::new(alloc);
     for p in 0..tables.owners.len() {

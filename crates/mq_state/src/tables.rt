@@ -1,4 +1,4 @@
-//! The tables beside the journal, and how they note an entry.
+//! The tables beside the journal, and how an entry updates them.
 ghost use Rattle.std.specs.Prelude.{◌≡◌, ◌<◌, ◌≤◌, ◌+◌, IfOk, Some, None, ℕ, length, [], replicate};
 ghost use Rattle.mq_model.specs.declared.entries.Registration.{Registration};
 ghost use Rattle.mq_model.specs.Descriptors.{held};
@@ -28,31 +28,34 @@ use mq_model::{error_order, limits, owners};
 use mq_slots::Slots;
 use std::alloc::{AllocError, Global};
 
-/// What each process has, process p's line and inbox at index p, and the queues that exist.
+/// What each process has, with the row and the inbox of process p at index p, and the queues that
+/// exist.
 #[derive(Debug, Drop)]
 pub struct Tables {
     alloc: Global,
     n: u32,
     bounds: Option<Bounds>,
     pub(crate) owners: Vec<Owner>,
-    // how many processes have an open wait
+    // the number of processes with an open wait
     waits: usize,
     // the call in which each process waits, if it does
     calls: Vec<Call>,
     pub(crate) queues: Vec<Queue>,
-    // the orders of queues to come, where the tables have bounds
+    // message slots for later queues, if the tables have bounds
     spares: Vec<Slots>,
     pub(crate) inboxes: Vec<Inbox>,
-    // an open takes the memory that later calls on its queue need
+    // whether an open takes the memory that later calls on its queue need
     pub(crate) is_prepaid: bool,
-    // at which index the queue of a place was found last, by the remainder of the place. It may be wrong
+    // The index at which a queue was last found, by the remainder of its sequence number. It may be
+    // wrong.
     hints: [u8; HINTS],
 }
 
-/// For how many notices of each process prepaid tables have room: for one from each queue, and as many that it has not taken.
+/// The number of notices of each process for which prepaid tables have room: one from each queue,
+/// and as many again that the process has not taken.
 const PREPAID_NOTICES: usize = 128;
 
-/// How many hints there are.
+/// The number of hints.
 const HINTS: usize = 64;
 
 impl Tables {
@@ -61,8 +64,9 @@ impl Tables {
     ghost use Rattle.mq_state.specs.WaitBits.{KnowWaits};
     ghost use Rattle.mq_state.specs.Pool.{IsPooled};
 
-    /// The tables of n processes that have nothing, with no queue. With bounds they have room for all that the bounds allow, and
-    /// prepaid ones for the notices that each process may leave.
+    /// The tables of n processes without descriptors, notices or waits, and without queues. With
+    /// bounds they have room for everything that the bounds allow. Prepaid tables have room for the
+    /// notices of each process.
     pub fn new(
         alloc: Global,
         n: u32,
@@ -103,20 +107,21 @@ impl Tables {
         })
     }
 
-    // The index at which queue q was found last, or any other.
+    // The index at which queue q was last found, or any other.
     #[inline(always)]
     fn hint(&self, q: u64) -> usize {
         usize::from(self.hints[q as usize % HINTS])
     }
 
-    /// How many processes there are.
+    /// The number of processes.
     pub fn processes(&self) -> u32
         ensures { result ≡ self.now.n }
     {
         self.n
     }
 
-    // The queue of the descriptor that a call names, or the place of its entry.
+    // The queue of the descriptor that a call names; if there is none, the sequence number of the
+    // call's entry.
     fn descriptor_queue(&self, journal: &Prefix<'_>, p: u32, d: u32) -> u64
         requires mirror { Mirrors journal.now self.now }
         ensures { result ≡ unwrap_or (option_map (λ h. h.queue) (held journal.now.records p d))
@@ -125,7 +130,7 @@ impl Tables {
         queue_of(journal, owners::held(&self.owners, p, d))
     }
 
-    // The queue that a name is bound to, or the place of the entry.
+    // The queue that a name is bound to; if there is none, the sequence number of the call's entry.
     fn named_queue(&self, journal: &Prefix<'_>, name: &[u8]) -> u64
         requires legal { Legal journal.now.records }
         requires readable { IsReadable journal.now }
@@ -139,7 +144,7 @@ impl Tables {
         }
     }
 
-    // The queue that an entry is made on.
+    // The queue that an entry is about.
     #[inline(always)]
     fn entry_queue(&self, journal: &Prefix<'_>, p: u32, call: Call, name: &[u8]) -> u64
         requires legal { Legal journal.now.records }
@@ -172,7 +177,7 @@ impl Tables {
     ghost use Rattle.mq_state.specs.Pool.{IsPooled};
     ghost use Rattle.mq_state.specs.Tables.{BringsOrder, MovesOwnWait, calls_noted, notices_brought, noted_values, with_fresh};
 
-    // Notes in the inboxes what an entry of process p, made on queue q, brings and takes.
+    // Updates the inboxes for an entry of process p on queue q: what it adds and takes.
     #[inline(always)]
     fn note_notices(&mut self, p: u32, q: u64, moves: Moves)
         requires process { p < length self.old.inboxes.items }
@@ -198,7 +203,7 @@ impl Tables {
         }
     }
 
-    // Notes in the table of processes an entry made on queue q, and how many wait after it.
+    // Updates the table of processes, and the number of those that wait, for an entry on queue q.
     #[inline(always)]
     fn note_process(&mut self, here: u64, entry: Entry, q: u64, wait: WaitMove)
         requires process { entry.process < length self.old.owners.items }
@@ -230,8 +235,8 @@ impl Tables {
         }
     }
 
-    // Notes an entry made on queue q in the lines of the queues, where the table of processes has noted it, and adds the queue that it
-    // creates, whose order it brings.
+    // Updates the table of queues for an entry on queue q, after the table of processes was
+    // updated. Adds the queue that the entry creates, with the slots `fresh`.
     #[inline(always)]
     fn note_queues(&mut self, here: u64, entry: Entry, q: u64, moves: Moves, fresh: Option<Slots>)
         requires rising { HaveRisingPlaces self.old.queues.items }
@@ -270,7 +275,7 @@ impl Tables {
     }
 }
 
-// The queue that a descriptor stands for, or where it stands for none, the place of the entry.
+// The queue of a descriptor; without one, the sequence number of the call's entry.
 #[inline(always)]
 fn queue_of(journal: &Prefix<'_>, held: Option<Description>) -> u64
     ensures { result ≡ unwrap_or (option_map (λ h. h.queue) held) (length journal.now.records) }
@@ -281,7 +286,7 @@ fn queue_of(journal: &Prefix<'_>, held: Option<Description>) -> u64
     }
 }
 
-// Notes at which index queue q was found, if it was looked for.
+// Sets the hint of queue q, if the queue had to be searched for.
 #[inline(always)]
 fn set_hint(hints: &mut [u8; HINTS], q: u64, found: Option<usize>) {
     if let Some(index) = found {
@@ -291,7 +296,7 @@ fn set_hint(hints: &mut [u8; HINTS], q: u64, found: Option<usize>) {
     }
 }
 
-// How many orders of messages tables have from their making on: with bounds one for each queue that may exist.
+// How many spare sets of slots new tables have: with bounds, one for each queue that may exist.
 fn order_count(bounds: Option<Bounds>) -> usize
     ensures { result ≡ order_count bounds }
 {
@@ -301,8 +306,8 @@ fn order_count(bounds: Option<Bounds>) -> usize
     }
 }
 
-// For how many notices of each process there is room from the making on: with bounds for as many as there may be entries, and for one
-// from each queue.
+// For how many notices of each process new tables have room: with bounds, as many as there may be
+// entries, and one from each queue.
 fn notice_room(bounds: Option<Bounds>) -> Result<usize, AllocError>
     ensures { IfOk result (λ room. room ≡ notice_room bounds) }
 {
@@ -315,7 +320,7 @@ fn notice_room(bounds: Option<Bounds>) -> Result<usize, AllocError>
     }
 }
 
-// A table of so many processes that have nothing.
+// A table of `count` processes without descriptors and waits.
 fn free_owners(alloc: Global, count: usize) -> Result<Vec<Owner>, AllocError>
     ensures { IfOk result (λ v. v.items ≡ replicate count free_owner) }
 {

@@ -1,4 +1,4 @@
-//! A journal that grows by the call of one process after the other, as the definitions reply to it.
+//! A journal that grows call by call, with the replies that the definitions give.
 ghost use Rattle.std.specs.Prelude.{◌≡◌, [], Some, None, IfOk, IsTrue, IsFalse, is_some, OnErr};
 ghost use Rattle.mq_model.specs.Legality.{reply_to, Legal};
 ghost use Rattle.mq_state.specs.Trails.{can_call, with_call};
@@ -14,8 +14,8 @@ use mq_model::limits::PROCESSES;
 use std::alloc::{AllocError, Global};
 use std::marker::Model;
 
-/// A legal journal and the tables of the queues after it, which grows by the call of one process after
-/// the other. It shows the records. Where memory was refused in a call, all is as it was.
+/// A legal journal and the tables of the queues after it. It grows by one call at a time. Contracts
+/// see the records. If memory is refused in a call, nothing changes.
 #[derive(Drop)]
 pub struct Trail {
     journal: Journal,
@@ -35,7 +35,7 @@ impl Model for Trail {
 }
 
 impl Trail {
-    /// No calls yet.
+    /// A journal without calls.
     pub fn new(alloc: Global) -> Result<Trail, AllocError>
         ensures { IfOk result (λ trail. trail ≡ []) }
     {
@@ -45,7 +45,7 @@ impl Trail {
         })
     }
 
-    /// The reply that a call of process p would get, which is given these bytes.
+    /// The reply that a call of process p with these bytes would get.
     pub fn reply(&self, p: u32, call: Call, given: &[u8]) -> Reply
         ensures { result ≡ reply_to self.now p call given.now }
     {
@@ -53,7 +53,7 @@ impl Trail {
             .reply_to(&Prefix::of(&self.journal), p, call, given)
     }
 
-    /// Process p may make a call now, which is given these bytes.
+    /// Whether process p may make a call with these bytes now.
     pub fn can_make(&self, p: u32, call: Call, given: &[u8]) -> bool
         ensures { result ≡ can_call self.now p call given.now }
     {
@@ -65,7 +65,8 @@ impl Trail {
         is_payload(call, reply, payload_of(call, reply, given))
     }
 
-    /// Process p makes a call, which is given these bytes, if it may make it now. Else it is false, and all is as it was.
+    /// Makes a call of process p with these bytes and returns true, if the process may make it now.
+    /// Otherwise it returns false and changes nothing.
     pub fn make(&mut self, p: u32, call: Call, given: &[u8]) -> Result<bool, AllocError>
         ensures made { IfOk result (λ made. IsTrue made →
             with_call self.old p call given.now ≡ Some self.new) }
@@ -102,7 +103,7 @@ impl Trail {
         self.tables.wait(p).is_some()
     }
 
-    /// The journal, which is all that is left.
+    /// Drops the tables and returns the journal.
     pub fn into_journal(self) -> Journal
         ensures records { result.records ≡ self }
         ensures legal { Legal result.records }

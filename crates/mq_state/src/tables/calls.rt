@@ -1,4 +1,5 @@
-//! The calls: each makes room, decides its reply, and appends its entry, which the tables note.
+//! The calls. Each makes room, works out its reply, and appends its entry, for which it updates the
+//! tables.
 ghost use Rattle.std.specs.Prelude.{◌≡◌, ◌<◌, ◌≤◌, ◌+◌, ◌^◌, IfOk, OnOk, OnErr, Err, IsTrue, Some, None, true, false, ℕ, length, [], ◌∷◌, vec_len, vec_capacity, slice_index_or};
 ghost use Rattle.mq_model.specs.Names.{creates};
 ghost use Rattle.mq_model.specs.Legality.{Appends, reply_to, may_call, is_payload, payload_of, IsLegalNext};
@@ -29,7 +30,7 @@ use mq_model::{bounds, error_order, owners};
 use mq_slots::Slots;
 use std::alloc::{AllocError, Global};
 
-// The payload of a call that was given these bytes.
+// The payload of a call with these bytes.
 #[inline(always)]
 pub(crate) fn payload_of(call: Call, reply: Reply, given: &[u8]) -> &[u8]
     ensures value { result.now ≡ payload_of call reply given.now }
@@ -45,7 +46,8 @@ pub(crate) fn payload_of(call: Call, reply: Reply, given: &[u8]) -> &[u8]
     }
 }
 
-// How many entries a call needs room for: its own, and of one that may wait also the one that ends the wait.
+// The number of entries that a call needs room for: its own, and if the call may wait, also the one
+// that ends the wait.
 #[inline(always)]
 fn entries_needed(call: Call) -> usize
     ensures value { result ≡ entries_needed call }
@@ -62,7 +64,8 @@ fn entries_needed(call: Call) -> usize
 }
 
 impl Tables {
-    // With so many more entries and payload bytes, and the entries that end the open waits, there would be more than the bounds allow.
+    // Whether this many more entries and payload bytes, with the entries that end the open waits,
+    // exceed the bounds.
     #[inline(always)]
     pub(super) fn exceeds(&self, journal: &Ledger, entries: usize, bytes: usize) -> bool
         requires kept { IsKeptBy journal.now self.now }
@@ -80,8 +83,9 @@ impl Tables {
         bounds::exceeds(self.bounds, entries, bytes)
     }
 
-    // Makes room for the entries and the payload bytes of a call that would keep `most` bytes if it were not refused, besides the entries
-    // that end the open waits; or says what is wanting.
+    // Makes room for the entries of a call and the `most` payload bytes that it keeps if it does
+    // not fail, besides the entries that end the open waits. Fails with the error of the call if
+    // there is none.
     #[inline(always)]
     fn make_room(
         &self,
@@ -116,7 +120,7 @@ impl Tables {
         Ok(())
     }
 
-    /// How many processes have an open wait.
+    /// The number of processes with an open wait.
     pub fn open_waits(&self) -> usize
         requires { self.now.waits ≡ waits_count self.now.owners.items }
         ensures count { result ≡ waits_count self.now.owners.items }
@@ -125,7 +129,7 @@ impl Tables {
         self.waits
     }
 
-    // Notes the next entry of a journal, made on queue q, with its payload.
+    // Updates the tables for the next entry of a journal, made on queue q.
     #[inline(always)]
     pub(crate) fn note_next(
         &mut self,
@@ -230,7 +234,7 @@ impl Tables {
         journal.push(entry, payload, q);
     }
 
-    // Appends the entry of a call on queue q that was given these bytes.
+    // Appends the entry of a call on queue q with these bytes.
     #[inline(always)]
     fn record(
         &mut self,
@@ -274,7 +278,7 @@ impl Tables {
         }
     }
 
-    // Forgets what is lost with queue q, if it exists no longer.
+    // Drops from the ledger what is lost with queue q, if it no longer exists.
     #[inline(never)]
     fn forget(&self, journal: &mut Ledger, q: u64)
         requires { IsKeptBy journal.old self.now }
@@ -288,7 +292,8 @@ impl Tables {
         }
     }
 
-    /// Makes a call of process p, which is given a name, the bytes of its message or none, and the buffer that a receive fills.
+    /// Makes a call of process p. `given` is its name or its message, or empty, and `buf` the
+    /// buffer that a receive fills.
     pub fn make(
         &mut self,
         journal: &mut Ledger,
@@ -332,8 +337,8 @@ impl Tables {
         Answer { reply, received }
     }
 
-    // Settles a send or a receive on queue q that needs room for all the bytes that it is given: makes the room, fills the buffer where it
-    // gets a message, and appends its entry.
+    // Finishes a send or a receive on queue q that keeps all bytes that it is given: makes the
+    // room, fills the buffer if it gets a message, and appends its entry.
     #[inline(always)]
     fn settle(
         &mut self,
@@ -374,7 +379,8 @@ impl Tables {
         Answer { reply, received }
     }
 
-    /// A send of a message (`mq_send`). Most are queued and notify nobody: these the compiler knows apart from the others.
+    /// Sends a message (`mq_send`). Most are queued and notify nobody, and the compiler gets a
+    /// separate path for these.
     #[inline(always)]
     pub fn send(&mut self, journal: &mut Ledger, p: u32, d: u32, bytes: &[u8], prio: u32) -> Answer
         requires { MayCall journal.old self.old p }
@@ -397,7 +403,8 @@ impl Tables {
         }
     }
 
-    // Between a send and `send_apart`, so that there is no place for the reply of that where it is not called.
+    // Stands between `send` and `send_apart`, so that a send has no stack space for the latter's
+    // reply unless it calls it.
     #[inline(always)]
     fn other_send(
         &mut self,
@@ -416,7 +423,8 @@ impl Tables {
         self.send_apart(journal, p, d, bytes, prio)
     }
 
-    // Any send without a deadline: where its call is built the usual send has no place for it.
+    // Any send without a deadline. It is outlined, so that the usual send has no stack space for
+    // the call built here.
     #[inline(never)]
     fn send_apart(
         &mut self,
@@ -436,7 +444,8 @@ impl Tables {
         self.make(journal, p, Call::MqSend { d, prio, len }, bytes, &mut [])
     }
 
-    /// A receive (`mq_receive`). Most get a message, admit none and notify nobody: these the compiler knows apart from the others.
+    /// Receives a message (`mq_receive`). Most get one, admit no send and notify nobody, and the
+    /// compiler gets a separate path for these.
     #[inline(always)]
     pub fn receive(&mut self, journal: &mut Ledger, p: u32, d: u32, buf: &mut [u8]) -> Answer
         requires { MayCall journal.old self.old p }
@@ -467,7 +476,7 @@ impl Tables {
         }
     }
 
-    // Between a receive and `receive_apart`, in the same way.
+    // Stands between `receive` and `receive_apart`, in the same way.
     #[inline(always)]
     fn other_receive(&mut self, journal: &mut Ledger, p: u32, d: u32, buf: &mut [u8]) -> Answer
         requires { MayCall journal.old self.old p }
@@ -492,7 +501,8 @@ impl Tables {
         self.make(journal, p, Call::MqReceive { d, room }, &[], buf)
     }
 
-    // The slots of the queue that an open creates, if it creates one, with bounds spare ones, and a place for the queue.
+    // The slots for the queue that an open creates, if it creates one, and a free row in the table.
+    // With bounds the slots are spare ones.
     fn fresh_slots(&mut self, call: Call, reply: Reply) -> Result<Option<Slots>, AllocError>
         requires pool { IsPooled None self.old }
         requires within { CreatesWithin call reply }
@@ -559,7 +569,8 @@ impl Tables {
         }
     }
 
-    // Takes the memory for the messages of the queue that an open creates, if the system is prepaid.
+    // Takes the memory for the messages of the queue that an open creates, if the system is
+    // prepaid.
     fn prepay(&self, journal: &mut Ledger, call: Call, reply: Reply) -> Result<(), AllocError>
         requires kept { IsKeptBy journal.old self.now }
         ensures records { journal.new.records ≡ journal.old.records }
@@ -590,8 +601,8 @@ impl Tables {
         }
     }
 
-    // Makes room for the notice of the registration that a call of process p makes: for one from each queue, since at most
-    // one registration stands on each.
+    // Makes room for the notices of the registration that a call of process p makes: one from each
+    // queue, since a queue has at most one registration.
     fn make_notice_room(&mut self, p: u32, call: Call, reply: Reply) -> Result<(), AllocError>
         requires pool { IsPooled None self.old }
         requires process { p < length self.old.inboxes.items }
@@ -614,14 +625,14 @@ impl Tables {
         }
     }
 
-    /// The open wait of process p with the place of the entry that answers it, if one does.
+    /// The sequence number of the entry that answers the open wait of process p, if there is one.
     pub fn answer(&self, p: u32) -> Option<u64>
         ensures { result ≡ answer_in self.now.owners.items p }
     {
         owners::answer(&self.owners, p)
     }
 
-    /// The place of the open wait of process p.
+    /// The sequence number of the open wait of process p.
     pub fn wait(&self, p: u32) -> Option<u64>
         ensures { result ≡ option_map (λ w. w.place) (wait_in self.now.owners.items p) }
     {
@@ -648,7 +659,7 @@ impl Tables {
         owners::lowest_held(&self.owners, p)
     }
 
-    /// The end of the open wait of process p, by a collect or a withdrawal that it may make now.
+    /// Ends the open wait of process p, by a collect or a withdraw that it may make now.
     pub fn end_wait(&mut self, journal: &mut Ledger, p: u32, call: Call)
         requires kept { IsKeptBy journal.old self.old }
         requires pool { IsPooled None self.old }

@@ -1,4 +1,5 @@
-//! What the tables say of the journal: the facts that a reply depends on, and the reply that the error_order gives to them.
+//! What the tables say about the journal: the facts that a reply depends on, and the reply that the
+//! order of errors gives for them.
 ghost use Rattle.std.specs.Prelude.{◌≡◌, ◌<◌, ◌≤◌, ◌^◌, IfSome, IsTrue, ℕ, List, length};
 ghost use Rattle.std.specs.Option.{option_map};
 ghost use Rattle.mq_model.specs.Names.{attributes, bound_queue};
@@ -22,7 +23,7 @@ use mq_model::error_order::{NotifyFacts, OpenFacts, ReceiveFacts, SendFacts, Sta
 use mq_model::owners::WaitKind;
 use mq_model::{error_order, owners};
 
-// The place of a message.
+// The sequence number of a message.
 fn message_place(message: Option<(u32, u64)>) -> Option<u64>
     ensures { result ≡ option_map (λ m. m.1) message }
 {
@@ -32,7 +33,7 @@ fn message_place(message: Option<(u32, u64)>) -> Option<u64>
     }
 }
 
-// The place of a registration.
+// The sequence number of a registration.
 fn registration_place(registration: Option<Registration>) -> Option<u64>
     ensures { result ≡ option_map (λ n. n.place) registration }
 {
@@ -42,7 +43,8 @@ fn registration_place(registration: Option<Registration>) -> Option<u64>
     }
 }
 
-// The reply to a call, by that to the same call without its deadline: this counts only where the call would wait.
+// The reply to a call, given the reply to the same call without its deadline. The deadline matters
+// only if the call would wait.
 #[inline(always)]
 pub(super) fn by_deadline(call: Call, plain: Reply) -> Reply
     ensures { (past : Past) (p : ℕ) (name : List ℕ) →
@@ -78,7 +80,7 @@ impl Tables {
         queues::bound(journal, &self.queues, name)
     }
 
-    // What the table says of queue q: its limits, its messages, and the registration that stands.
+    // The row of queue q: its limits, its messages and its registration.
     #[inline(always)]
     fn line(&self, journal: &Prefix<'_>, q: u64) -> LineFacts
         requires mirror { Mirrors journal.now self.now }
@@ -95,7 +97,7 @@ impl Tables {
 }
 
 impl Tables {
-    // The reply to a send on a descriptor that is this.
+    // The reply to a send on this descriptor.
     #[inline(always)]
     pub(super) fn reply_to_send(
         &self,
@@ -125,7 +127,7 @@ impl Tables {
         error_order::send(prio, len, Some(facts))
     }
 
-    // The reply to a receive on a descriptor that is this.
+    // The reply to a receive on this descriptor.
     #[inline(always)]
     pub(super) fn reply_to_receive(
         &self,
@@ -155,7 +157,8 @@ impl Tables {
         error_order::receive(room, Some(facts))
     }
 
-    // The reply to a call of process p without its deadline, a name being that of an open or an unlink.
+    // The reply to a call of process p without its deadline. `name` is the name of an open or an
+    // unlink.
     pub(super) fn plain_reply(&self, journal: &Prefix<'_>, p: u32, call: Call, name: &[u8]) -> Reply
         requires readable { IsReadable journal.now }
         requires tables { AreThoseOf journal.now.records self.now }
@@ -207,7 +210,7 @@ impl Tables {
         }
     }
 
-    // The reply to a call of process p, a name being that of an open or an unlink.
+    // The reply to a call of process p. `name` is the name of an open or an unlink.
     pub(crate) fn reply_to(&self, journal: &Prefix<'_>, p: u32, call: Call, name: &[u8]) -> Reply
         requires readable { IsReadable journal.now }
         requires tables { AreThoseOf journal.now.records self.now }

@@ -1,4 +1,4 @@
-//! Which calls can still be made, and what the journal has room for.
+//! Which processes can still make a call, and how much room the journal has.
 ghost use Rattle.std.specs.Prelude.{◌≡◌, ◌≤◌, ◌↔◌, IsTrue, IfSome, None};
 ghost use Rattle.mq_model.specs.Owners.{waits_count};
 ghost use Rattle.mq_state.specs.Kept.{AreThoseOf, IsKeptBy, IsRoomWithin};
@@ -13,7 +13,8 @@ use mq_model::journals::Journal;
 use mq_model::owners;
 
 impl Tables {
-    // Whether process p can make some call, now or at some moment, where the journal is full or is not.
+    // Whether process p can make any call, at whatever time. `full` says whether the journal is
+    // full.
     fn can_call(&self, journal: &Ledger, p: u32, full: bool) -> bool
         requires kept { IsKeptBy journal.now self.now }
         requires full { full ≡ is_full self.now.bounds journal.now.records }
@@ -25,7 +26,7 @@ impl Tables {
         }
     }
 
-    /// None of the processes can make any call, and so none ever can.
+    /// Whether no process can make any call. Then no process ever can.
     pub fn nobody_can_call(&self, journal: &Ledger) -> bool
         requires kept { IsKeptBy journal.now self.now }
         ensures { IsTrue result ↔ NobodyCanCall self.now.bounds journal.now.records self.now.n }
@@ -61,7 +62,8 @@ impl Tables {
         Some((entries as usize, bytes as usize))
     }
 
-    /// For how many more entries and payload bytes the journal has room, where it has bounds.
+    /// The number of entries and payload bytes for which the journal still has room, if it has
+    /// bounds.
     pub fn room(&self, journal: &Ledger) -> Option<Bounds>
         requires kept { IsKeptBy journal.now self.now }
         ensures { result ≡ room_left self.now.bounds journal.now.records }

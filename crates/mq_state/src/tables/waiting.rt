@@ -1,4 +1,5 @@
-//! Who waits on a queue. The line of a queue has a bit for each process whose open wait is on it, so that nobody waiting is one test.
+//! Which processes wait on a queue. The row of a queue has a bit for each process whose open wait
+//! is on it, so one test shows whether any process waits.
 ghost use Rattle.std.specs.Prelude.{◌≡◌, ◌<◌, ◌≤◌, IsTrue, length, vec_len, vec_capacity};
 ghost use Rattle.mq_model.specs.Descriptors.{alive};
 ghost use Rattle.mq_model.specs.Messages.{is_in, least};
@@ -56,7 +57,7 @@ pub(crate) fn moved_queue(owners: &[Owner], p: u32, wait: WaitMove, q: u64) -> O
 }
 
 impl Tables {
-    // Notes who waits in the line of a queue on which a wait began or ended.
+    // Updates which processes wait, in the row of a queue on which a wait began or ended.
     #[inline(always)]
     pub(crate) fn note_waiting(&mut self, moved: Option<u64>)
         requires few { length self.old.owners.items ≤ 33 }
@@ -72,7 +73,8 @@ impl Tables {
         }
     }
 
-    // The place of the send, or receive, that waits the longest on queue q, on which these processes wait.
+    // The sequence number of the send, or receive, that has waited longest on queue q. `bits` are
+    // the processes that wait on it.
     #[inline(always)]
     pub(crate) fn first_wait(
         &self,
@@ -95,7 +97,7 @@ impl Tables {
         self.first_of(journal, q, kind, bits)
     }
 
-    // The same, where some process waits.
+    // The same, if some process waits.
     fn first_of(&self, journal: &Prefix<'_>, q: u64, kind: WaitKind, bits: u64) -> Option<u64>
         requires mirror { Mirrors journal.now self.now }
         requires legal { Legal journal.now.records }
