@@ -9,7 +9,7 @@ use Rattle.mq_ledger.specs.Kept.{Kept}
 use Rattle.mq_laws.specs.Needed.{ended_last, home}
 use Rattle.mq_ledger.specs.declared.unstored.Unstored.TheInside.{Inside}
 
--- the records that can be made
+-- the limit on the number of records
 abbrev pub limit : ℕ
 limit = 2 ^ 62
 
@@ -27,21 +27,21 @@ shown a = record {
   places = places_of a.slots.items;
 }
 
--- what is kept is what the history has at its place
+-- what is kept equals what the history has for that entry
 abbrev pub Says : Past → Kept → Type 0
 Says past x = (option_map (λ r. r.payload) (record_at past x.place) ≡ Some x.bytes) × (priority past x.place ≡ x.prio) × (home past x.place ≡ x.home)
 
 abbrev pub AreTrue : Past → List (Option Kept) → Type 0
 AreTrue past slots = (key : ℕ) (x : Kept) → slice_index_or slots key None ≡ Some x → Says past x
 
--- what slots keep stays, and more of them are vacant, which are counted
+-- The slots keep what they kept. At least as many are vacant, and the count is right.
 pub record HasMoreVacant (old new : List (Option Kept)) (vacant vacant' : ℕ) : Type 0 where
   pub count : vacant' ≡ vacant_in new
   pub more : vacant ≤ vacant'
   pub are_true : (past : Past) → AreTrue past old → AreTrue past new
   pub keeps : (k : ℕ) → HasPlace (places_of old) k → HasPlace (places_of new) k
 
--- the same, but for what is lost with a queue
+-- the same, except what is lost with a queue
 pub record Forgets (queue : ℕ) (old new : List (Option Kept)) (vacant vacant' : ℕ) : Type 0 where
   pub same_length : length new ≡ length old
   pub count : vacant' ≡ vacant_in new

@@ -5,8 +5,8 @@ use Rattle.mq_laws.specs.Needed.{IsNeeded}
 use Rattle.mq_model.specs.Record.{Past}
 use Rattle.mq_ledger.specs.Seen.{HasPlace}
 
--- what the journal shows that the tables stand beside: its records, the room that it has, whether it keeps every entry, and else the
--- places of those that it keeps
+-- What the journal of a system shows: its records, the room that it has, whether it is stored, and
+-- if not, which entries it keeps.
 pub record Shown : Type 0 where
   pub records : Past
   pub entry_room : ℕ
@@ -14,15 +14,15 @@ pub record Shown : Type 0 where
   pub stored : Bool
   pub places : List (Option ℕ)
 
--- the entry at a place can be read
+-- the entry with this sequence number can be read
 abbrev pub CanRead : Shown → ℕ → Type 0
 CanRead s k = (s.stored ≡ true) ⊎ HasPlace s.places k
 
--- what can still be asked for can be read
+-- everything that may still be read can be read
 abbrev pub IsReadable : Shown → Type 0
 IsReadable s = (k : ℕ) → IsNeeded s.records k → CanRead s k
 
--- the message that a reply gives can be read, and the send that it admits
+-- the message that a reply hands out can be read
 abbrev pub CanReadGiven : Shown → Reply → Type 0
 CanReadGiven s (Got place admitted notified) = CanRead s place
 CanReadGiven s _ = Unit {0}

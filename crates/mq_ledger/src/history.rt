@@ -1,4 +1,4 @@
-//! The history variable: the list of all records, which contracts read and no code keeps.
+//! The history variable: the list of all records, which contracts read and no code stores.
 ghost use Rattle.std.specs.Prelude.{◌≡◌, List, [], ◌∷◌};
 ghost use Rattle.std.specs.Borrow.{ftrue};
 ghost use Rattle.mq_model.specs.Record.{Record};
@@ -6,7 +6,7 @@ ghost use Rattle.mq_model.specs.Record.{Record};
 use mq_model::entries::Entry;
 use std::marker::{Model, PhantomData};
 
-/// The records made so far, the latest first. It has no bytes.
+/// The records so far, the latest first. The value has no bytes.
 #[derive(Drop)]
 pub struct History {
     marker: PhantomData<u8>,
@@ -30,7 +30,7 @@ impl History {
         }
     }
 
-    /// Notes an entry with its payload after all others. Does nothing at run time.
+    /// Appends an entry with its payload. It does nothing at run time.
     #[inline(always)]
     pub fn note(&mut self, _entry: &Entry, _payload: &[u8])
         ensures { self.new.past ≡ record { entry = _entry.now; payload = _payload.now } ∷ self.old.past }

@@ -1,4 +1,5 @@
-//! A guess at the slot of a place, and at a vacant slot, which nothing vouches for: who asks looks whether it is so.
+//! A hash table of hints: which slot has the entry with a given sequence number, and which slots
+//! are vacant. A hint may be wrong, so whoever uses one checks it.
 
 use crate::classes::CLASSES;
 use std::alloc::{AllocError, Global};
@@ -6,11 +7,11 @@ use std::alloc::{AllocError, Global};
 /// No slot.
 pub const NOBODY: usize = 18_446_744_073_709_551_615;
 
-/// How many notes of a place are looked at.
+/// How many notes of a sequence number are checked.
 pub const PROBES: u64 = 16;
 
-/// A place, and the slot that kept its entry when it was noted. A note is not taken out: it says nothing once the slot keeps
-/// another entry.
+/// A sequence number, and the slot that had its entry when the note was made. Notes are not
+/// removed: a note is stale once the slot has another entry.
 #[derive(Clone, Copy, Debug)]
 pub struct Note {
     pub place: u64,
@@ -23,17 +24,17 @@ const NOTHING: Note = Note {
     key: NOBODY,
 };
 
-/// Notes, each near to where its place hashes to, and the first vacant slot of each class. Each
-/// vacant slot has the next one of its class.
+/// The hash table of notes, and the first vacant slot of each class. Each vacant slot has the next
+/// one of its class.
 #[derive(Debug, Drop)]
 pub struct Index {
-    // as many as a power of two
+    // the number of notes is a power of two
     notes: Vec<Note>,
     vacant: [usize; CLASSES],
 }
 
 impl Index {
-    /// No notes.
+    /// An empty index.
     pub fn new(alloc: Global) -> Index {
         Index {
             notes: Vec::new(alloc),
@@ -41,14 +42,15 @@ impl Index {
         }
     }
 
-    // Where the notes of a place begin, and go on.
+    // The position of a note of this sequence number: probing starts at its hash and goes on by
+    // one.
     #[inline(always)]
     fn spot(&self, place: u64, probe: u64) -> usize {
         let mixed = place.wrapping_mul(11_400_714_819_323_198_485) / 4_294_967_296;
         (mixed.wrapping_add(probe) as usize) & self.notes.len().wrapping_sub(1)
     }
 
-    /// A note to look at for a place, of [`PROBES`].
+    /// The note of a sequence number at this probe, of [`PROBES`].
     #[inline(always)]
     pub fn note(&self, place: u64, probe: u64) -> Note {
         let spot = self.spot(place, probe);
@@ -59,7 +61,7 @@ impl Index {
         }
     }
 
-    /// Notes that the entry at a place is in this slot, in the place of another note.
+    /// Writes that this slot has the entry `place`, over the note at this probe.
     #[inline(always)]
     pub fn set(&mut self, place: u64, probe: u64, key: usize) {
         let spot = self.spot(place, probe);
@@ -68,12 +70,12 @@ impl Index {
         }
     }
 
-    /// For how many slots there is room.
+    /// The number of slots for which the index has room.
     pub fn slots(&self) -> usize {
         self.notes.len() / 4
     }
 
-    /// The vacant slot of a class to look at first.
+    /// The vacant slot of a class to try first.
     #[inline(always)]
     pub fn first_vacant(&self, class: usize) -> usize {
         if class < CLASSES {
@@ -83,7 +85,7 @@ impl Index {
         }
     }
 
-    /// This slot is the one to look at first among the vacant ones of its class.
+    /// Makes this slot the first of the vacant ones of its class.
     #[inline(always)]
     pub fn set_vacant(&mut self, class: usize, key: usize) {
         if class < CLASSES {
@@ -91,7 +93,8 @@ impl Index {
         }
     }
 
-    /// No notes, with room for those of that many slots, a power of two. If it is refused, the notes stay.
+    /// Replaces the notes by an empty table for this number of slots, a power of two. If memory is
+    /// refused, the notes stay.
     pub fn grow(&mut self, alloc: Global, slots: usize) -> Result<(), AllocError> {
         self.notes = vec![in alloc; NOTHING; slots.wrapping_mul(4)]?;
         Ok(())

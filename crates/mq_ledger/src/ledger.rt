@@ -1,4 +1,5 @@
-//! The journal that the tables stand beside: one that keeps every entry, or one that keeps those which can still be asked for.
+//! The journal of a system: one that stores every entry, or one that keeps only those that may
+//! still be read.
 ghost use Rattle.std.specs.Prelude.{◌≡◌, ◌≢◌, ◌+◌, ◌<◌, ◌≤◌, ◌^◌, ℕ, [], ◌∷◌, true, false, length, IsOk, OnOk};
 ghost use Rattle.std.specs.Option.{option_map};
 ghost use Rattle.mq_model.specs.Record.{record_at, payload_bytes};
@@ -14,7 +15,7 @@ use mq_model::journals::Journal;
 use std::alloc::AllocError;
 use std::marker::Model;
 
-/// A journal, of which perhaps not every entry can be read.
+/// A journal, in which not every entry may be readable.
 #[derive(Drop)]
 pub struct Ledger {
     kind: Kind,
@@ -37,7 +38,7 @@ impl Model for Ledger {
 }
 
 impl Ledger {
-    /// A journal that keeps every entry.
+    /// A journal that stores every entry.
     pub fn stored(journal: Journal) -> Ledger
         ensures records { result.records ≡ journal.records }
         ensures entry_room { result.entry_room ≡ journal.entry_room }
@@ -49,7 +50,7 @@ impl Ledger {
         }
     }
 
-    /// One that keeps what can still be asked for.
+    /// A journal that keeps only what may still be read.
     pub fn unstored(unstored: Unstored) -> Ledger
         ensures records { result.records ≡ unstored.records }
         ensures stored { result.stored ≡ false }
@@ -59,7 +60,7 @@ impl Ledger {
         }
     }
 
-    /// Makes room for that many more entries and payload bytes.
+    /// Makes room for this many further entries and payload bytes.
     #[inline(always)]
     pub fn reserve(&mut self, entries: usize, bytes: usize) -> Result<(), AllocError>
         ensures records { self.new.records ≡ self.old.records }
@@ -78,8 +79,9 @@ impl Ledger {
         }
     }
 
-    /// Makes room for the messages of the queue that the next entry creates, so many of this size, and for those of the calls in which
-    /// so many processes wait. A stored journal has it entry by entry.
+    /// Makes room for the messages of the queue that the next entry creates, `messages` of `size`
+    /// bytes, and for those of the calls in which `processes` processes wait. A stored journal
+    /// makes this room entry by entry instead.
     pub fn prepay(
         &mut self,
         messages: usize,
@@ -99,7 +101,8 @@ impl Ledger {
         }
     }
 
-    /// Adds an entry with its payload, made on queue q, after all others, in room that was reserved. Takes no memory.
+    /// Appends an entry with its payload, made on queue q. There must be room for it. Takes no
+    /// memory.
     #[inline(always)]
     pub fn push(&mut self, entry: Entry, payload: &[u8], q: u64)
         requires entry_room { 0 < self.old.entry_room }
@@ -124,7 +127,7 @@ impl Ledger {
         }
     }
 
-    /// How many entries there are.
+    /// The number of entries.
     #[inline(always)]
     pub fn len(&self) -> u64
         ensures count { result ≡ length self.now.records }
@@ -136,7 +139,7 @@ impl Ledger {
         }
     }
 
-    /// How many payload bytes there are, of all entries.
+    /// The number of payload bytes of all entries.
     pub fn payload_bytes(&self) -> u64
         ensures count { self.now.stored ≡ true → result ≡ payload_bytes self.now.records }
         ensures bound { result < 2 ^ 63 }
@@ -147,7 +150,7 @@ impl Ledger {
         }
     }
 
-    /// The priority of the message that was sent at a place that can be read.
+    /// The priority of the message sent by entry `place`, if that can be read.
     #[inline(always)]
     pub fn priority(&self, place: u64) -> u32
         ensures { CanRead self.now place → result ≡ priority self.now.records place }
@@ -158,7 +161,7 @@ impl Ledger {
         }
     }
 
-    /// The payload of the entry at a place that can be read.
+    /// The payload of entry `place`, if that can be read.
     #[inline(always)]
     pub fn payload(&self, place: u64) -> Option<&[u8]>
         ensures { CanRead self.now place →
@@ -192,7 +195,7 @@ impl Ledger {
         }
     }
 
-    /// The stored journal, which is all that is left.
+    /// Returns the stored journal, and drops the rest.
     pub fn into_journal(self) -> Journal
         requires { self.stored ≡ true }
         ensures { result.records ≡ self.records }
@@ -214,7 +217,8 @@ impl Ledger {
         }
     }
 
-    /// A queue exists no longer: nobody will ask for what is lost with it. A stored journal keeps that too.
+    /// Tells the journal that a queue no longer exists, so that what is lost with it will not be
+    /// read again. A stored journal keeps that too.
     pub fn forget(&mut self, queue: u64)
         ensures records { self.new.records ≡ self.old.records }
         ensures entry_room { self.old.entry_room ≤ self.new.entry_room }
@@ -230,7 +234,7 @@ impl Ledger {
     }
 }
 
-/// The priority of the message that was sent at a place of a journal.
+/// The priority of the message sent by entry `place` of a journal.
 pub fn priority_in(journal: &Journal, place: u64) -> u32
     ensures { result ≡ priority journal.now.records place }
 {

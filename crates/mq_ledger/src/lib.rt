@@ -1,5 +1,5 @@
-//! The journal that the queues stand beside: one that is stored, or one whose records are a history variable, of which contracts speak and
-//! which no code keeps.
+//! The journal of a system. Either it is stored, or its records are a history variable, which
+//! contracts read and no code stores.
 #![tactic(auto)]
 
 mod classes;

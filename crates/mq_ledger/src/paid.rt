@@ -1,4 +1,4 @@
-//! What the queues of a prepaid system have paid for.
+//! What prepaid systems have paid for: slots for the messages of their queues.
 
 use crate::classes::{self, GROWING};
 use std::alloc::{AllocError, Global};
@@ -11,8 +11,8 @@ struct Share {
     messages: usize,
 }
 
-/// The shares of queues that exist, and of the latest for which there was room. That one may not
-/// have been created.
+/// The shares of the queues that exist, and of the latest queue for which room was made. That queue
+/// may not have been created in the end.
 #[derive(Debug, Drop)]
 pub struct Paid {
     shares: Vec<Share>,
@@ -21,8 +21,8 @@ pub struct Paid {
     processes: usize,
 }
 
-/// How many slots more than one for each process a call may need: for its two entries, and for one
-/// that has ended and not left its slot yet.
+/// How many slots a call may need, beyond one for each process: for its two entries, and for one
+/// that has ended but has not left its slot yet.
 const SPARE: usize = 3;
 
 impl Paid {
@@ -43,7 +43,8 @@ impl Paid {
         }
     }
 
-    /// Notes the share of the queue that an entry may create. The latest before it exists, or not.
+    /// Adds the share of the queue that the next entry may create. `exists` says whether the latest
+    /// one before it was created.
     pub fn expect(
         &mut self,
         exists: bool,
@@ -66,8 +67,8 @@ impl Paid {
         Ok(())
     }
 
-    /// How many slots of a class the queues need: of the messages of each, of what each process
-    /// waits for, and of names.
+    /// How many slots of a class the queues need: for their messages, for the messages of waiting
+    /// calls, and for names.
     pub fn owed(&self, class: usize) -> usize {
         if class == GROWING {
             return self.processes.saturating_add(SPARE);
@@ -89,7 +90,7 @@ impl Paid {
         messages
     }
 
-    /// A queue exists no longer.
+    /// Removes the share of a queue that no longer exists.
     pub fn forget(&mut self, queue: u64) {
         self.shares.retain(|share| share.queue != queue);
         if self.latest() == Some(queue) {

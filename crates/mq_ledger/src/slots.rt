@@ -1,4 +1,4 @@
-//! The slots of what is kept: each has what is kept of one entry, or is vacant.
+//! The slots of an unstored journal: each keeps one entry, or is vacant.
 ghost use Rattle.std.specs.Prelude.{◌≡◌, ◌≢◌, ◌+◌, ◌-◌, ◌<◌, ◌≤◌, ◌∷◌, ◌↔◌, [], ℕ, Option, Some, None, IsTrue, IfOk, IfSome, OnOk, IsOk, length, is_none, slice_index_or, slice_set, vec_len, vec_capacity};
 ghost use Rattle.mq_ledger.specs.Kept.{Kept};
 ghost use Rattle.mq_ledger.specs.Keeping.{AreTrue, places_of, vacant_in, HasMoreVacant, Forgets};
@@ -13,10 +13,11 @@ use std::alloc::{AllocError, Global};
 use std::marker::Model;
 use std::mem;
 
-/// The place of no entry.
+/// The sequence number of no entry.
 const NOWHERE: u64 = 18_446_744_073_709_551_615;
 
-/// A slot. It shows what it keeps, or nothing if it is vacant: then its buffer serves a later payload.
+/// A slot. Contracts see what it keeps, or nothing if it is vacant. The buffer of a vacant slot is
+/// used again for a later payload.
 #[derive(Debug, Drop)]
 pub struct Slot {
     place: u64,
@@ -24,7 +25,7 @@ pub struct Slot {
     prio: u32,
     bytes: Vec<u8>,
     class: usize,
-    // the vacant slot of its class to look at after it, if it is vacant
+    // the next vacant slot of its class, if it is vacant
     next: usize,
 }
 
@@ -40,7 +41,7 @@ impl Model for Slot {
 }
 
 impl Slot {
-    /// A slot of a class that is vacant, before the next one.
+    /// A vacant slot of a class, with the next one after it.
     fn vacant(alloc: Global, class: usize, next: usize) -> Result<Slot, AllocError>
         ensures { IfOk result (λ slot. slot ≡ None) }
     {
@@ -62,7 +63,7 @@ impl Slot {
         self.place == NOWHERE
     }
 
-    /// Whether the slot keeps the entry at a place.
+    /// Whether the slot keeps entry `place`.
     #[inline(always)]
     fn is_at(&self, place: u64) -> bool
         ensures some { IsTrue result → (x : Kept) × (self.now ≡ Some x) × (x.place ≡ place) }
@@ -71,14 +72,14 @@ impl Slot {
         self.place == place && place != NOWHERE
     }
 
-    /// Whether what the slot keeps is lost with a queue.
+    /// Whether its entry is lost with a queue.
     pub fn is_lost_with(&self, queue: u64) -> bool
         ensures { IsTrue result → (x : Kept) → self.now ≡ Some x → x.home ≡ Some queue }
     {
         self.home == Some(queue)
     }
 
-    /// The place of the entry that the slot keeps.
+    /// The sequence number of its entry.
     #[inline(always)]
     pub fn place(&self) -> u64
         ensures { (x : Kept) → self.now ≡ Some x → result ≡ x.place }
@@ -86,7 +87,7 @@ impl Slot {
         self.place
     }
 
-    /// The priority of the message that it sends.
+    /// The priority of the message that its entry sends.
     #[inline(always)]
     pub fn prio(&self) -> u32
         ensures { (x : Kept) → self.now ≡ Some x → result ≡ x.prio }
@@ -94,7 +95,7 @@ impl Slot {
         self.prio
     }
 
-    /// Its payload.
+    /// The payload of its entry.
     #[inline(always)]
     pub fn bytes(&self) -> &[u8]
         ensures { (x : Kept) → self.now ≡ Some x → result.now ≡ x.bytes }
@@ -102,13 +103,13 @@ impl Slot {
         &self.bytes
     }
 
-    // Its class.
+    // The class of the slot.
     #[inline(always)]
     fn class(&self) -> usize {
         self.class
     }
 
-    // The vacant slot of its class to look at after it, if it is vacant.
+    // The next vacant slot of its class, if it is vacant.
     #[inline(always)]
     fn next(&self) -> usize {
         self.next
@@ -122,8 +123,8 @@ impl Slot {
         self.next = next;
     }
 
-    // Keeps this of an entry. The payload goes into the slot's buffer, or if that is too small into the next one, and then the
-    // two are exchanged.
+    // Makes the slot keep this part of an entry. The payload goes into the slot's buffer, or if
+    // that is too small, into the spare buffer `next`, and the two are exchanged.
     #[inline(always)]
     fn occupy(
         &mut self,
@@ -152,7 +153,7 @@ impl Slot {
     }
 }
 
-// Puts a payload into the slot's buffer, if that has the room, and else into the next one.
+// Copies a payload into the slot's buffer if it fits, else into the spare one.
 #[inline(always)]
 fn fill(bytes: &mut Vec<u8>, next: &mut Vec<u8>, payload: &[u8])
     requires empty { vec_len next.old ≡ 0 }
@@ -169,7 +170,7 @@ fn fill(bytes: &mut Vec<u8>, next: &mut Vec<u8>, payload: &[u8])
     }
 }
 
-// Puts a payload into the next buffer, and exchanges the two.
+// Copies a payload into the spare buffer, and exchanges the two.
 #[inline(never)]
 fn exchange(bytes: &mut Vec<u8>, next: &mut Vec<u8>, payload: &[u8])
     requires cleared { vec_len bytes.old ≡ 0 }
@@ -182,7 +183,7 @@ fn exchange(bytes: &mut Vec<u8>, next: &mut Vec<u8>, payload: &[u8])
     mem::swap(bytes, next);
 }
 
-/// The slot of the entry at a place, if it is this one or the index leads to it.
+/// The slot of entry `place`, if it is the slot `last` or the index has it.
 #[inline(always)]
 pub fn guess(slots: &[Slot], index: &Index, last: usize, place: u64) -> Option<usize>
     ensures { IfSome result (λ key. (x : Kept) ×
@@ -194,7 +195,7 @@ pub fn guess(slots: &[Slot], index: &Index, last: usize, place: u64) -> Option<u
     guess_by(slots, index, place)
 }
 
-// The same, by the notes.
+// The same, by the notes of the index.
 #[inline(never)]
 fn guess_by(slots: &[Slot], index: &Index, place: u64) -> Option<usize>
     ensures { IfSome result (λ key. (x : Kept) ×
@@ -209,7 +210,7 @@ fn guess_by(slots: &[Slot], index: &Index, place: u64) -> Option<usize>
     None
 }
 
-// Notes in which slot the entry at a place is: where no note says anything, or in the place of the last.
+// Makes a note of the slot that has entry `place`: over the first stale note, or over the last one.
 #[inline(always)]
 fn note(slots: &[Slot], index: &mut Index, place: u64, key: usize) {
     if says_nothing(slots, index.note(place, 0)) {
@@ -219,7 +220,7 @@ fn note(slots: &[Slot], index: &mut Index, place: u64, key: usize) {
     }
 }
 
-/// Notes the entry that a slot keeps, if it keeps one.
+/// Makes a note of the entry that a slot keeps, if it keeps one.
 #[inline(always)]
 pub fn note_kept(slots: &[Slot], index: &mut Index, key: usize) {
     if key < slots.len() && !slots[key].is_vacant() {
@@ -234,7 +235,7 @@ fn note_again(slots: &[Slot], index: &mut Index, key: usize) {
     }
 }
 
-// The same, after the first.
+// The same, from the second probe on.
 #[inline(never)]
 fn note_on(slots: &[Slot], index: &mut Index, place: u64, key: usize) {
     for probe in 1..PROBES {
@@ -246,13 +247,13 @@ fn note_on(slots: &[Slot], index: &mut Index, place: u64, key: usize) {
     index.set(place, PROBES - 1, key);
 }
 
-// Whether the slot of a note keeps another entry.
+// Whether a note is stale: its slot has another entry or none.
 #[inline(always)]
 fn says_nothing(slots: &[Slot], note: Note) -> bool {
     !is_there(slots, note.key, note.place)
 }
 
-/// Whether a slot keeps the entry at a place.
+/// Whether a slot keeps entry `place`.
 #[inline(always)]
 pub fn is_there(slots: &[Slot], key: usize, place: u64) -> bool
     ensures some { IsTrue result → (x : Kept) ×
@@ -263,7 +264,7 @@ pub fn is_there(slots: &[Slot], key: usize, place: u64) -> bool
     key < slots.len() && slots[key].is_at(place)
 }
 
-/// The slot of the entry at a place. If neither this one nor the index leads to it, all slots are looked through.
+/// The slot of entry `place`. If it is neither `last` nor in the index, all slots are searched.
 #[inline(always)]
 pub fn find(slots: &[Slot], index: &Index, last: usize, place: u64) -> Option<usize>
     ensures some { IfSome result (λ key. (x : Kept) ×
@@ -277,7 +278,7 @@ pub fn find(slots: &[Slot], index: &Index, last: usize, place: u64) -> Option<us
     }
 }
 
-// The slot of the entry at a place, by a look at each.
+// The slot of entry `place`, by a search of all slots.
 #[inline(never)]
 fn search(slots: &[Slot], place: u64) -> Option<usize>
     ensures some { IfSome result (λ key. (x : Kept) ×
@@ -293,7 +294,7 @@ fn search(slots: &[Slot], place: u64) -> Option<usize>
     None
 }
 
-// The vacant slot of a class to look at first, which is looked at no more.
+// Takes the first vacant slot of a class from its list.
 #[inline(always)]
 fn take_vacant(slots: &[Slot], index: &mut Index, class: usize) -> usize {
     let key = index.first_vacant(class);
@@ -333,7 +334,7 @@ fn vacant_elsewhere(slots: &[Slot], index: &mut Index) -> usize
     first_vacant(slots)
 }
 
-// The first vacant slot.
+// The vacant slot with the lowest index.
 #[inline(never)]
 fn first_vacant(slots: &[Slot]) -> usize
     requires { 0 < vacant_in slots.now }
@@ -348,7 +349,8 @@ fn first_vacant(slots: &[Slot]) -> usize
     unreachable!()
 }
 
-/// Keeps this of the entry at a place in a vacant slot, of which there are some: in one of this class, if there is one.
+/// Puts this part of entry `place` into a vacant slot, of which there must be one: of this class if
+/// possible.
 #[inline(always)]
 pub fn put(
     slots: &mut Vec<Slot>,
@@ -402,7 +404,7 @@ pub fn forget(slots: &mut Vec<Slot>, index: &mut Index, queue: u64, vacant: &mut
     }
 }
 
-// Vacates a slot if what it keeps is lost with a queue.
+// Vacates a slot if its entry is lost with a queue.
 fn forget_at(slots: &mut Vec<Slot>, index: &mut Index, key: usize, queue: u64, vacant: &mut usize)
     requires within { key < length slots.old.items }
     requires count { vacant.old ≡ vacant_in slots.old.items }
@@ -415,7 +417,7 @@ fn forget_at(slots: &mut Vec<Slot>, index: &mut Index, key: usize, queue: u64, v
     }
 }
 
-/// Sees to it that so many slots are vacant.
+/// Makes at least this many slots vacant.
 #[inline(always)]
 pub fn make_room(
     alloc: Global,
@@ -435,7 +437,7 @@ pub fn make_room(
     grow(alloc, slots, index, vacant, wanted, GROWING)
 }
 
-/// Adds so many slots of a class.
+/// Adds this many slots of a class.
 #[inline(never)]
 pub fn grow(
     alloc: Global,
@@ -477,7 +479,7 @@ fn add_vacant(
     Ok(())
 }
 
-// Notes all that the slots keep anew, with room for twice as many slots.
+// Builds the index again from the slots, with room for twice as many.
 fn reindex(alloc: Global, slots: &[Slot], index: &mut Index) -> Result<(), AllocError> {
     let mut room: usize = 64;
     for _ in 0..40 {
@@ -494,7 +496,7 @@ fn reindex(alloc: Global, slots: &[Slot], index: &mut Index) -> Result<(), Alloc
     Ok(())
 }
 
-/// How many slots of a class there are.
+/// The number of slots of a class.
 pub fn count_of(slots: &[Slot], class: usize) -> usize {
     slots.iter().filter(|slot| slot.class() == class).count()
 }

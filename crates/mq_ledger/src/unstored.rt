@@ -1,4 +1,4 @@
-//! A journal that keeps only what can still be asked for. Its records are a history variable.
+//! A journal that keeps only what may still be read. Its records are a history variable.
 ghost use Rattle.std.specs.Prelude.{◌≡◌, ◌≢◌, ◌+◌, ◌<◌, ◌≤◌, ◌^◌, ℕ, [], ◌∷◌, true, false, length, IsOk, OnOk, min, Some, None, IsTrue, ◌↔◌};
 ghost use Rattle.std.specs.Option.{option_map};
 ghost use Rattle.mq_model.specs.Descriptors.{is_place};
@@ -16,10 +16,11 @@ use mq_model::entries::{Call, Entry, Reply};
 use std::alloc::{AllocError, Global};
 use std::marker::Model;
 
-/// The most entries that there can be.
+/// The maximum number of entries.
 const LIMIT: u64 = 4_611_686_018_427_387_904;
 
-/// A journal whose records are a history variable. What is kept of its entries, in slots, is what a later reply may need.
+/// A journal whose records are a history variable. Of its entries it keeps, in slots, what later
+/// replies may need.
 #[derive(Drop)]
 pub struct Unstored {
     alloc: Global,
@@ -29,14 +30,15 @@ pub struct Unstored {
     // how many slots are vacant
     vacant: usize,
     index: Index,
-    // the place that the latest entry ended, and perhaps its slot, or that of the latest entry
+    // The entry that the latest one ended, and perhaps its slot; or the slot of the latest entry.
     ended: Option<u64>,
     last: usize,
-    // whether the index leads to that slot. What it keeps often ends before anything else is looked for
+    // Whether the index has that slot. Its entry often ends before another is looked up, so the
+    // note is made late.
     is_last_noted: bool,
-    // the buffer for the next payload
+    // the spare buffer, for the next payload
     next: Vec<u8>,
-    // for which messages there are slots of their own
+    // the messages for which there are slots of their own
     paid: Paid,
 }
 
@@ -76,7 +78,7 @@ fn ended_by(reply: Reply) -> Option<u64>
     }
 }
 
-// The queue with which an entry is lost that is made at place `here` on queue q.
+// The queue with which an entry is lost that is made as entry `here` on queue q.
 #[inline(always)]
 fn home_of(reply: Reply, here: u64, q: u64) -> Option<u64>
     ensures { (past : Past) (r : Record) → here ≡ length past → reply ≡ r.entry.reply →
@@ -109,7 +111,7 @@ impl Unstored {
         }
     }
 
-    /// How many entries there are.
+    /// The number of entries.
     pub fn len(&self) -> u64
         ensures count { result ≡ length self.now.records }
         ensures bound { result < 2 ^ 63 }
@@ -117,7 +119,7 @@ impl Unstored {
         self.len
     }
 
-    // The entry that the latest one ended leaves its slot, if the index leads to it.
+    // Vacates the slot of the entry that the latest one ended, if the index finds it.
     #[inline(always)]
     fn drop_ended(&mut self)
         ensures records { self.new.records ≡ self.old.records }
@@ -134,7 +136,7 @@ impl Unstored {
         }
     }
 
-    // Notes the slot of the entry that the latest one ended, where it is looked for next.
+    // Makes the slot of the entry that the latest one ended the first to be looked at.
     #[inline(always)]
     fn note_last(&mut self, ended: Option<u64>)
         ensures { self.new ≡ self.old }
@@ -146,7 +148,7 @@ impl Unstored {
         }
     }
 
-    // This slot is the last one, to which the index leads, unless it was the last already.
+    // Makes this the slot that is looked at first. The one before it gets its note in the index.
     #[inline(always)]
     fn set_last(&mut self, key: usize)
         ensures { self.new ≡ self.old }
@@ -157,7 +159,7 @@ impl Unstored {
         }
     }
 
-    // Sees to it that the index leads to the last slot.
+    // Makes sure that the index has the slot that is looked at first.
     #[inline(always)]
     fn note_latest(&mut self)
         ensures { self.new ≡ self.old }
@@ -168,7 +170,7 @@ impl Unstored {
         }
     }
 
-    // Adds an entry that is not kept, and ends this one.
+    // Appends an entry that is not kept, and that ends `ended`.
     #[inline(always)]
     fn add_passing(&mut self, entry: &Entry, payload: &[u8], ended: Option<u64>)
         requires room { 0 < self.old.entry_room }
@@ -184,7 +186,8 @@ impl Unstored {
         self.len += 1;
     }
 
-    // Adds an entry that is kept, of this priority and lost with this queue, and ends none, in a slot of this class if there is one.
+    // Appends an entry that is kept and ends no other, with this priority, lost with the queue
+    // `home`, in a slot of this class if there is one.
     #[inline(always)]
     fn add_kept(
         &mut self,
@@ -224,8 +227,9 @@ impl Unstored {
         self.len += 1;
     }
 
-    // The same, once the entry that the latest one ended has left its slot. The entry itself is for the history alone: all that is
-    // kept of it comes with it, so that a call which is known where it is made is written nowhere.
+    // The same, after the entry that the latest one ended has left its slot. The entry itself is
+    // only for the history. What is kept of it is passed apart, so that the compiler need not build
+    // a call that is known at compile time.
     #[inline(never)]
     fn pass(&mut self, entry: &Entry, payload: &[u8], ended: Option<u64>)
         requires room { 0 < self.old.entry_room }
@@ -263,7 +267,7 @@ impl Unstored {
         self.add_kept(entry, payload, prio, home, class);
     }
 
-    /// Makes room for that many more entries and payload bytes.
+    /// Makes room for this many further entries and payload bytes.
     #[inline(always)]
     pub fn reserve(&mut self, entries: usize, bytes: usize) -> Result<(), AllocError>
         ensures records { self.new.records ≡ self.old.records }
@@ -281,7 +285,7 @@ impl Unstored {
         self.make_room(entries, bytes)
     }
 
-    // Whether there is room for that many more entries and payload bytes.
+    // Whether there is room for this many further entries and payload bytes.
     #[inline(always)]
     fn has_room(&self, entries: usize, bytes: usize) -> bool
         ensures { IsTrue result ↔
@@ -320,7 +324,8 @@ impl Unstored {
         Ok(())
     }
 
-    /// Adds an entry with its payload, made on queue q, after all others, in room that was reserved. Takes no memory.
+    /// Appends an entry with its payload, made on queue q. There must be room for it. Takes no
+    /// memory.
     #[inline(always)]
     pub fn push(&mut self, entry: Entry, payload: &[u8], q: u64)
         requires entry_room { 0 < self.old.entry_room }
@@ -345,7 +350,7 @@ impl Unstored {
         }
     }
 
-    // The class of slots for an entry that is kept and made on queue q.
+    // The class of slots for a kept entry that is made on queue q.
     #[inline(always)]
     fn class_of(&self, reply: Reply, q: u64) -> usize {
         if self.paid.is_nothing() {
@@ -357,7 +362,7 @@ impl Unstored {
         }
     }
 
-    // Whether the latest queue that was paid for was created, and exists.
+    // Whether the latest queue that was paid for was created and still exists.
     fn is_latest_there(&self) -> bool {
         let Some(queue) = self.paid.latest() else {
             return false;
@@ -368,8 +373,9 @@ impl Unstored {
         }
     }
 
-    /// Makes slots for the messages of the queue that the next entry creates, so many of this size, and for those of the calls in
-    /// which so many processes wait. Until the queue exists no longer, its messages take no memory.
+    /// Makes slots for the messages of the queue that the next entry creates, `messages` of `size`
+    /// bytes, and for those of the calls in which `processes` processes wait. As long as the queue
+    /// exists, its messages take no memory.
     #[inline(never)]
     pub fn prepay(
         &mut self,
@@ -395,7 +401,7 @@ impl Unstored {
         Ok(())
     }
 
-    // Makes the slots of a class that are paid for and are not there.
+    // Adds the slots of a class that are paid for and do not exist yet.
     fn make_slots(&mut self, class: usize) -> Result<(), AllocError>
         ensures records { self.new.records ≡ self.old.records }
         ensures entry_room { self.old.entry_room ≤ self.new.entry_room }
@@ -414,7 +420,7 @@ impl Unstored {
         )
     }
 
-    /// The priority of the message that was sent at a place, if that entry is kept.
+    /// The priority of the message sent by entry `place`, if that is kept.
     #[inline(always)]
     pub fn priority(&self, place: u64) -> u32
         ensures { HasPlace self.now.places place → result ≡ priority self.now.records place }
@@ -425,7 +431,7 @@ impl Unstored {
         self.priority_found(place)
     }
 
-    // The same, of an entry in another slot than the last.
+    // The same for an entry in another slot than `last`.
     #[inline(never)]
     fn priority_found(&self, place: u64) -> u32
         ensures { HasPlace self.now.places place → result ≡ priority self.now.records place }
@@ -436,7 +442,7 @@ impl Unstored {
         }
     }
 
-    /// The payload of the entry at a place, if it is kept.
+    /// The payload of entry `place`, if that is kept.
     #[inline(always)]
     pub fn payload(&self, place: u64) -> Option<&[u8]>
         ensures { HasPlace self.now.places place →
@@ -449,7 +455,7 @@ impl Unstored {
         self.payload_found(place)
     }
 
-    // The same, of an entry in another slot than the last.
+    // The same for an entry in another slot than `last`.
     #[inline(never)]
     fn payload_found(&self, place: u64) -> Option<&[u8]>
         ensures { HasPlace self.now.places place →
@@ -462,14 +468,14 @@ impl Unstored {
         }
     }
 
-    /// The history, which is all that is left.
+    /// Drops what is kept, and returns the history.
     pub fn into_history(self) -> History
         ensures { result.past ≡ self.records }
     {
         self.past
     }
 
-    /// A queue exists no longer: nobody will ask for what is lost with it.
+    /// Vacates the slots of what is lost with a queue that no longer exists.
     pub fn forget(&mut self, queue: u64)
         ensures records { self.new.records ≡ self.old.records }
         ensures entry_room { self.old.entry_room ≤ self.new.entry_room }

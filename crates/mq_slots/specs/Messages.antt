@@ -1,9 +1,9 @@
--- The messages that are present, each as its priority and its place.
+-- The messages that are present, each as its priority and its sequence number.
 use Rattle.std.specs.Prelude.{◌≡◌, ◌≢◌, ℕ, ◌<◌, ◌⊎◌, nat_lt, ◌==◌, not, if◌then◌else◌, List, [], ◌∷◌, filter}
 use Rattle.std.specs.List.{Contains}
 use Rattle.mq_slots.specs.declared.cells.Cell.{Cell}
 
--- a message among others, the latest first
+-- a message inserted among others, the latest first
 abbrev pub placed : ℕ × ℕ → List (ℕ × ℕ) → List (ℕ × ℕ)
 placed m [] = m ∷ []
 placed m (x ∷ xs) = if nat_lt x.1 m.1 then m ∷ x ∷ xs else x ∷ placed m xs
@@ -13,11 +13,12 @@ abbrev pub messages : List Cell → List (ℕ × ℕ)
 messages [] = []
 messages (c ∷ cells) = if nat_lt c.prio 32768 then placed (c.prio, c.place) (messages cells) else messages cells
 
--- the messages at other places
+-- the messages with another sequence number
 abbrev pub without : ℕ → List (ℕ × ℕ) → List (ℕ × ℕ)
 without place present = filter (λ m. not (m.1 == place)) present
 
--- of these two the first is received first: its priority is greater, or it is the same and its place is less
+-- Of these two messages the first is received first: its priority is higher, or equal and its
+-- sequence number is lower.
 abbrev pub GoesFirst : ℕ × ℕ → ℕ × ℕ → Type 0
 GoesFirst a b = (b.0 < a.0) ⊎ ((b.0 ≡ a.0) × (a.1 < b.1))
 

@@ -1,4 +1,4 @@
--- What is true of the fields of Slots.
+-- The invariant of the fields of Slots.
 use Rattle.std.specs.Prelude.{◌≡◌, ℕ, ◌+◌, ◌-◌, ◌≤◌, List, length, vec_capacity}
 use Rattle.mq_slots.specs.declared.cells.Cell.{Cell}
 use Rattle.mq_slots.specs.declared.levels.Level.{Level}
@@ -24,7 +24,7 @@ level_prio levels k = (level_at levels k).prio
 abbrev pub level_last : List Level → ℕ → ℕ
 level_last levels k = (level_at levels k).last
 
--- slots and levels that hang together, with `count` spare slots from `free` on, and room for that many levels
+-- Slots and levels that match, with `count` spare slots from `free` on, and room for `room` levels.
 pub record IsSound (cells : List Cell) (levels : List Level) (free count room : ℕ) : Type 0 where
   pub chained : IsChained (length cells) (prio_at cells) (place_at cells) (next_at cells)
   pub freed : IsFreed (length cells) (prio_at cells) (place_at cells) (next_at cells) free count

@@ -1,18 +1,19 @@
-//! The slots of a queue: those that hold a message stand in one chain, and the spare ones in another.
+//! The slots of a queue. Those with a message form one linked list, and the spare ones another.
 ghost use Rattle.std.specs.Prelude.{◌≡◌, ◌+◌, ◌<◌, ◌≤◌, [], ◌∷◌, ◌++◌, length, IfOk, slice_set, vec_len};
 ghost use Rattle.mq_slots.specs.Cells.{blank, cell_at, linked, unlinked, IsFresh};
 
 use std::alloc::{AllocError, Global};
 
-/// The priority that the head of the chain has, which is above that of every message.
+/// The priority of the head of the list, above that of every message.
 pub const HEAD: u32 = 32_768;
 
-/// The priority that a spare slot has.
+/// The priority of a spare slot.
 pub const SPARE: u32 = 32_769;
 
-/// A slot. One with a message has its priority and place, and the index of the slot whose message is received after it. The head
-/// of that chain is the slot at 0, which never has a message. A spare slot has how many slots the chain of spare ones has from
-/// it on, and the index of the next of them.
+/// A slot. One with a message has the message's priority and sequence number, and in `next` the
+/// index of the slot whose message is received next. The head of that list is slot 0, which never
+/// has a message. A spare slot has in `place` the number of spare slots from it on, and in `next`
+/// the index of the next one.
 #[derive(Clone, Copy, Debug, PartialEq, Eq)]
 pub struct Cell {
     pub place: u64,
@@ -20,7 +21,7 @@ pub struct Cell {
     pub next: u32,
 }
 
-/// The head of an empty chain, and that many spare slots, each of which leads to the one before it.
+/// The head of an empty list, and `spare` spare slots, each linked to the one before it.
 pub fn fresh(alloc: Global, spare: u32) -> Result<Vec<Cell>, AllocError>
     requires { spare ≤ 4096 }
     ensures { IfOk result (λ cells. IsFresh cells.items spare) }
@@ -50,7 +51,7 @@ pub fn at(cells: &[Cell], index: u32) -> Cell
     cells[index as usize]
 }
 
-/// Puts a message into the spare slot `new`, and that slot into the chain after the slot `before`.
+/// Puts a message into the spare slot `new`, and links that slot after the slot `before`.
 #[inline(always)]
 pub fn link(cells: &mut Vec<Cell>, before: u32, new: u32, prio: u32, place: u64)
     requires before { before < length cells.old.items }
@@ -62,7 +63,8 @@ pub fn link(cells: &mut Vec<Cell>, before: u32, new: u32, prio: u32, place: u64)
     cells[new as usize] = Cell { prio, place, next };
 }
 
-/// Takes the first message's slot out of the chain, and puts it before the chain of `count` spare slots that begins at `spare`.
+/// Unlinks the slot of the first message, and links it before the `count` spare slots that begin at
+/// `spare`.
 #[inline(always)]
 pub fn unlink(cells: &mut Vec<Cell>, first: u32, spare: u32, count: u32)
     requires head { 0 < length cells.old.items }

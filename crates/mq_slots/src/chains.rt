@@ -7,21 +7,21 @@ use crate::levels::{self, Level};
 use std::alloc::{AllocError, Global};
 use std::marker::Model;
 
-/// The messages present in one queue, each with its priority and the place of its send. The one that is received next is that of
-/// the highest priority, and among these the one of the least place.
+/// The messages present in one queue, each with its priority and the sequence number of its send.
+/// The next to be received is the oldest one of the highest priority.
 ///
-/// The messages stand in one chain of slots, in the order in which they are received, and the spare slots in another. The last slot
-/// of each priority in use is noted, so that a push finds where its message belongs by a search among the priorities, and a pop
-/// takes the first of the chain.
+/// The messages form a linked list of slots, in the order in which they are received, and the spare
+/// slots another. A table has the last slot of each priority in use. So a push finds the position
+/// of its message by binary search among the priorities, and a pop takes the first of the list.
 #[derive(Debug, Drop)]
 pub struct Slots {
-    // the head of the chain of messages, and the slots
+    // the slots, of which the first is the head of the list
     cells: Vec<Cell>,
-    // the priorities in use, rising
+    // the table of the priorities in use, rising
     levels: Vec<Level>,
     // the first spare slot, if there is one
     free: u32,
-    // how many slots are spare
+    // the number of spare slots
     spare: u32,
 }
 
@@ -38,8 +38,8 @@ impl Model for Slots {
 }
 
 impl Slots {
-    /// An empty queue with room for `cap` messages, 1 to 4,096. All the memory that is needed later is taken here; the error is
-    /// that it was refused.
+    /// An empty queue with room for `cap` messages, 1 to 4,096. It takes all the memory that later
+    /// calls need. Fails if memory was refused.
     pub fn new(alloc: Global, cap: u32) -> Result<Slots, AllocError>
         requires some { 1 ≤ cap }
         requires few { cap ≤ 4096 }
@@ -56,8 +56,8 @@ impl Slots {
         })
     }
 
-    /// Adds a message, in room that is there: its priority, 0 to 32,767, and the place of its send, which is above that of each
-    /// message present.
+    /// Adds a message. There must be room for it. Its priority is 0 to 32,767, and its sequence
+    /// number is above that of each message present.
     #[inline(always)]
     pub fn push(&mut self, prio: u32, place: u64)
         requires room { length self.old.messages < self.old.cap }
@@ -79,7 +79,8 @@ impl Slots {
         levels::note_level(&mut self.levels, at, prio, new);
     }
 
-    /// Takes out the message that is received next, the oldest of the highest priority, as its priority and its place.
+    /// Removes the message that is received next, the oldest of the highest priority, and returns
+    /// its priority and sequence number.
     #[inline(always)]
     pub fn pop(&mut self) -> Option<(u32, u64)>
         ensures none { IsNone result ↔ (self.old.messages ≡ []) }
@@ -103,7 +104,7 @@ impl Slots {
         Some((best.prio, best.place))
     }
 
-    /// Takes all messages out. The room stays as it was.
+    /// Removes all messages. The room stays the same.
     pub fn clear(&mut self)
         ensures empty { self.new.messages ≡ [] }
         ensures cap { self.new.cap ≡ self.old.cap }
@@ -111,7 +112,7 @@ impl Slots {
         while self.pop().is_some() {}
     }
 
-    /// The message that is received next, as its priority and its place.
+    /// The message that is received next, as its priority and its sequence number.
     pub fn best(&self) -> Option<(u32, u64)>
         ensures none { IsNone result ↔ (self.now.messages ≡ []) }
         ensures best { IfSome result (λ m. IsBest self.now.messages m) }
@@ -124,7 +125,7 @@ impl Slots {
         Some((slot.prio, slot.place))
     }
 
-    /// How many messages are present.
+    /// The number of messages present.
     pub fn len(&self) -> usize
         ensures count { result ≡ length self.now.messages }
         ensures within { result ≤ self.now.cap }
@@ -133,7 +134,8 @@ impl Slots {
         self.cells.len() - 1 - self.spare as usize
     }
 
-    /// The places of the messages, rising. Nothing is promised of them: who goes by them checks what comes of it.
+    /// The sequence numbers of the messages, rising. No contract says which they are, so a caller
+    /// must check what it does with them.
     pub fn places(&self, alloc: Global) -> Result<Vec<u64>, AllocError> {
         let mut places = Vec::new(alloc);
         for cell in self.cells.iter() {
@@ -145,14 +147,14 @@ impl Slots {
         Ok(places)
     }
 
-    /// There is no room for another message.
+    /// Whether there is no room for another message.
     pub fn is_full(&self) -> bool
         ensures { IsTrue result ↔ (length self.now.messages ≡ self.now.cap) }
     {
         self.spare == 0
     }
 
-    /// No message is present.
+    /// Whether no message is present.
     pub fn is_empty(&self) -> bool
         ensures { IsTrue result ↔ (self.now.messages ≡ []) }
     {

@@ -1,8 +1,9 @@
-//! The priorities in use, and the last slot of each.
+//! The table of the priorities in use, with the last slot of each.
 ghost use Rattle.std.specs.Prelude.{◌≡◌, ℕ, ◌+◌, ◌<◌, ◌≤◌, [], ◌∷◌, length, vec_len, vec_capacity};
 ghost use Rattle.mq_slots.specs.Levels.{level_at, last_from, noted, dropped, IsRising};
 
-/// A priority in use: the slot of its newest message. It is small, for the levels above it move where one is put among them.
+/// A level: a priority in use, and the slot of its newest message. It is small, because an
+/// insertion moves the levels above it.
 #[derive(Clone, Copy, Debug, PartialEq, Eq)]
 pub struct Level {
     pub prio: u16,
@@ -22,7 +23,8 @@ fn small(prio: u32, last: u32) -> Level
     }
 }
 
-/// How many levels are of a lower priority: the index of the level of this priority or of the next higher one.
+/// How many levels have a lower priority: the index of the level of this priority or of the next
+/// higher one.
 pub fn find_level(levels: &[Level], prio: u32) -> usize
     requires { IsRising levels.now }
     ensures within { result ≤ length levels.now }
@@ -43,7 +45,7 @@ pub fn find_level(levels: &[Level], prio: u32) -> usize
     low
 }
 
-/// The last slot of the level with that index, or the head of the chain where there is none.
+/// The last slot of the level with this index, or the head of the list if there is none.
 #[inline(always)]
 pub fn last_from(levels: &[Level], at: usize) -> u32
     ensures { result ≡ last_from levels.now at }
@@ -55,7 +57,8 @@ pub fn last_from(levels: &[Level], at: usize) -> u32
     }
 }
 
-/// Notes the slot of the newest message of a priority, whose level has that index or is put there.
+/// Sets the slot of the newest message of a priority. Its level has this index, or is inserted
+/// there.
 #[inline(always)]
 pub fn note_level(levels: &mut Vec<Level>, at: usize, prio: u32, last: u32)
     requires within { at ≤ vec_len levels.old }
@@ -78,7 +81,7 @@ pub fn note_level(levels: &mut Vec<Level>, at: usize, prio: u32, last: u32)
     };
 }
 
-/// Takes the highest level out, if that slot is its last one.
+/// Removes the highest level if `slot` is its last one.
 #[inline(always)]
 pub fn drop_level(levels: &mut Vec<Level>, slot: u32)
     ensures items { levels.new.items ≡ dropped levels.old.items slot }

@@ -1,5 +1,5 @@
-//! The messages of one queue as chains of slots: the one that is received next is found at once, and no call but `new` takes
-//! memory.
+//! The messages of one queue as linked slots. The message that is received next is found at once,
+//! and only `new` takes memory.
 #![tactic(auto)]
 
 mod cells;
