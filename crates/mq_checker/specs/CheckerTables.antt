@@ -6,7 +6,7 @@ use Rattle.mq_model.specs.Owners.{OwnersMirror}
 use Rattle.mq_checker.specs.TakenTable.{TakenMirror}
 use Rattle.mq_checker.specs.declared.tables.Tables.{Tables}
 
--- the tables say what the definitions say of the journal
+-- the tables say what the definitions say about the journal
 pub record TablesMirror (past : Past) (tables : Tables) : Type 0 where
   pub owners : OwnersMirror past tables.owners
   pub count : length tables.owners ≡ most_processes + 1

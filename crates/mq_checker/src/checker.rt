@@ -1,4 +1,4 @@
-//! Whether a journal is legal.
+//! Checking that a journal is legal.
 #![tactic(auto, using(mq_model::proofs::Prefixes::prefixes))]
 
 ghost use Rattle.std.specs.Prelude.{◌≡◌, ◌+◌, ◌<◌, ◌&&◌, ◌↔◌, IsTrue, IsOk, IfErr, length};
@@ -35,7 +35,7 @@ fn all(process: bool, turn: bool, fits: bool, same: bool) -> bool
     process && turn && fits && same
 }
 
-// Whether the record at place `k` may stand after those before it.
+// Whether the record at place `k` may follow those before it.
 fn is_legal_at(journal: &Journal, k: u64, tables: &Tables) -> bool
     requires place { k < length journal.now.records }
     requires legal { Legal (first k journal.now.records) }
@@ -51,8 +51,10 @@ fn is_legal_at(journal: &Journal, k: u64, tables: &Tables) -> bool
     all(process, turn, fits, same)
 }
 
-/// Checks that a journal is legal: each process is 1 to 32, makes a call where it may, and got the reply that the calls
-/// before determine, with the payload that belongs there. `Err` gives the first place where this is not so. Takes no memory.
+/// Checks that a journal is legal: the number of each process is 1 to 32, each call is allowed, its
+/// reply is the one that the calls before it determine, and its payload is well-formed. `Err` has
+/// the first place at which this is not so. It takes no memory, and time in the square of the
+/// journal's length.
 pub fn check_history(journal: &Journal) -> Result<(), u64>
     ensures legal { IsOk result ↔ Legal journal.now.records }
     ensures first_illegal { IfErr result (IsFirstIllegal journal.now.records) }

@@ -1,5 +1,6 @@
-//! The reply to each call, by the entries before a place: the facts that it depends on, read off the tables and the
-//! entries, and the reply that the error_order of `mq_model` gives to them. Facts that no reply depends on are not read.
+//! The reply to each call, from the entries before it: the facts that it depends on, taken from the
+//! tables and the entries, and the reply that the order of errors of `mq_model` gives for them.
+//! Facts that the reply does not depend on are not looked up.
 #![tactic(auto, using(mq_model::proofs::Prefixes::prefixes))]
 
 ghost use Rattle.std.specs.Prelude.{◌≡◌, ◌≤◌, ◌==◌, ◌&&◌, length, IsTrue, IfSome, is_some, None, if◌then◌else◌};
@@ -22,7 +23,7 @@ use mq_model::error_order::{NotifyFacts, OpenFacts, ReceiveFacts, SendFacts, Sta
 use mq_model::journals::Journal;
 use mq_model::owners::WaitKind;
 
-// How many queues exist, which counts where the name of an open is not bound.
+// The number of queues that exist. It matters only if the name of an open is not bound.
 fn queues_unless(journal: &Journal, k: u64, tables: &Tables, bound: bool) -> u64
     requires bound { k ≤ length journal.now.records }
     requires mirror { TablesMirror (first k journal.now.records) tables.now }
@@ -80,7 +81,7 @@ fn registered_place(journal: &Journal, k: u64, q: u64) -> Option<u64>
     }
 }
 
-// The place of the registration on queue `q`, which counts where something may be notified.
+// The place of the registration on queue `q`. It matters only if the call may notify.
 fn registered_if(journal: &Journal, k: u64, q: u64, counts: bool) -> Option<u64>
     requires { k ≤ length journal.now.records }
     ensures { result ≡ (if counts then registered_place (first k journal.now.records) q else None) }
@@ -137,7 +138,7 @@ fn reply_to_send(
     }
 }
 
-// How many messages are in queue `q`, which counts where a send waits.
+// The number of messages in queue `q`. It matters only if a send waits.
 fn count_if(journal: &Journal, k: u64, tables: &Tables, q: u64, waits: bool) -> u64
     requires bound { k ≤ length journal.now.records }
     requires mirror { TablesMirror (first k journal.now.records) tables.now }
@@ -198,7 +199,7 @@ fn reply_to_receive(
     }
 }
 
-// How many messages are in queue `q`.
+// The number of messages in queue `q`.
 fn few_present(journal: &Journal, k: u64, tables: &Tables, q: u64) -> u64
     requires bound { k ≤ length journal.now.records }
     requires legal { Legal (first k journal.now.records) }
@@ -255,7 +256,7 @@ fn reply_to_notify(
     }
 }
 
-// What process `p` holds under `d`: a queue that was created.
+// What process `p` holds under `d`, with the fact that its queue was created.
 fn held_created(journal: &Journal, k: u64, tables: &Tables, p: u32, d: u32) -> Option<Description>
     requires mirror { TablesMirror (first k journal.now.records) tables.now }
     requires bound { k ≤ length journal.now.records }

@@ -1,4 +1,5 @@
-//! Whether a journal is legal: `checker::check_history` reads each reply off the entries before it.
+//! Checking that a journal is legal. `checker::check_history` determines each reply from the
+//! entries before it.
 #![tactic(auto)]
 
 pub mod checker;

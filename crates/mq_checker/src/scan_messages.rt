@@ -1,4 +1,4 @@
-//! Messages and waiting calls, read off the entries before a place.
+//! Messages and waiting calls, by a scan of the entries before a place.
 #![tactic(auto, using(mq_model::proofs::Prefixes::prefixes))]
 
 ghost use Rattle.std.specs.Prelude.{◌≡◌, ◌<◌, ◌≤◌, IsFalse, List, ℕ, length};
@@ -12,7 +12,7 @@ use crate::taken::is_taken;
 use mq_model::entries::{Call, Entry, Reply};
 use mq_model::journals::Journal;
 
-/// Whether a reply to this call says that its message was queued.
+/// Whether this call with this reply is a send whose message was queued.
 pub fn queues(call: Call, reply: Reply) -> bool
     ensures { result ≡ queues call reply }
 {
@@ -22,7 +22,7 @@ pub fn queues(call: Call, reply: Reply) -> bool
     }
 }
 
-/// Whether a reply to this call says that a send waits.
+/// Whether this call with this reply is a send that waits.
 pub fn blocks_send(call: Call, reply: Reply) -> bool
     ensures { result ≡ blocks_send call reply }
 {
@@ -32,7 +32,7 @@ pub fn blocks_send(call: Call, reply: Reply) -> bool
     }
 }
 
-/// The place of the blocked send that a receive with this reply lets into the queue.
+/// The place of the waiting send that a receive with this reply admits.
 pub fn admits(reply: Reply) -> Option<u64>
     ensures { result ≡ admits reply }
 {
@@ -46,7 +46,7 @@ pub fn admits(reply: Reply) -> Option<u64>
     }
 }
 
-// Whether a send to queue `q` blocked at place `w`, before place `k`.
+// Whether a send to queue `q` began to wait at place `w`, before place `k`.
 pub(crate) fn is_blocked_send(journal: &Journal, k: u64, q: u64, w: u64) -> bool
     requires { k ≤ length journal.now.records }
     ensures { result ≡ is_in (blocked_sends (first k journal.now.records) q) w }
@@ -64,7 +64,7 @@ pub(crate) fn is_blocked_send(journal: &Journal, k: u64, q: u64, w: u64) -> bool
     found
 }
 
-/// The message that the entry at place `k` lets into queue `q`.
+/// The message that enters queue `q` by the entry at place `k`.
 pub fn entered(journal: &Journal, k: u64, entry: Entry, q: u64) -> Option<u64>
     requires { k ≤ length journal.now.records }
     ensures { result ≡ entered (first k journal.now.records) entry q }
@@ -84,7 +84,7 @@ pub fn entered(journal: &Journal, k: u64, entry: Entry, q: u64) -> Option<u64>
     }
 }
 
-/// The message that an entry at place `i` lets into some queue.
+/// The message that enters some queue by an entry at place `i`.
 pub fn enters(i: u64, entry: Entry) -> Option<u64>
     ensures { result ≡ enters i entry }
 {
@@ -95,7 +95,8 @@ pub fn enters(i: u64, entry: Entry) -> Option<u64>
     }
 }
 
-// The message that the entry at place `i` lets into queue `q`, if it was not taken before place `k`.
+// The message that enters queue `q` by the entry at place `i`, if no entry before place `k` took
+// it.
 fn still_present(
     journal: &Journal,
     k: u64,
@@ -119,7 +120,7 @@ fn still_present(
     entered(journal, i, entry, q)
 }
 
-// How many messages are in queue `q` before place `k`.
+// The number of messages in queue `q` before place `k`.
 pub(crate) fn present_count(journal: &Journal, k: u64, marks: &[bool], q: u64) -> u64
     requires bound { k ≤ length journal.now.records }
     requires mirror { TakenMirror (first k journal.now.records) marks.now }
@@ -156,7 +157,7 @@ pub(crate) fn goes_first(journal: &Journal, k: u64, m: u64, n: u64) -> bool
     other < one || (one == other && m <= n)
 }
 
-// Whether what an entry lets in may be better than the best message found so far.
+// Whether the message that enters by an entry may be better than the best found so far.
 fn may_be_better(journal: &Journal, k: u64, i: u64, entry: Entry, found: Option<u64>) -> bool
     requires bound { k ≤ length journal.now.records }
     requires place { i < k }
@@ -187,7 +188,7 @@ pub(crate) fn best(journal: &Journal, k: u64, marks: &[bool], q: u64) -> Option<
     found
 }
 
-// The best message of queue `q`, where `found` was the best of those that entered before.
+// The best message of queue `q`, given the best of those that entered earlier, `found`.
 fn best_with(
     journal: &Journal,
     k: u64,

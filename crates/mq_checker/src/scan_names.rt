@@ -1,4 +1,4 @@
-//! Names, descriptors and queues, read off the entries before a place.
+//! Names, descriptors and queues, by a scan of the entries before a place.
 #![tactic(auto, using(mq_model::proofs::Prefixes::prefixes))]
 
 ghost use Rattle.std.specs.Prelude.{◌≡◌, ◌+◌, ◌<◌, ◌≤◌, ◌∷◌, length};
@@ -13,7 +13,7 @@ use mq_model::entries::{Attr, Call, Description, Entry, Reply};
 use mq_model::error_order::{DEFAULT_ATTRIBUTES, attributes_given};
 use mq_model::journals::Journal;
 
-/// The entry at a place, of which only what the caller reads is made.
+/// The entry at a place. It is inlined, so that only what the caller reads is loaded.
 #[inline(always)]
 pub fn entry_at(journal: &Journal, place: u64) -> Entry
     requires { place < length journal.now.records }
@@ -45,7 +45,7 @@ pub(crate) fn is_unlink(call: Call) -> bool
     }
 }
 
-/// Whether a reply to this call says that a queue was created.
+/// Whether this call with this reply is an open that created its queue.
 pub fn creates(call: Call, reply: Reply) -> bool
     ensures { result ≡ creates call reply }
 {
@@ -183,7 +183,7 @@ pub fn is_on(journal: &Journal, k: u64, p: u32, call: Call, q: u64) -> bool
     }
 }
 
-// The entry at place `m`, where that lies before place `k`.
+// The entry at place `m`, if that is before place `k`.
 pub(crate) fn entry_before(journal: &Journal, k: u64, m: u64) -> Option<Entry>
     requires { k ≤ length journal.now.records }
     ensures { result ≡ option_map (λ r. r.entry) (record_at (first k journal.now.records) m) }
@@ -202,7 +202,7 @@ pub(crate) fn attributes(journal: &Journal, k: u64, q: u64) -> Attr
     }
 }
 
-// Whether queue `q` is bound to its name at place `k`.
+// Whether queue `q` is still bound to its name at place `k`.
 pub(crate) fn is_named(journal: &Journal, k: u64, q: u64) -> bool
     requires place { q < k }
     requires bound { k ≤ length journal.now.records }
@@ -215,7 +215,7 @@ pub(crate) fn is_named(journal: &Journal, k: u64, q: u64) -> bool
     }
 }
 
-// How many queues exist at place `k`.
+// The number of queues that exist at place `k`.
 pub(crate) fn alive_count(journal: &Journal, k: u64, tables: &Tables) -> u64
     requires bound { k ≤ length journal.now.records }
     requires mirror { TablesMirror (first k journal.now.records) tables.now }

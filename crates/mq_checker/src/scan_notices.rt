@@ -1,4 +1,4 @@
-//! Registrations and notices, read off the entries before a place.
+//! Registrations and notices, by a scan of the entries before a place.
 #![tactic(auto, using(mq_model::proofs::Prefixes::prefixes))]
 
 ghost use Rattle.std.specs.Prelude.{◌≡◌, ◌≤◌, length, slice_get};
@@ -10,7 +10,7 @@ use mq_model::entries::{Call, Registration, Reply};
 use mq_model::journals::Journal;
 use mq_model::registrations::{notified, registration_after, touches_registrations};
 
-/// The registration that stands on queue `q` before place `k`.
+/// The registration on queue `q` before place `k`.
 pub fn registered(journal: &Journal, k: u64, q: u64) -> Option<Registration>
     requires { k ≤ length journal.now.records }
     ensures { result ≡ registered (first k journal.now.records) q }
@@ -35,7 +35,7 @@ pub(crate) fn value_of_notify(call: Call) -> Option<u64>
     }
 }
 
-// The value that process `p` gave with the registration at a place.
+// The value that process `p` gave to its registration at a place.
 pub(crate) fn value_given(journal: &Journal, k: u64, p: u32, place: u64) -> Option<u64>
     requires { k ≤ length journal.now.records }
     ensures { result ≡ value_given p (record_at (first k journal.now.records) place) }
@@ -81,7 +81,7 @@ pub(crate) fn notices_given(journal: &Journal, k: u64, p: u32) -> u64
     count
 }
 
-// The notice that process `p` gets next at place `k`.
+// The notice that process `p` takes next at place `k`.
 pub(crate) fn next_notice(journal: &Journal, k: u64, p: u32) -> Option<u64>
     requires { k ≤ length journal.now.records }
     ensures { result ≡ slice_get (notices (first k journal.now.records) p) 0 }

@@ -1,5 +1,5 @@
-//! The checker's tables, which say what the definitions say of the entries so far: what each process has, and which messages
-//! were taken.
+//! The checker's tables, which say what the definitions say about the entries so far: what each
+//! process has, and which messages were taken.
 ghost use Rattle.std.specs.Prelude.{◌≡◌, ◌+◌, ◌<◌, ◌≤◌, [], length, Some, None, ℕ, Bool};
 ghost use Rattle.std.specs.Option.{option_map, unwrap_or};
 ghost use Rattle.mq_model.specs.Limits.{most_processes};
@@ -19,7 +19,7 @@ use mq_model::limits::PROCESSES;
 use mq_model::owners;
 use mq_model::owners::{Owner, WaitKind};
 
-// How many lines the table of processes has: process p's is at index p.
+// The number of rows of the table of processes. Process p has the row at index p.
 const OWNERS: usize = PROCESSES as usize + 1;
 
 /// What each process has, and which messages were taken.
@@ -29,7 +29,7 @@ pub(crate) struct Tables {
     pub(crate) marks: [bool; taken::PLACES],
 }
 
-// The lines of processes that have nothing.
+// The rows of processes without descriptors and waits.
 fn vacant() -> [Owner; OWNERS]
     ensures mirror { OwnersMirror [] result }
     ensures count { length result ≡ most_processes + 1 }
@@ -37,7 +37,7 @@ fn vacant() -> [Owner; OWNERS]
     [Owner::free(); OWNERS]
 }
 
-// The tables of a journal without entries.
+// The tables of the empty journal.
 pub(crate) fn start() -> Tables
     ensures { TablesMirror [] result }
 {
@@ -88,7 +88,7 @@ pub(crate) fn wait(journal: &Journal, k: u64, tables: &Tables, p: u32) -> Option
     }
 }
 
-// The moment until which process `p` waits at place `k`.
+// The deadline of the open wait of process `p` at place `k`.
 pub(crate) fn deadline(journal: &Journal, k: u64, tables: &Tables, p: u32) -> Option<Deadline>
     requires { TablesMirror (first k journal.now.records) tables.now }
     ensures { result ≡ wait_deadline (first k journal.now.records) p }
@@ -107,7 +107,7 @@ pub(crate) fn answer(journal: &Journal, k: u64, tables: &Tables, p: u32) -> Opti
     owners::answer(&tables.owners, p)
 }
 
-// The send, or receive, that waits the longest on queue `q` at place `k`.
+// The send, or receive, that has waited longest on queue `q` at place `k`.
 pub(crate) fn first_wait(
     journal: &Journal,
     k: u64,
@@ -154,7 +154,7 @@ fn entry_queue(journal: &Journal, k: u64, tables: &Tables, entry: Entry, payload
     }
 }
 
-// Notes the entry at place `k`, with which the journal is legal.
+// Updates the tables for the entry at place `k`, with which the journal is legal.
 pub(crate) fn note(journal: &Journal, k: u64, tables: &mut Tables)
     requires place { k < length journal.now.records }
     requires mirror { TablesMirror (first k journal.now.records) tables.old }

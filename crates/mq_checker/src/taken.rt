@@ -1,4 +1,5 @@
-//! Which messages were taken: a table of the first places, entry by entry, and the entries for those beyond.
+//! Which messages were taken: a table for the first places, and a scan of the entries for the
+//! others.
 #![tactic(auto, using(mq_model::proofs::Prefixes::prefixes))]
 
 ghost use Rattle.std.specs.Prelude.{◌≡◌, ◌≤◌, [], length};
@@ -9,7 +10,7 @@ ghost use Rattle.mq_checker.specs.TakenTable.{TakenMirror, marked};
 use mq_model::entries::Reply;
 use mq_model::journals::Journal;
 
-// How many places the table has.
+// The number of places in the table.
 pub(crate) const PLACES: usize = 16384;
 
 /// The message that a reply at place `here` takes.
@@ -42,7 +43,7 @@ fn was_taken(journal: &Journal, k: u64, m: u64) -> bool
     found
 }
 
-// The table of a journal without entries.
+// The table of the empty journal.
 pub(crate) fn unmarked() -> [bool; PLACES]
     ensures { TakenMirror [] result }
 {
@@ -62,7 +63,7 @@ pub(crate) fn is_taken(journal: &Journal, k: u64, marks: &[bool], m: u64) -> boo
     }
 }
 
-// Notes what the reply at place `here` takes.
+// Updates the table for the reply at place `here`.
 pub(crate) fn note(marks: &mut [bool], here: u64, reply: Reply)
     ensures { marks.new ≡ marked marks.old (taken_by here reply) }
 {

@@ -19,35 +19,36 @@ description q flags = record { queue = q; access = flags.access; nonblock = flag
 abbrev pub with_nonblock : Bool → Description → Description
 with_nonblock nonblock h = record { queue = h.queue; access = h.access; nonblock = nonblock }
 
--- the queue that a successful open opened: a new one, or the one that the name was bound to. The 0 never stands in a
--- legal journal, where an open that creates nothing found its name bound
+-- The queue that a successful open opened: a new one, or the one that the name was bound to. In a
+-- legal journal the 0 is never used, since an open that creates nothing found its name bound.
 abbrev pub opened_queue : Past → List ℕ → Bool → Queue
 opened_queue past name created = if created then length past else unwrap_or (bound_queue past name) 0
 
--- what descriptor d is after an open that gave e
+-- what descriptor d stands for after an open that returned e
 abbrev pub after_open : Past → Call → List ℕ → Descriptor → Bool → Descriptor → Option Description → Option Description
 after_open past (MqOpen flags attr) name e created d before = if e == d then Some (description (opened_queue past name created) flags) else before
 after_open past _ name e created d before = before
 
--- what descriptor d is after a close
+-- what descriptor d stands for after a close
 abbrev pub after_close : Call → Descriptor → Option Description → Option Description
 after_close (MqClose e) d before = if e == d then None else before
 after_close _ d before = before
 
--- what descriptor d is after a setattr
+-- what descriptor d stands for after a setattr
 abbrev pub after_setattr : Call → Descriptor → Option Description → Option Description
 after_setattr (MqSetattr e nonblock) d before = if e == d then option_map (with_nonblock nonblock) before else before
 after_setattr _ d before = before
 
--- what descriptor d of a process is after an entry of that process, where it was before
+-- what descriptor d of a process stands for after an entry of that process, given what it stood for
+-- before
 abbrev pub held_after : Past → Call → List ℕ → Reply → Descriptor → Option Description → Option Description
 held_after past call name (Opened e created) d before = after_open past call name e created d before
 held_after past call name Done d before = after_close call d before
 held_after past call name (Attrs status) d before = after_setattr call d before
 held_after past call name _ d before = before
 
--- the description that process p holds under descriptor d: that of the latest open that gave d, with the flag of the
--- latest setattr after it, and none if d was closed since
+-- The description that process p holds under descriptor d: that of the latest open that returned d,
+-- with the flag of the latest setattr after it; none if d was closed since.
 abbrev pub held : Past → Process → Descriptor → Option Description
 held [] p d = None
 held (r ∷ past) p d = if r.entry.process == p then held_after past r.entry.call r.payload r.entry.reply d (held past p d) else held past p d
@@ -68,7 +69,7 @@ lowest_free past p = find (λ d. is_none (held past p d)) descriptor_numbers
 abbrev pub lowest_held : Past → Process → Option Descriptor
 lowest_held past p = find (λ d. is_some (held past p d)) descriptor_numbers
 
--- this is place k
+-- the optional place is k
 abbrev pub is_place : Place → Option Place → Bool
 is_place k None = false
 is_place k (Some j) = j == k
@@ -89,7 +90,7 @@ descriptor_of NextNotice = None
 descriptor_of Collect = None
 descriptor_of (Withdraw now) = None
 
--- the queue that a call is made on, by the descriptor that it names
+-- the queue that a call is made on, through the descriptor that it names
 abbrev pub called_queue : Past → Process → Call → Option Queue
 called_queue past p call = option_map (λ h. h.queue) (option_and_then (held past p) (descriptor_of call))
 
@@ -102,7 +103,7 @@ abbrev pub created : Past → List Queue
 created [] = []
 created (r ∷ past) = if creates r.entry.call r.entry.reply then length past ∷ created past else created past
 
--- a process with a descriptor of its
+-- a process with a descriptor that it was given
 pub record Holder : Type 0 where
   pub process : Process
   pub d : Descriptor
@@ -111,7 +112,7 @@ abbrev pub number_opened : Call → Descriptor → Option Descriptor
 number_opened (MqOpen flags attr) d = Some d
 number_opened _ d = None
 
--- the descriptor that an open was given
+-- the descriptor that an open returned
 abbrev pub opened_number : Call → Reply → Option Descriptor
 opened_number call (Opened d created) = number_opened call d
 opened_number call _ = None
@@ -133,6 +134,6 @@ is_held past q = list_any (λ x. is_place q (option_map (λ h. h.queue) (held pa
 abbrev pub is_named : Past → Queue → Bool
 is_named past q = is_place q (bound_queue past (name_of past q))
 
--- the queues that exist: those that are bound to their name or held by some process
+-- the queues that exist: those that are still bound to their names or are held by some process
 abbrev pub alive : Past → List Queue
 alive past = filter (λ q. is_named past q || is_held past q) (created past)

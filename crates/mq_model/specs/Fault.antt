@@ -1,9 +1,9 @@
--- The numbers and the printed names of faults.
+-- The numbers and the printed names of errors.
 use Rattle.std.specs.Prelude.{ℕ, List, codes}
 use Rattle.mq_model.specs.declared.faults.Fault.{Fault}
 use Rattle.mq_model.specs.declared.faults.Fault.TheVariants.{Again, BadDescriptor, Busy, Exists, Invalid, TooManyOpen, MessageSize, NameTooLong, NoEntry, NoSpace, NoMemory, TimedOut, JournalFull}
 
--- this project's own number of a fault
+-- this library's own number of an error
 abbrev pub number_of : Fault → ℕ
 number_of Again = 1
 number_of BadDescriptor = 2
@@ -19,7 +19,7 @@ number_of NoMemory = 11
 number_of TimedOut = 12
 number_of JournalFull = 13
 
--- the bytes that a fault is printed as: the standard's name of the error
+-- what an error is printed as: its name in the standard
 abbrev pub text_of : Fault → List ℕ
 text_of Again = codes "EAGAIN"
 text_of BadDescriptor = codes "EBADF"

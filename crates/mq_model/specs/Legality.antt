@@ -1,4 +1,4 @@
--- The reply to each call, by what was called before it, and which journals are legal.
+-- The reply to each call, given the calls before it, and which journals are legal.
 use Rattle.std.specs.Prelude.{◌≡◌, ℕ, ◌+◌, ◌<◌, Bool, true, false, ◌&&◌, ◌==◌, nat_le, List, [], ◌∷◌, length, Option, is_some, is_none, if◌then◌else◌, slice_get, IsTrue}
 use Rattle.std.specs.Option.{option_map, unwrap_or}
 use Rattle.mq_model.specs.Limits.{most_processes}
@@ -24,12 +24,13 @@ use Rattle.mq_model.specs.declared.entries.Call.TheVariants.{MqOpen, MqClose, Mq
 use Rattle.mq_model.specs.declared.entries.Reply.{Reply}
 use Rattle.mq_model.specs.declared.entries.Reply.TheVariants.{Collected, Withdrawn, Notice, Refused}
 
--- the facts that a reply depends on, as the definitions give them, and the replies to them -----------------------------------
+-- the facts that a reply depends on, by the definitions, and the replies
+-- ----------------------------
 
 abbrev pub open_facts : Past → Process → List ℕ → OpenFacts
 open_facts past p name = record { bound = is_some (bound_queue past name); free = lowest_free past p; queues = length (alive past) }
 
--- of a send the receive that waits the longest counts, and of a receive the send
+-- a send depends on the receive that has waited longest, and a receive on the send
 abbrev pub send_facts : Past → Description → SendFacts
 send_facts past h = record {
   description = h;
@@ -59,7 +60,7 @@ notify_facts past h = record { registered = registered past h.queue }
 abbrev pub reply_to_open : Past → Process → OpenFlags → Option Attr → List ℕ → Reply
 reply_to_open past p flags attr name = open_reply flags attr (open_facts past p name)
 
--- mq_send, by what its descriptor is
+-- mq_send, given what the process holds under its descriptor
 abbrev pub reply_to_send : Past → Option Description → ℕ → ℕ → Reply
 reply_to_send past held prio len = send_reply prio len (option_map (send_facts past) held)
 
@@ -67,7 +68,7 @@ reply_to_send past held prio len = send_reply prio len (option_map (send_facts p
 abbrev pub reply_to_receive : Past → Option Description → ℕ → Reply
 reply_to_receive past held room = receive_reply room (option_map (receive_facts past) held)
 
--- mq_getattr, and mq_setattr, which gives the attributes from before
+-- mq_getattr, and mq_setattr, which returns the attributes from before
 abbrev pub reply_to_attributes : Past → Option Description → Reply
 reply_to_attributes past held = status_reply (option_map (status_facts past) held)
 
@@ -75,8 +76,9 @@ reply_to_attributes past held = status_reply (option_map (status_facts past) hel
 abbrev pub reply_to_notify : Past → Process → Option Description → Option ℕ → Reply
 reply_to_notify past p held value = notify_reply p value (option_map (notify_facts past) held)
 
--- the reply to a call of process p, a name being that of an open or an unlink. The 0 of a collect or a
--- withdrawal never stands in a legal journal, where a process collects only once its wait is answered, and withdraws only a wait
+-- The reply to a call of process p. `name` is the name of an open or an unlink. In a legal journal
+-- the 0 of a collect or a withdraw is never used, since a process collects only after its wait is
+-- answered, and withdraws only an open wait.
 abbrev pub reply_to : Past → Process → Call → List ℕ → Reply
 reply_to past p (MqOpen flags attr) name = reply_to_open past p flags attr name
 reply_to past p (MqClose d) name = close_reply (held past p d)
@@ -96,7 +98,8 @@ abbrev pub is_refused : Reply → Bool
 is_refused (Refused fault) = true
 is_refused _ = false
 
--- the payload is the name of an open or an unlink, the message of a send that was not refused, and empty otherwise
+-- the payload is the name of an open or an unlink, the message of a send that did not fail, and
+-- otherwise empty
 abbrev pub is_payload : Call → Reply → List ℕ → Bool
 is_payload (MqOpen flags attr) reply payload = is_name payload
 is_payload MqUnlink reply payload = is_name payload
@@ -104,32 +107,32 @@ is_payload (MqSend d prio len) reply payload = length payload == (if is_refused 
 is_payload (MqTimedSend d prio len until now) reply payload = length payload == (if is_refused reply then 0 else len)
 is_payload _ reply payload = length payload == 0
 
--- a process with an open wait may only collect, once the wait is answered, or withdraw, where its deadline has passed and it is not
--- answered. No other process may collect or withdraw
+-- A process with an open wait may only collect, if the wait is answered, or withdraw, if its
+-- deadline has passed and it is not answered. Any other process may make any call but these two.
 abbrev pub may_call : Past → Process → Call → Bool
 may_call past p Collect = is_some (answered_by past p)
 may_call past p (Withdraw now) = is_none (answered_by past p) && is_over (wait_deadline past p) now
 may_call past p _ = is_none (open_wait past p)
 
--- the record may stand after these
+-- the record may follow these
 pub record IsLegalNext (past : Past) (r : Record) : Type 0 where
   pub process : IsTrue (nat_le 1 r.entry.process && nat_le r.entry.process most_processes)
   pub turn : IsTrue (may_call past r.entry.process r.entry.call)
   pub payload : IsTrue (is_payload r.entry.call r.entry.reply r.payload)
   pub reply : r.entry.reply ≡ reply_to past r.entry.process r.entry.call r.payload
 
--- each record may stand after those before it
+-- each record may follow those before it
 abbrev pub Legal : Past → Type 0
 Legal [] = Unit {0}
 Legal (r ∷ past) = Legal past × IsLegalNext past r
 
--- the records before place k are legal, and with the record at k they are not
+-- the records before place k are legal, and together with the record at k they are not
 pub record IsFirstIllegal (past : Past) (k : Place) : Type 0 where
   pub place : k < length past
   pub before : Legal (first k past)
   pub illegal : Legal (first (k + 1) past) → ⊥
 
--- the payload of a call that was given these bytes: the name of an open or unlink, or the message of a send
+-- the payload of a call with these bytes: the name of an open or unlink, or the message of a send
 abbrev pub payload_of : Call → Reply → List ℕ → List ℕ
 payload_of (MqOpen flags attr) reply given = given
 payload_of MqUnlink reply given = given
@@ -137,7 +140,8 @@ payload_of (MqSend d prio len) reply given = if is_refused reply then [] else gi
 payload_of (MqTimedSend d prio len until now) reply given = if is_refused reply then [] else given
 payload_of _ reply given = []
 
--- one record was added: this call of process p with its reply, and with the payload that the bytes given make
+-- One record was added: this call of process p with its reply, and with the payload that the given
+-- bytes make.
 pub record Appends (old new : Past) (p : Process) (call : Call) (given : List ℕ) (reply : Reply) : Type 0 where
   pub replies : reply ≡ reply_to old p call given
   pub records : new ≡ record { entry = record { process = p; call = call; reply = reply }; payload = payload_of call reply given } ∷ old

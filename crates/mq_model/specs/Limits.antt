@@ -1,11 +1,12 @@
--- The limits of this library: what a system, a process, a queue and a message may have at most (limits.h, mq_open, mq_send).
+-- The limits of this library on systems, processes, queues and messages (limits.h, mq_open,
+-- mq_send).
 use Rattle.std.specs.Prelude.{ℕ}
 
 -- processes of a system, which are numbered from 1
 abbrev pub most_processes : ℕ
 most_processes = 32
 
--- descriptors of a process, which are numbered from 0 (OPEN_MAX)
+-- descriptors of a process, which are numbered from 0 (MQ_OPEN_MAX)
 abbrev pub most_descriptors : ℕ
 most_descriptors = 16
 
@@ -29,7 +30,7 @@ most_message_bytes = 65536
 abbrev pub most_priorities : ℕ
 most_priorities = 32768
 
--- nanoseconds of a second: those of a moment are fewer (mq_timedsend)
+-- nanoseconds of a second: those of a time are fewer (mq_timedsend)
 abbrev pub nanoseconds_of_a_second : ℕ
 nanoseconds_of_a_second = 1000000000
 

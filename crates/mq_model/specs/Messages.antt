@@ -37,12 +37,12 @@ abbrev pub hands_over : Call → Reply → Bool
 hands_over call (Handed wait) = is_send call
 hands_over call _ = false
 
--- a send that blocked
+-- a send that began to wait
 abbrev pub blocks_send : Call → Reply → Bool
 blocks_send call Waits = is_send call
 blocks_send call _ = false
 
--- a receive that blocked
+-- a receive that began to wait
 abbrev pub blocks_receive : Call → Reply → Bool
 blocks_receive call Waits = is_receive call
 blocks_receive call _ = false
@@ -52,7 +52,8 @@ abbrev pub admits : Reply → Option Place
 admits (Got place admitted notified) = admitted
 admits _ = None
 
--- the waiting send that a reply ends: it is admitted, or withdrawn. A receive may be withdrawn too, and is none of the sends
+-- The waiting send that a reply ends: it is admitted, or withdrawn. This also names a receive that
+-- is withdrawn, which does no harm, since that is no send.
 abbrev pub ends_send : Reply → Option Place
 ends_send (Got place admitted notified) = admitted
 ends_send (Withdrawn wait) = Some wait
@@ -68,7 +69,7 @@ abbrev pub with_place : Option Place → List Place → List Place
 with_place None places = places
 with_place (Some k) places = k ∷ places
 
--- the sends that ended their wait, and the receives that did
+-- the sends whose wait has ended, and the receives whose wait has ended
 abbrev pub ended_sends : Past → List Place
 ended_sends [] = []
 ended_sends (r ∷ past) = with_place (ends_send r.entry.reply) (ended_sends past)
@@ -77,7 +78,7 @@ abbrev pub ended_receives : Past → List Place
 ended_receives [] = []
 ended_receives (r ∷ past) = with_place (ends_receive r.entry.reply) (ended_receives past)
 
--- the sends to a queue that blocked, and the receives on it that blocked, the latest first
+-- the sends to a queue that began to wait, and the receives, the latest first
 abbrev pub blocked_sends : Past → Queue → List Place
 blocked_sends [] q = []
 blocked_sends (r ∷ past) q = if blocks_send r.entry.call r.entry.reply && is_on past r.entry q then length past ∷ blocked_sends past q else blocked_sends past q
@@ -93,19 +94,20 @@ waiting_sends past q = filter (λ w. not (is_in (ended_sends past) w)) (blocked_
 abbrev pub waiting_receives : Past → Queue → List Place
 waiting_receives past q = filter (λ w. not (is_in (ended_receives past) w)) (blocked_receives past q)
 
--- this place, if it is one of these
+-- the place, if it is in the list
 abbrev pub if_in : List Place → Option Place → Option Place
 if_in places None = None
 if_in places (Some w) = if is_in places w then Some w else None
 
--- the message that an entry lets into queue q: that of a send queued at once, or of a blocked send that a receive admits
+-- the message that enters queue q by an entry: that of a send queued at once, or of a waiting send
+-- that a receive admits
 abbrev pub entered : Past → Entry → Queue → Option Message
 entered past e q =
     if queues e.call e.reply && is_on past e q then Some (length past)
     else if_in (blocked_sends past q) (admits e.reply)
 
--- the messages that entered the queue, the last to enter first. Each is named by the place of its send, and a blocked
--- one enters where it is admitted
+-- The messages that entered the queue, the last to enter first. A message is named by the place of
+-- its send. That of a waiting send enters when it is admitted.
 abbrev pub admitted : Past → Queue → List Message
 admitted [] q = []
 admitted (r ∷ past) q = with_place (entered past r.entry q) (admitted past q)
@@ -119,7 +121,8 @@ handed (r ∷ past) q = if hands_over r.entry.call r.entry.reply && is_on past r
 abbrev pub is_accepted : Past → Queue → Message → Bool
 is_accepted past q m = is_in (admitted past q) m || is_in (handed past q) m
 
--- the messages that a reply takes: the one that it gives to its caller, or the one that the caller handed over
+-- the message that a reply takes: the one that it gives to its caller, or the one that the caller
+-- handed over
 abbrev pub taken_by : Place → Reply → Option Message
 taken_by here (Got place admitted notified) = Some place
 taken_by here (Handed wait) = Some here
@@ -133,7 +136,7 @@ taken (r ∷ past) = with_place (taken_by (length past) r.entry.reply) (taken pa
 abbrev pub present : Past → Queue → List Message
 present past q = filter (λ m. not (is_in (taken past) m)) (admitted past q)
 
--- the queue holds as many messages as it may
+-- the queue holds as many messages as it can
 abbrev pub is_full : Past → Queue → Bool
 is_full past q = is_full_with (attributes past q) (length (present past q))
 
@@ -146,7 +149,8 @@ priority_given _ = 0
 abbrev pub priority : Past → Message → ℕ
 priority past m = unwrap_or (option_map (λ r. priority_given r.entry.call) (record_at past m)) 0
 
--- of these two m is received first, or they are one: its priority is greater, or it is the same and m is the older
+-- Of these two messages m is received first, or they are the same: its priority is higher, or equal
+-- and m is older.
 abbrev pub goes_first : Past → Message → Message → Bool
 goes_first past m n = nat_lt (priority past n) (priority past m) || (priority past m == priority past n && nat_le m n)
 
@@ -154,7 +158,7 @@ goes_first past m n = nat_lt (priority past n) (priority past m) || (priority pa
 abbrev pub best : Past → Queue → Option Message
 best past q = find (λ m. list_all (goes_first past m) (present past q)) (present past q)
 
--- the least of some places
+-- the least of these places
 abbrev pub least : List Place → Option Place
 least [] = None
 least (k ∷ places) = Some (min k (unwrap_or (least places) k))

@@ -3,15 +3,15 @@ use Rattle.std.specs.Prelude.{ℕ, ◌+◌, Bool, ◌&&◌, not, ◌==◌, nat_l
 use Rattle.std.specs.List.{list_all}
 use Rattle.mq_model.specs.Limits.{most_name_bytes}
 
--- a byte that may stand after the slash: neither a slash nor 0
+-- a byte that may follow the slash: neither a slash nor NUL
 abbrev pub is_name_byte : ℕ → Bool
 is_name_byte b = not (b == 47) && not (b == 0)
 
--- a slash, and after it at least one byte, each of them one that may stand there
+-- a slash, and then at least one byte, each of them allowed there
 abbrev pub has_name_form : List ℕ → Bool
 has_name_form bytes = nat_lt 1 (length bytes) && slice_index bytes 0 == 47 && list_all is_name_byte (drop 1 bytes)
 
--- at most 255 bytes stand after the slash
+-- at most 255 bytes follow the slash
 abbrev pub is_short : List ℕ → Bool
 is_short bytes = nat_le (length bytes) (most_name_bytes + 1)
 

@@ -36,7 +36,7 @@ bound_queue (r ∷ past) name =
     else (if unlinks r.entry.call r.entry.reply && bytes_eq r.payload name then None
     else bound_queue past name)
 
--- the name that a queue was created under. The empty one never stands for a queue
+-- The name under which a queue was created. The empty name is never that of a queue.
 abbrev pub name_of : Past → Queue → List ℕ
 name_of past q = unwrap_or (option_map (λ r. r.payload) (record_at past q)) []
 
@@ -48,7 +48,7 @@ abbrev pub attributes_given : Call → Attr
 attributes_given (MqOpen flags (Some attr)) = attr
 attributes_given _ = default_attributes
 
--- mq_maxmsg and mq_msgsize of a queue: the most messages that it holds, and the most bytes of a message
+-- mq_maxmsg and mq_msgsize of a queue: the maximum number of messages, and of bytes of a message
 abbrev pub attributes : Past → Queue → Attr
 attributes past q = unwrap_or (option_map (λ r. attributes_given r.entry.call) (record_at past q)) default_attributes
 

@@ -1,5 +1,6 @@
--- What a table of processes says of each, process p's line being at index p. It defines nothing new: where a table mirrors a
--- journal, each word here is the definition of the same name over the journal.
+-- What a table of processes says about each process. Process p has the row at index p. Nothing here
+-- is a new definition of the queues: if a table matches a journal, each word here equals the
+-- definition of the same name over the journal.
 use Rattle.std.specs.Prelude.{ℕ, zero, suc, ◌≡◌, ◌≤◌, Bool, true, false, ◌&&◌, ◌==◌, List, [], ◌∷◌, length, Option, Some, None, is_some, is_none, slice_get, replicate, set, if◌then◌else◌}
 use Rattle.std.specs.List.{count_by, list_any, position, find}
 use Rattle.std.specs.Option.{option_map, option_and_then, unwrap_or}
@@ -35,7 +36,7 @@ free_number_in owners p = find (λ d. is_none (held_in owners p d)) descriptor_n
 abbrev pub lowest_held_in : List Owner → ℕ → Option ℕ
 lowest_held_in owners p = find (λ d. is_some (held_in owners p d)) descriptor_numbers
 
--- a wait is of the kind looked for
+-- the wait is of the wanted kind
 abbrev pub is_kind : WaitKind → WaitKind → Bool
 is_kind Send Send = true
 is_kind Receive Receive = true
@@ -45,7 +46,7 @@ is_kind wanted kind = false
 abbrev pub wait_kind : Call → WaitKind
 wait_kind call = if is_send call then Send else Receive
 
--- the place of an unanswered wait, if it is of this kind on queue q
+-- the place of a wait that is not answered, if it is of this kind on queue q
 abbrev pub pending : Option OpenWait → Option ℕ → ℕ → WaitKind → Option ℕ
 pending None answer q kind = None
 pending (Some w) (Some by) q kind = None
@@ -54,12 +55,12 @@ pending (Some w) None q kind = if w.queue == q && is_kind kind w.kind then Some 
 unfoldable pub pending_in : List Owner → ℕ → ℕ → WaitKind → Option ℕ
 pending_in owners p q kind = pending (wait_in owners p) (answer_in owners p) q kind
 
--- process p waits on queue q since that place, and no process since an earlier one
+-- Process p has waited on queue q since this place, and no process since an earlier one.
 pub record IsFirstWait (owners : List Owner) (q : ℕ) (kind : WaitKind) (p place : ℕ) : Type 0 where
   pub waits : pending_in owners p q kind ≡ Some place
   pub least : (k w : ℕ) → pending_in owners k q kind ≡ Some w → place ≤ w
 
--- the table with process p's line changed
+-- the table with the row of process p changed
 abbrev pub changed : (Owner → Owner) → List Owner → ℕ → List Owner
 changed f [] p = []
 changed f (o ∷ owners) zero = f o ∷ owners
@@ -74,11 +75,11 @@ with_answer owners p by = changed (λ o. record { descriptors = o.descriptors; w
 unfoldable pub with_slot : List Owner → ℕ → ℕ → Option Description → List Owner
 with_slot owners p d slot = changed (λ o. record { descriptors = set o.descriptors d slot; wait = o.wait; answer = o.answer }) owners p
 
--- the table where the flag of process p's descriptor d is this
+-- the table with this nonblocking flag for process p's descriptor d
 abbrev pub with_flag : List Owner → ℕ → ℕ → Bool → List Owner
 with_flag owners p d nonblock = with_slot owners p d (option_map (with_nonblock nonblock) (held_in owners p d))
 
--- the first process whose open wait stands at this place
+-- the first process whose open wait began at this place
 unfoldable pub waiter_in : List Owner → ℕ → Option ℕ
 waiter_in owners place = position (λ o. is_place place (option_map (λ w. w.place) o.wait)) owners
 
@@ -97,17 +98,17 @@ is_held_in owners q = list_any (holds q) owners
 abbrev pub free_owner : Owner
 free_owner = record { descriptors = replicate most_descriptors None; wait = None; answer = None }
 
--- the blocked kind to a queue, or the blocked receives
+-- the sends to a queue that began to wait, or the receives
 abbrev pub blocked : Past → WaitKind → ℕ → List ℕ
 blocked past Send q = blocked_sends past q
 blocked past Receive q = blocked_receives past q
 
--- the kind, or receives, that wait on a queue
+-- the sends, or receives, that wait on a queue
 abbrev pub waiting : Past → WaitKind → ℕ → List ℕ
 waiting past Send q = waiting_sends past q
 waiting past Receive q = waiting_receives past q
 
--- the table says what the definitions say of the journal
+-- the table says what the definitions say about the journal
 pub record OwnersMirror (past : Past) (owners : List Owner) : Type 0 where
   pub slots : (p : ℕ) (o : Owner) → slice_get owners p ≡ Some o → length o.descriptors ≡ most_descriptors
   pub held : (p d : ℕ) → held_in owners p d ≡ held past p d

@@ -30,7 +30,8 @@ abbrev pub noted_attributes : List Owner → ℕ → Call → List Owner
 noted_attributes owners p (MqSetattr d nonblock) = with_flag owners p d nonblock
 noted_attributes owners p _ = owners
 
--- the table after the entry at place `here`, which an open made on queue q or a call on a descriptor of queue q
+-- The table after the entry at place `here`. It is an open of queue q, or a call on a descriptor of
+-- queue q.
 abbrev pub noted : List Owner → ℕ → ℕ → Call → Reply → ℕ → List Owner
 noted owners here p call (Opened d created) q = noted_open owners p call d q
 noted owners here p call Done q = noted_done owners p call
@@ -50,25 +51,26 @@ abbrev pub FitsAttributes : Call → Type 0
 FitsAttributes (MqSetattr d nonblock) = d < most_descriptors
 FitsAttributes _ = Unit {0}
 
--- a descriptor that the entry changes has a number that a descriptor may have
+-- a descriptor that the entry changes has a number within the limit
 abbrev pub FitsSlots : Call → Reply → Type 0
 FitsSlots call (Opened d created) = d < most_descriptors
 FitsSlots call Done = FitsDone call
 FitsSlots call (Attrs status) = FitsAttributes call
 FitsSlots call _ = Unit {0}
 
--- q is the queue that an open opened, or on whose descriptor a call blocked
+-- q is the queue that an open opened, or on which a call began to wait
 abbrev pub EntryQueue : Past → ℕ → Call → List ℕ → Reply → ℕ → Type 0
 EntryQueue past p call name (Opened d created) q = q ≡ opened_queue past name created
 EntryQueue past p call name Waits q = called_queue past p call ≡ Some q
 EntryQueue past p call name reply q = Unit {0}
 
--- where the old table is that of a journal, at whose end the entry may stand, the new one is that of the journal with the entry
+-- If the old table is that of a journal after which the entry may follow, the new one is that of
+-- the journal with the entry.
 abbrev pub KeepsMirror : List Owner → ℕ → Entry → ℕ → List Owner → Type 0
 KeepsMirror old here entry q new =
     (past : Past) (payload : List ℕ) → length past ≡ here → OwnersMirror past old → Legal past → IsLegalNext past (record { entry = entry; payload = payload }) → EntryQueue past entry.process entry.call payload entry.reply q →
     OwnersMirror (record { entry = entry; payload = payload } ∷ past) new
 
--- a table of such lines, as many as may be, is that of the journal without entries
+-- a table with only such rows, of any number, is that of the empty journal
 abbrev pub StartsMirror : Owner → Type 0
 StartsMirror owner = (m : ℕ) → OwnersMirror [] (replicate m owner)

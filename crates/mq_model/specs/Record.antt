@@ -1,9 +1,10 @@
--- What a journal shows. Lists of records are latest first throughout: the record made last is the head, so a journal that
--- begins with the journal `old` is `more ++ old`.
+-- What a journal shows. Lists of records have the latest first throughout: the last record is the
+-- head. So a journal that starts with the journal `old` is `more ++ old`.
 use Rattle.std.specs.Prelude.{ℕ, ◌+◌, ◌-◌, drop, List, [], ◌∷◌, ◌==◌, length, Option, Some, None, if◌then◌else◌}
 use Rattle.mq_model.specs.declared.entries.Entry.{Entry}
 
--- what a number of the definitions stands for: the place of an entry, which is how many entries there are before it
+-- What the numbers of the definitions stand for. A place is the sequence number of an entry: the
+-- number of entries before it.
 abbrev pub Place : Type 0
 Place = ℕ
 
@@ -28,7 +29,7 @@ pub record Record : Type 0 where
   pub entry : Entry
   pub payload : List ℕ
 
--- the records made so far, the latest first. The place of each is the number of records before it
+-- The records so far, the latest first. The place of each is the number of records before it.
 abbrev pub Past : Type 0
 Past = List Record
 
@@ -37,16 +38,17 @@ abbrev pub record_at : Past → Place → Option Record
 record_at [] place = None
 record_at (r ∷ past) place = if place == length past then Some r else record_at past place
 
--- the first k of the records
+-- the oldest k records
 abbrev pub first : ℕ → Past → Past
 first k past = drop (length past - k) past
 
--- how many payload bytes the records have
+-- the number of payload bytes of the records
 abbrev pub payload_bytes : Past → ℕ
 payload_bytes [] = 0
 payload_bytes (r ∷ past) = length r.payload + payload_bytes past
 
--- what a journal shows: its records, and how many more entries and payload bytes it has room for
+-- what a journal shows: its records, and the number of further entries and payload bytes for which
+-- it has room
 pub record Shown : Type 0 where
   pub records : Past
   pub entry_room : ℕ

@@ -1,4 +1,5 @@
--- What a journal shows, from what it stores: entries, the calls kept apart, and payload bytes, each oldest first.
+-- What a journal shows, from what it stores: entries, the calls in the separate list, and payload
+-- bytes, each oldest first.
 use Rattle.std.specs.Prelude.{ℕ, ◌≡◌, ◌+◌, ◌*◌, ◌-◌, ◌≤◌, ◌==◌, min, List, [], ◌∷◌, map, reverse, slice_range, slice_index_or, All, vec_len, vec_capacity, length, Some, None, if◌then◌else◌}
 use Rattle.mq_model.specs.Record.{Record, Past, Shown, payload_bytes}
 use Rattle.mq_model.specs.declared.entries.Call.{Call}
@@ -8,7 +9,7 @@ use Rattle.mq_model.specs.declared.stored.StoredReply.{StoredReply}
 use Rattle.mq_model.specs.declared.stored.Stored.{Stored}
 use Rattle.mq_model.specs.declared.journals.Journal.TheInside.{Inside}
 
--- how many calls are to be kept apart before this one can be read
+-- the length that the separate list must have before this call can be read
 abbrev pub needs : StoredCall → ℕ
 needs (StoredCall.Open flags) = 0
 needs (StoredCall.Close d) = 0
@@ -22,7 +23,7 @@ needs StoredCall.NextNotice = 0
 needs StoredCall.Collect = 0
 needs (StoredCall.Apart high low) = high * 4294967296 + low + 1
 
--- a stored call, of an entry with a payload of that length, beside the calls kept apart
+-- the call of a stored form, for an entry with a payload of this length, given the separate list
 abbrev pub call_of : List Call → ℕ → StoredCall → Call
 call_of apart len (StoredCall.Open flags) = Call.MqOpen flags None
 call_of apart len (StoredCall.Close d) = Call.MqClose d
@@ -36,11 +37,11 @@ call_of apart len StoredCall.NextNotice = Call.NextNotice
 call_of apart len StoredCall.Collect = Call.Collect
 call_of apart len (StoredCall.Apart high low) = slice_index_or apart (high * 4294967296 + low) Call.MqUnlink
 
--- what a stored call leaves to be kept apart
+-- what a stored call adds to the separate list
 abbrev pub kept_apart : StoredCall → Call → List Call
 kept_apart stored call = if needs stored == 0 then [] else call ∷ []
 
--- a stored reply
+-- the reply of a stored form
 abbrev pub reply_of : StoredReply → Reply
 reply_of (StoredReply.Opened created d) = Reply.Opened d created
 reply_of StoredReply.Queued = Reply.Queued None
@@ -59,7 +60,7 @@ reply_of (StoredReply.Notice value) = Reply.Notice (Some value)
 reply_of StoredReply.Done = Reply.Done
 reply_of (StoredReply.Refused fault) = Reply.Refused fault
 
--- a stored entry with its payload, which lies among all payload bytes
+-- the record of a stored entry, whose payload is a range of all payload bytes
 abbrev pub record_of : List Call → List ℕ → Stored → Record
 record_of apart bytes s = record {
   entry = record { process = s.process; call = call_of apart (s.end - s.start) s.call; reply = reply_of s.reply };
@@ -76,11 +77,12 @@ shown j = record {
   byte_room = vec_capacity j.bytes - vec_len j.bytes;
 }
 
--- the payload of a stored entry lies among the bytes, and its call among those kept apart, if it is one of them
+-- The payload of a stored entry is within the bytes, and its call within the separate list if it is
+-- kept there.
 abbrev pub LiesIn : List Call → List ℕ → Stored → Type 0
 LiesIn apart bytes s = (s.start ≤ s.end) × (s.end ≤ length bytes) × (needs s.call ≤ length apart)
 
--- each entry is there, and the bytes are those of the payloads alone
+-- Each entry can be read, and the bytes are exactly those of the payloads.
 pub record IsStored (j : Inside) : Type 0 where
   pub entries : All (LiesIn j.apart.items j.bytes.items) j.stored.items
   pub total : payload_bytes (records_of j.apart.items j.bytes.items j.stored.items) ≡ vec_len j.bytes

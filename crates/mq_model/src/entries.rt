@@ -1,36 +1,38 @@
-//! Calls and their replies, as the journal keeps them.
+//! Calls and their replies, as the journal has them.
 ghost use Rattle.std.specs.Prelude.{◌≡◌, true, false};
 ghost use Rattle.mq_model.specs.Messages.{priority_given, is_send, is_receive};
 ghost use Rattle.mq_model.specs.Deadlines.{deadline_of};
 
 use crate::faults::Fault;
 
-/// What a descriptor may be used for: the `oflag` of `mq_open`.
+/// What a descriptor may be used for: the access mode in `oflag` of `mq_open`.
 #[derive(Clone, Copy, Debug, PartialEq, Eq)]
 pub enum Access {
-    /// Receiving alone (`O_RDONLY`).
+    /// Only receiving (`O_RDONLY`).
     Read,
-    /// Sending alone (`O_WRONLY`).
+    /// Only sending (`O_WRONLY`).
     Write,
     /// Sending and receiving (`O_RDWR`).
     Both,
 }
 
-/// The flags of an open (`mq_open`), as `OpenFlags::read_write().create()`.
+/// The flags of an open (`oflag` of `mq_open`), as in `OpenFlags::read_write().create()`.
 #[derive(Clone, Copy, Debug, PartialEq, Eq)]
 pub struct OpenFlags {
     /// What the descriptor may be used for.
     pub access: Access,
-    /// Creates the queue where the name is not bound (`O_CREAT`).
+    /// Creates the queue if the name is not bound (`O_CREAT`).
     pub create: bool,
-    /// With `create`, refuses a name that is bound (`O_EXCL`). Alone it has no effect.
+    /// With `create`, the open fails if the name is bound (`O_EXCL`). Without `create` it has no
+    /// effect.
     pub excl: bool,
-    /// Calls on the descriptor are refused with `Again` where they would wait (`O_NONBLOCK`). The flag is this descriptor's own.
+    /// Calls on the descriptor fail with `Again` if they would wait (`O_NONBLOCK`). Each descriptor
+    /// has a flag of its own.
     pub nonblock: bool,
 }
 
 impl OpenFlags {
-    /// A descriptor for receiving alone (`O_RDONLY`), with no other flag.
+    /// A descriptor only for receiving (`O_RDONLY`), with no other flag.
     pub fn read_only() -> OpenFlags
         ensures { result ≡ record {
           access = Access.Read;
@@ -42,7 +44,7 @@ impl OpenFlags {
         OpenFlags::with_access(Access::Read)
     }
 
-    /// A descriptor for sending alone (`O_WRONLY`), with no other flag.
+    /// A descriptor only for sending (`O_WRONLY`), with no other flag.
     pub fn write_only() -> OpenFlags
         ensures { result ≡ record {
           access = Access.Write;
@@ -126,53 +128,57 @@ impl OpenFlags {
     }
 }
 
-/// The limits of a queue, as the open that creates it asks for them (`mq_attr` of `mq_open`). They lie within the limits where
-/// `maxmsg` is 1 to 4,096 and `msgsize` 1 to 65,536; a queue that is created without them has 10 and 8,192.
+/// The limits of a queue, as the open that creates it gives them (`mq_attr` of `mq_open`). They are
+/// valid if `maxmsg` is 1 to 4,096 and `msgsize` 1 to 65,536. A queue that is created without them
+/// has 10 and 8,192.
 #[derive(Clone, Copy, Debug, PartialEq, Eq)]
 pub struct Attr {
-    /// The most messages that the queue holds (`mq_maxmsg`).
+    /// The maximum number of messages in the queue (`mq_maxmsg`).
     pub maxmsg: i64,
-    /// The most bytes of a message (`mq_msgsize`).
+    /// The maximum number of bytes of a message (`mq_msgsize`).
     pub msgsize: i64,
 }
 
 /// The attributes of a descriptor and of its queue (`mq_getattr`).
 #[derive(Clone, Copy, Debug, PartialEq, Eq)]
 pub struct Status {
-    /// The descriptor refuses calls that would wait (`O_NONBLOCK` in `mq_flags`). Of what `mq_setattr` is given this alone is used.
+    /// Whether calls on the descriptor fail if they would wait (`O_NONBLOCK` in `mq_flags`).
+    /// `mq_setattr` uses only this field.
     pub nonblock: bool,
-    /// The most messages that the queue holds (`mq_maxmsg`).
+    /// The maximum number of messages in the queue (`mq_maxmsg`).
     pub maxmsg: i64,
-    /// The most bytes of a message (`mq_msgsize`).
+    /// The maximum number of bytes of a message (`mq_msgsize`).
     pub msgsize: i64,
-    /// How many messages are in the queue (`mq_curmsgs`).
+    /// The number of messages in the queue (`mq_curmsgs`).
     pub curmsgs: i64,
 }
 
-/// A message that was received (`mq_receive`). Its bytes lie in the front of the buffer.
+/// A message that was received (`mq_receive`). Its bytes are at the start of the buffer.
 #[derive(Clone, Copy, Debug, PartialEq, Eq)]
 pub struct Received {
-    /// How many bytes the message has.
+    /// The number of its bytes.
     pub len: usize,
     /// The priority that its send gave, 0 to 32,767.
     pub prio: u32,
 }
 
-/// A moment of a clock, and the moment until which a timed call waits (`struct timespec` of `mq_timedsend` and `mq_timedreceive`).
-/// Of two moments the later is that of more seconds, and of equal seconds that of more nanoseconds.
+/// A time of the caller's clock, or the deadline of a timed call (`struct timespec` of
+/// `mq_timedsend` and `mq_timedreceive`). Times are compared by seconds first, and then by
+/// nanoseconds.
 #[derive(Clone, Copy, Debug, PartialEq, Eq, PartialOrd, Ord)]
 pub struct Deadline {
-    /// Seconds since the start of the caller's clock, or before it.
+    /// Seconds since the start of the caller's clock; negative before it.
     pub sec: i64,
-    /// Nanoseconds, 0 to 999,999,999. A timed call that would wait is refused with `Invalid` where its deadline has others.
+    /// Nanoseconds, 0 to 999,999,999. A timed call that would wait fails with `Invalid` if its
+    /// deadline has others.
     pub nsec: i64,
 }
 
-/// A call that a process made inside the lock. The name of an open or unlink, and the message of a send, stand in the payload of the
-/// record.
+/// A call that a process made. The name of an open or unlink, and the message of a send, are in the
+/// payload of the record.
 #[derive(Clone, Copy, Debug, PartialEq, Eq)]
 pub enum Call {
-    /// `mq_open` with these flags, and with the limits of a new queue where they were given.
+    /// `mq_open` with these flags, and with the limits of a new queue if they were given.
     MqOpen {
         flags: OpenFlags,
         attr: Option<Attr>,
@@ -194,8 +200,8 @@ pub enum Call {
         d: u32,
         room: u64,
     },
-    /// `mq_timedsend` by descriptor `d`, of a message of `len` bytes with priority `prio`: a send that waits until the moment `until`.
-    /// It was made at the moment `now` of the caller's clock.
+    /// `mq_timedsend` by descriptor `d`, of a message of `len` bytes with priority `prio`. It waits
+    /// until the time `until` at the latest. It was made at the time `now` of the caller's clock.
     MqTimedSend {
         d: u32,
         prio: u32,
@@ -203,8 +209,8 @@ pub enum Call {
         until: Deadline,
         now: Deadline,
     },
-    /// `mq_timedreceive` by descriptor `d`, into a buffer of `room` bytes: a receive that waits until the moment `until`. It was made at
-    /// the moment `now` of the caller's clock.
+    /// `mq_timedreceive` by descriptor `d`, into a buffer of `room` bytes. It waits until the time
+    /// `until` at the latest. It was made at the time `now` of the caller's clock.
     MqTimedReceive {
         d: u32,
         room: u64,
@@ -220,24 +226,28 @@ pub enum Call {
         d: u32,
         nonblock: bool,
     },
-    /// `mq_notify` by descriptor `d`: a registration with the value of its notice, or with `None` a removal.
+    /// `mq_notify` by descriptor `d`: a registration with the value of its notice, or a removal if
+    /// there is none.
     MqNotify {
         d: u32,
         value: Option<u64>,
     },
-    /// The question for the oldest notice that the process was not yet given. This library's own: POSIX gives signals.
+    /// A request for the oldest notice that the process has not yet taken. POSIX has no such call:
+    /// it sends signals.
     NextNotice,
-    /// The end of the open wait of the process, once an entry names it. This library's own: in POSIX the blocked call returns.
+    /// The end of the open wait of the process, after an entry that serves it. POSIX has no such
+    /// call: the blocked call returns.
     Collect,
-    /// The end of the open wait of the process, which no entry names and whose deadline has passed at the moment `now` of the caller's
-    /// clock. This library's own: in POSIX the blocked timed call returns `ETIMEDOUT`.
+    /// The end of the open wait of the process, which no entry serves and whose deadline has passed
+    /// at the time `now` of the caller's clock. POSIX has no such call: the blocked timed call
+    /// returns `ETIMEDOUT`.
     Withdraw {
         now: Deadline,
     },
 }
 
 impl Call {
-    /// The priority that a send gives its message, and 0 of any other call (`mq_send`).
+    /// The priority that a send gives its message, and 0 for any other call (`mq_send`).
     pub fn priority(self) -> u32
         ensures { result ≡ priority_given self }
     {
@@ -254,7 +264,7 @@ impl Call {
         }
     }
 
-    /// The call sends a message, with or without a deadline.
+    /// Whether the call sends a message, with or without a deadline.
     pub fn is_send(self) -> bool
         ensures { result ≡ is_send self }
     {
@@ -265,7 +275,7 @@ impl Call {
         }
     }
 
-    /// The call receives a message, with or without a deadline.
+    /// Whether the call receives a message, with or without a deadline.
     pub fn is_receive(self) -> bool
         ensures { result ≡ is_receive self }
     {
@@ -276,7 +286,7 @@ impl Call {
         }
     }
 
-    /// The moment until which a timed call waits, and none of any other call.
+    /// The deadline of a timed call, and none for any other call.
     pub fn deadline(self) -> Option<Deadline>
         ensures { result ≡ deadline_of self }
     {
@@ -299,8 +309,9 @@ impl Call {
     }
 }
 
-/// What a call gives. A place is the number of a record in the journal, from 0: it names a message (the place of its
-/// send), a wait (the place of the call that blocked) and a registration (the place of its notify).
+/// The reply to a call. A place is the sequence number of a record of the journal, from 0. It also
+/// names a message (the place of its send), a wait (the place of the call that waits) and a
+/// registration (the place of its notify).
 #[derive(Clone, Copy, Debug, PartialEq, Eq)]
 pub enum Reply {
     /// The descriptor of an open, 0 to 15, and whether the open created its queue.
@@ -308,38 +319,38 @@ pub enum Reply {
         d: u32,
         created: bool,
     },
-    /// The message entered its queue; the place of the registration that this notified.
+    /// The message entered its queue. `notified` is the registration that this notified.
     Queued {
         notified: Option<u64>,
     },
-    /// The message went to the receive that waits since the place `wait`.
+    /// The message went to the receive that has waited since the record `wait`.
     Handed {
         wait: u64,
     },
-    /// The call blocks: from here the process has an open wait.
+    /// The call waits: from now on the process has an open wait.
     Waits,
-    /// The place of the send whose message was received, that of the waiting send whose message then entered the queue, and that of
-    /// the registration that this notified.
+    /// The message of the send `place` was received. Then the message of the waiting send
+    /// `admitted` entered the queue, and this notified the registration `notified`.
     Got {
         place: u64,
         admitted: Option<u64>,
         notified: Option<u64>,
     },
-    /// The open wait ended; the place of the entry that names it.
+    /// The open wait ended. `by` is the entry that served it.
     Collected {
         by: u64,
     },
-    /// The open wait that stood at the place `wait` ended without an answer.
+    /// The open wait that began with the record `wait` ended without being served.
     Withdrawn {
         wait: u64,
     },
-    /// The attributes: of a getattr now, of a setattr from before the call.
+    /// The attributes: for a getattr the current ones, for a setattr those from before the call.
     Attrs(Status),
-    /// The value of the oldest notice not yet given, or none.
+    /// The value of the oldest notice that the process had not taken, or none.
     Notice(Option<u64>),
-    /// A close, unlink or notify was done.
+    /// A close, unlink or notify succeeded.
     Done,
-    /// The call was refused, and nothing but this entry was added.
+    /// The call failed, and changed nothing but the journal.
     Refused(Fault),
 }
 
@@ -352,8 +363,8 @@ pub struct Entry {
     pub reply: Reply,
 }
 
-/// What a process holds under a descriptor: an open description of a queue, which is named by the place of the open that
-/// created it.
+/// What a process holds under a descriptor: an open description of a queue. The queue is named by
+/// the place of the open that created it.
 #[derive(Clone, Copy, Debug, PartialEq, Eq)]
 pub struct Description {
     pub queue: u64,
@@ -361,7 +372,8 @@ pub struct Description {
     pub nonblock: bool,
 }
 
-/// A registration for notification: the place of the notify that made it, its process and descriptor, and the value given.
+/// A registration for notification: the place of the notify that made it, its process and
+/// descriptor, and the value given to it.
 #[derive(Clone, Copy, Debug, PartialEq, Eq)]
 pub struct Registration {
     pub place: u64,

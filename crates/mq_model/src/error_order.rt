@@ -1,5 +1,6 @@
-//! The reply to each call, from the facts that it depends on: the cases of the standard, in their order. The queues read the
-//! facts off their tables and the checker off the entries; the definitions give them for every journal.
+//! The reply to each call, from the facts that it depends on: the cases of the standard, in the
+//! order of errors. The queues take the facts from their tables, the checker takes them from the
+//! entries, and the definitions give them for every journal.
 ghost use Rattle.std.specs.Prelude.{◌≡◌, ◌<◌, ◌^◌, IfSome, pos, int_lt, int_le};
 ghost use Rattle.mq_model.specs.Names.{attributes_given, are_within_limits};
 
@@ -9,8 +10,8 @@ use crate::entries::{
 use crate::faults::Fault;
 use crate::limits;
 
-/// What the reply to an open depends on: whether its name is bound, the lowest descriptor that the process does not hold, and
-/// how many queues exist.
+/// What the reply to an open depends on: whether its name is bound, the lowest descriptor that the
+/// process does not hold, and the number of queues that exist.
 #[derive(Clone, Copy, Debug)]
 pub struct OpenFacts {
     pub bound: bool,
@@ -18,8 +19,9 @@ pub struct OpenFacts {
     pub queues: u64,
 }
 
-/// What the reply to a send on a descriptor depends on: the descriptor, the attributes of its queue, how many messages are
-/// present, the place of the receive that waits the longest, and that of the registration that stands.
+/// What the reply to a send on a descriptor depends on: the descriptor, the attributes of its
+/// queue, the number of messages present, the receive that has waited longest, and the
+/// registration.
 #[derive(Clone, Copy, Debug)]
 pub struct SendFacts {
     pub description: Description,
@@ -29,8 +31,9 @@ pub struct SendFacts {
     pub registered: Option<u64>,
 }
 
-/// What the reply to a receive on a descriptor depends on: the descriptor, the attributes of its queue, how many messages are
-/// present and which is the best, the place of the send that waits the longest, and that of the registration that stands.
+/// What the reply to a receive on a descriptor depends on: the descriptor, the attributes of its
+/// queue, the number of messages present, the best of them, the send that has waited longest, and
+/// the registration.
 #[derive(Clone, Copy, Debug)]
 pub struct ReceiveFacts {
     pub description: Description,
@@ -41,8 +44,8 @@ pub struct ReceiveFacts {
     pub registered: Option<u64>,
 }
 
-/// What the reply to a getattr or a setattr depends on: the descriptor, the attributes of its queue, and how many messages are
-/// present.
+/// What the reply to a getattr or a setattr depends on: the descriptor, the attributes of its
+/// queue, and the number of messages present.
 #[derive(Clone, Copy, Debug)]
 pub struct StatusFacts {
     pub description: Description,
@@ -50,7 +53,7 @@ pub struct StatusFacts {
     pub count: u64,
 }
 
-/// What the reply to a notify on a descriptor depends on: the registration that stands on its queue.
+/// What the reply to a notify on a descriptor depends on: the registration on its queue.
 #[derive(Clone, Copy, Debug)]
 pub struct NotifyFacts {
     pub registered: Option<Registration>,
@@ -65,7 +68,7 @@ pub const DEFAULT_ATTRIBUTES: Attr = Attr {
     msgsize: limits::DEFAULT_MESSAGE_BYTES,
 };
 
-/// The attributes that a call gives the queue that it creates (`mq_open`).
+/// The attributes that an open gives the queue that it creates (`mq_open`).
 pub fn attributes_given(call: Call) -> Attr
     ensures { result ≡ attributes_given call }
 {
@@ -150,7 +153,7 @@ pub fn open(flags: OpenFlags, attr: Option<Attr>, facts: OpenFacts) -> Reply
     }
 }
 
-/// The reply to a close of a descriptor, by what it is (`mq_close`).
+/// The reply to a close, given what the process holds under the descriptor (`mq_close`).
 pub fn close(held: Option<Description>) -> Reply
     ensures { result ≡ close_reply held }
 {
@@ -161,7 +164,7 @@ pub fn close(held: Option<Description>) -> Reply
     }
 }
 
-/// The reply to an unlink of a name, by the queue that it is bound to (`mq_unlink`).
+/// The reply to an unlink, given the queue that the name is bound to (`mq_unlink`).
 pub fn unlink(bound: Option<u64>) -> Reply
     ensures { result ≡ unlink_reply bound }
 {
@@ -172,7 +175,7 @@ pub fn unlink(bound: Option<u64>) -> Reply
     }
 }
 
-// A send that nothing refuses.
+// The reply to a send without an error.
 fn accepted(waiting: Option<u64>, full: bool, notified: Option<u64>) -> Reply
     ensures { result ≡ accepted_reply waiting full notified }
 {
@@ -187,7 +190,8 @@ fn accepted(waiting: Option<u64>, full: bool, notified: Option<u64>) -> Reply
     }
 }
 
-/// The reply to a send of a message of this priority and length, on a descriptor of which this is so, or on none (`mq_send`).
+/// The reply to a send of a message of this priority and length, with the facts about its
+/// descriptor, or none if the process does not hold it (`mq_send`).
 pub fn send(prio: u32, len: u64, facts: Option<SendFacts>) -> Reply
     ensures { result ≡ send_reply prio len facts }
 {
@@ -215,7 +219,7 @@ pub fn send(prio: u32, len: u64, facts: Option<SendFacts>) -> Reply
     accepted(facts.waiting, full, notified)
 }
 
-// A receive by the best message.
+// The reply to a receive without an earlier error, given the best message.
 fn found(nonblock: bool, best: Option<u64>, waiting: Option<u64>, notified: Option<u64>) -> Reply
     ensures { result ≡ found_reply nonblock best waiting notified }
 {
@@ -234,7 +238,8 @@ fn found(nonblock: bool, best: Option<u64>, waiting: Option<u64>, notified: Opti
     }
 }
 
-/// The reply to a receive into a buffer of this length, on a descriptor of which this is so, or on none (`mq_receive`).
+/// The reply to a receive into a buffer of this length, with the facts about its descriptor, or
+/// none if the process does not hold it (`mq_receive`).
 pub fn receive(room: u64, facts: Option<ReceiveFacts>) -> Reply
     ensures { result ≡ receive_reply room facts }
 {
@@ -272,7 +277,7 @@ fn has_passed(until: Deadline, now: Deadline) -> bool
     until.sec < now.sec || (until.sec == now.sec && until.nsec <= now.nsec)
 }
 
-/// The deadline of a wait, if it has one, has passed at a moment.
+/// Whether a wait has a deadline that has passed at the time `now`.
 pub fn is_over(until: Option<Deadline>, now: Deadline) -> bool
     ensures { result ≡ is_over until now }
 {
@@ -282,8 +287,9 @@ pub fn is_over(until: Option<Deadline>, now: Deadline) -> bool
     }
 }
 
-/// The reply to a send or a receive with a deadline, made at the moment `now`, by the reply to the same call without one: the deadline
-/// counts only where that would wait (`mq_timedsend`, `mq_timedreceive`).
+/// The reply to a send or a receive with a deadline, made at the time `now`. `reply` is the reply
+/// to the same call without a deadline: the deadline matters only if that would wait
+/// (`mq_timedsend`, `mq_timedreceive`).
 pub fn timed(until: Deadline, now: Deadline, reply: Reply) -> Reply
     ensures { result ≡ timed_reply until now reply }
 {
@@ -299,7 +305,8 @@ pub fn timed(until: Deadline, now: Deadline, reply: Reply) -> Reply
     Reply::Waits
 }
 
-/// The reply to a getattr or a setattr, on a descriptor of which this is so, or on none (`mq_getattr`, `mq_setattr`).
+/// The reply to a getattr or a setattr, with the facts about its descriptor, or none if the process
+/// does not hold it (`mq_getattr`, `mq_setattr`).
 pub fn status(facts: Option<StatusFacts>) -> Reply
     requires { IfSome facts (λ f. f.count < 2 ^ 63) }
     ensures { result ≡ status_reply facts }
@@ -324,8 +331,8 @@ fn is_of(p: u32, registered: Option<Registration>) -> bool
     }
 }
 
-/// The reply to a notify of process p, on a descriptor of which this is so, or on none: a registration with a value, or a
-/// removal (`mq_notify`).
+/// The reply to a notify of process p, a registration with a value or a removal, with the facts
+/// about its descriptor, or none if the process does not hold it (`mq_notify`).
 pub fn notify(p: u32, value: Option<u64>, facts: Option<NotifyFacts>) -> Reply
     ensures { result ≡ notify_reply p value facts }
 {

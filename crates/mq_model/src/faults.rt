@@ -1,45 +1,48 @@
-//! Why calls are refused.
+//! The errors of calls.
 ghost use Rattle.std.specs.Prelude.{◌≡◌};
 
 use thiserror::Error;
 
-/// Why a call was refused. It prints as the name that POSIX gives the error (`errno.h`); `NOMEMORY` and
-/// `JOURNALFULL` are this project's own.
+/// The error of a call. It prints as the name that POSIX gives it (`errno.h`). `NOMEMORY` and
+/// `JOURNALFULL` are errors of this library.
 #[derive(Clone, Copy, Debug, PartialEq, Eq, Error)]
 #[error("{}", self.name())]
 pub enum Fault {
-    /// The call would wait, and its descriptor is nonblocking.
+    /// The call would wait, and its descriptor is nonblocking (`EAGAIN`).
     Again,
-    /// The process does not hold the descriptor, or not with the access that the call needs.
+    /// The process does not hold the descriptor, or not with the access that the call needs
+    /// (`EBADF`).
     BadDescriptor,
-    /// A registration stands on the queue already.
+    /// The queue already has a registration (`EBUSY`).
     Busy,
-    /// The name is bound, and the open asks for a new queue.
+    /// The name is bound, and the open asks for a new queue (`EEXIST`).
     Exists,
-    /// A priority, attributes, a name's form, a removal or a deadline that the call does not allow.
+    /// The priority, the attributes, the form of the name, the removal or the deadline is not valid
+    /// for the call (`EINVAL`).
     Invalid,
-    /// The process holds 16 descriptors.
+    /// The process already holds 16 descriptors (`EMFILE`).
     TooManyOpen,
-    /// A message longer than `msgsize`, or a buffer shorter.
+    /// The message is longer than `msgsize`, or the buffer is shorter (`EMSGSIZE`).
     MessageSize,
-    /// A name with more than 255 bytes after its slash.
+    /// The name has more than 255 bytes after its slash (`ENAMETOOLONG`).
     NameTooLong,
-    /// The name is not bound.
+    /// The name is not bound (`ENOENT`).
     NoEntry,
-    /// 64 queues exist.
+    /// 64 queues already exist (`ENOSPC`).
     NoSpace,
-    /// An allocation was refused. Nothing has changed.
+    /// Memory was refused. Nothing has changed.
     NoMemory,
-    /// The call would wait, and its deadline has passed; or the deadline passed while it waited.
+    /// The call would wait and its deadline has passed, or the deadline passed while it waited
+    /// (`ETIMEDOUT`).
     TimedOut,
-    /// The journal has bounds, and no room for what the call needs. Nothing has changed.
+    /// The journal has bounds, and no room for the call. Nothing has changed.
     JournalFull,
 }
 
 impl Fault {
     ghost use Rattle.mq_model.specs.Fault.{number_of, text_of};
 
-    /// This project's own number of the fault, from 1 to 13.
+    /// This library's own number of the error, from 1 to 13.
     pub fn number(&self) -> u32
         ensures { result ≡ number_of self.now }
     {
@@ -60,7 +63,7 @@ impl Fault {
         }
     }
 
-    /// The name that POSIX gives the error (`errno.h`), as `EAGAIN`.
+    /// The name that POSIX gives the error (`errno.h`), such as `EAGAIN`.
     pub fn name(&self) -> &'static str
         ensures { result.now ≡ text_of self.now }
     {

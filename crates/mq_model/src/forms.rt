@@ -1,4 +1,4 @@
-//! What a record says of its process and its payload, whatever stands before it.
+//! Whether the process and the payload of a record are well-formed, whatever comes before it.
 ghost use Rattle.std.specs.Prelude.{◌≡◌, ◌&&◌, nat_le};
 ghost use Rattle.mq_model.specs.Limits.{most_processes};
 ghost use Rattle.mq_model.specs.Legality.{is_refused, is_payload};
@@ -7,7 +7,7 @@ use crate::entries::{Call, Reply};
 use crate::limits::PROCESSES;
 use crate::names::is_name;
 
-/// Whether a process may have this number.
+/// Whether this is the number of a process.
 pub fn is_process(p: u32) -> bool
     ensures { result ≡ (nat_le 1 p && nat_le p most_processes) }
 {
@@ -23,8 +23,8 @@ fn is_refused(reply: Reply) -> bool
     }
 }
 
-/// Whether a call with this reply has this payload: the name of an open or an unlink, the message of a send that was not refused,
-/// and else nothing.
+/// Whether a call with this reply has this payload: the name of an open or an unlink, the message
+/// of a send that did not fail, and otherwise nothing.
 pub fn is_payload(call: Call, reply: Reply, payload: &[u8]) -> bool
     ensures { result ≡ is_payload call reply payload.now }
 {

@@ -7,8 +7,9 @@ use crate::stored::{Stored, store_call, store_reply, stored_call, stored_reply};
 use std::alloc::{AllocError, Global};
 use std::marker::Model;
 
-/// The list of all calls that were made, with their replies and payloads. The place of an entry is its position, from 0. A
-/// payload is the whole name of an open or unlink, the message of a send that was not refused, and empty otherwise.
+/// The list of all calls made, with their replies and payloads. The place of an entry is its
+/// sequence number, from 0. The payload is the whole name of an open or unlink, or the message of a
+/// send that did not fail, and otherwise empty.
 #[derive(Debug, Drop)]
 pub struct Journal {
     stored: Vec<Stored>,
@@ -29,7 +30,7 @@ impl Model for Journal {
     ghost invariant = { IsStored };
 }
 
-// Adds bytes after the others, in room that is there, which none at all leave as it was.
+// Appends bytes, for which there must be room. It is fast if there are none.
 #[inline(always)]
 fn add_bytes(bytes: &mut Vec<u8>, more: &[u8])
     requires { vec_len bytes.old + length more.now ≤ vec_capacity bytes.old }
@@ -44,7 +45,7 @@ fn add_bytes(bytes: &mut Vec<u8>, more: &[u8])
     let _ = bytes.extend_from_slice(more);
 }
 
-// The entry that is stored so.
+// The entry of a stored form.
 #[inline(always)]
 fn entry_of(apart: &[Call], stored: Stored) -> Entry
     requires start { stored.start ≤ stored.end }
@@ -63,7 +64,7 @@ impl Journal {
     ghost use Rattle.std.specs.Option.{option_map};
     ghost use Rattle.mq_model.specs.Record.{Record, record_at, first, payload_bytes};
 
-    /// The empty journal, which takes no memory.
+    /// The empty journal. It takes no memory.
     pub fn new(alloc: Global) -> Journal
         ensures { result.records ≡ [] }
     {
@@ -74,7 +75,8 @@ impl Journal {
         }
     }
 
-    /// The empty journal with room for just that many entries and payload bytes. The error is that the memory was refused.
+    /// The empty journal, with room for exactly this many entries and payload bytes. Fails if
+    /// memory was refused.
     pub fn with_room(alloc: Global, entries: usize, bytes: usize) -> Result<Journal, AllocError>
         ensures records { IfOk result (λ j. j.records ≡ []) }
         ensures room { IfOk result (λ j. (j.entry_room ≡ entries) × (j.byte_room ≡ bytes)) }
@@ -86,8 +88,8 @@ impl Journal {
         })
     }
 
-    /// Makes room for that many more entries and payload bytes. It fails only where an allocation was refused, and then loses no
-    /// room. Where there is room for the bytes, none is made.
+    /// Makes room for this many further entries and payload bytes. It fails only if memory was
+    /// refused, and then loses no room. If there is room for the bytes already, it makes none.
     #[inline(always)]
     pub fn reserve(&mut self, entries: usize, bytes: usize) -> Result<(), AllocError>
         ensures records { self.new.records ≡ self.old.records }
@@ -110,7 +112,7 @@ impl Journal {
         Ok(())
     }
 
-    /// Adds an entry with its payload after all others, in room that was reserved. Takes no memory.
+    /// Appends an entry with its payload. There must be room for it. Takes no memory.
     #[inline(always)]
     pub fn push(&mut self, entry: Entry, payload: &[u8])
         requires entry_room { 0 < self.old.entry_room }
@@ -135,7 +137,7 @@ impl Journal {
         });
     }
 
-    /// How many entries there are.
+    /// The number of entries.
     pub fn len(&self) -> u64
         ensures count { result ≡ length self.now.records }
         ensures bound { result < 2 ^ 63 }
@@ -143,7 +145,7 @@ impl Journal {
         self.stored.len() as u64
     }
 
-    /// How many payload bytes there are, of all entries.
+    /// The number of payload bytes of all entries.
     pub fn payload_bytes(&self) -> u64
         ensures count { result ≡ payload_bytes self.now.records }
         ensures bound { result < 2 ^ 63 }
@@ -151,7 +153,7 @@ impl Journal {
         self.bytes.len() as u64
     }
 
-    /// The entry at a place, or `None` at the length and beyond.
+    /// The entry at a place, or `None` if there is none.
     #[inline(always)]
     pub fn entry(&self, place: u64) -> Option<Entry>
         ensures { result ≡ option_map (λ r. r.entry) (record_at self.now.records place) }
@@ -163,7 +165,7 @@ impl Journal {
         Some(entry_of(&self.apart, s))
     }
 
-    /// The payload of the entry at a place, or `None` at the length and beyond.
+    /// The payload of the entry at a place, or `None` if there is none.
     #[inline(always)]
     pub fn payload(&self, place: u64) -> Option<&[u8]>
         ensures { option_map (λ p. p.now) result ≡ option_map (λ r. r.payload)
@@ -176,7 +178,7 @@ impl Journal {
         Some(&self.bytes[s.start..s.end])
     }
 
-    /// The entry at a place with its payload: what the first `place + 1` records have more than the first `place`.
+    /// The entry at a place with its payload.
     pub fn record(&self, place: u64) -> (Entry, &[u8])
         requires { place < length self.now.records }
         ensures { first (place + 1) self.now.records ≡

@@ -1,28 +1,28 @@
-//! The limits of this library: what a system, a process, a queue and a message may have at most (`limits.h`, `mq_open`,
+//! The limits of this library on systems, processes, queues and messages (`limits.h`, `mq_open`,
 //! `mq_send`).
 
-/// How many processes a system has at most. They are numbered from 1.
+/// The maximum number of processes of a system. They are numbered from 1.
 pub const PROCESSES: u32 = 32;
 
-/// How many descriptors a process has at most, numbered from 0 (`OPEN_MAX`).
+/// The maximum number of descriptors of a process. They are numbered from 0 (`MQ_OPEN_MAX`).
 pub const DESCRIPTORS: usize = 16;
 
-/// How many queues exist at most.
+/// The maximum number of queues that exist.
 pub const QUEUES: u64 = 64;
 
-/// How many bytes a name has at most after its slash (`NAME_MAX`).
+/// The maximum number of bytes of a name after its slash (`NAME_MAX`).
 pub const NAME_BYTES: usize = 255;
 
-/// How many messages a queue holds at most: the greatest `mq_maxmsg`.
+/// The maximum number of messages in a queue: the greatest `mq_maxmsg`.
 pub const MESSAGES: i64 = 4096;
 
-/// How many bytes a message has at most: the greatest `mq_msgsize`.
+/// The maximum number of bytes of a message: the greatest `mq_msgsize`.
 pub const MESSAGE_BYTES: i64 = 65536;
 
-/// How many priorities there are, numbered from 0 (`MQ_PRIO_MAX`).
+/// The number of priorities. They are numbered from 0 (`MQ_PRIO_MAX`).
 pub const PRIORITIES: u32 = 32768;
 
-/// How many nanoseconds a second has: those of a moment are fewer (`mq_timedsend`).
+/// The nanoseconds of a second. Those of a time are fewer (`mq_timedsend`).
 pub const NANOSECONDS: i64 = 1_000_000_000;
 
 /// `mq_maxmsg` of a queue that is created without attributes.

@@ -8,10 +8,10 @@ use crate::limits;
 use arrayvec::ArrayVec;
 use std::marker::Model;
 
-/// How many bytes a name has at most, with its slash.
+/// The maximum number of bytes of a name, with its slash.
 pub const NAME_CAPACITY: usize = limits::NAME_BYTES + 1;
 
-/// The name of a queue: a slash, then 1 to 255 bytes without a slash and without 0 (`mq_open`).
+/// The name of a queue: a slash, then 1 to 255 bytes without a slash and without NUL (`mq_open`).
 #[derive(Debug, Drop)]
 pub struct Name {
     text: ArrayVec<u8, NAME_CAPACITY>,
@@ -28,7 +28,7 @@ impl Model for Name {
     ghost invariant = { λ n. IsTrue (is_name n.text.items) };
 }
 
-// A byte that may stand after the slash.
+// Whether the byte may follow the slash.
 fn is_name_byte(b: u8) -> bool
     ensures { result ≡ is_name_byte b }
 {
@@ -41,14 +41,14 @@ fn are_name_bytes(bytes: &[u8]) -> bool
     bytes.iter().all(|b| is_name_byte(*b))
 }
 
-// A slash, and after it at least one byte, each of which may stand in a name.
+// Whether the bytes are a slash and then at least one byte, each of them allowed in a name.
 fn has_name_form(bytes: &[u8]) -> bool
     ensures { result ≡ has_name_form bytes.now }
 {
     bytes.len() > 1 && bytes[0] == b'/' && are_name_bytes(&bytes[1..])
 }
 
-/// These bytes are those of a name.
+/// Whether the bytes are a name.
 pub fn is_name(bytes: &[u8]) -> bool
     ensures { result ≡ is_name bytes.now }
 {
@@ -58,8 +58,8 @@ pub fn is_name(bytes: &[u8]) -> bool
 impl Name {
     ghost use Rattle.mq_model.specs.Name.{is_short};
 
-    /// Reads a name from its bytes. Refuses with `NameTooLong` where the only fault is more than 255 bytes after the slash,
-    /// else with `Invalid`. Takes no memory.
+    /// Reads a name from its bytes. Fails with `NameTooLong` if its only mistake is that more than
+    /// 255 bytes follow the slash, and otherwise with `Invalid`. Takes no memory.
     pub fn read(bytes: &[u8]) -> Result<Name, Fault>
         ensures form { IsOk result ↔ IsTrue (is_name bytes.now) }
         ensures ok { IfOk result (λ name. name ≡ bytes.now) }
@@ -78,7 +78,7 @@ impl Name {
         Ok(Name { text })
     }
 
-    /// All bytes of the name, with the slash.
+    /// The bytes of the name, with the slash.
     pub fn bytes(&self) -> &[u8]
         ensures value { result.now ≡ self.now }
         ensures form { IsTrue (is_name result.now) }

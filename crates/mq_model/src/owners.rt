@@ -1,5 +1,6 @@
-//! What each process has: its descriptors, and its open wait with what answered it. A table has process p's line at index
-//! p, and notes each entry of the journal; then it says what the definitions say of the entries so far.
+//! The table of processes: the descriptors of each, and its open wait with the entry that answered
+//! it. Process p has the row at index p. If the table is updated for each entry of the journal, it
+//! says what the definitions say about the entries so far.
 ghost use Rattle.std.specs.Prelude.{◌≡◌, ◌<◌, ◌≤◌, ℕ, length, IfSome, None, Some, is_none};
 ghost use Rattle.std.specs.Option.{option_map};
 ghost use Rattle.std.specs.List.{list_any, position};
@@ -8,7 +9,7 @@ ghost use Rattle.mq_model.specs.Descriptors.{is_place};
 use crate::entries::{Call, Deadline, Description, Entry, Reply};
 use crate::limits::DESCRIPTORS;
 
-/// What a call that blocked waits for.
+/// What a call waits for.
 #[derive(Clone, Copy, Debug, PartialEq, Eq)]
 pub enum WaitKind {
     /// A send, for room in its queue.
@@ -17,7 +18,7 @@ pub enum WaitKind {
     Receive,
 }
 
-/// A call that blocked: its place, its queue, its kind, and the moment until which it waits.
+/// An open wait: the place of the call that waits, its queue, its kind, and its deadline.
 #[derive(Clone, Copy, Debug, PartialEq, Eq)]
 pub struct OpenWait {
     pub place: u64,
@@ -26,8 +27,8 @@ pub struct OpenWait {
     pub until: Option<Deadline>,
 }
 
-/// What a process has: what it holds under each descriptor, the call that it waits in, and the place of the entry that
-/// answers that wait.
+/// What a process has: what it holds under each descriptor, its open wait, and the place of the
+/// entry that answers that wait.
 #[derive(Clone, Copy, Debug)]
 pub struct Owner {
     pub descriptors: [Option<Description>; DESCRIPTORS],
@@ -39,7 +40,8 @@ ghost use Rattle.mq_model.specs.Owners.{free_owner, holds, is_kind, wait_kind, h
 ghost use Rattle.mq_model.specs.OwnersNoted.{noted, noted_open, noted_done, noted_attributes, with_answer_at, FitsSlots, FitsDone, FitsAttributes, KeepsMirror, StartsMirror};
 
 impl Owner {
-    /// A process that has nothing. A table of such processes is that of the journal without entries.
+    /// A process without descriptors and without a wait. A table of such processes is that of the
+    /// empty journal.
     pub fn free() -> Owner
         ensures value { result ≡ free_owner }
         ensures starts { StartsMirror result }
@@ -114,7 +116,7 @@ fn set_slot(owners: &mut [Owner], p: u32, d: u32, slot: Option<Description>)
     owner.descriptors[d as usize] = slot;
 }
 
-// Sets the flag of process p's descriptor d, if it is held.
+// Sets the nonblocking flag of process p's descriptor d, if the process holds it.
 fn set_flag(owners: &mut [Owner], p: u32, d: u32, nonblock: bool)
     requires process { p < length owners.old }
     requires number { d < 16 }
@@ -137,7 +139,7 @@ fn is_wait_at(owner: &Owner, place: u64) -> bool
     }
 }
 
-// The first process whose open wait stands at a place.
+// The first process whose open wait began at this place.
 #[tactic(auto, unfolding(crate::specs::Owners::waiter_in))]
 #[inline(always)]
 fn waiter(owners: &[Owner], place: u64) -> Option<usize>
@@ -168,7 +170,7 @@ fn wait_kind(call: Call) -> WaitKind
     }
 }
 
-/// The place of process p's open wait, if it is a send, or receive, on queue q that no entry answers.
+/// The place of process p's open wait, if it is of this kind, on queue q, and not answered.
 #[tactic(auto, unfolding(crate::specs::Owners::pending_in))]
 pub fn pending(owners: &[Owner], p: u32, q: u64, kind: WaitKind) -> Option<u64>
     ensures { result ≡ pending_in owners.now p q kind }
@@ -188,7 +190,7 @@ pub fn pending(owners: &[Owner], p: u32, q: u64, kind: WaitKind) -> Option<u64>
     }
 }
 
-/// The unanswered send, or receive, that waits on queue q since the least place, with its process.
+/// The wait of this kind on queue q that has waited longest without an answer, with its process.
 pub fn first_wait(owners: &[Owner], q: u64, kind: WaitKind) -> Option<(u32, u64)>
     requires { length owners.now ≤ 33 }
     ensures none { result ≡ None → (p : ℕ) → pending_in owners.now p q kind ≡ None }
@@ -210,7 +212,7 @@ pub fn first_wait(owners: &[Owner], q: u64, kind: WaitKind) -> Option<(u32, u64)
     first
 }
 
-/// How many processes have an open wait.
+/// The number of processes with an open wait.
 #[tactic(auto, unfolding(crate::specs::Owners::waits_count))]
 pub fn open_waits(owners: &[Owner]) -> usize
     ensures count { result ≡ waits_count owners.now }
@@ -234,14 +236,14 @@ fn holds(owner: &Owner, q: u64) -> bool
     owner.descriptors.iter().any(|slot| is_on(slot, q))
 }
 
-/// Some process holds a descriptor of queue q.
+/// Whether some process holds a descriptor of queue q.
 pub fn is_held(owners: &[Owner], q: u64) -> bool
     ensures { result ≡ is_held_in owners.now q }
 {
     owners.iter().any(|owner| holds(owner, q))
 }
 
-// The wait at this place, if a process has it, is answered by the entry at place `here`.
+// Marks the wait that began at this place, if a process still has it, as answered by entry `here`.
 #[inline(always)]
 fn answer_wait(owners: &mut [Owner], wait: u64, here: u64)
     ensures { owners.new ≡ with_answer_at owners.old (waiter_in owners.old wait) here }
@@ -286,8 +288,9 @@ fn note_attributes(owners: &mut [Owner], p: u32, call: Call)
     }
 }
 
-/// Notes the entry at place `here`: `queue` is the queue that an open opened, or on whose descriptor another call was made. A table
-/// that says what the definitions say of a legal journal says so of the journal with the entry.
+/// Updates the table for the entry at place `here`. `queue` is the queue that an open opened, or on
+/// which another call was made. If the table says what the definitions say about a legal journal,
+/// it afterwards says so about the journal with the entry.
 #[inline(always)]
 pub fn note(owners: &mut [Owner], here: u64, entry: Entry, queue: u64)
     requires process { entry.process < length owners.old }

@@ -1,4 +1,4 @@
-//! Which registration stands on a queue, entry by entry.
+//! The registration on a queue, entry by entry.
 ghost use Rattle.std.specs.Prelude.{◌≡◌, ◌≢◌, IsTrue, IsFalse, ◌↔◌, Some, None, ◌==◌, ◌&&◌, ◌||◌, ℕ, Bool, Option};
 ghost use Rattle.mq_model.specs.Descriptors.{is_place};
 ghost use Rattle.mq_model.specs.Notices.{registration_by, registration_of, only_if, notified, is_removal, removes, is_close_of, closes, ends, unless, or_else, registration_after, is_about_registrations};
@@ -91,7 +91,8 @@ fn is_notified(reply: Reply, place: u64) -> bool
     }
 }
 
-// The entry ends a registration.
+// Whether the entry ends the registration `n`. `on` says whether its call is made on the queue of
+// `n`.
 fn ends(on: bool, entry: Entry, n: Registration) -> bool
     ensures { result ≡ ends on entry n }
 {
@@ -108,8 +109,8 @@ fn unless_ended(on: bool, entry: Entry, before: Option<Registration>) -> Option<
     }
 }
 
-/// The registration on a queue after the entry at place `here`, where it was `before`, and the entry's call is made on the
-/// queue or not.
+/// The registration on a queue after the entry at place `here`. `before` is the one before it, and
+/// `on` says whether the entry's call is made on the queue.
 pub fn registration_after(
     on: bool,
     here: u64,
@@ -139,7 +140,7 @@ fn is_about_registrations(call: Call) -> bool
     }
 }
 
-/// The entry changes some registration, wherever it stands.
+/// Whether the entry changes a registration on any queue.
 pub fn touches_registrations(entry: Entry) -> bool
     ensures none { IsFalse result → (on : Bool) (here : ℕ) (before : Option _) →
         registration_after on here entry before ≡ before }

@@ -1,4 +1,4 @@
-//! When two replies are one.
+//! Equality of replies.
 ghost use Rattle.std.specs.Prelude.{◌≡◌, IsTrue, ◌↔◌};
 
 use crate::entries::{Reply, Status};
@@ -35,7 +35,7 @@ fn is_same_status(one: Status, other: Status) -> bool
     true
 }
 
-/// Two replies are one.
+/// Whether two replies are equal.
 pub fn is_same(one: Reply, other: Reply) -> bool
     ensures { IsTrue result ↔ (one ≡ other) }
 {

@@ -1,4 +1,5 @@
-//! The form in which a journal stores an entry: 64 bytes, and 56 more for a call with a deadline or limits.
+//! The form in which a journal stores an entry: 64 bytes, and 56 more for a call with a deadline or
+//! limits.
 ghost use Rattle.std.specs.Prelude.{◌≡◌, ℕ, ◌+◌, ◌++◌, ◌<◌, ◌≤◌, List, slice_index_or, length, vec_len, vec_capacity};
 ghost use Rattle.mq_model.specs.Stored.{needs, call_of, kept_apart, reply_of};
 ghost use Rattle.mq_model.specs.declared.entries.Call.{Call};
@@ -6,11 +7,11 @@ ghost use Rattle.mq_model.specs.declared.entries.Call.{Call};
 use crate::entries::{Call, OpenFlags, Reply, Status};
 use crate::faults::Fault;
 
-// One more than four bytes hold.
+// One more than the greatest value of four bytes.
 const HALF: u64 = 4_294_967_296;
 
-/// A call in twelve bytes. Where it has more than they hold, it stands among the calls kept apart, at the index of these halves. A
-/// message is as long as the payload.
+/// A call in twelve bytes. A call that does not fit is kept in a separate list, and these two
+/// halves are its index there. The length of a message is that of the payload.
 #[derive(Clone, Copy, Debug)]
 pub enum StoredCall {
     Open { flags: OpenFlags },
@@ -79,7 +80,7 @@ pub enum StoredReply {
     },
 }
 
-/// An entry, and where its payload lies among the payload bytes.
+/// An entry, and the range of its payload among the payload bytes.
 #[derive(Clone, Copy, Debug)]
 pub struct Stored {
     pub process: u32,
@@ -89,7 +90,7 @@ pub struct Stored {
     pub end: usize,
 }
 
-// The form of a call that is kept apart, at that index.
+// The form of a call that is kept in the separate list, at this index.
 fn apart_at(index: usize) -> StoredCall
     ensures needs { needs result ≡ index + 1 }
     ensures call { (apart : List Call) → (len : ℕ) →
@@ -102,7 +103,7 @@ fn apart_at(index: usize) -> StoredCall
     }
 }
 
-// Keeps a call apart that twelve bytes do not hold, in room that is there.
+// Keeps a call that does not fit in twelve bytes in the separate list. There must be room for it.
 #[inline(always)]
 fn keep_apart(apart: &mut Vec<Call>, call: Call) -> StoredCall
     requires room { vec_len apart.old < vec_capacity apart.old }
@@ -116,7 +117,8 @@ fn keep_apart(apart: &mut Vec<Call>, call: Call) -> StoredCall
     stored
 }
 
-/// Stores the call of an entry whose payload has that length: in the form that is given back, or apart from it, in room that is there.
+/// Stores the call of an entry whose payload has this length, in the form that it returns or in the
+/// separate list. There must be room for it.
 #[inline(always)]
 pub fn store_call(apart: &mut Vec<Call>, call: Call, len: usize) -> StoredCall
     requires room { vec_len apart.old < vec_capacity apart.old }
@@ -143,7 +145,7 @@ pub fn store_call(apart: &mut Vec<Call>, call: Call, len: usize) -> StoredCall
     }
 }
 
-/// The call of a stored entry whose payload has that length.
+/// The call of a stored entry whose payload has this length.
 #[inline(always)]
 pub fn stored_call(apart: &[Call], stored: StoredCall, len: usize) -> Call
     requires { needs stored ≤ length apart.now }
@@ -171,7 +173,7 @@ pub fn stored_call(apart: &[Call], stored: StoredCall, len: usize) -> Call
     }
 }
 
-/// The form of a reply that is stored.
+/// The stored form of a reply.
 #[inline(always)]
 pub fn store_reply(reply: Reply) -> StoredReply
     ensures { reply_of result ≡ reply }
@@ -230,7 +232,7 @@ pub fn store_reply(reply: Reply) -> StoredReply
     }
 }
 
-/// The reply of a stored entry.
+/// The reply of a stored form.
 #[inline(always)]
 pub fn stored_reply(stored: StoredReply) -> Reply
     ensures { result ≡ reply_of stored }
