@@ -1,6 +1,6 @@
--- What each line owes: where the condition holds before a step of process i, and the step did to the words, the
--- flags and the points what the line says, the condition holds after it. Of the words each law names those of the
--- world before the step; `at'` and `b'` are the points and the flags after it, kept in whatever way.
+-- What each line must keep: if the invariant holds before a step of process i, and the step changed
+-- the words, the flags and the points as the line says, the invariant holds after it. Each law
+-- names the words x and y before the step; `at'` and `b'` are the points and the flags after it.
 use Rattle.std.specs.Prelude.{◌≡◌, ℕ, Bool}
 use Rattle.lamport_core.specs.State.{IsProcess, IsInsidePoint, after_Scan}
 use Rattle.lamport_core.specs.Safe.{Safe, Moves, Sets}
@@ -31,22 +31,22 @@ LoadOfXKeeps P after = (n x y i v : ℕ) (b : ℕ → Bool) (at at' : ℕ → At
 abbrev pub LoadOfYKeeps : At → (ℕ → ℕ → At) → Type 0
 LoadOfYKeeps P after = (n x y i v : ℕ) (b : ℕ → Bool) (at at' : ℕ → At) → Safe n x y b at → y ≡ v → Moves i P (after i v) at at' → Safe n x y b at'
 
--- a load of b[j] that finds v, from Scan j
+-- a load of b[j] by process i that finds v, from Scan j
 abbrev pub LoadOfFlagKeeps : Type 0
 LoadOfFlagKeeps = (n x y i j : ℕ) (v : Bool) (b : ℕ → Bool) (at at' : ℕ → At) → Safe n x y b at → b j ≡ v → Moves i (Scan j) (after_Scan n j v) at at' → Safe n x y b at'
 
--- words and points of the same values keep the same condition
+-- equal words, flags and points satisfy the same invariant
 abbrev pub SameValuesKeep : Type 0
 SameValuesKeep = (n x y x' y' : ℕ) (b b' : ℕ → Bool) (at at' : ℕ → At) → Safe n x y b at → x ≡ x' → y ≡ y' → ((j : ℕ) → b' j ≡ b j) → ((j : ℕ) → at' j ≡ at j) → Safe n x' y' b' at'
 
--- at most one process is inside
+-- at most one process is in its critical section
 abbrev pub OneInside : Type 0
 OneInside = (n x y i j : ℕ) (b : ℕ → Bool) (at : ℕ → At) → Safe n x y b at → IsInsidePoint (at i) → IsInsidePoint (at j) → i ≡ j
 
--- whom a step leads inside found nobody inside
+-- a process that a step takes into its critical section found it empty
 abbrev pub AdmittedAlone : Type 0
 AdmittedAlone = (n x y i : ℕ) (b : ℕ → Bool) (at at' : ℕ → At) (P Q : At) → Safe n x y b at' → Moves i P Q at at' → ¬ IsInsidePoint P → IsInsidePoint Q → (j : ℕ) → ¬ IsInsidePoint (at j)
 
--- whom a step leads out leaves nobody inside
+-- a process that a step takes out of its critical section leaves it empty
 abbrev pub LeftEmpty : Type 0
 LeftEmpty = (n x y i : ℕ) (b : ℕ → Bool) (at at' : ℕ → At) (P Q : At) → Safe n x y b at → Moves i P Q at at' → IsInsidePoint P → ¬ IsInsidePoint Q → (j : ℕ) → ¬ IsInsidePoint (at' j)

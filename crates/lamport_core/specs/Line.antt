@@ -1,4 +1,4 @@
--- The lines of the algorithm by the points alone, and the steps of a pass.
+-- The lines of the algorithm as pairs of points, and the steps of an attempt.
 use Rattle.std.specs.Prelude.{◌≡◌, ℕ, ◌+◌, ◌-◌, ◌^◌, ◌<◌, ◌≤◌, ◌⊎◌, min}
 use Rattle.lamport_core.specs.State.{IsProcess}
 use Rattle.lamport_core.specs.declared.At.{At}
@@ -22,19 +22,20 @@ IsLine n Fast q = q ≡ Leaving
 IsLine n Slow q = q ≡ Leaving
 IsLine n Leaving q = q ≡ Rest
 
--- one step more, of a count that stops at the greatest u64
+-- one step more; the count stops at the greatest u64
 abbrev pub one_more : ℕ → ℕ
 one_more k = min (k + 1) (2 ^ 64 - 1)
 
--- The steps of a pass after a step from this point, where they were k before it. A pass begins with b[i] := true,
--- which is its first step, and an entry that begins again begins a new pass. At rest there is none.
+-- The number of steps of an attempt after a step from this point, if it was k before. An attempt
+-- begins with b[i] := true, its first step. An acquisition that starts again begins a new attempt.
+-- At rest there is none.
 abbrev pub pass_steps : At → ℕ → ℕ
 pass_steps Rest k = 1
 pass_steps Start k = 1
 pass_steps Leaving k = 0
 pass_steps _ k = one_more k
 
--- the steps of a pass of one of n processes, as far as its point says them
+-- the number of steps of an attempt of one of n processes, as far as its point determines it
 abbrev pub IsCounted : ℕ → At → ℕ → Type 0
 IsCounted n Rest k = k ≡ 0
 IsCounted n Start k = 5 ≤ k

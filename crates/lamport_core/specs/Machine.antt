@@ -1,4 +1,5 @@
--- What contracts see of a `World`: the world of the algorithm, and how many steps each process has taken.
+-- What contracts see of a `World`: the state of the algorithm, and the number of steps of each
+-- process.
 use Rattle.std.specs.Prelude.{◌≡◌, ℕ, ◌^◌, ◌<◌, Bool, List, [], ◌∷◌, length, replicate}
 use Rattle.lamport_core.specs.State.{State, of_process, with_process, next, start, process_count}
 use Rattle.lamport_core.specs.Safe.{IsSafe}
@@ -7,7 +8,7 @@ use Rattle.lamport_core.specs.declared.At.{At}
 
 pub record Machine : Type 0 where
   pub state : State
-  -- that of process 1 first
+  -- process 1 first
   pub steps : List ℕ
 
 abbrev pub state_of : ℕ → ℕ → List Bool → List At → State
@@ -17,7 +18,7 @@ state_of x y flags points = record { x = x; y = y; flags = flags; points = point
 abbrev pub stepped : Machine → ℕ → Machine
 stepped m i = record { state = next m.state i; steps = with_process m.steps i (one_more (of_process 0 m.steps i)) }
 
--- each process of a schedule takes its next step, in turn
+-- each process of a schedule takes its next step, in the order of the schedule
 abbrev pub run_through : Machine → List ℕ → Machine
 run_through m [] = m
 run_through m (i ∷ is) = run_through (stepped m i) is
@@ -26,11 +27,11 @@ run_through m (i ∷ is) = run_through (stepped m i) is
 abbrev pub begun : ℕ → Machine
 begun n = record { state = start n; steps = replicate n 0 }
 
--- how many processes there are
+-- the number of processes
 abbrev pub count : Machine → ℕ
 count m = process_count m.state
 
--- what each `World` keeps
+-- the invariant of a `World`
 pub record IsSound (m : Machine) : Type 0 where
   pub safe : IsSafe m.state
   pub counts : length m.steps ≡ count m

@@ -3,25 +3,25 @@ use Rattle.std.specs.Prelude.{◌≡◌, ℕ, zero, suc, ◌+◌, ◌<◌, ◌�
 use Rattle.lamport_core.specs.declared.At.{At}
 use Rattle.lamport_core.specs.declared.At.TheVariants.{Rest, Start, SetX, TestY, BackB, AwaitY, SetY, TestX, SlowB, Scan, SlowY, SlowAwait, Fast, Slow, Leaving}
 
--- What process i has in a list with one item for each process, that of process 1 first. A number that is no
--- process has the default.
+-- The item of process i in a list with one item for each process, that of process 1 first. A number
+-- that is not that of a process has the default.
 abbrev pub of_process : {A : Type 0} → A → List A → ℕ → A
 of_process default items zero = default
 of_process default items (suc k) = slice_index_or items k default
 
--- the list where process i has this item, and each other what it had
+-- the list with this item for process i, and the others unchanged
 abbrev pub with_process : {A : Type 0} → List A → ℕ → A → List A
 with_process items zero item = items
 with_process items (suc k) item = slice_set items k item
 
--- A world: the words x and y, the flag b[i] of each process i, and the point that each process stands at.
+-- A world: the words x and y, the flag b[i] of each process i, and the point of each process.
 pub record State : Type 0 where
   pub x : ℕ
   pub y : ℕ
   pub flags : List Bool
   pub points : List At
 
--- how many processes there are
+-- the number of processes
 abbrev pub process_count : State → ℕ
 process_count w = length w.flags
 
@@ -33,7 +33,7 @@ IsWorld w = length w.points ≡ length w.flags
 abbrev pub IsProcess : ℕ → ℕ → Type 0
 IsProcess n i = (0 < i) × (i ≤ n)
 
--- where process i stands
+-- the point of process i
 abbrev pub point_of : State → ℕ → At
 point_of w i = of_process Rest w.points i
 
@@ -41,7 +41,7 @@ point_of w i = of_process Rest w.points i
 abbrev pub flag_of : State → ℕ → Bool
 flag_of w i = of_process false w.flags i
 
--- process i goes on to a point
+-- process i moves to a point
 abbrev pub with_point : State → ℕ → At → State
 with_point w i p = record { x = w.x; y = w.y; flags = w.flags; points = with_process w.points i p }
 
@@ -57,7 +57,7 @@ with_y w v = record { x = w.x; y = v; flags = w.flags; points = w.points }
 abbrev pub with_flag : State → ℕ → Bool → State
 with_flag w i v = record { x = w.x; y = w.y; flags = with_process w.flags i v; points = w.points }
 
--- The point that a load leads to, by the value that it found: y, x, or the flag of process j of n.
+-- The point after a load, given the value found: that of y, of x, or of the flag of process j of n.
 abbrev pub after_TestY : ℕ → At
 after_TestY y = if y == 0 then SetY else BackB
 
@@ -76,7 +76,7 @@ after_SlowY i y = if y == i then Slow else SlowAwait
 abbrev pub after_SlowAwait : ℕ → At
 after_SlowAwait y = if y == 0 then Start else SlowAwait
 
--- The step of process i from the point that it stands at: one load or one store, and the next point.
+-- The step of process i from this point: one load or one store, and the next point.
 abbrev pub step_from : At → State → ℕ → State
 step_from Rest w i = with_point (with_flag w i true) i SetX
 step_from Start w i = with_point (with_flag w i true) i SetX
@@ -98,7 +98,7 @@ step_from Leaving w i = with_point (with_flag w i false) i Rest
 abbrev pub next : State → ℕ → State
 next w i = step_from (point_of w i) w i
 
--- the world after each process of the schedule took its next step, in turn
+-- the world after each process of the schedule took its next step, in the order of the schedule
 abbrev pub run : State → List ℕ → State
 run w [] = w
 run w (i ∷ is) = run (next w i) is
@@ -112,16 +112,16 @@ abbrev pub IsSchedule : ℕ → List ℕ → Type 0
 IsSchedule n [] = Unit {0}
 IsSchedule n (i ∷ is) = IsProcess n i × IsSchedule n is
 
--- a world that some schedule of n processes leads to from the start
+-- a world that some schedule of n processes reaches from the start
 pub record Reach (n : ℕ) (w : State) : Type 0 where
   pub schedule : List ℕ
   pub processes : IsSchedule n schedule
   pub ends : w ≡ run (start n) schedule
 
--- a point inside: in the critical section
+-- a point in the critical section
 abbrev pub IsInsidePoint : At → Type 0
 IsInsidePoint p = (p ≡ Fast) ⊎ (p ≡ Slow)
 
--- process i is inside
+-- process i is in its critical section
 abbrev pub IsInside : State → ℕ → Type 0
 IsInside w i = IsInsidePoint (point_of w i)

@@ -1,5 +1,6 @@
-//! For a lock that takes the steps of the machine on words of its own: what each line leaves of the condition. These
-//! functions do nothing: the clauses of each are its laws, over functions of the process number.
+//! Laws for a lock that takes the steps of the machine on words of its own: each line keeps the
+//! invariant. These functions do nothing; their clauses are the laws, over functions of the process
+//! number.
 ghost use Rattle.std.specs.Prelude.{◌≡◌, ℕ, Bool, true, false};
 ghost use Rattle.lamport_core.specs.State.{after_TestY, after_AwaitY, after_TestX, after_SlowY, after_SlowAwait};
 ghost use Rattle.lamport_core.specs.Safe.{Safe, Moves, Sets, moved_to, flag_set_to};
@@ -7,7 +8,7 @@ ghost use Rattle.lamport_core.specs.Laws.{StoreOfFlagKeeps, StoreOfXKeeps, Store
 ghost use Rattle.lamport_core.specs.declared.At.{At};
 ghost use Rattle.lamport_core.specs.declared.At.TheVariants.{Rest, Start, SetX, TestY, BackB, AwaitY, SetY, TestX, SlowB, Scan, SlowY, SlowAwait, Fast, Slow, Leaving};
 
-/// Each line of the algorithm keeps the condition.
+/// Each line of the algorithm keeps the invariant.
 pub fn line_laws()
     ensures rest { StoreOfFlagKeeps Rest SetX true }
     ensures start { StoreOfFlagKeeps Start SetX true }
@@ -26,16 +27,17 @@ pub fn line_laws()
     ensures leaving { StoreOfFlagKeeps Leaving Rest false }
 {}
 
-/// What the condition says of who is inside: there is at most one, a step that leads inside found nobody there, and a
-/// step that leads out leaves nobody there.
+/// What the invariant says about the critical section: at most one process is in it, a step that
+/// enters it found it empty, and a step that leaves it leaves it empty.
 pub fn inside_laws()
     ensures one_inside { OneInside }
     ensures admitted_alone { AdmittedAlone }
     ensures left_empty { LeftEmpty }
 {}
 
-/// Processes at rest with their flags down keep the condition, whatever x and y are. A changed point or flag leaves
-/// those of the other processes. And the condition speaks of the values alone.
+/// Processes at rest with their flags down satisfy the invariant, whatever x and y are. Changing
+/// the point or the flag of one process leaves those of the others. The invariant depends only on
+/// the values.
 pub fn change_laws()
     ensures at_rest { (n x y : ℕ) (b : ℕ → Bool) (at : ℕ → At) → ((i : ℕ) → at i ≡ Rest) →
         ((i : ℕ) → b i ≡ false) → Safe n x y b at }

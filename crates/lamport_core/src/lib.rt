@@ -1,9 +1,10 @@
-//! Algorithm 2 of Leslie Lamport, "A Fast Mutual Exclusion Algorithm" (ACM Transactions on Computer Systems 5(1),
-//! 1987), as a pure machine: any number of processes, whose steps come in any order.
+//! Algorithm 2 of Leslie Lamport, "A Fast Mutual Exclusion Algorithm" (ACM Transactions on Computer
+//! Systems 5(1), 1987), as a pure machine, for any number of processes and any schedule.
 //!
-//! A step is one load or one store of one shared word: x, y, or the flag b[i] of process i. `World` runs the
-//! machine. `mutual_exclusion`, `lines` and `alone` say what is proved of it; the functions named `*_laws` have what
-//! a lock over real words needs, line by line. Progress is in `lamport_progress`.
+//! A step is one load or one store of one shared word: x, y, or the flag b[i] of process i. `World`
+//! runs the machine. `mutual_exclusion`, `lines` and `alone` are the theorems. The functions named
+//! `*_laws` have, line by line, what a lock over real words needs. Progress is proved in
+//! `lamport_progress`.
 #![tactic(auto)]
 
 ghost use Rattle.std.specs.Prelude.{◌≡◌, ℕ, ◌+◌, ◌-◌, ◌^◌, ◌<◌, ◌≤◌, ◌↔◌, List, length, IfOk, IfSome, IfNone, Some};
@@ -22,44 +23,46 @@ use std::alloc::{AllocError, Global};
 use std::marker::Model;
 pub use theorems::{alone, lines, mutual_exclusion};
 
-/// Where a process stands, by what its next step does. The comments give that step of process i.
+/// The point of a process, which says what its next step does. The comments give that step for
+/// process i.
 #[derive(Clone, Copy, Debug, PartialEq, Eq)]
 pub enum At {
-    /// Outside, and not on the way in: `b[i] := true`, with which an entry begins.
+    /// Outside, with no acquisition begun: `b[i] := true`, the first step of an acquisition.
     Rest,
-    /// On the way in again, after y was found 0: `b[i] := true`.
+    /// Starting again, after y was found 0: `b[i] := true`.
     Start,
     /// `x := i`.
     SetX,
-    /// Load y: to `SetY` if it is 0, else to `BackB`.
+    /// Load y: go to `SetY` if it is 0, else to `BackB`.
     TestY,
     /// `b[i] := false`.
     BackB,
-    /// Load y: to `Start` if it is 0, else to `AwaitY` again.
+    /// Load y: go to `Start` if it is 0, else stay at `AwaitY`.
     AwaitY,
     /// `y := i`.
     SetY,
-    /// Load x: inside, at `Fast`, if it is i, else to `SlowB`.
+    /// Load x: go to `Fast`, in the critical section, if it is i, else to `SlowB`.
     TestX,
-    /// `b[i] := false`, and then to the scan of all flags, from that of process 1 on.
+    /// `b[i] := false`, then scan all flags, starting with that of process 1.
     SlowB,
-    /// Load the flag of this process: again while it is true, else on to the next one, or to `SlowY` after the last.
+    /// Load the flag of this process: stay while it is up, else go to the next one, or to `SlowY`
+    /// after the last.
     Scan(u32),
-    /// Load y: inside, at `Slow`, if it is i, else to `SlowAwait`.
+    /// Load y: go to `Slow`, in the critical section, if it is i, else to `SlowAwait`.
     SlowY,
-    /// Load y: to `Start` if it is 0, else to `SlowAwait` again.
+    /// Load y: go to `Start` if it is 0, else stay at `SlowAwait`.
     SlowAwait,
-    /// Inside, with the flag raised: `y := 0`.
+    /// In the critical section by the fast path, with the flag up: `y := 0`.
     Fast,
-    /// Inside, by the slow path, with the flag down: `y := 0`.
+    /// In the critical section by the slow path, with the flag down: `y := 0`.
     Slow,
-    /// Outside again: `b[i] := false`, and then to `Rest`.
+    /// After the critical section: `b[i] := false`, then go to `Rest`.
     Leaving,
 }
 
-/// A world of n processes, numbered from 1 to n: the words x and y, a flag and a point for each process, and how many
-/// steps each has taken. The words x and y hold process numbers, or 0. Each world keeps the condition on worlds, so
-/// at most one process is inside.
+/// A world of n processes, numbered from 1 to n: the words x and y, a flag and a point for each
+/// process, and the number of steps that each has taken. x and y hold process numbers, or 0. Each
+/// world satisfies the invariant, so at most one process is in its critical section.
 #[derive(Drop)]
 pub struct World {
     x: u32,
@@ -84,8 +87,8 @@ impl Model for World {
 }
 
 impl World {
-    /// The start: n processes at rest, x and y 0, all flags false, no step taken. The error is want of memory. No
-    /// later call takes memory.
+    /// The start: n processes at rest, x and y 0, all flags down, no step taken. Fails if memory
+    /// was refused. No later call takes memory.
     pub fn new(alloc: Global, n: u32) -> Result<Self, AllocError>
         requires { 1 ≤ n }
         ensures begun { IfOk result (λ world. world ≡ begun n) }
@@ -114,7 +117,7 @@ impl World {
         self.steps[place] = one_more(self.steps[place]);
     }
 
-    /// One step for each number of the schedule, in turn. The empty schedule changes nothing.
+    /// One step for each number in the schedule, in its order.
     pub fn run(&mut self, schedule: &[u32])
         requires { IsSchedule (count self.old) schedule.now }
         ensures run { self.new ≡ run_through self.old schedule.now }
@@ -125,11 +128,11 @@ impl World {
         for i in schedule {
             self.step(*i);
         }
-        // The proof knows the condition of a world whose field it reads.
+        // Reading a field gives the proof the invariant of the world.
         let _ = &self.x;
     }
 
-    /// The process that is inside, at `At::Fast` or `At::Slow`.
+    /// The process in its critical section, at `At::Fast` or `At::Slow`.
     pub fn inside(&self) -> Option<u32>
         ensures found { (i : ℕ) → (result ≡ Some i) ↔ IsInside self.now.state i }
         ensures at_most_one { (i j : ℕ) → IsInside self.now.state i →
@@ -168,7 +171,7 @@ impl World {
         self.points[(i - 1) as usize]
     }
 
-    /// The steps of process i since the start, or `u64::MAX` where they are more.
+    /// The number of steps of process i since the start. The count stops at `u64::MAX`.
     pub fn steps(&self, i: u32) -> u64
         requires { IsProcess (count self.now) i }
         ensures { result ≡ of_process 0 self.now.steps i }
@@ -177,14 +180,14 @@ impl World {
     }
 }
 
-// One step more, of a count that stops at the greatest number.
+// One step more. The count stops at the greatest number.
 fn one_more(steps: u64) -> u64
     ensures { result ≡ one_more steps }
 {
     steps.saturating_add(1)
 }
 
-// The first process, by its number, whose point is inside.
+// The process with the lowest number whose point is in the critical section.
 fn first_inside(points: &[At]) -> Option<u32>
     requires { length points.now < 2 ^ 32 }
     ensures found { IfSome result (λ i. IsInsidePoint (of_process Rest points.now i)) }
@@ -200,7 +203,7 @@ fn first_inside(points: &[At]) -> Option<u32>
     None
 }
 
-// The load or store of process i at a point, and the point that it leads to.
+// The load or store of process i at a point, and the next point.
 fn operate(i: u32, point: At, x: &mut u32, y: &mut u32, flags: &mut [bool]) -> At
     requires process { IsProcess (length flags.old) i }
     requires point { IsPoint (length flags.old) point }
