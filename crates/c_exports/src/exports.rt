@@ -1,5 +1,6 @@
-//! The calls of a process, as C makes them. Where the handle is empty, or its process has or has not an open wait as the call needs
-//! it, or the process does not come inside by this try, nothing has changed.
+//! The calls of a process for C. Nothing has changed if the handle is empty, if the process has an
+//! open wait and the call needs one without (or the other way round), or if this try did not
+//! acquire the lock.
 ghost use Rattle.std.specs.Prelude.{◌≡◌, Some, None, IfSome, IfNone, [], length, if◌then◌else◌};
 ghost use Rattle.mq_model.specs.declared.entries.Call.{Call};
 ghost use Rattle.mq_model.specs.Fault.{number_of};
@@ -19,7 +20,8 @@ use c_handles::{numbers, with_member};
 use mq::Call;
 use std::alloc::Global;
 
-/// Opens a queue (`mq_open`) and writes its descriptor. A name or an access that is none is refused before all else.
+/// Opens a queue (`mq_open`) and writes its descriptor. A malformed name or access mode fails
+/// before anything else.
 #[unsafe(no_mangle)]
 pub extern "C" fn yak_open(
     alloc: Global,
@@ -45,7 +47,7 @@ pub extern "C" fn yak_open(
     numbers::opened(tried, d)
 }
 
-/// Unbinds a name (`mq_unlink`). A name that is none is refused before all else.
+/// Unlinks a name (`mq_unlink`). A malformed name fails before anything else.
 #[unsafe(no_mangle)]
 pub extern "C" fn yak_unlink(alloc: Global, process: &mut Handle, name: &[u8]) -> u32
     ensures bad { IfSome (name_fault name.now) (λ fault. (result ≡ number_of fault) ×
@@ -72,7 +74,8 @@ pub extern "C" fn yak_close(alloc: Global, process: &mut Handle, d: u32) -> u32
     numbers::done(tried)
 }
 
-/// Registers on the queue of a descriptor with this value, or removes the registration (`mq_notify`).
+/// Registers the process on the queue of a descriptor with this value, or removes the registration
+/// (`mq_notify`).
 #[unsafe(no_mangle)]
 pub extern "C" fn yak_notify(
     alloc: Global,
@@ -107,7 +110,7 @@ pub extern "C" fn yak_getattr(
     numbers::attributes(tried, attributes)
 }
 
-/// Sets the flag of a descriptor and writes the attributes from before (`mq_setattr`).
+/// Sets the nonblocking flag of a descriptor and writes the attributes from before (`mq_setattr`).
 #[unsafe(no_mangle)]
 pub extern "C" fn yak_setattr(
     alloc: Global,
@@ -125,7 +128,7 @@ pub extern "C" fn yak_setattr(
     numbers::attributes(tried, before)
 }
 
-/// Writes the value of the oldest notice that the process has not taken.
+/// Takes the oldest notice of the process and writes its value.
 #[unsafe(no_mangle)]
 pub extern "C" fn yak_next_notice(alloc: Global, process: &mut Handle, value: &mut u64) -> u32
     ensures { Gives (λ old new result. OneCall notice_says old new Call.NextNotice [] result) (λ t.
@@ -136,7 +139,7 @@ pub extern "C" fn yak_next_notice(alloc: Global, process: &mut Handle, value: &m
     numbers::notice(tried, value)
 }
 
-/// Closes all descriptors of the process, as the end of a process does.
+/// Closes all descriptors of the process, as POSIX does when a process ends.
 #[unsafe(no_mangle)]
 pub extern "C" fn yak_exit(alloc: Global, process: &mut Handle) -> u32
     ensures { Gives (λ old new result. Exits old new result) (code_of given_code)
@@ -145,7 +148,7 @@ pub extern "C" fn yak_exit(alloc: Global, process: &mut Handle) -> u32
     numbers::done(with_member!(process, alloc, |member| member.exit()))
 }
 
-/// Sends a message, or begins to wait for its admission (`mq_send`).
+/// Sends a message, or starts to wait for its admission (`mq_send`).
 #[unsafe(no_mangle)]
 pub extern "C" fn yak_start_send(
     alloc: Global,
@@ -161,7 +164,7 @@ pub extern "C" fn yak_start_send(
     process.start_send(alloc, d, bytes, prio)
 }
 
-/// The same at the moment `now`, with a deadline (`mq_timedsend`).
+/// The same with a deadline, at the time `now` (`mq_timedsend`).
 #[unsafe(no_mangle)]
 pub extern "C" fn yak_start_timed_send(
     alloc: Global,
@@ -188,7 +191,8 @@ pub extern "C" fn yak_start_timed_send(
     numbers::sent(tried)
 }
 
-/// Receives the oldest message of the highest priority into the front of the buffer, or begins to wait for one (`mq_receive`).
+/// Receives the oldest message of the highest priority to the start of the buffer, or starts to
+/// wait for one (`mq_receive`).
 #[unsafe(no_mangle)]
 pub extern "C" fn yak_start_receive(
     alloc: Global,
@@ -205,7 +209,7 @@ pub extern "C" fn yak_start_receive(
     process.start_receive(alloc, d, buf, message)
 }
 
-/// The same at the moment `now`, with a deadline (`mq_timedreceive`).
+/// The same with a deadline, at the time `now` (`mq_timedreceive`).
 #[unsafe(no_mangle)]
 pub extern "C" fn yak_start_timed_receive(
     alloc: Global,
@@ -232,7 +236,7 @@ pub extern "C" fn yak_start_timed_receive(
     numbers::got(tried, message)
 }
 
-/// Ends the open wait, if it is answered: a message that was received lies in the front of the buffer then.
+/// Ends the open wait if it is answered. A received message is then at the start of the buffer.
 #[unsafe(no_mangle)]
 pub extern "C" fn yak_collect(
     alloc: Global,
@@ -248,7 +252,8 @@ pub extern "C" fn yak_collect(
     numbers::ended(ending, message)
 }
 
-/// Ends the open wait, whose deadline has passed at the moment `now`: as `yak_collect` where it is answered, and else it is withdrawn.
+/// Ends the open wait, whose deadline has passed at the time `now`: collects it as `yak_collect`
+/// does if it is answered, else withdraws it.
 #[unsafe(no_mangle)]
 pub extern "C" fn yak_end_wait(
     alloc: Global,
@@ -266,7 +271,7 @@ pub extern "C" fn yak_end_wait(
     numbers::ended(ending, message)
 }
 
-/// Looks from outside the lock whether the open wait is answered, which takes one load.
+/// Polls from outside the lock whether the open wait is answered, by one load.
 #[unsafe(no_mangle)]
 pub extern "C" fn yak_answered(alloc: Global, process: &mut Handle) -> u32
     ensures look { GivesLook (under_way_in process.old) (process_in process.old)

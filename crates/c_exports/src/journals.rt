@@ -7,8 +7,8 @@ use c_handles::reading;
 use c_handles::requests::Room;
 use std::alloc::Global;
 
-/// Checks the journal of the system from its first entry on, inside the lock, which is the longer the more entries there are. The process
-/// may have an open wait, and keeps it.
+/// Checks the journal of the system from its first entry, in the critical section. It takes longer
+/// the more entries there are. The process may have an open wait, and keeps it.
 #[unsafe(no_mangle)]
 pub extern "C" fn yak_check(alloc: Global, process: &mut Handle) -> u32
     ensures { Checks (process_in process.old) (process_in process.new) result }
@@ -16,8 +16,8 @@ pub extern "C" fn yak_check(alloc: Global, process: &mut Handle) -> u32
     reading::check(alloc, process)
 }
 
-/// Writes the line of the entry at a place of the journal, as its text has it, into the front of a buffer, and how long the line is. The
-/// process may have an open wait, and keeps it.
+/// Writes the line of a journal entry, as in the text of the journal, to the start of a buffer, and
+/// the length of the line. The process may have an open wait, and keeps it.
 #[unsafe(no_mangle)]
 pub extern "C" fn yak_entry(
     alloc: Global,
@@ -38,8 +38,8 @@ pub extern "C" fn yak_entry(
     reading::entry(alloc, process, place, text, len)
 }
 
-/// Writes for how many more entries and payload bytes the journal has room, of a journal without bounds the greatest numbers. The process
-/// may have an open wait, and keeps it.
+/// Writes the number of entries and payload bytes for which the journal still has room, or the
+/// greatest numbers if it has no bounds. The process may have an open wait, and keeps it.
 #[unsafe(no_mangle)]
 pub extern "C" fn yak_room(alloc: Global, process: &mut Handle, room: &mut Room) -> u32
     ensures { GivesRoom (process_in process.old) (process_in process.new) room.old room.new result }

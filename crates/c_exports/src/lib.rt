@@ -1,8 +1,9 @@
-//! POSIX message queues for C: a static library over Lamport's lock, in which nothing waits.
+//! POSIX message queues for C: a static library over Lamport's lock, in which no call waits.
 //!
-//! A handle holds one process of a system. Each export checks what a program in C can get wrong and a check can see, and takes a
-//! bounded number of steps on its way into the lock; where these do not lead inside, it returns `RETRY` and goes on from there at the
-//! next try. `include/yakyrombe.h` has the declarations, with what a program in C owes. What stands behind the exports is `c_handles`.
+//! A handle holds one process of a system. Each export checks every mistake of a C program that can
+//! be detected, and takes a bounded number of steps to acquire the lock. If these do not acquire
+//! it, the export returns `RETRY`, and the next try continues from there. `include/yakyrombe.h` has
+//! the declarations, with what a C program must observe. The exports call `c_handles`.
 #![tactic(auto)]
 
 mod exports;

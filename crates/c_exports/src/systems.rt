@@ -1,4 +1,4 @@
-//! The making of a system, and the end of a handle, as C asks for them.
+//! Making a system, and freeing a handle, for C.
 ghost use Rattle.std.specs.Prelude.{◌≡◌, true, false, Some, None};
 ghost use Rattle.c_handles.specs.Handles.{process_in};
 ghost use Rattle.c_handles.specs.Codes.{freed_code};
@@ -12,8 +12,8 @@ use c_handles::{resuming, system};
 use mq_model::bounds::Bounds;
 use std::alloc::Global;
 
-/// Makes a system with as many processes as there are handles, 1 to 32 of them and all empty, and puts its processes into them, in
-/// their order.
+/// Makes a system with as many processes as there are handles, and puts the processes into the
+/// handles, in order. There must be 1 to 32 handles, all empty.
 #[unsafe(no_mangle)]
 pub extern "C" fn yak_new(alloc: Global, processes: &mut [Handle]) -> u32
     ensures { Makes None true processes.old processes.new result }
@@ -21,8 +21,8 @@ pub extern "C" fn yak_new(alloc: Global, processes: &mut [Handle]) -> u32
     system::new(alloc, processes)
 }
 
-/// The same, with a journal that may hold so many entries and so many payload bytes: all the memory that later calls could need is taken
-/// here.
+/// The same, with a journal of at most `entries` entries and `bytes` payload bytes. It takes all
+/// the memory that later calls need.
 #[unsafe(no_mangle)]
 pub extern "C" fn yak_bounded(
     alloc: Global,
@@ -36,8 +36,9 @@ pub extern "C" fn yak_bounded(
     system::bounded(alloc, processes, entries, bytes)
 }
 
-/// The same, with a journal that is a history variable: contracts speak of it, and no byte of it is stored. Its memory stays as it is while
-/// no more and no longer messages are present than ever before.
+/// The same, with a journal that is a history variable: contracts speak of it, and no byte of it is
+/// stored. It takes no more memory as long as no more messages, and no longer ones, are present
+/// than ever before.
 #[unsafe(no_mangle)]
 pub extern "C" fn yak_unstored(alloc: Global, processes: &mut [Handle]) -> u32
     ensures { Makes None false processes.old processes.new result }
@@ -45,8 +46,8 @@ pub extern "C" fn yak_unstored(alloc: Global, processes: &mut [Handle]) -> u32
     system::unstored(alloc, processes)
 }
 
-/// The same, but an open that creates a queue also takes the memory that later calls on it need. Then no send, receive, notify, collect or
-/// withdrawal takes memory.
+/// The same, but an open that creates a queue also takes the memory that later calls on it need.
+/// Then no send, receive, notify, collect or withdraw takes memory.
 #[unsafe(no_mangle)]
 pub extern "C" fn yak_prepaid(alloc: Global, processes: &mut [Handle]) -> u32
     ensures { Makes None false processes.old processes.new result }
@@ -54,8 +55,9 @@ pub extern "C" fn yak_prepaid(alloc: Global, processes: &mut [Handle]) -> u32
     system::prepaid(alloc, processes)
 }
 
-/// Makes a system as `yak_new` that goes on from the journal whose text this is, as if its calls had been made on the system. If the journal
-/// is refused, the line is written that is the reason.
+/// Makes a system as `yak_new` does that continues from the journal with this text, as if its calls
+/// had been made on the system. If the journal cannot be used because of a line, writes the number
+/// of that line.
 #[unsafe(no_mangle)]
 pub extern "C" fn yak_resume(
     alloc: Global,
@@ -93,8 +95,8 @@ pub extern "C" fn yak_resume_bounded(
     )
 }
 
-/// The same, with a short journal in place of this one, after which the queues reply alike. If a wait is answered and not collected, it
-/// begins with the journal itself.
+/// The same, with a short journal in place of this one, after which the queues reply in the same
+/// way. If a wait is answered and not collected, the system continues from the journal itself.
 #[unsafe(no_mangle)]
 pub extern "C" fn yak_resume_short(
     alloc: Global,
@@ -108,8 +110,8 @@ pub extern "C" fn yak_resume_short(
     resuming::resume_short(alloc, processes, text, line)
 }
 
-/// Empties a handle: 0, or 18 where it was empty. Its process is lost: what it holds stays held, and where it was on its way into the lock it can keep all others
-/// out for good.
+/// Empties a handle. Returns 0, or 18 if it was empty. Its process is lost: its descriptors stay
+/// open, and if it was acquiring the lock, it can keep all others out for good.
 #[unsafe(no_mangle)]
 pub extern "C" fn yak_free(alloc: Global, process: &mut Handle) -> u32
     ensures empty { process_in process.new ≡ None }
@@ -118,8 +120,9 @@ pub extern "C" fn yak_free(alloc: Global, process: &mut Handle) -> u32
     system::free(alloc, process)
 }
 
-/// Writes which of the futex words of its system a process sleeps on, from 0: that of y, of the flag of a process that it waits for on its way
-/// into the lock, or of its own answer. A hint.
+/// Writes which futex word of its system a process sleeps on, counted from 0: that of y or of the
+/// flag of a process for which it waits to acquire the lock, or that of its own answer. It is a
+/// hint.
 #[unsafe(no_mangle)]
 pub extern "C" fn yak_futex_word(alloc: Global, process: &mut Handle, futex_word: &mut u32) -> u32
     ensures process { process_in process.new ≡ process_in process.old }

@@ -1,4 +1,4 @@
--- The numbers that exports code, with what they write. Those of faults are their own, 1 to 13.
+-- The codes that exports return, and what they write. Errors have their own numbers, 1 to 13.
 use Rattle.std.specs.Prelude.{ℕ, Bool, true, false, Option, Some, None, Result, Ok, Err}
 use Rattle.fast_mutex.specs.Items.{Ticket}
 use Rattle.mq_model.specs.Record.{Record}
@@ -16,25 +16,25 @@ use Rattle.c_handles.specs.declared.tried.Ending.{Ending}
 use Rattle.c_handles.specs.declared.tried.Ending.TheVariants.{NotWaiting, Short, TooEarly, Unanswered, Withdrawn, Came}
 use Rattle.c_handles.specs.declared.tried.Ending.TheVariants.{Retry as RetryEnd}
 
--- a number that an export gives, with what it wrote
+-- a code that an export returns, with what it wrote
 abbrev pub told : {A : Type 0} → ℕ → A → ℕ × A
 told code wrote = (code, wrote)
 
--- the number of a try, where this is the number of what a call gave; 18 stands for an empty handle
+-- The code of a try, given the code for the result of a call. 18 stands for an empty handle.
 abbrev pub code_of : {R : Type 0} → (R → ℕ) → Option (Tried R) → ℕ
 code_of made None = 18
 code_of made (Some Retry) = 16
 code_of made (Some Waiting) = 19
 code_of made (Some (Made result)) = made result
 
--- what a try wrote, where a call that gave this writes that
+-- what a try wrote, given what a call with this result writes
 abbrev pub written : {R A : Type 0} → (R → A) → A → Option (Tried R) → A
 written made before None = before
 written made before (Some Retry) = before
 written made before (Some Waiting) = before
 written made before (Some (Made result)) = made result
 
--- of calls that give something or are refused
+-- of calls that return something or fail
 abbrev pub given_code : {A : Type 0} → Result A Fault → ℕ
 given_code (Ok given) = 0
 given_code (Err fault) = number_of fault
@@ -43,7 +43,7 @@ abbrev pub given : {A : Type 0} → A → Result A Fault → A
 given before (Ok value) = value
 given before (Err fault) = before
 
--- of a notice: 23 stands for none
+-- of a notice: 23 means that there is none
 abbrev pub notice_code : Result (Option ℕ) Fault → ℕ
 notice_code (Ok (Some value)) = 0
 notice_code (Ok None) = 23
@@ -54,7 +54,7 @@ notice_given before (Ok (Some value)) = value
 notice_given before (Ok None) = before
 notice_given before (Err fault) = before
 
--- of a send and a receive: 17 says that it waits now
+-- of a send or a receive: 17 means that it now waits
 abbrev pub sent_code : Result Bool Fault → ℕ
 sent_code (Ok true) = 0
 sent_code (Ok false) = 17
@@ -102,7 +102,7 @@ end_message before (Some TooEarly) = before
 end_message before (Some Withdrawn) = before
 end_message before None = before
 
--- of the end of a handle that has this process, or none
+-- of freeing a handle with this process, or without one
 abbrev pub freed_code : Option (Ticket Record) → ℕ
 freed_code (Some process) = 0
 freed_code None = 18

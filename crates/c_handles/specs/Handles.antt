@@ -10,6 +10,6 @@ use Rattle.c_handles.specs.Standings.{ticket_of, is_under_way}
 abbrev pub process_in : Handle → Option (Ticket Record)
 process_in h = option_map (λ (m : Member). ticket_of m.standing) h.seal.member
 
--- whether it is on its way into the lock
+-- whether it has an acquisition in progress
 abbrev pub under_way_in : Handle → Bool
 under_way_in h = unwrap_or (option_map (λ (m : Member). is_under_way m.standing) h.seal.member) false

@@ -1,4 +1,4 @@
--- What reading the journal leaves and gives.
+-- The effect and the results of reading the journal.
 use Rattle.std.specs.Prelude.{ℕ, ◌≡◌, ◌⊎◌, true, false, nat_le, List, [], length, take, Option, Some, None, if◌then◌else◌}
 use Rattle.fast_mutex.specs.Items.{Ticket}
 use Rattle.mq_model.specs.Record.{Record, record_at}
@@ -9,21 +9,22 @@ use Rattle.journal_format.specs.Text.{line_text}
 use Rattle.mq.specs.Calls.{Calls, bounds_of, stored_in}
 use Rattle.c_handles.specs.declared.requests.Room.{Room}
 
--- whether the journal of the system that a process belongs to is stored
+-- the journal of the system that a process belongs to is stored
 abbrev pub IsStored : Ticket Record → Type 0
 IsStored t = stored_in t.lock.fixed ≡ true
 
 abbrev pub IsUnstored : Ticket Record → Type 0
 IsUnstored t = stored_in t.lock.fixed ≡ false
 
--- a check that came inside says that the journal is legal, 0, and made no call; 27 if the journal is not stored
+-- A check that acquired the lock returns 0, which means that the journal is legal, and made no
+-- call. It is 27 if the journal is not stored.
 abbrev pub Checks : Option (Ticket Record) → Option (Ticket Record) → ℕ → Type 0
 Checks None None code = code ≡ 18
 Checks (Some old) (Some new) code = ((code ≡ 0) × Calls old new [] × IsStored old) ⊎ ((code ≡ 16) × (new ≡ old) × IsStored old) ⊎ ((code ≡ 27) × (new ≡ old) × IsUnstored old)
 Checks None (Some new) code = ⊥
 Checks (Some old) None code = ⊥
 
--- a buffer that held `before` and a length have these now, and this number is returned
+-- what a buffer held before and holds now, the length written before and now, and the code returned
 pub record Wrote : Type 0 where
   pub before : List ℕ
   pub after : List ℕ
@@ -37,20 +38,20 @@ pub record IsUntouched (w : Wrote) (code : ℕ) : Type 0 where
   pub same_len : w.len ≡ w.len_before
   pub code_is : w.code ≡ code
 
--- the front of the buffer has the line, or as much of it as there is room for, and the length is that of the line: 0, or 21 where that is
--- more than the buffer has room for
+-- The buffer starts with the line, or with as much of it as fits, and the length is that of the
+-- line. The code is 0, or 21 if the line does not fit.
 pub record WritesLine (line : List ℕ) (w : Wrote) : Type 0 where
   pub text : w.after ≡ with_front (take (length w.before) line) w.before
   pub len_is : w.len ≡ length line
   pub code_is : w.code ≡ (if nat_le (length line) (length w.before) then 0 else 21)
 
--- the line of the record at a place, or 25 for none
+-- the line of a record, or 25 if there is none
 abbrev pub WritesRecord : ℕ → Option Record → Wrote → Type 0
 WritesRecord place None w = IsUntouched w 25
 WritesRecord place (Some r) w = WritesLine (line_text place r) w
 
--- a reading that came inside made no call, and wrote the line of the record at the place; or memory for that was refused, 11; or the
--- journal is not stored, 27
+-- A read that acquired the lock made no call, and wrote the line of the record. Or memory for that
+-- was refused, 11, or the journal is not stored, 27.
 abbrev pub ReadsAt : ℕ → Option (Ticket Record) → Option (Ticket Record) → Wrote → Type 0
 ReadsAt place None None w = IsUntouched w 18
 ReadsAt place (Some old) (Some new) w =
@@ -59,12 +60,12 @@ ReadsAt place (Some old) (Some new) w =
 ReadsAt place None (Some new) w = ⊥
 ReadsAt place (Some old) None w = ⊥
 
--- the room as C sees it: without bounds all that the numbers can say
+-- the room as C sees it: without bounds, the greatest numbers
 abbrev pub room_shown : Option Bounds → Room
 room_shown None = record { entries = 18446744073709551615; bytes = 18446744073709551615 }
 room_shown (Some b) = record { entries = b.entries; bytes = b.bytes }
 
--- a question for the room that came inside made no call, and wrote the room that is left
+-- A request for the room that acquired the lock made no call, and wrote the room that is left.
 abbrev pub GivesRoom : Option (Ticket Record) → Option (Ticket Record) → Room → Room → ℕ → Type 0
 GivesRoom None None before after code = (code ≡ 18) × (after ≡ before)
 GivesRoom (Some old) (Some new) before after code =
@@ -72,7 +73,8 @@ GivesRoom (Some old) (Some new) before after code =
 GivesRoom None (Some new) before after code = ⊥
 GivesRoom (Some old) None before after code = ⊥
 
--- a question whether nobody can make a call that came inside made none itself: 0 where that is so, else 26
+-- A request whether no process can make a call, which acquired the lock, made none itself. The code
+-- is 0 if that is so, else 26.
 abbrev pub GivesNobody : Option (Ticket Record) → Option (Ticket Record) → ℕ → Type 0
 GivesNobody None None code = code ≡ 18
 GivesNobody (Some old) (Some new) code =

@@ -1,4 +1,4 @@
--- Systems that begin with a journal.
+-- Systems that start with a journal.
 use Rattle.std.specs.Prelude.{ℕ, ◌≡◌, ◌<◌, ◌+◌, ◌⊎◌, true, List, length, IfSome, Option}
 use Rattle.mq_model.specs.Record.{Past, record_at}
 use Rattle.mq_model.specs.Legality.{IsFirstIllegal}
@@ -10,7 +10,7 @@ use Rattle.journal_format.specs.Text.{journal_text}
 use Rattle.c_handles.specs.declared.handle.Handle.{Handle}
 use Rattle.c_handles.specs.Systems.{Fills, HasNoPlace}
 
--- the text is that of this journal, of which nothing is lost in it
+-- the text is that of this journal, and determines it
 pub record IsTextOf (past : Past) (text : List ℕ) : Type 0 where
   pub fits : AllFit past
   pub text_is : text ≡ journal_text past
@@ -28,11 +28,12 @@ pub record IsForeignAt (n : ℕ) (past : Past) (line : ℕ) : Type 0 where
   pub there : place < length past
   pub foreign : IfSome (record_at past place) (λ r. n < r.entry.process)
 
--- no system of n processes goes on from this journal: an entry is not legal, 30, or of a process above n, 31
+-- No system of n processes can continue from this journal: an entry is not legal, 30, or is of a
+-- process above n, 31.
 abbrev pub IsNoStart : ℕ → Past → ℕ → ℕ → Type 0
 IsNoStart n past line code = ((code ≡ 30) × IsIllegalAt past line) ⊎ ((code ≡ 31) × IsForeignAt n past line)
 
--- the same of the journal of a text
+-- the same for the journal of a text
 pub record TextIsNoStart (n : ℕ) (text : List ℕ) (line code : ℕ) : Type 0 where
   pub past : Past
   pub of_text : IsTextOf past text
@@ -60,7 +61,7 @@ pub record GoesOn (begins : Past → Past → Type 0) (bounds : Option Bounds) (
   pub begun : begins written past
   pub fills : Fills bounds true past old new code
 
--- the making of a system that begins so, with the line before and after
+-- making a system in this way, with the line number before and after
 abbrev pub Resumes : (Past → Past → Type 0) → Option Bounds → List ℕ → List Handle → List Handle → ℕ → ℕ → ℕ → Type 0
 Resumes begins bounds text old new line after code =
     (GoesOn begins bounds text old new code × (after ≡ line)) ⊎ (IsRefused bounds text old line after code × (new ≡ old))

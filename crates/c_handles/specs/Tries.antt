@@ -1,4 +1,4 @@
--- What the try of a call leaves.
+-- The effect of a try of a call.
 use Rattle.std.specs.Prelude.{◌≡◌, Option, Some, None}
 use Rattle.fast_mutex.specs.Items.{Ticket}
 use Rattle.mq_model.specs.Record.{Record}
@@ -6,7 +6,8 @@ use Rattle.mq.specs.Calls.{IsFree}
 use Rattle.c_handles.specs.declared.tried.Tried.{Tried}
 use Rattle.c_handles.specs.declared.tried.Tried.TheVariants.{Waiting, Retry, Made}
 
--- a try of a call that needs a process without an open wait: the call was made, or nothing has changed, and what `kept` says holds too
+-- A try of a call that needs a process without an open wait. Either the call was made, or nothing
+-- has changed and `kept` holds.
 abbrev pub TriesWith : {R : Type 0} → Type 0 → (Ticket Record → Ticket Record → R → Type 0) → Ticket Record → Ticket Record → Tried R → Type 0
 TriesWith kept call old new (Made result) = call old new result
 TriesWith kept call old new Retry = (new ≡ old) × IsFree old × kept
@@ -15,8 +16,8 @@ TriesWith kept call old new Waiting = (new ≡ old) × (IsFree old → ⊥) × k
 abbrev pub Tries : {R : Type 0} → (Ticket Record → Ticket Record → R → Type 0) → Ticket Record → Ticket Record → Tried R → Type 0
 Tries call old new t = TriesWith (Unit {0}) call old new t
 
--- the try of an export on a handle that has this process, or none, and has that one after it: what it returns is what `says` gives
--- of the try, or, where the handle is empty, of none
+-- The try of an export on a handle that has the process `old`, or none, and afterwards the process
+-- `new`. It returns what `says` gives for the try, or for none if the handle is empty.
 abbrev pub GivesWith : {R A : Type 0} → Type 0 → (Ticket Record → Ticket Record → R → Type 0) → (Option (Tried R) → A) → Option (Ticket Record) → Option (Ticket Record) → A → Type 0
 GivesWith kept call says None None code = (code ≡ says None) × kept
 GivesWith {R} kept call says (Some old) (Some new) code = (t : Tried R) × TriesWith kept call old new t × (code ≡ says (Some t))

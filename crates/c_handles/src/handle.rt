@@ -1,4 +1,4 @@
-//! A handle as C keeps it.
+//! The handle that C holds.
 ghost use Rattle.std.specs.Prelude.{◌≡◌, is_some};
 
 use crate::member::Member;
@@ -11,19 +11,21 @@ use mq::{Call, Returned};
 use std::alloc::Global;
 use std::ptr::null;
 
-/// A process that C holds, and what C needs for sleeping and waking, of which nothing is proved. A handle of zeros is empty.
+/// A process that C holds, with what C needs for sleeping and waking, about which nothing is
+/// proved. A handle of zero bytes is empty.
 #[repr(C)]
 #[derive(Drop)]
 pub struct Handle {
     seal: Seal,
     full: bool,
-    // whose waits its last call answered, that of process p by bit p - 1
+    // the processes whose waits its last call answered: bit p - 1 stands for process p
     answered: u32,
     // the number of its process
     number: u32,
     // the futex words of its system
     futex_words: *const u64,
-    // so that no two handles of an array share a cache line, which each call of either would take from the other
+    // Padding, so that no two handles of an array share a cache line. Otherwise calls of one would
+    // take the line from the other.
     apart: [u64; 12],
     ghost fullness: { full ≡ is_some seal.member },
 }
@@ -32,14 +34,14 @@ impl Handle {
     ghost use Rattle.std.specs.Prelude.{◌≡◌, Some, None, IfSome, IfNone};
     ghost use Rattle.c_handles.specs.Systems.{is_empty};
 
-    /// Whether it has no process.
+    /// Whether the handle has no process.
     pub fn is_empty(&self) -> bool
         ensures { result ≡ is_empty self.now }
     {
         !self.full
     }
 
-    /// Takes the member out, where there is one.
+    /// Takes the member out, if there is one.
     #[inline(always)]
     pub fn take(&mut self, alloc: Global) -> Option<Box<Member>>
         ensures some { IfSome result (λ member. self.old.seal.member ≡ Some member.value) }
@@ -53,7 +55,8 @@ impl Handle {
         Some(self.seal.take(alloc))
     }
 
-    /// Takes the member out for good, and forgets the futex words of its system, which may end with it.
+    /// Takes the member out for good. The handle also forgets the futex words of its system, which
+    /// may end with the member.
     pub fn end(&mut self, alloc: Global) -> Option<Box<Member>>
         ensures some { IfSome result (λ member. self.old.seal.member ≡ Some member.value) }
         ensures none { IfNone result (self.old.seal.member ≡ None) }
@@ -85,7 +88,8 @@ impl Handle {
     }
 }
 
-/// What the member of a handle, taken out and put back, makes of this; `None` where there is none.
+/// Takes the member out of a handle, evaluates `$made` with it, and puts it back. `None` if there
+/// is no member.
 #[macro_export]
 macro_rules! with_member {
     ($handle:ident, $alloc:ident, |$member:ident| $made:expr) => {
@@ -111,7 +115,7 @@ impl Handle {
     ghost use Rattle.c_handles.specs.Tries.{Gives, GivesWith};
     ghost use Rattle.c_handles.specs.Codes.{told, code_of, written, sent_code, got_code, message_got};
 
-    /// As [`Member::make`], where there is a member.
+    /// As [`Member::make`], if there is a member.
     pub fn make<A: Returned>(
         &mut self,
         alloc: Global,
@@ -128,7 +132,7 @@ impl Handle {
         with_member!(self, alloc, |member| member.make(call, given, buf))
     }
 
-    /// Tries to send: the number of what [`make`](Handle::make) would come to.
+    /// Tries to send. Returns the code of what [`make`](Handle::make) would return.
     #[inline(always)]
     pub fn start_send(&mut self, alloc: Global, d: u32, bytes: &[u8], prio: u32) -> u32
         ensures { Gives (λ old new result.
@@ -146,7 +150,7 @@ impl Handle {
         }
     }
 
-    // The same of any process.
+    // The same for a process in any state.
     #[inline(never)]
     fn send_apart(&mut self, alloc: Global, d: u32, bytes: &[u8], prio: u32) -> u32
         ensures { Gives (λ old new result.
@@ -158,7 +162,7 @@ impl Handle {
         numbers::sent(tried)
     }
 
-    /// Tries to receive, in the same way, and writes what it got.
+    /// Tries to receive, in the same way, and writes the length and priority of the message.
     #[inline(always)]
     pub fn start_receive(
         &mut self,
@@ -184,7 +188,7 @@ impl Handle {
         }
     }
 
-    // The same of any process.
+    // The same for a process in any state.
     #[inline(never)]
     fn receive_apart(&mut self, alloc: Global, d: u32, buf: &mut [u8], message: &mut Message) -> u32
         ensures { GivesWith (buf.new ≡ buf.old) (λ old new result.

@@ -1,4 +1,5 @@
-//! What a system that goes on from a journal asks of it: until when a process waits there, and a short journal in its place.
+//! What a system that continues from a journal needs from it: the deadline of the open wait of each
+//! process, and a short journal that may replace it.
 #![tactic(auto, using(mq_model::proofs::Prefixes::prefixes))]
 
 ghost use Rattle.std.specs.Prelude.{◌≡◌, ◌≤◌, true, IfOk, length};
@@ -14,7 +15,7 @@ use mq_state::books::Books;
 use mq_state::rewriting::Unwritten;
 use std::alloc::Global;
 
-// A call that waits has this reply.
+// Whether the call of this reply waits.
 fn is_wait(reply: Reply) -> bool
     ensures { result ≡ is_wait reply }
 {
@@ -24,7 +25,7 @@ fn is_wait(reply: Reply) -> bool
     }
 }
 
-/// The moment until which process p waits before place k.
+/// The deadline of the open wait of process p before place k.
 pub fn wait_deadline(journal: &Journal, k: u64, p: u32) -> Option<Deadline>
     requires { k ≤ length journal.now.records }
     ensures { result ≡ wait_deadline (first k journal.now.records) p }
@@ -42,9 +43,10 @@ pub fn wait_deadline(journal: &Journal, k: u64, p: u32) -> Option<Deadline>
     None
 }
 
-/// A journal, short by what is alive, that is equivalent to the stored journal of these queues. `Answered`: a wait is answered, and its
-/// process has not collected what it came to. `Unexpected`: what was made is not equivalent, or a call in it had another reply than
-/// wanted; neither has happened yet.
+/// A short journal that is equivalent to the stored journal of these queues. Its length depends on
+/// what exists now. Fails with `Answered` if a process has not collected a wait that is answered,
+/// and with `Unexpected` if the new journal is not equivalent, or a call in it got another reply
+/// than needed; neither is known to happen.
 pub fn equivalent_short(alloc: Global, books: &Books) -> Result<Journal, Unwritten>
     requires { books.now.stored ≡ true }
     ensures { IfOk result (λ short. Equivalent books.now.records short.records) }

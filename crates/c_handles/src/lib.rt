@@ -1,7 +1,8 @@
-//! Handles of processes, as C keeps them, and what the exports for C are made of.
+//! Handles of processes for C, and what the exports for C consist of.
 //!
-//! A handle holds one process of a system. The tries of its calls take a bounded number of steps on their way into the lock; where
-//! these do not lead inside, the process stays on its way, and the next try goes on from there.
+//! A handle holds one process of a system. Each try of a call takes a bounded number of steps to
+//! acquire the lock. If these do not acquire it, the acquisition stays in progress, and the next
+//! try continues from there.
 #![tactic(auto)]
 
 pub mod handle;

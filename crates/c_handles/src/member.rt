@@ -14,12 +14,12 @@ use mq_model::error_order;
 use std::alloc::{AllocError, Global};
 use std::sync::Arc;
 
-/// A process with its queues. Between two tries it may be on its way into the lock.
+/// A process with its queues. Between two tries an acquisition of the lock may be in progress.
 #[derive(Drop)]
 pub struct Member {
     mq: Arc<FastMq, Global>,
     standing: Standing,
-    // until when its open wait waits, where that has a deadline
+    // the deadline of its open wait, if it has one
     until: Option<Deadline>,
     ghost there: { is_there standing ≡ true },
     ghost made: { (ticket_of standing).lock ≡ arc_value mq },
@@ -37,7 +37,7 @@ impl Member {
     ghost use Rattle.c_handles.specs.Standings.{ticket_of};
     ghost use Rattle.c_handles.specs.Tries.{Tries, TriesWith};
 
-    /// A process at rest with its queues, and until when its open wait waits.
+    /// A process without an acquisition in progress, its queues, and the deadline of its open wait.
     pub fn new(mq: Arc<FastMq, Global>, process: FastProcess, until: Option<Deadline>) -> Member
         requires made { process.lock ≡ arc_value mq }
         requires deadline { until ≡ wait_deadline process.left process.number }
@@ -55,7 +55,8 @@ impl Member {
         standing::number(&self.standing)
     }
 
-    /// Whose waits its last call answered, that of process p by bit p - 1. A hint.
+    /// The processes whose waits its last call answered: bit p - 1 stands for process p. It is a
+    /// hint.
     pub fn answered_others(&self) -> u32 {
         standing::answered_others(&self.standing)
     }
@@ -65,13 +66,13 @@ impl Member {
         self.mq.futex_words()
     }
 
-    /// Which of them its process sleeps on now. A hint.
+    /// The futex word on which its process sleeps now. It is a hint.
     pub fn futex_word(&self) -> u32 {
         standing::futex_word(&self.standing)
     }
 
-    /// Tries to make a call of whichever kind, with its name, the bytes of its message or none, and the buffer that a receive fills. A send
-    /// or a receive may begin to wait.
+    /// Tries to make a call of any kind. `given` is its name or its message, or empty, and `buf`
+    /// the buffer that a receive fills. A send or a receive may start to wait.
     #[inline(never)]
     pub fn make<A: Returned>(&mut self, call: Call, given: &[u8], buf: &mut [u8]) -> Tried<A>
         requires brings { Brings call given.now (length buf.old) }
@@ -92,8 +93,9 @@ impl Member {
         Tried::Made(returned)
     }
 
-    /// Tries to send, as [`make`](Member::make), where its process is at rest without an open wait and meets nobody on its way in: so the compiler
-    /// knows each step. Else `None`, and the process is perhaps on its way.
+    /// Tries to send, as [`make`](Member::make) does, if its process has no acquisition in progress
+    /// and no open wait, and the fast path acquires the lock. Then the compiler knows each step.
+    /// Otherwise the result is `None`, and an acquisition may be in progress.
     #[tactic(auto, using(crate::proofs::Members::no_deadline))]
     #[inline(always)]
     pub fn send_at_once(
@@ -193,7 +195,7 @@ impl Member {
         self.mq.is_stored()
     }
 
-    /// Tries to check the stored journal: `None` where the process has not come inside yet.
+    /// Tries to check the stored journal. `None` if the lock is not acquired yet.
     pub fn check(&mut self, alloc: Global) -> Option<Result<(), u64>>
         requires stored { stored_in (ticket_of self.old.standing).lock.fixed ≡ true }
         ensures none { IfNone result (ticket_of self.new.standing ≡ ticket_of self.old.standing) }
@@ -206,7 +208,8 @@ impl Member {
         Some(checked)
     }
 
-    /// Tries to read the entry of the stored journal at a place with its payload: `None` where the process has not come inside yet.
+    /// Tries to read an entry of the stored journal with its payload. `None` if the lock is not
+    /// acquired yet.
     pub fn record(
         &mut self,
         alloc: Global,
@@ -225,7 +228,8 @@ impl Member {
         Some(read)
     }
 
-    /// Tries to ask for how much more the journal has room: `None` where the process has not come inside yet.
+    /// Tries to find out how much room the journal still has. `None` if the lock is not acquired
+    /// yet.
     pub fn room(&mut self) -> Option<Option<Bounds>>
         ensures none { IfNone result (ticket_of self.new.standing ≡ ticket_of self.old.standing) }
         ensures room { IfSome result (λ room.
@@ -240,7 +244,8 @@ impl Member {
         Some(room)
     }
 
-    /// Tries to ask whether nobody can make a call any more: `None` where the process has not come inside yet.
+    /// Tries to find out whether no process can make a call any more. `None` if the lock is not
+    /// acquired yet.
     pub fn nobody_can_call(&mut self) -> Option<bool>
         ensures none { IfNone result (ticket_of self.new.standing ≡ ticket_of self.old.standing) }
         ensures nobody { IfSome result (λ nobody.
@@ -255,7 +260,7 @@ impl Member {
         Some(nobody)
     }
 
-    /// Looks from outside whether the open wait is answered.
+    /// Polls from outside the lock whether the open wait is answered.
     pub fn answered(&mut self) -> Looked
         ensures look { Looks (is_under_way self.old.standing) (ticket_of self.old.standing)
             (ticket_of self.new.standing) result }
@@ -271,7 +276,7 @@ impl Member {
         }
     }
 
-    /// Tries to end the open wait, if it is answered.
+    /// Tries to end the open wait if it is answered.
     pub fn collect(&mut self, buf: &mut [u8]) -> Ending
         ensures { Ends None (ticket_of self.old.standing)
             (ticket_of self.new.standing) buf.old buf.new result }
@@ -296,7 +301,7 @@ impl Member {
         }
     }
 
-    /// Tries to end the open wait, whose deadline has passed at the moment `now`.
+    /// Tries to end the open wait, whose deadline has passed at the time `now`.
     #[tactic(auto, using(crate::proofs::Members::no_deadline))]
     pub fn end_wait(&mut self, buf: &mut [u8], now: Deadline) -> Ending
         ensures { Ends (Some now) (ticket_of self.old.standing)
@@ -324,7 +329,7 @@ impl Member {
     }
 }
 
-// Until when a process waits that has made this call, where it does.
+// The deadline of a process that has made this call, if it waits in it.
 #[tactic(auto, using(crate::proofs::Members::no_deadline))]
 fn until_of(process: &FastProcess, call: Call) -> Option<Deadline>
     requires { IsSome (waiting_room process.now.left process.now.number) →

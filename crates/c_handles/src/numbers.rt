@@ -1,4 +1,4 @@
-//! The numbers that exports give, and what they write.
+//! The codes that exports return, and what they write.
 ghost use Rattle.std.specs.Prelude.{◌≡◌, Some, None};
 ghost use Rattle.c_handles.specs.Codes.{code_of, written, given_code, given, notice_code, notice_given, sent_code, got_code, message_of, message_got, attributes_got, end_code, end_message};
 ghost use Rattle.c_handles.specs.Endings.{look_code};
@@ -7,46 +7,47 @@ use crate::requests::{Attributes, Message};
 use crate::tried::{Ending, Looked, Tried};
 use mq::{Collected, Fault, Received, Status};
 
-/// The call was made and is done. The numbers 1 to 13 are those of faults.
+/// The call succeeded. The codes 1 to 13 are the numbers of errors.
 pub const DONE: u32 = 0;
 
-/// The process is not inside yet: it is worth another try, and yielding the processor before it.
+/// The lock is not acquired yet. Try again, best after yielding the processor.
 pub const RETRY: u32 = 16;
 
-/// The process has an open wait now, or still.
+/// The process now has an open wait, or still has it.
 const WAITS: u32 = 17;
 
 /// The handle is empty.
 pub const EMPTY: u32 = 18;
 
-/// The process has an open wait, and this call needs one that has none.
+/// The process has an open wait, and the call needs one without.
 const WAITING: u32 = 19;
 
 /// The process has no open wait.
 const NOT_WAITING: u32 = 20;
 
-/// The buffer is shorter than that of the receive that waits.
+/// The buffer is shorter than that of the waiting receive.
 pub const SHORT: u32 = 21;
 
-/// The wait has no deadline, or one that has not passed.
+/// The wait has no deadline, or its deadline has not passed.
 const EARLY: u32 = 22;
 
 /// There is no notice.
 const NO_NOTICE: u32 = 23;
 
-/// A handle is not empty that should be.
+/// A handle is not empty that must be.
 pub const FULL: u32 = 24;
 
-/// There is no entry at that place.
+/// The journal has no entry with this sequence number.
 pub const NO_ENTRY: u32 = 25;
 
-/// A process can make a call.
+/// Some process can still make a call.
 pub const GOES_ON: u32 = 26;
 
-/// The system's journal is not stored, and so can't be read.
+/// The journal of the system is not stored, so it cannot be read.
 pub const UNSTORED: u32 = 27;
 
-/// A line of the text is not that of an entry. (28 is of the functions in C over this library.)
+/// A line of the text is not the line of an entry. (28 is used by the C functions over this
+/// library.)
 pub const BAD_LINE: u32 = 29;
 
 /// An entry of the journal is not legal.
@@ -55,7 +56,7 @@ pub const ILLEGAL: u32 = 30;
 /// An entry of the journal is of a process above the number of handles.
 pub const FOREIGN: u32 = 31;
 
-/// The number of what a call gave that is done or refused.
+/// The code of a call that succeeds without a result, or fails.
 pub fn done(tried: Option<Tried<Result<(), Fault>>>) -> u32
     ensures { result ≡ code_of given_code tried }
 {
@@ -68,7 +69,7 @@ pub fn done(tried: Option<Tried<Result<(), Fault>>>) -> u32
     }
 }
 
-/// That of an open, which writes the descriptor.
+/// The code of an open, which writes the descriptor.
 pub fn opened(tried: Option<Tried<Result<u32, Fault>>>, d: &mut u32) -> u32
     ensures code { result ≡ code_of given_code tried }
     ensures descriptor { d.new ≡ written (given d.old) d.old tried }
@@ -85,7 +86,7 @@ pub fn opened(tried: Option<Tried<Result<u32, Fault>>>, d: &mut u32) -> u32
     }
 }
 
-/// That of a call that writes attributes.
+/// The code of a call that writes attributes.
 pub fn attributes(tried: Option<Tried<Result<Status, Fault>>>, attributes: &mut Attributes) -> u32
     ensures code { result ≡ code_of given_code tried }
     ensures attributes { attributes.new ≡
@@ -108,7 +109,7 @@ pub fn attributes(tried: Option<Tried<Result<Status, Fault>>>, attributes: &mut 
     }
 }
 
-/// That of the oldest notice, which writes its value.
+/// The code of the call for the oldest notice, which writes its value.
 pub fn notice(tried: Option<Tried<Result<Option<u64>, Fault>>>, value: &mut u64) -> u32
     ensures code { result ≡ code_of notice_code tried }
     ensures value { value.new ≡ written (notice_given value.old) value.old tried }
@@ -126,7 +127,7 @@ pub fn notice(tried: Option<Tried<Result<Option<u64>, Fault>>>, value: &mut u64)
     }
 }
 
-/// That of a send.
+/// The code of a send.
 pub fn sent(tried: Option<Tried<Result<bool, Fault>>>) -> u32
     ensures { result ≡ code_of sent_code tried }
 {
@@ -140,7 +141,7 @@ pub fn sent(tried: Option<Tried<Result<bool, Fault>>>) -> u32
     }
 }
 
-/// That of a receive, which writes what it got.
+/// The code of a receive, which writes the length and priority of the message.
 pub fn got(tried: Option<Tried<Result<Option<Received>, Fault>>>, message: &mut Message) -> u32
     ensures code { result ≡ code_of got_code tried }
     ensures message { message.new ≡ written (message_got message.old) message.old tried }
@@ -158,7 +159,7 @@ pub fn got(tried: Option<Tried<Result<Option<Received>, Fault>>>, message: &mut 
     }
 }
 
-/// That of the end of a wait, which writes the message of a receive.
+/// The code of the end of a wait, which writes those of a received message.
 pub fn ended(ending: Option<Ending>, message: &mut Message) -> u32
     ensures code { result ≡ end_code ending }
     ensures message { message.new ≡ end_message message.old ending }
@@ -179,7 +180,7 @@ pub fn ended(ending: Option<Ending>, message: &mut Message) -> u32
     }
 }
 
-/// That of a look.
+/// The code of a poll.
 pub fn looked(looked: Option<Looked>) -> u32
     ensures { result ≡ look_code looked }
 {

@@ -13,8 +13,8 @@ use journal_format::line::line_of;
 use mq::{Bounds, Fault};
 use std::alloc::Global;
 
-/// Checks the journal of the system from its first entry on, inside the lock, which is the longer the more entries there are. The process
-/// may have an open wait, and keeps it.
+/// Checks the journal of the system from its first entry, in the critical section. It takes longer
+/// the more entries there are. The process may have an open wait, and keeps it.
 pub fn check(alloc: Global, process: &mut Handle) -> u32
     ensures { Checks (process_in process.old) (process_in process.new) result }
 {
@@ -24,8 +24,8 @@ pub fn check(alloc: Global, process: &mut Handle) -> u32
     }
 }
 
-/// Writes the line of the entry at a place of the journal, as its text has it, into the front of a buffer, and how long the line is. The
-/// process may have an open wait, and keeps it.
+/// Writes the line of a journal entry, as in the text of the journal, to the start of a buffer, and
+/// the length of the line. The process may have an open wait, and keeps it.
 pub fn entry(
     alloc: Global,
     process: &mut Handle,
@@ -65,7 +65,7 @@ fn check_in(alloc: Global, member: &mut Member) -> u32
     }
 }
 
-// Reads the entry at a place of the journal of the system of a member.
+// Reads an entry of the journal of the system of a member.
 fn read_in(alloc: Global, member: &mut Member, place: u64, text: &mut [u8], len: &mut usize) -> u32
     ensures { ReadsAt place (Some (ticket_of member.old.standing))
         (Some (ticket_of member.new.standing))
@@ -93,7 +93,7 @@ fn read_in(alloc: Global, member: &mut Member, place: u64, text: &mut [u8], len:
     }
 }
 
-// Writes as much of a line as the buffer has room for, and how long the line is.
+// Writes as much of a line as fits into the buffer, and the length of the line.
 fn write_line(line: &[u8], text: &mut [u8], len: &mut usize) -> u32
     ensures { WritesLine line.now (record {
       before = text.old;
@@ -109,8 +109,8 @@ fn write_line(line: &[u8], text: &mut [u8], len: &mut usize) -> u32
     if count == line.len() { DONE } else { SHORT }
 }
 
-/// Writes for how many more entries and payload bytes the journal has room, of a journal without bounds the greatest numbers. The process
-/// may have an open wait, and keeps it.
+/// Writes the number of entries and payload bytes for which the journal still has room, or the
+/// greatest numbers if it has no bounds. The process may have an open wait, and keeps it.
 pub fn room(alloc: Global, process: &mut Handle, room: &mut Room) -> u32
     ensures { GivesRoom (process_in process.old) (process_in process.new) room.old room.new result }
 {

@@ -1,13 +1,13 @@
-//! What goes to and fro between a program in C and the exports.
+//! The structs that a C program and the exports exchange.
 ghost use Rattle.std.specs.Prelude.{◌≡◌, Some, None, IfOk, IfErr, if◌then◌else◌};
 ghost use Rattle.c_handles.specs.Openings.{access_of, attr_of, name_fault, open_fault, flags_of};
 
 use mq::{Access, Attr, Deadline, Fault, Name, OpenFlags};
 
-/// What an open asks for.
+/// The arguments of an open.
 #[repr(C)]
 pub struct Opening {
-    /// The limits of a queue that it creates, where `limited`.
+    /// The limits of the queue that it creates, if `limited`.
     pub maxmsg: i64,
     pub msgsize: i64,
     /// 0 to receive, 1 to send, 2 for both.
@@ -28,7 +28,7 @@ pub struct Attributes {
     pub nonblock: bool,
 }
 
-/// A message that was received: how many bytes of the buffer it has, and its priority.
+/// A message that was received: the number of its bytes in the buffer, and its priority.
 #[repr(C)]
 #[derive(Clone, Copy)]
 pub struct Message {
@@ -36,7 +36,7 @@ pub struct Message {
     pub prio: u32,
 }
 
-/// For how much more a journal has room: so many entries and payload bytes.
+/// The room that a journal still has, in entries and payload bytes.
 #[repr(C)]
 #[derive(Clone, Copy)]
 pub struct Room {
@@ -44,7 +44,7 @@ pub struct Room {
     pub bytes: u64,
 }
 
-/// A moment of the clock of the program (`struct timespec`).
+/// A time of the clock of the program (`struct timespec`).
 #[repr(C)]
 #[derive(Clone, Copy)]
 pub struct Moment {
@@ -53,7 +53,7 @@ pub struct Moment {
 }
 
 impl Moment {
-    /// The moment as a deadline.
+    /// The time as a deadline.
     pub fn deadline(&self) -> Deadline
         ensures { result ≡ record { sec = self.now.sec; nsec = self.now.nsec } }
     {
@@ -64,7 +64,7 @@ impl Moment {
     }
 }
 
-/// The access of that number.
+/// The access mode with this number.
 pub fn access_of(number: u32) -> Option<Access>
     ensures { result ≡ access_of number }
 {
@@ -76,7 +76,7 @@ pub fn access_of(number: u32) -> Option<Access>
     }
 }
 
-/// The limits that an open asks for.
+/// The limits in the arguments of an open.
 pub fn limits(opening: &Opening) -> Option<Attr>
     ensures { result ≡ attr_of opening.now }
 {
@@ -89,14 +89,14 @@ pub fn limits(opening: &Opening) -> Option<Attr>
     })
 }
 
-/// The value of a registration, where it is one and no removal.
+/// The value of a registration, or none for a removal.
 pub fn registration(registers: bool, value: u64) -> Option<u64>
     ensures { result ≡ (if registers then Some value else None) }
 {
     if registers { Some(value) } else { None }
 }
 
-/// The name of these bytes.
+/// The name with these bytes.
 pub fn read_name(bytes: &[u8]) -> Result<Name, Fault>
     ensures ok { IfOk result (λ name. (name ≡ bytes.now) × (name_fault bytes.now ≡ None)) }
     ensures err { IfErr result (λ fault. name_fault bytes.now ≡ Some fault) }

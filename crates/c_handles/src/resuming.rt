@@ -1,4 +1,4 @@
-//! The making of a system that begins with a journal.
+//! Making a system that starts with a journal.
 ghost use Rattle.std.specs.Prelude.{◌≡◌, ◌≤◌, ◌<◌, ◌⊎◌, true, None, Some, ℕ, length, slice_get, IfOk, IfErr};
 ghost use Rattle.std.specs.List.{list_all};
 ghost use Rattle.mq_model.specs.Waits.{wait_deadline};
@@ -55,7 +55,7 @@ pub fn resume_short(alloc: Global, processes: &mut [Handle], text: &[u8], line: 
     }
 }
 
-// The queues, for these handles, that go on from the journal whose text this is; or the number of why there are none.
+// The queues, for these handles, that continue from the journal with this text. Fails with a code.
 fn begun(
     alloc: Global,
     processes: &[Handle],
@@ -89,7 +89,7 @@ fn begun(
     }
 }
 
-// The queues of n processes that go on from a journal; or the number of why there are none.
+// The queues of n processes that continue from a journal. Fails with a code.
 fn stocked(
     alloc: Global,
     n: u32,
@@ -128,7 +128,8 @@ fn stocked(
     }
 }
 
-// The queues after a short journal in place of theirs, or after theirs, where there is none. The error is that memory was refused.
+// The queues after a short journal in place of theirs; if there is none, the queues after their
+// own. Fails if memory was refused.
 fn shortened(alloc: Global, books: Books) -> Result<Books, AllocError>
     requires count { (1 ≤ books.n) × (books.n ≤ 32) }
     requires stored { (books.bounds ≡ None) × (books.stored ≡ true) }
@@ -165,7 +166,7 @@ fn hand_over(alloc: Global, books: Books, processes: &mut [Handle]) -> u32
     }
 }
 
-// Until when the open wait of each process waits, that of process p at index p.
+// The deadline of the open wait of each process. Index p is for process p.
 fn deadlines_of(books: &Books) -> Deadlines
     requires { books.now.stored ≡ true }
     ensures { (p : ℕ) → p < 33 →
@@ -178,7 +179,7 @@ fn deadlines_of(books: &Books) -> Deadlines
     deadlines
 }
 
-// Until when the open wait of a process waits, where it has one with a deadline.
+// The deadline of the open wait of a process, if it has one.
 #[tactic(auto, using(crate::proofs::Members::no_room, crate::proofs::Members::deadline_whole))]
 fn deadline_of(books: &Books, process: u32) -> Option<Deadline>
     requires { books.now.stored ≡ true }

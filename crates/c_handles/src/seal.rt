@@ -1,4 +1,4 @@
-//! A box of a member whose type says nothing of what lies in it, so that it may cross to C.
+//! A box of a member whose type hides its content, so that it can be passed to C.
 ghost use Rattle.std.specs.Prelude.{◌≡◌, Option, Some, None};
 ghost use Rattle.c_handles.specs.declared.member.Member.{Member};
 ghost use Rattle.c_handles.specs.Owning.{seal_owns, member_coded};
@@ -72,5 +72,5 @@ impl Seal {
     }
 }
 
-// The threads of a C program hand it on.
+// The threads of a C program may pass it to each other.
 unsafe impl Send for Seal {}

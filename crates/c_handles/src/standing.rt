@@ -1,4 +1,4 @@
-//! Where a process stands between two tries.
+//! The state of a process between two tries.
 ghost use Rattle.std.specs.Prelude.{◌≡◌, true, None, is_some, IfSome, IfNone, IfOk, IfErr, IsTrue};
 ghost use Rattle.mq_state.specs.Buffers.{waiting_room};
 ghost use Rattle.mq.specs.Calls.{IsFree};
@@ -8,18 +8,19 @@ use fast_mutex::FAST_PATH_STEPS;
 use mq::{FastAcquisition, FastGuard, FastMq, FastProcess};
 use std::mem;
 
-// How many steps on its way into the lock one try takes.
+// How many steps one try takes to acquire the lock.
 const STEPS: u32 = 100;
 
-/// A process between two tries, at rest or on its way into the lock. While it makes a call it is neither here nor there. The two lie apart, since
-/// a process that meets nobody is taken from its place and put back there, and is shorter than one on its way.
+/// A process between two tries, either idle or with an acquisition in progress. While it makes a
+/// call both fields are empty. They are separate, because a process on the fast path is taken out
+/// and put back in each call, and is shorter than an acquisition.
 #[derive(Drop)]
 pub struct Standing {
     pub rest: Option<FastProcess>,
     pub way: Option<FastAcquisition>,
 }
 
-/// A process at rest.
+/// A process without an acquisition in progress.
 pub fn at_rest(process: FastProcess) -> Standing
     ensures process { ticket_of result ≡ process }
     ensures there { is_there result ≡ true }
@@ -30,7 +31,7 @@ pub fn at_rest(process: FastProcess) -> Standing
     }
 }
 
-/// Takes the process inside, or leaves it on its way there.
+/// Takes steps to acquire the lock, and returns the guard, or leaves the acquisition in progress.
 #[inline(always)]
 pub fn arrive(mq: &FastMq, standing: &mut Standing) -> Option<FastGuard>
     requires there { is_there standing.old ≡ true }
@@ -55,7 +56,7 @@ pub fn arrive(mq: &FastMq, standing: &mut Standing) -> Option<FastGuard>
     }
 }
 
-// It stands apart, so that of a process that sets out each step is known.
+// It is outlined, so that the compiler knows each step of an acquisition on the fast path.
 #[inline(never)]
 fn go_on(mq: &FastMq, acquisition: FastAcquisition) -> Result<FastGuard, FastAcquisition>
     requires made { acquisition.process.lock ≡ mq.now }
@@ -65,7 +66,8 @@ fn go_on(mq: &FastMq, acquisition: FastAcquisition) -> Result<FastGuard, FastAcq
     acquisition.advance(mq, STEPS)
 }
 
-/// Takes a process inside that is at rest and meets nobody, or gives it back on its way there. It leaves none at rest.
+/// Tries the fast path for a process without an acquisition in progress, and returns the guard or
+/// the acquisition. The state is then empty.
 #[inline(always)]
 pub fn set_out(mq: &FastMq, standing: &mut Standing) -> Result<FastGuard, FastAcquisition>
     requires rest { is_some standing.old.rest ≡ true }
@@ -80,7 +82,7 @@ pub fn set_out(mq: &FastMq, standing: &mut Standing) -> Result<FastGuard, FastAc
     }
 }
 
-/// Whether the process is at rest, without an open wait.
+/// Whether the process has neither an acquisition in progress nor an open wait.
 #[inline(always)]
 pub fn is_idle(standing: &Standing) -> bool
     ensures free { IsTrue result → IsFree (ticket_of standing.now) }
@@ -92,7 +94,7 @@ pub fn is_idle(standing: &Standing) -> bool
     }
 }
 
-/// The room that the open wait of the process needs, where it has one.
+/// The buffer length that the open wait of the process needs, if it has one.
 #[inline(always)]
 pub fn waiting(standing: &Standing) -> Option<usize>
     requires there { is_there standing.now ≡ true }
@@ -107,7 +109,8 @@ pub fn waiting(standing: &Standing) -> Option<usize>
     }
 }
 
-/// Puts a process down at rest. Nothing is dropped: what stood there was taken.
+/// Puts back a process without an acquisition in progress. The fields are empty before, so nothing
+/// is dropped.
 #[inline(always)]
 pub fn settle(standing: &mut Standing, process: FastProcess)
     ensures process { ticket_of standing.new ≡ process }
@@ -116,7 +119,7 @@ pub fn settle(standing: &mut Standing, process: FastProcess)
     mem::forget(mem::replace(&mut standing.rest, Some(process)));
 }
 
-/// Puts a process down that is under way.
+/// Puts back an acquisition in progress.
 #[inline(always)]
 pub fn walk_on(standing: &mut Standing, acquisition: FastAcquisition)
     requires none { standing.old.rest ≡ None }
@@ -126,8 +129,8 @@ pub fn walk_on(standing: &mut Standing, acquisition: FastAcquisition)
     mem::forget(mem::replace(&mut standing.way, Some(acquisition)));
 }
 
-/// What one look from outside tells of the open wait of a process: at rest what [`FastProcess::answered`] gives, and nothing of one
-/// that is under way.
+/// One poll from outside the lock: what [`FastProcess::answered`] returns, or `None` if an
+/// acquisition is in progress.
 pub fn look(mq: &FastMq, standing: &mut Standing) -> Option<bool>
     requires there { is_there standing.old ≡ true }
     requires made { (ticket_of standing.old).lock ≡ mq.now }
@@ -142,7 +145,8 @@ pub fn look(mq: &FastMq, standing: &mut Standing) -> Option<bool>
     }
 }
 
-/// Which of the futex words of its system the process sleeps on: that of what keeps it out of the lock, or of its answer.
+/// The futex word of its system on which the process sleeps: that of the obstacle to acquiring the
+/// lock, or that of its answer.
 pub fn futex_word(standing: &Standing) -> u32
     requires { is_there standing.now ≡ true }
 {
@@ -155,7 +159,7 @@ pub fn futex_word(standing: &Standing) -> u32
     }
 }
 
-/// Whose waits the last call of the process answered.
+/// The processes whose waits the last call of the process answered.
 #[inline(always)]
 pub fn answered_others(standing: &Standing) -> u32 {
     match &standing.rest {

@@ -1,4 +1,4 @@
-//! The making of a system, and the end of a handle.
+//! Making a system, and freeing a handle.
 ghost use Rattle.std.specs.Prelude.{◌≡◌, ◌≤◌, ◌<◌, ◌⊎◌, true, false, Some, None, Option, [], length, map, IfOk, IfSome, vec_len};
 ghost use Rattle.std.specs.List.{All, list_all};
 ghost use Rattle.std.specs.Arc.{arc_value};
@@ -18,11 +18,11 @@ use mq_model::limits::PROCESSES;
 use std::alloc::Global;
 use std::sync::Arc;
 
-/// Until when the open wait of each process waits, that of process p at index p.
+/// The deadline of the open wait of each process. Index p is for process p.
 pub(crate) type Deadlines = [Option<Deadline>; 33];
 
-/// Makes a system with as many processes as there are handles, 1 to 32 of them and all empty, and puts its processes into them, in
-/// their order.
+/// Makes a system with as many processes as there are handles, and puts the processes into the
+/// handles, in order. There must be 1 to 32 handles, all empty.
 pub fn new(alloc: Global, processes: &mut [Handle]) -> u32
     ensures { Makes None true processes.old processes.new result }
 {
@@ -38,8 +38,8 @@ pub fn new(alloc: Global, processes: &mut [Handle]) -> u32
     }
 }
 
-/// The same, with a journal that may hold so many entries and so many payload bytes: all the memory that later calls could need is taken
-/// here.
+/// The same, with a journal of at most `entries` entries and `bytes` payload bytes. It takes all
+/// the memory that later calls need.
 pub fn bounded(alloc: Global, processes: &mut [Handle], entries: u64, bytes: u64) -> u32
     ensures { Makes (Some (record { entries = entries; bytes = bytes })) true processes.old
         processes.new result }
@@ -88,8 +88,8 @@ pub fn prepaid(alloc: Global, processes: &mut [Handle]) -> u32
     }
 }
 
-/// Empties a handle: `DONE`, or `EMPTY` where it was. Its process is lost: what it holds stays held, and where it was on its way into the lock it can keep all others
-/// out for good.
+/// Empties a handle. Returns `DONE`, or `EMPTY` if it was empty. Its process is lost: its
+/// descriptors stay open, and if it was acquiring the lock, it can keep all others out for good.
 pub fn free(alloc: Global, process: &mut Handle) -> u32
     ensures empty { process_in process.new ≡ None }
     ensures code { result ≡ freed_code (process_in process.old) }
@@ -100,14 +100,14 @@ pub fn free(alloc: Global, process: &mut Handle) -> u32
     }
 }
 
-/// Whether the handles are all empty.
+/// Whether all handles are empty.
 pub(crate) fn are_empty(processes: &[Handle]) -> bool
     ensures { result ≡ list_all is_empty processes.now }
 {
     processes.iter().all(|process| process.is_empty())
 }
 
-/// How many handles there are, where it is 1 to 32.
+/// The number of handles, if it is 1 to 32.
 pub(crate) fn count_of(processes: &[Handle]) -> Option<u32>
     ensures some { IfSome result (λ n. (n ≡ length processes.now) × (1 ≤ n) × (n ≤ 32)) }
     ensures none { result ≡ None → (length processes.now ≡ 0) ⊎ (32 < length processes.now) }
@@ -155,7 +155,7 @@ pub(crate) fn hand_out(
     DONE
 }
 
-// A member for each process, in their order.
+// A member for each process, in the same order.
 fn members_of(
     alloc: Global,
     mq: &Arc<FastMq, Global>,
@@ -183,7 +183,7 @@ fn members_of(
     Ok(members)
 }
 
-// Puts the members into the handles, which are empty and as many, in their order.
+// Puts the members into the handles, in order. The handles are empty, and there are as many.
 fn fill(processes: &mut [Handle], members: Vec<Box<Member>>)
     requires empty { list_all is_empty processes.old ≡ true }
     requires count { vec_len members ≡ length processes.old }

@@ -1,44 +1,44 @@
-//! What a try of a call came to.
+//! The results of tries.
 use mq::Collected;
 
-/// What a try came to of a call that needs a process without an open wait.
+/// The result of a try of a call that needs a process without an open wait.
 #[derive(Drop)]
 pub enum Tried<R> {
     /// The process has an open wait. Nothing has changed.
     Waiting,
-    /// The process is not inside yet. It is nearer, and nothing else has changed.
+    /// The lock is not acquired yet. The acquisition is in progress, and nothing else has changed.
     Retry,
-    /// The call was made, and gave this.
+    /// The call was made, and returned this.
     Made(R),
 }
 
-/// What a try came to of a call that ends an open wait.
+/// The result of a try of a call that ends an open wait.
 #[derive(Drop)]
 pub enum Ending {
     /// The process has no open wait. Nothing has changed.
     NotWaiting,
-    /// The buffer is shorter than that of the receive that waits. Nothing has changed.
+    /// The buffer is shorter than that of the waiting receive. Nothing has changed.
     Short,
-    /// The wait has no deadline, or one that has not passed at that moment. Nothing has changed.
+    /// The wait has no deadline, or one that has not passed at the given time. Nothing has changed.
     TooEarly,
-    /// The process is not inside yet. It is nearer, and nothing else has changed.
+    /// The lock is not acquired yet. The acquisition is in progress, and nothing else has changed.
     Retry,
-    /// The wait is not answered, and goes on.
+    /// The wait is not answered, and continues.
     Unanswered,
     /// The deadline has passed, and the wait was withdrawn.
     Withdrawn,
-    /// The wait was answered, and came to this.
+    /// The wait was answered, with this outcome.
     Came(Collected),
 }
 
-/// What a look from outside tells of an open wait.
+/// The result of a poll of an open wait.
 #[derive(Clone, Copy)]
 pub enum Looked {
     /// The process has no open wait.
     NotWaiting,
-    /// The process is under way, and the next try of its call may tell.
+    /// An acquisition is in progress, and the next try of its call may tell.
     UnderWay,
-    /// The wait is answered: the next collect that comes inside ends it.
+    /// The wait is answered. The next collect that acquires the lock ends it.
     Answered,
     /// The wait was not answered.
     Unanswered,
