@@ -1,4 +1,4 @@
--- What a phase does to its shares.
+-- The effect of a phase on its shares.
 use Rattle.std.specs.Prelude.{◌≡◌, ◌≢◌, ℕ, List, [], None, map}
 use Rattle.std.specs.List.{All, AllZip, flat_map}
 use Rattle.fast_mutex.specs.Items.{LockId, Ticket}
@@ -27,7 +27,8 @@ text_in workers = flat_map (λ worked. reply_lines worked.process.number worked.
 pub record AreReady (mq : LockId) (shares : List (Share (Ticket Record))) : Type 0 where
   pub all : All (λ share. IsReady mq share.process) shares
 
--- the calls of a share ended so: the process made them all, one after the other, and has no open wait, or it waits in one of them
+-- The calls of a share have ended: the process made them all, in order, and has no open wait; or it
+-- waits in one of them.
 pub record Ends (share : Share (Ticket Record)) (worked : Worked (Ticket Record)) : Type 0 where
   pub same : IsSameProcess share.process worked.process
   pub free : worked.blocked ≡ None → IsFree worked.process
@@ -36,7 +37,7 @@ pub record Ends (share : Share (Ticket Record)) (worked : Worked (Ticket Record)
 abbrev pub AllEnd : List (Share (Ticket Record)) → List (Worked (Ticket Record)) → Type 0
 AllEnd shares workers = AllZip Ends shares workers
 
--- a process made the calls of its share, one after the other, and has no open wait
+-- a process made the calls of its share, in order, and has no open wait
 pub record WorksOff (share : Share (Ticket Record)) (worked : Worked (Ticket Record)) : Type 0 where
   pub same : IsSameProcess share.process worked.process
   pub free : IsFree worked.process
@@ -46,7 +47,7 @@ pub record WorksOff (share : Share (Ticket Record)) (worked : Worked (Ticket Rec
 abbrev pub AllWorkOff : List (Share (Ticket Record)) → List (Worked (Ticket Record)) → Type 0
 AllWorkOff shares workers = AllZip WorksOff shares workers
 
--- the phase of these shares came to a stand, in the calls of these lines, and then all processes met
+-- The phase of these shares deadlocked, in the calls of these lines, and then all processes met.
 pub record EndsInDeadlock (shares : List (Share (Ticket Record))) (lines : List ℕ) (after : List (Ticket Record)) : Type 0 where
   pub ended : List (Worked (Ticket Record))
   pub each : AllEnd shares ended

@@ -1,4 +1,4 @@
--- Why a run ended before its end: what is printed, and the exit status.
+-- Why a run ended early: what is printed, and the exit status.
 use Rattle.std.specs.Prelude.{◌≡◌, ◌++◌, ℕ, List, [], ◌∷◌, codes, Result, Ok, Err}
 use Rattle.std.specs.Fmt.{decimal}
 use Rattle.text_io.specs.declared.input.ReadFault.{ReadFault}
@@ -11,7 +11,7 @@ use Rattle.script_runner.specs.declared.fault.RunFault.TheVariants.{BadCall, Dea
 use Rattle.script_runner.specs.declared.stop.Stop.{Stop}
 use Rattle.script_runner.specs.declared.stop.Stop.TheVariants as stop
 
--- one line for each line of the script whose call waits, with a line feed between them
+-- one line for each line of the script whose call waits, separated by line feeds
 abbrev pub wait_text : ℕ → List ℕ
 wait_text line = codes "line " ++ (decimal line ++ codes ": waits for ever")
 
@@ -20,7 +20,7 @@ waits_text [] = []
 waits_text (line ∷ []) = wait_text line
 waits_text (line ∷ lines) = wait_text line ++ (10 ∷ waits_text lines)
 
--- what stands on the error stream
+-- the text on standard error
 abbrev pub fault_text : RunFault → List ℕ
 fault_text (BadCall line) = script_fault_text (script.BadCall line)
 fault_text Input = codes "input fault"
@@ -36,23 +36,23 @@ exit_status Output = 3
 exit_status NoMemory = 4
 exit_status (Deadlock lines) = 5
 
--- why a run ends whose script was not read to its end
+-- why a run ends if the script was not read to its end
 abbrev pub of_read_fault : ReadFault → RunFault
 of_read_fault read.Failed = Input
 of_read_fault read.NoMemory = NoMemory
 
--- why a run ends whose script was not read
+-- why a run ends if the script was not parsed
 abbrev pub of_script_fault : ScriptFault → RunFault
 of_script_fault (script.BadCall line) = BadCall line
 of_script_fault script.NoMemory = NoMemory
 
--- why a run ends whose phases ended early
+-- why a run ends if its phases ended early
 abbrev pub fault_of : {P : Type 0} → Stop P → RunFault
 fault_of stop.Output = Output
 fault_of stop.NoMemory = NoMemory
 fault_of (stop.Stuck processes lines) = Deadlock lines
 
--- a fault that comes after the reading
+-- a failure after the script was read
 abbrev pub IsLate : RunFault → Type 0
 IsLate (BadCall line) = ⊥
 IsLate Input = ⊥
@@ -60,7 +60,7 @@ IsLate Output = Unit {0}
 IsLate NoMemory = Unit {0}
 IsLate (Deadlock lines) = Unit {0}
 
--- a fault of a phase before its replies are written
+-- a failure in a phase before its replies are written
 abbrev pub IsUnwritten : RunFault → Type 0
 IsUnwritten (BadCall line) = ⊥
 IsUnwritten Input = ⊥
@@ -68,7 +68,8 @@ IsUnwritten Output = ⊥
 IsUnwritten NoMemory = Unit {0}
 IsUnwritten (Deadlock lines) = Unit {0}
 
--- a run of a script that is at fault in this line: it says so, unless a read failed or memory ran out before
+-- The run of a script in which this line is wrong: it says so, unless a read failed or memory was
+-- refused first.
 abbrev pub StopsAt : {A : Type 0} → ℕ → Result A RunFault → Type 0
 StopsAt line (Err (BadCall k)) = k ≡ line
 StopsAt line (Err Input) = Unit {0}

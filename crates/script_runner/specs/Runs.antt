@@ -1,4 +1,5 @@
--- What the calls of a script leave. A process shows its ticket: its lock, its number, and the journal that it last left.
+-- The effect of the calls of a script. A process shows its ticket: its lock, its number, and the
+-- journal that it last left.
 use Rattle.std.specs.Prelude.{◌≡◌, ◌≤◌, ◌==◌, ◌++◌, ℕ, List, [], ◌∷◌, codes, filter, length, IsFalse, IsSome, IsTrue, Option, None, Result, Ok, Err, ◌⊎◌}
 use Rattle.std.specs.List.{All, AllZip}
 use Rattle.std.specs.Io.KnownBytes as known
@@ -28,7 +29,7 @@ use Rattle.script_text.specs.declared.reply.Outcome.{Outcome}
 use Rattle.script_text.specs.declared.reply.Outcome.TheVariants as outcomes
 use Rattle.script_text.specs.declared.reply.Completion.{Completion}
 
--- the same process, of the same lock; the journal that it left may have grown
+-- the same process of the same lock; the journal that it left may have grown
 pub record IsSameProcess (old new : Ticket Record) : Type 0 where
   pub lock : new.lock ≡ old.lock
   pub number : new.number ≡ old.number
@@ -38,32 +39,33 @@ pub record IsReady (mq : LockId) (process : Ticket Record) : Type 0 where
   pub made : process.lock ≡ mq
   pub free : IsFree process
 
--- what is printed of what a call returned
+-- what is printed for the result of a call
 abbrev pub outcome_by : {A : Type 0} → (A → Outcome) → Result A Fault → Outcome
 outcome_by shows (Ok value) = shows value
 outcome_by shows (Err fault) = outcomes.Refused fault
 
--- a call was made, and this is printed of what it returned
+-- a call was made, and this is printed for its result
 pub record Shows {A : Type 0} (shows : A → Outcome) (Called : Result A Fault → Type 0) (came : Outcome) : Type 0 where
   pub result : Result A Fault
   pub called : Called result
   pub outcome : came ≡ outcome_by shows result
 
--- a call on a name was made, or the name was refused before it
+-- a call with a name was made, or the name was rejected before it
 pub record MakesNamed {A : Type 0} (says : Reply → Option (Result A Fault)) (shows : A → Outcome) (call : Call) (name : List ℕ) (old new : Ticket Record) (came : Outcome) : Type 0 where
   pub made : IsTrue (is_name name) → Shows shows (OneCall says old new call name) came
   pub too_long : IsTrue (has_name_form name) → IsFalse (is_short name) → (new ≡ old) × (came ≡ outcomes.Refused NameTooLong)
   pub invalid : IsFalse (has_name_form name) → (new ≡ old) × (came ≡ outcomes.Refused Invalid)
 
--- a send, with a deadline or without, in one stay or after a wait that was answered
+-- a send, with or without a deadline, and without a wait or after a wait that was answered
 abbrev pub Sends : Ticket Record → Ticket Record → Call → List ℕ → Result (Unit {0}) Fault → Type 0
 Sends old new call bytes result = OneCall send_says old new call bytes result ⊎ WaitedSend old new call bytes result
 
--- a receive in the same way. `before` is what the buffer held, `after` what it holds
+-- A receive in the same way. The buffer held `before`, and now holds `after`.
 abbrev pub Receives : Ticket Record → Ticket Record → Call → List ℕ → List ℕ → Result Received Fault → Type 0
 Receives old new call before after result = ReceiveCall receive_says old new call before after result ⊎ WaitedReceive old new call before after result
 
--- the process carried out the command in a phase of that moment, and this is printed of it. `before` is what the buffer held, `after` what it holds
+-- The process carried out the command in a phase with this time, and this is printed for it. The
+-- buffer held `before`, and now holds `after`.
 abbrev pub Performs : Deadline → Command Word → List ℕ → List ℕ → Ticket Record → Ticket Record → Outcome → Type 0
 Performs moment (command.Open name flags attr) before after old new came = MakesNamed open_says outcomes.Opened (MqOpen flags attr) name old new came
 Performs moment (command.Close d) before after old new came = Shows (λ _. outcomes.Done) (OneCall done_says old new (MqClose d) []) came
@@ -78,13 +80,15 @@ Performs moment (command.Notify d value) before after old new came = Shows (λ _
 Performs moment command.Notice before after old new came = Shows outcomes.Notice (OneCall notice_says old new NextNotice []) came
 Performs moment command.Exit before after old new came = Shows (λ _. outcomes.Done) (Exits old new) came
 
--- the process made this call of the queues, and waits in it: after the journal that it left before, the wait is its only record
+-- The process made this call of the queues, and waits in it. After the journal that it left before,
+-- the wait is its only record.
 pub record WaitsFor (old new : Ticket Record) (call : Call) (given : List ℕ) : Type 0 where
   pub calls : Calls old new (recorded old.number call given Waits ∷ [])
   pub still : IsSome (open_wait new.left new.number)
   pub waits : waiting_call new.left new.number ≡ call
 
--- the process began the command in a phase of that moment, and waits in its call. `before` is what the buffer held
+-- The process began the command in a phase with this time, and waits in its call. The buffer held
+-- `before`.
 abbrev pub Blocks : Deadline → Command Word → List ℕ → Ticket Record → Ticket Record → Type 0
 Blocks moment (command.Send d prio message) before old new = WaitsFor old new (MqSend d prio (length message)) message
 Blocks moment (command.Receive d room) before old new = WaitsFor old new (MqReceive d (length before)) []
@@ -92,7 +96,7 @@ Blocks moment (command.TimedSend d prio until message) before old new = WaitsFor
 Blocks moment (command.TimedReceive d room until) before old new = WaitsFor old new (MqTimedReceive d (length before) until moment) []
 Blocks moment other before old new = ⊥
 
--- a process made these calls one after the other, and this is what they came to
+-- a process made these calls in order, and this is what they returned
 abbrev pub RunsCalls : List WrittenCall → List Completion → Ticket Record → Ticket Record → Type 0
 RunsCalls [] [] old new = new ≡ old
 RunsCalls [] (completion ∷ completions) old new = ⊥
@@ -106,8 +110,9 @@ RunsCalls (call ∷ calls) (completion ∷ completions) old new =
 abbrev pub calls_of : ℕ → List WrittenCall → List WrittenCall
 calls_of p calls = filter (λ call. call.process == p) calls
 
--- a phase was run: each process made its calls in their order. The text has the replies of the first process, then of the next,
--- and so on. In which order calls of different processes came is not said
+-- A phase was run: each process made its calls in order. The text has the replies of the first
+-- process, then of the next, and so on. It does not say how the calls of different processes
+-- interleaved.
 abbrev pub RunsPhase : List WrittenCall → List (Ticket Record) → List (Ticket Record) → List ℕ → Type 0
 RunsPhase calls [] [] text = text ≡ []
 RunsPhase calls [] (new ∷ after) text = ⊥
@@ -119,12 +124,13 @@ RunsPhase calls (old ∷ before) (new ∷ after) text =
     × RunsPhase calls before after rest
     × (text ≡ reply_lines old.number completions ++ rest)
 
--- the process came in once more and left no record: the journal that it found has so many entries
+-- The process acquired the lock once more and left no record. The journal that it found has n
+-- entries.
 pub record FindsLength (n : ℕ) (old new : Ticket Record) : Type 0 where
   pub calls : Calls old new []
   pub count : length new.left ≡ n
 
--- phases were run one after the other. After each, all processes find a journal of one length
+-- Phases were run in order. After each, all processes find a journal of the same length.
 abbrev pub RunsPhases : List (List WrittenCall) → List (Ticket Record) → List (Ticket Record) → List ℕ → Type 0
 RunsPhases [] before after text = (after ≡ before) × (text ≡ [])
 RunsPhases (calls ∷ phases) before after text =
@@ -138,9 +144,11 @@ RunsPhases (calls ∷ phases) before after text =
 abbrev pub last_line : List ℕ
 last_line = codes "history ok" ++ 10 ∷ []
 
--- A script was run whole, with these replies and this journal, which is legal. Its processes are those of one system without bounds, which
--- has as many as the script says. They began with the empty journal and ran the phases. The journal begins with what each process last
--- left and has no further record of it: so of each process it has just the records that its calls left, and of no other one any
+-- A script was run whole, with these replies and this journal, which is legal. Its processes are
+-- those of one system without bounds, which has as many as the script says. They started with the
+-- empty journal and ran the phases. The journal starts with what each process last left and has no
+-- further record of it. So it has exactly the records that the calls of each process left, and none
+-- of any other process.
 pub record RunsWhole (script : Whole) (replies : List ℕ) (journal : Past) : Type 0 where
   pub system : LockId
   pub count : system.count ≡ script.processes
@@ -151,8 +159,9 @@ pub record RunsWhole (script : Whole) (replies : List ℕ) (journal : Past) : Ty
   pub authors : All (λ r. (1 ≤ author r) × (author r ≤ script.processes)) journal
   pub grows : All (λ process. Grows author process.number process.left journal []) processes
 
--- Phases were run with these replies on a system whose processes were these before, and it has ended with this journal, which is legal. The
--- journal begins with what each process last left and has no further record of it, and none of other processes
+-- Phases were run with these replies on a system with the processes `before`, and the system has
+-- ended with this journal, which is legal. The journal starts with what each process last left and
+-- has no further record of it, and no record of any other process.
 pub record RunsOn (system : LockId) (before : List (Ticket Record)) (phases : List (List WrittenCall)) (replies : List ℕ) (journal : Past) : Type 0 where
   pub processes : List (Ticket Record)
   pub ran : RunsPhases phases before processes replies
@@ -164,8 +173,9 @@ pub record RunsOn (system : LockId) (before : List (Ticket Record)) (phases : Li
 abbrev pub NoneWaits : Past → ℕ → Type 0
 NoneWaits past n = (p : ℕ) → 1 ≤ p → p ≤ n → open_wait past p ≡ None
 
--- A script was run whole after the calls of a journal, with these replies and this journal. As RunsWhole, but its processes had all left
--- the journal before, and none of them waited there
+-- A script was run whole after the calls of a journal, with these replies and this journal. It is
+-- as in RunsWhole, except that all its processes had left the journal `past`, and none of them
+-- waited there.
 pub record RunsAfter (past : Past) (script : Whole) (replies : List ℕ) (journal : Past) : Type 0 where
   pub system : LockId
   pub count : system.count ≡ script.processes
@@ -173,7 +183,7 @@ pub record RunsAfter (past : Past) (script : Whole) (replies : List ℕ) (journa
   pub free : NoneWaits past script.processes
   pub runs : RunsOn system (tickets_with system past 1 script.processes) script.phases replies journal
 
--- A script was run whole, and known bytes have grown by its replies and the last line
+-- a script was run whole, and its replies and the last line were appended to known bytes
 pub record RunsScript (script : Whole) (old new : Option (List ℕ)) : Type 0 where
   pub replies : List ℕ
   pub journal : Past

@@ -1,4 +1,4 @@
--- What a phase leaves that comes to a stand: a process waits for ever.
+-- The effect of a phase that deadlocks: a process waits for ever.
 use Rattle.std.specs.Prelude.{◌≡◌, ◌≢◌, ◌++◌, ℕ, true, List, [], ◌∷◌, map, Option, None, Some}
 use Rattle.std.specs.List.{All, AllZip, flat_map, list_all}
 use Rattle.fast_mutex.specs.Items.{Ticket}
@@ -13,7 +13,8 @@ use Rattle.script_runner.specs.declared.stop.Stop.{Stop}
 use Rattle.script_runner.specs.declared.stop.Stop.TheVariants.{NoMemory, Output, Stuck}
 use Rattle.script_runner.specs.declared.turns.Worked.{Worked}
 
--- of these calls a process made some first ones, and then began the call of this line, in which it waits
+-- A process made some of these calls, the first ones, and then began the call in this line, in
+-- which it waits.
 pub record BlocksIn (calls : List WrittenCall) (old new : Ticket Record) (line : ℕ) : Type 0 where
   pub made : List WrittenCall
   pub call : WrittenCall
@@ -25,7 +26,7 @@ pub record BlocksIn (calls : List WrittenCall) (old new : Ticket Record) (line :
   pub ran : RunsCalls made completions old mid
   pub blocks : Blocks call.moment call.command (buffer_given call.command) mid new
 
--- what became of the calls of a process: all were made, or one of them waits, that of the line
+-- How the calls of a process ended: all were made, or one of them waits, the one in the line.
 abbrev pub EndsIn : Option ℕ → List WrittenCall → List Completion → Ticket Record → Ticket Record → Type 0
 EndsIn None calls completions old new = RunsCalls calls completions old new
 EndsIn (Some line) calls completions old new = BlocksIn calls old new line
@@ -42,18 +43,19 @@ abbrev pub line_in : Option ℕ → List ℕ
 line_in None = []
 line_in (Some line) = line ∷ []
 
--- the lines of the calls that wait, those of the first process first
+-- the lines of the calls that wait, that of the first process first
 abbrev pub blocked_lines : List (Worked (Ticket Record)) → List ℕ
 blocked_lines workers = flat_map (λ worked. line_in worked.blocked) workers
 
--- a process of a phase: its calls ended so
+-- a process of a phase, whose calls ended in this way
 pub record EndsPhase (calls : List WrittenCall) (old : Ticket Record) (worked : Worked (Ticket Record)) : Type 0 where
   pub same : IsSameProcess old worked.process
   pub ends : EndsIn worked.blocked (calls_of old.number calls) worked.completions.items old worked.process
 
--- the phase came to a stand. Each process made all its calls, or some first ones and then waits in the next one; these are the lines of those
--- calls, and there is one. Then each process came in once more: all found a journal of one length, in which every process that waits has
--- an open wait that no entry names: so none of them calls again
+-- The phase deadlocked. Each process made all its calls, or some first ones and then waits in the
+-- next one. `lines` are the lines of those calls, and there is at least one. Then each process
+-- acquired the lock once more. All found a journal of the same length, in which every process that
+-- waits has an open wait that no entry serves. So none of them calls again.
 pub record ComesToAStand (calls : List WrittenCall) (before : List (Ticket Record)) (lines : List ℕ) (after : List (Ticket Record)) : Type 0 where
   pub ended : List (Worked (Ticket Record))
   pub each : AllZip (EndsPhase calls) before ended
@@ -63,7 +65,8 @@ pub record ComesToAStand (calls : List WrittenCall) (before : List (Ticket Recor
   pub met : AllZip (FindsLength n) (map (λ worked. worked.process) ended) after
   pub blocked : All (λ process. list_all (is_blocked process.left) (blocked_processes ended) ≡ true) after
 
--- why a phase of these workers ended early: memory was refused, or the calls of these lines wait
+-- why a phase of these workers ended early: memory was refused, or the calls in these lines wait
+-- for ever
 abbrev pub EndsStuck : List (Worked (Ticket Record)) → Stop (Ticket Record) → Type 0
 EndsStuck workers NoMemory = Unit {0}
 EndsStuck workers (Stuck after lines) =

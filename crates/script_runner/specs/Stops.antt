@@ -1,4 +1,4 @@
--- Where a run that ends early has stopped, and what is then written.
+-- How far a run that ends early has come, and what it has written.
 use Rattle.std.specs.Prelude.{◌≡◌, ◌≤◌, ◌<◌, ◌++◌, [], ◌∷◌, ◌⊎◌, ℕ, List, Option, None, length, take}
 use Rattle.std.specs.List.{All}
 use Rattle.std.specs.Io.KnownBytes as known
@@ -10,7 +10,7 @@ use Rattle.script_text.specs.Script.{WrittenCall, Whole}
 use Rattle.script_runner.specs.Runs.{RunsPhase, RunsPhases, last_line}
 use Rattle.script_runner.specs.Stands.{ComesToAStand}
 
--- some phases were run from the first on, and known bytes have grown by just their replies
+-- some phases were run, the first ones, and exactly their replies were appended to known bytes
 pub record RunsFront (phases : List (List WrittenCall)) (before : List (Ticket Record)) (old new : Option (List ℕ)) : Type 0 where
   pub count : ℕ
   pub after : List (Ticket Record)
@@ -18,15 +18,16 @@ pub record RunsFront (phases : List (List WrittenCall)) (before : List (Ticket R
   pub ran : RunsPhases (take count phases) before after replies
   pub written : known.Appends old new replies
 
--- a script was run up to the end of a phase, or not begun: nothing else is written
+-- a script was run up to the end of a phase, or not begun, and nothing else was written
 abbrev pub StopsAfterPhase : Whole → Option (List ℕ) → Option (List ℕ) → Type 0
 StopsAfterPhase script old new = (new ≡ old) ⊎ ((system : LockId) × RunsFront script.phases (tickets_from system 1 script.processes) old new)
 
--- known bytes grow by a text, and by a front part of the next one that lacks a byte or more
+-- a text was appended to known bytes, and a proper prefix of the next text
 abbrev pub AppendsInto : Option (List ℕ) → Option (List ℕ) → List ℕ → List ℕ → Type 0
 AppendsInto old new text next = (n : ℕ) × (n < length next) × known.Appends old new (text ++ take n next)
 
--- phases were run from the first on. The replies of all but the last of these are written, and of its own replies a front part
+-- Phases were run, the first ones. The replies of all but the last of these are written, and a
+-- prefix of the replies of the last.
 pub record StopsInPhase (phases : List (List WrittenCall)) (before : List (Ticket Record)) (old new : Option (List ℕ)) : Type 0 where
   pub first : List (List WrittenCall)
   pub last : List WrittenCall
@@ -40,7 +41,7 @@ pub record StopsInPhase (phases : List (List WrittenCall)) (before : List (Ticke
   pub ran_last : RunsPhase last between after text
   pub written : AppendsInto old new replies text
 
--- all phases were run, and their replies are written, and of the last line a front part
+-- All phases were run. Their replies are written, and a prefix of the last line.
 pub record StopsInLastLine (phases : List (List WrittenCall)) (before : List (Ticket Record)) (old new : Option (List ℕ)) : Type 0 where
   pub after : List (Ticket Record)
   pub replies : List ℕ
@@ -54,8 +55,8 @@ pub record StopsInWrite (script : Whole) (old new : Option (List ℕ)) : Type 0 
       StopsInPhase script.phases (tickets_from system 1 script.processes) old new
       ⊎ StopsInLastLine script.phases (tickets_from system 1 script.processes) old new
 
--- phases were run from the first on, and their replies are written and nothing else. The next phase came to a stand in the calls of
--- these lines
+-- Phases were run, the first ones, and their replies are written and nothing else. The next phase
+-- deadlocked in the calls of these lines.
 pub record StopsBlocked (phases : List (List WrittenCall)) (before : List (Ticket Record)) (lines : List ℕ) (after : List (Ticket Record)) (old new : Option (List ℕ)) : Type 0 where
   pub first : List (List WrittenCall)
   pub last : List WrittenCall
@@ -67,7 +68,7 @@ pub record StopsBlocked (phases : List (List WrittenCall)) (before : List (Ticke
   pub stands : ComesToAStand last between lines after
   pub written : known.Appends old new replies
 
--- a script was run up to a phase that came to a stand. There is one legal journal, as after a whole run
+-- A script was run up to a phase that deadlocked. There is one legal journal, as after a whole run.
 pub record StopsInDeadlock (script : Whole) (lines : List ℕ) (old new : Option (List ℕ)) : Type 0 where
   pub system : LockId
   pub unbounded : bounds_in system.fixed ≡ None

@@ -1,4 +1,4 @@
-//! A script that goes on from the queues that a journal leaves.
+//! Running a script on the queues that a journal leaves.
 ghost use Rattle.std.specs.Prelude.{◌≡◌, ◌≤◌, [], true, IfErr, IfOk, IsErrOf, None};
 ghost use Rattle.mq_model.specs.Legality.{Legal};
 ghost use Rattle.script_runner.specs.Notes.{RunsServedAfter, lines_of, some_refused};
@@ -21,8 +21,9 @@ use std::sync::Wait;
 use std::thread::Threads;
 use std::time::Clock;
 
-/// Makes the calls of a script as `run_noted` does, on queues on which calls have been made. Its processes hold what they held, and
-/// none of them waits. The journal begins with that of the queues.
+/// Makes the calls of a script as `run_noted` does, on queues on which calls have been made. Its
+/// processes hold what they held, and none of them has an open wait. The journal starts with that
+/// of the queues.
 pub fn run_after<L, S, G>(
     rt: &S,
     alloc: Global,
@@ -44,7 +45,7 @@ where
     requires nothing { noted.old.items ≡ [] }
     ensures fault { IfErr result IsUnwritten }
     ensures legal { IfOk result (λ journal. Legal journal.records) }
-    // What is noted are the replies, and no call was refused memory.
+    // `noted` has the replies, and no call failed with `NoMemory`.
     ensures done { IfOk result (λ journal. RunsServedAfter books.records
         (said_script script.now) noted.new.items journal.records) }
     ensures refused { some_refused noted.new.items ≡ true → IsErrOf result NoMemory }
@@ -57,7 +58,7 @@ where
     Ok(journal)
 }
 
-// Makes the calls of a script, whether or not one of them is refused memory.
+// The same, whether or not a call fails with `NoMemory`.
 fn make_after<L, S, G>(
     rt: &S,
     alloc: Global,
@@ -79,7 +80,7 @@ where
     requires nothing { noted.old.items ≡ [] }
     ensures fault { IfErr result IsUnwritten }
     ensures legal { IfOk result (λ journal. Legal journal.records) }
-    // What is noted are the replies.
+    // `noted` has the replies.
     ensures done { IfOk result (λ journal. RunsAfter books.records (said_script script.now)
         (lines_of noted.new.items) journal.records) }
 {

@@ -1,4 +1,4 @@
-//! The calls of commands, made by a process.
+//! Making the calls of commands.
 ghost use Rattle.std.specs.Prelude.{◌≡◌, IfNone, IfSome, length};
 ghost use Rattle.mq.specs.Calls.{IsFree};
 ghost use Rattle.script_text.specs.Grammar.{said};
@@ -19,8 +19,9 @@ use script_text::reply::Outcome;
 use std::sync::Wait;
 use std::time::Clock;
 
-/// Makes the call of a command, which may block. A call with a deadline is made at the moment of the clock. A message that is received is
-/// put into the front of the buffer. `None`: the call waits for ever, since none of the peers that may still call goes on.
+/// Makes the call of a command, which may block. A call with a deadline is made at the time of the
+/// clock. A received message is at the start of the buffer. `None` if the call waits for ever,
+/// because all peers that may still call are blocked.
 pub fn perform<L: Look<Guarded>, R: Wait + Clock>(
     rt: &R,
     mq: &Mq<L>,

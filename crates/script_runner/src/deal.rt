@@ -1,4 +1,4 @@
-//! Which process makes which calls of a phase.
+//! Dealing the calls of a phase to its processes.
 ghost use Rattle.std.specs.Prelude.{◌≡◌, IfOk, map};
 ghost use Rattle.std.specs.List.{All};
 ghost use Rattle.script_runner.specs.Phase.{calls_in};
@@ -11,7 +11,8 @@ use mq::{Guarded, Process};
 use script_text::line::ScriptCall;
 use std::alloc::{AllocError, Global};
 
-/// Gives each process its calls of a phase. All memory that the calls need outside the queues is taken here.
+/// Gives each process its calls of a phase. Takes all the memory that the calls need outside the
+/// queues.
 pub fn shares_of<'s, L: Look<Guarded>>(
     alloc: Global,
     processes: Vec<Process<L>>,

@@ -1,4 +1,4 @@
-//! Why a run ended before its end.
+//! Why a run ended early.
 ghost use Rattle.std.specs.Prelude.{◌≡◌, Some};
 ghost use Rattle.std.specs.Fmt.{DisplaysOnOk};
 ghost use Rattle.script_runner.specs.declared.fault.RunFault.TheVariants.{NoMemory, Output};
@@ -11,19 +11,20 @@ use std::fmt;
 use text_io::input::ReadFault;
 use text_io::output::WriteFailed;
 
-/// Why a run ended before its end. Its text is what the program writes to the error stream: one line, or of a deadlock one for each
-/// process that waits.
+/// Why a run ended early. It prints as what the program writes to standard error: one line, or for
+/// a deadlock one line for each process that waits.
 #[derive(Debug, Drop, PartialEq, Eq)]
 pub enum RunFault {
-    /// The script is at fault in this line, counted from 1.
+    /// This line of the script, counted from 1, is wrong.
     BadCall(u64),
     /// The script could not be read.
     Input,
     /// The replies could not be written.
     Output,
-    /// Memory, or a thread, was refused outside a call; in a run that is noted, also for a call.
+    /// Memory, or a thread, was refused outside a call; in a run that is noted, also inside a call.
     NoMemory,
-    /// The calls in these lines wait for ever, one of each process that waits, in the order of the processes.
+    /// The calls in these lines wait for ever: one for each process that waits, in the order of the
+    /// processes.
     Deadlock(Vec<u64>),
 }
 
@@ -58,7 +59,7 @@ impl fmt::Display for RunFault {
     }
 }
 
-// One line for each of these, with a line feed between them.
+// One line for each of these lines of the script, separated by line feeds.
 fn write_waits<W: fmt::Write>(lines: &[u64], f: &mut fmt::Formatter<W>) -> fmt::Result
     ensures { DisplaysOnOk W.write_str_gives f.old result (Some (waits_text lines.now)) f.new }
 {

@@ -1,15 +1,16 @@
-//! What a worker meets before and after each call.
+//! A hook before and after each call.
 
-/// Called by a worker before each call of its script, and after each that returned.
+/// A hook that the thread of a process calls before each call of the script, and after each that
+/// returned.
 pub trait Gate {
-    /// The process is about to make the call of this line, counted from 1.
+    /// The process is about to make the call in this line, counted from 1.
     fn before(&self, process: u32, line: u64);
 
-    /// The call of this line has returned. One that waits for ever never does.
+    /// The call in this line has returned. It is not called for one that waits for ever.
     fn after(&self, _process: u32, _line: u64) {}
 }
 
-/// The gate that does nothing.
+/// The hook that does nothing.
 #[derive(Clone, Copy, Debug, Drop)]
 pub struct Plain;
 

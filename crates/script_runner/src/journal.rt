@@ -1,4 +1,4 @@
-//! A script, from its bytes to the journal of its calls.
+//! From the bytes of a script to the journal of its calls.
 ghost use Rattle.std.specs.Prelude.{◌≡◌, ◌+◌, ℕ, List, IfOk, IsErrOf, Some, Ok, Err, take};
 ghost use Rattle.mq_model.specs.Legality.{Legal};
 ghost use Rattle.script_runner.specs.RunFault.{StopsAt};
@@ -21,9 +21,9 @@ use std::thread::Threads;
 use std::time::Clock;
 use text_io::input::read_all;
 
-/// Runs a script as `run_script` does, and gives the journal of its calls in place of the replies. The faults are those of `run_script`
-/// but for `RunFault::Output`, since nothing is written; `RunFault::NoMemory` also of a run in which a
-/// call was refused memory.
+/// Runs a script as `run_script` does, and returns the journal of its calls instead of writing the
+/// replies. Fails as `run_script`, but never with `RunFault::Output`, since nothing is written. It
+/// also fails with `RunFault::NoMemory` if a call failed with `NoMemory`.
 pub fn script_journal<L, S, R, G>(
     rt: &S,
     alloc: Global,

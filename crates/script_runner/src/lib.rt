@@ -1,4 +1,4 @@
-//! Runs scripts of message queue calls, each process in a thread of its own.
+//! Runs scripts of message queue calls, with one thread for each process.
 #![tactic(auto)]
 
 mod after;

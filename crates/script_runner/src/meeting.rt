@@ -1,4 +1,4 @@
-//! The end of a phase: all processes find a journal of one length.
+//! The end of a phase: all processes find a journal of the same length.
 ghost use Rattle.std.specs.Prelude.{◌≡◌, [], IfOk, map, true};
 ghost use Rattle.std.specs.List.{All, AllZip};
 ghost use Rattle.mq.specs.Calls.{Calls};
@@ -11,8 +11,8 @@ use mq::{Guarded, Mq, Process};
 use std::alloc::{AllocError, Global};
 use std::sync::Wait;
 
-/// The processes of a phase that has ended, or come to a stand. Each has come in once more, and all found a journal of one length, in which
-/// these are blocked.
+/// The processes of a phase that has ended or is deadlocked. Each has acquired the lock once more,
+/// and all found a journal of the same length, in which the processes `blocked` are blocked.
 pub fn meet<L: Look<Guarded>, R: Wait>(
     rt: &R,
     alloc: Global,
@@ -29,8 +29,9 @@ pub fn meet<L: Look<Guarded>, R: Wait>(
     Ok(processes)
 }
 
-// All processes ask, until they find a journal of one length in which these are blocked. They do at the first question: each worker that
-// waits found it before it stopped, and nobody calls any more.
+// All processes ask, until they find a journal of the same length in which these processes are
+// blocked. The first attempt succeeds: each thread that waits found this before it stopped, and no
+// process calls any more.
 fn find_one_stand<L: Look<Guarded>, R: Wait>(
     rt: &R,
     mq: &Mq<L>,
@@ -49,7 +50,7 @@ fn find_one_stand<L: Look<Guarded>, R: Wait>(
     }
 }
 
-// Whether all find as many entries as the first one, and in them these processes blocked.
+// Whether all find as many entries as the first one, and these processes blocked.
 fn find_as_blocked<L: Look<Guarded>, R: Wait>(
     rt: &R,
     mq: &Mq<L>,
@@ -69,7 +70,7 @@ fn find_as_blocked<L: Look<Guarded>, R: Wait>(
     }
 }
 
-// Whether all find so many entries, and in them these processes blocked.
+// Whether all find this number of entries, and these processes blocked.
 fn all_find_blocked<L: Look<Guarded>, R: Wait>(
     rt: &R,
     mq: &Mq<L>,
@@ -92,8 +93,9 @@ fn all_find_blocked<L: Look<Guarded>, R: Wait>(
     }
 }
 
-// How many entries a process finds, and whether these processes are blocked in them: where it finds as many before and after that question,
-// it has asked of the same journal.
+// The number of entries that a process finds, and whether these processes are blocked. It counts
+// the entries before and after that question: if the numbers are equal, both answers are about the
+// same journal.
 fn find_blocked<L: Look<Guarded>, R: Wait>(
     rt: &R,
     mq: &Mq<L>,

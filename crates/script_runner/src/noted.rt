@@ -1,4 +1,4 @@
-//! What the calls of a phase came to, noted by process.
+//! What the calls of a phase returned, by process.
 ghost use Rattle.std.specs.Prelude.{◌≡◌, ◌++◌, IfOk, OnOk};
 ghost use Rattle.std.specs.List.{list_any};
 ghost use Rattle.script_runner.specs.Notes.{is_refused, line_of, lines_of, some_refused};
@@ -13,14 +13,15 @@ use mq_model::faults::Fault;
 use script_text::reply::{Completion, Outcome};
 use std::alloc::{AllocError, Global};
 
-/// A process, and what a call of it came to.
+/// A process, and what a call of it returned.
 #[derive(Drop)]
 pub struct Noted {
     pub process: u32,
     pub completion: Completion,
 }
 
-/// Notes what the calls of a phase came to that returned: those of the first process first, and of each in their order.
+/// Notes what the calls of a phase returned: those of the first process first, each process's in
+/// order. A call that did not return is left out.
 pub fn note_all<L: Look<Guarded>>(
     alloc: Global,
     noted: &mut Vec<Noted>,
@@ -40,7 +41,7 @@ pub fn note_all<L: Look<Guarded>>(
     Ok(())
 }
 
-// Notes what calls of a process came to.
+// Notes what the calls of one process returned.
 fn note_completions(
     alloc: Global,
     noted: &mut Vec<Noted>,
@@ -70,7 +71,7 @@ fn noted_of(alloc: Global, process: u32, completion: &Completion) -> Result<Note
     })
 }
 
-/// Whether one of these calls was refused memory.
+/// Whether one of these calls failed with `NoMemory`.
 pub fn some_refused(noted: &[Noted]) -> bool
     ensures { result ≡ some_refused noted.now }
 {

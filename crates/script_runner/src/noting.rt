@@ -1,4 +1,4 @@
-//! A script with what its calls came to.
+//! Running a script and noting what its calls return.
 ghost use Rattle.std.specs.Prelude.{◌≡◌, ◌≤◌, ◌++◌, [], ℕ, List, true, IfErr, IfOk, IsErrOf, vec_len};
 ghost use Rattle.std.specs.List.{All};
 ghost use Rattle.mq_model.specs.Legality.{Legal};
@@ -27,11 +27,11 @@ use std::sync::Wait;
 use std::thread::Threads;
 use std::time::Clock;
 
-/// Makes the calls of a script as `run_script` does, notes what they come to in place of writing
-/// their replies, and gives their journal. At `RunFault::Deadlock` the calls that returned are noted
-/// too, also those of the phase that can't go on, and at `RunFault::NoMemory` some. A run in which a
-/// call was refused memory ends with `RunFault::NoMemory`, also one that can't go on: what it comes to
-/// is not what the script asks for.
+/// Makes the calls of a script as `run_script` does, notes what they return instead of writing the
+/// replies, and returns their journal. If it fails with `RunFault::Deadlock`, the calls that
+/// returned are noted too, also those of the deadlocked phase; with `RunFault::NoMemory`, some are.
+/// A run in which a call failed with `NoMemory` ends with `RunFault::NoMemory`, even if it
+/// deadlocks, because its outcome is not that of the script.
 pub fn run_noted<L, S, G>(
     rt: &S,
     alloc: Global,
@@ -49,7 +49,7 @@ where
     requires nothing { noted.old.items ≡ [] }
     ensures fault { IfErr result IsUnwritten }
     ensures legal { IfOk result (λ journal. Legal journal.records) }
-    // What is noted are the replies, and no call was refused memory.
+    // `noted` has the replies, and no call failed with `NoMemory`.
     ensures done { IfOk result (λ journal.
         RunsServed (said_script script.now) noted.new.items journal.records) }
     ensures refused { some_refused noted.new.items ≡ true → IsErrOf result NoMemory }
@@ -62,7 +62,7 @@ where
     Ok(journal)
 }
 
-// Makes the calls of a script, whether or not one of them is refused memory.
+// The same, whether or not a call fails with `NoMemory`.
 fn make_all<L, S, G>(
     rt: &S,
     alloc: Global,
@@ -80,7 +80,7 @@ where
     requires nothing { noted.old.items ≡ [] }
     ensures fault { IfErr result IsUnwritten }
     ensures legal { IfOk result (λ journal. Legal journal.records) }
-    // What is noted are the replies.
+    // `noted` has the replies.
     ensures done { IfOk result (λ journal.
         RunsWhole (said_script script.now) (lines_of noted.new.items) journal.records) }
 {
@@ -90,7 +90,7 @@ where
     make_on(rt, alloc, mq, processes, script, gate, noted)
 }
 
-/// Makes the calls of a script on a system whose processes these are, and ends it.
+/// Makes the calls of a script on a system with these processes, and ends the system.
 pub(crate) fn make_on<L, S, G>(
     rt: &S,
     alloc: Global,
@@ -112,7 +112,7 @@ where
     requires nothing { noted.old.items ≡ [] }
     ensures fault { IfErr result IsUnwritten }
     ensures legal { IfOk result (λ journal. Legal journal.records) }
-    // What is noted are the replies.
+    // `noted` has the replies.
     ensures done { IfOk result (λ journal. RunsOn mq processes.items
         (said_script script.now).phases (lines_of noted.new.items) journal.records) }
 {
@@ -154,7 +154,7 @@ where
     Ok(processes)
 }
 
-// Runs a phase, after which the processes have met.
+// Runs a phase, and lets the processes meet.
 fn run_noted_phase<'s, L, S, G>(
     rt: &'s S,
     alloc: Global,

@@ -7,17 +7,18 @@ use mq_model::limits::PROCESSES;
 use std::alloc::{AllocError, Global};
 use std::sync::atomic::{AtomicBool, Ordering};
 
-/// The most processes of a phase.
+/// The maximum number of processes of a phase.
 const MOST: usize = PROCESSES as usize;
 
-/// A process of a phase, and whether it may still make calls. It is through only after its last call was made.
+/// A process of a phase, and whether it has made its last call in it.
 #[derive(Drop)]
 pub struct Peer {
     number: u32,
     is_through: AtomicBool,
 }
 
-/// The processes of these shares, in their order. Those without calls are through from the start.
+/// The processes of these shares, in order. Those without calls have made their last call from the
+/// start.
 pub fn peers_of<L: Look<Guarded>>(
     alloc: Global,
     shares: &[Share<'_, Process<L>>],
@@ -32,19 +33,20 @@ pub fn peers_of<L: Look<Guarded>>(
     Ok(peers)
 }
 
-/// The processes that may still call. One of them may be through by now, and none that is left out calls again.
+/// The processes that may still call. Some of them may have made their last call by now, but no
+/// other process calls again.
 pub fn calling(peers: &[Peer]) -> ArrayVec<u32, MOST> {
     let mut numbers = ArrayVec::new();
     for peer in peers {
         if !peer.is_through.load(Ordering::SeqCst) {
-            // There are no more processes than places.
+            // There is room for every process.
             let _ = numbers.try_push(peer.number);
         }
     }
     numbers
 }
 
-/// The process makes no further call in this phase.
+/// Marks that the process makes no further call in this phase.
 pub fn leave(peers: &[Peer], process: u32) {
     for peer in peers {
         if peer.number == process {
@@ -53,7 +55,7 @@ pub fn leave(peers: &[Peer], process: u32) {
     }
 }
 
-/// None of the processes makes a further call in this phase: it was called off.
+/// Marks that no process makes a further call in this phase, because the phase was called off.
 pub fn leave_all(peers: &[Peer]) {
     for peer in peers {
         peer.is_through.store(true, Ordering::SeqCst);

@@ -24,7 +24,8 @@ use std::thread;
 use std::thread::{Promise, PromisedHandle, Threads};
 use std::time::Clock;
 
-// A thread gives back the process of its share, which has made its calls, or waits in one of them.
+// A thread promises to return the process of its share, which has made its calls or waits in one of
+// them.
 #[derive(Drop)]
 pub struct Works<'s, L: Look<Guarded>>(Snapshot<Share<'s, Process<L>>>);
 
@@ -32,15 +33,16 @@ impl<'s, L: Look<Guarded>> Promise<Worked<Process<L>>> for Works<'s, L> {
     ghost kept_by = { λ p worked. Ends p.0.value worked };
 }
 
-/// A process in a phase that has begun: without calls, or in its thread.
+/// A process of a phase that has begun: idle, or in its thread.
 #[derive(Drop)]
 enum Member<'s, L: Look<Guarded>> {
     Idle(Worked<Process<L>>),
     Busy(PromisedHandle<Worked<Process<L>>, Works<'s, L>>),
 }
 
-/// Runs a phase, and joins all its threads. `Stop::NoMemory`: memory or a thread was refused. Those threads that were started
-/// have then run to their end. `Stop::Stuck`: some processes wait for ever, in the calls of these lines.
+/// Runs a phase, and joins all its threads. Fails with `Stop::NoMemory` if memory or a thread was
+/// refused; threads that were started have then run to their end. Fails with `Stop::Stuck` if some
+/// processes wait for ever, in the calls of these lines.
 pub fn run_phase<'s, L: Look<Guarded> + Sync, R: Threads + Wait + Clock + Sync, G: Gate + Sync>(
     rt: &'s R,
     alloc: Global,
@@ -59,8 +61,9 @@ where
     settled(rt, alloc, mq, workers)
 }
 
-/// Makes the calls of a phase, each process up to one that waits for ever, and joins all its threads. An error: memory or a thread was
-/// refused. Those threads that were started have then run to their end.
+/// Makes the calls of a phase, each process up to one that waits for ever, and joins all its
+/// threads. Fails if memory or a thread was refused; threads that were started have then run to
+/// their end.
 pub fn make_calls<'s, L: Look<Guarded> + Sync, R: Threads + Wait + Clock + Sync, G: Gate + Sync>(
     rt: &'s R,
     alloc: Global,
@@ -80,7 +83,7 @@ where
     join_all(rt, members, workers)
 }
 
-// Starts the threads of a phase, which have run to their end when it returns.
+// Starts the threads of a phase. They have run to their end when it returns.
 fn start_all<'s, L: Look<Guarded> + Sync, R: Threads + Wait + Clock + Sync, G: Gate + Sync>(
     rt: &'s R,
     alloc: Global,
@@ -160,7 +163,7 @@ fn idle<L: Look<Guarded>>(share: Share<'_, Process<L>>) -> Worked<Process<L>>
     }
 }
 
-// Makes the calls of a share in their order, up to one that waits for ever.
+// Makes the calls of a share in order, up to one that waits for ever.
 fn work<L: Look<Guarded>, R: Wait + Clock, G: Gate>(
     rt: &R,
     mq: &Mq<L>,
@@ -232,7 +235,7 @@ fn complete<L: Look<Guarded>, R: Wait + Clock>(
     Some(completion_of(outcome, buffer))
 }
 
-// What a call came to, with the buffer that it left.
+// What a call returned, with its buffer afterwards.
 fn completion_of(outcome: Outcome, buffer: Vec<u8>) -> Completion
     requires { HasMessage outcome (vec_len buffer) }
     ensures outcome { result.outcome ≡ outcome }

@@ -1,4 +1,4 @@
-//! A script, from its bytes to the bytes of its replies.
+//! From the bytes of a script to the bytes of its replies.
 ghost use Rattle.std.specs.Prelude.{◌≡◌, ◌≤◌, ◌+◌, ◌↔◌, [], ℕ, List, true, IfErr, IfOk, IsErr, IsErrOf, IsOk, OnErr, OnOk, Some, Ok, Err, Vec, length, take, vec_len};
 ghost use Rattle.std.specs.Io.KnownBytes.{Appends, Consumes};
 ghost use Rattle.std.specs.List.{All};
@@ -36,14 +36,19 @@ use std::time::Clock;
 use text_io::input::read_all;
 use text_io::output::write_all;
 
-/// Reads a script, checks it whole, makes its calls over the lock `L` and writes their replies, phase by phase. In a phase each
-/// process that has calls makes them in a thread of its own, and meets the gate before each.
-/// `RunFault::BadCall`: a line of the script is at fault, and this is the first one. `RunFault::Input`: a read failed, and
-/// nothing is written. `RunFault::Output`: a write failed; the replies of the phases before are written, and of what it was to
-/// write a front part. `RunFault::NoMemory`: an allocation outside a call, or a thread, was refused; the replies of the phases before
-/// are written, and nothing of that phase.
-/// `RunFault::Deadlock`: in a phase all processes that are not through with their calls wait, and nothing answers these waits; the replies
-/// of the phases before are written, and nothing of that phase.
+/// Reads a script, checks all of it, makes its calls over the lock `L` and writes their replies,
+/// phase by phase. In a phase each process that has calls makes them in a thread of its own, and
+/// calls the gate before and after each.
+///
+/// - `RunFault::BadCall`: a line of the script is wrong, and this is the first one. Nothing is
+///   written.
+/// - `RunFault::Input`: a read failed. Nothing is written.
+/// - `RunFault::Output`: a write failed. The replies of the earlier phases are written, and a
+///   prefix of what was being written.
+/// - `RunFault::NoMemory`: memory outside a call, or a thread, was refused. The replies of the
+///   earlier phases are written, and nothing of this one.
+/// - `RunFault::Deadlock`: in a phase all processes that have calls left wait, and nothing answers
+///   these waits. The replies of the earlier phases are written, and nothing of this one.
 pub fn run_script<L, S, R, W, G>(
     rt: &S,
     alloc: Global,
@@ -87,7 +92,7 @@ where
     run_phases::<L, S, W, G>(rt, alloc, &script, output, gate)
 }
 
-// Makes the calls of a script, and writes the replies of each phase after it.
+// Makes the calls of a script, and writes the replies of each phase after the phase.
 fn run_phases<L, S, W, G>(
     rt: &S,
     alloc: Global,
@@ -115,12 +120,12 @@ where
         (W.contents output.new)) }
 {
     let journal = run_whole::<L, S, W, G>(rt, alloc, script, output, gate)?;
-    // The journal of the queues is legal.
+    // The journal of the queues is legal, so there is a last line.
     write_last_line(output, alloc, &journal)?.unwrap();
     Ok(())
 }
 
-// Makes the calls of a script, writes the replies of each phase after it, and gives the journal.
+// The same without the last line; returns the journal.
 pub(crate) fn run_whole<L, S, W, G>(
     rt: &S,
     alloc: Global,
@@ -158,14 +163,14 @@ where
         Err(Stop::Output) => Err(RunFault::Output),
         Err(Stop::NoMemory) => Err(RunFault::NoMemory),
         Err(Stop::Stuck { processes, lines }) => {
-            // The one journal in which they wait is legal.
+            // The journal in which they wait is legal.
             let _ = journal_of(mq, processes);
             Err(RunFault::Deadlock(lines))
         }
     }
 }
 
-// The journal of the system of which these are all processes.
+// The journal of the system with these processes, which are all that it has.
 fn journal_of<L: Look<Guarded>>(mq: Mq<L>, processes: Vec<Process<L>>) -> Journal
     requires made { All (λ process. process.lock ≡ mq) processes.items }
     requires stored { stored_in mq.fixed ≡ true }
@@ -181,7 +186,7 @@ fn journal_of<L: Look<Guarded>>(mq: Mq<L>, processes: Vec<Process<L>>) -> Journa
     journal
 }
 
-// Runs phases one after the other and writes the replies of each.
+// Runs phases in order, and writes the replies of each.
 fn run_written_phases<'s, L, S, W, G>(
     rt: &'s S,
     alloc: Global,
@@ -262,7 +267,7 @@ where
     Ok(processes)
 }
 
-// Runs a phase, and gives the processes after it, which have met, and the text of their replies.
+// Runs a phase, lets the processes meet, and returns them with the text of their replies.
 pub(crate) fn run_replied<'s, L, S, G>(
     rt: &'s S,
     alloc: Global,
@@ -294,7 +299,8 @@ where
     Ok((processes, text))
 }
 
-// Writes that the history is ok, where it is legal; else nothing, and gives the first place that is not legal.
+// Writes that the history is ok if the journal is legal. Otherwise writes nothing, and returns the
+// first place that is not legal.
 fn write_last_line<W: Write>(
     output: &mut W,
     alloc: Global,

@@ -1,4 +1,4 @@
-//! The end of a phase: whether all processes are through, or some wait for ever.
+//! The end of a phase: whether all processes have made their calls, or some wait for ever.
 ghost use Rattle.std.specs.Prelude.{◌≡◌, [], IfErr, IfOk};
 ghost use Rattle.std.specs.List.{All};
 ghost use Rattle.script_runner.specs.Stands.{EndsStuck, blocked_lines, blocked_processes};
@@ -11,8 +11,8 @@ use mq::{Guarded, Mq, Process};
 use std::alloc::{AllocError, Global};
 use std::sync::Wait;
 
-/// The workers, where all are through with their calls. `Stop::Stuck`: some wait for ever, in the calls of these lines.
-/// `Stop::NoMemory`: an allocation was refused.
+/// The workers, if all have made their calls. Fails with `Stop::Stuck` if some wait for ever, in
+/// the calls of these lines, or with `Stop::NoMemory` if memory was refused.
 pub fn settled<L: Look<Guarded>, R: Wait>(
     rt: &R,
     alloc: Global,

@@ -1,4 +1,4 @@
-//! Why the phases of a script ended early, with what is left of them.
+//! Why the phases of a script ended early, with what is left of the system.
 ghost use Rattle.std.specs.Prelude.{◌≡◌};
 ghost use Rattle.script_runner.specs.RunFault.{fault_of};
 ghost use Rattle.script_runner.specs.declared.stop.Stop.TheVariants.{NoMemory, Output};

@@ -1,4 +1,4 @@
-//! The lines of a phase's replies.
+//! The text of the replies of a phase.
 ghost use Rattle.std.specs.Prelude.{◌≡◌, IfOk};
 ghost use Rattle.script_runner.specs.Phase.{text_in};
 

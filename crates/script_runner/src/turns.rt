@@ -1,4 +1,4 @@
-//! What each process has to do in a phase, and what it came to.
+//! The calls of each process in a phase, and what they returned.
 ghost use Rattle.std.specs.Prelude.{◌≡◌, ◌≤◌, [], IfOk, replicate, vec_len, vec_capacity};
 ghost use Rattle.script_runner.specs.Buffer.{buffer_given};
 ghost use Rattle.script_text.specs.Grammar.{said};
@@ -8,7 +8,7 @@ use script_text::line::ScriptCall;
 use script_text::reply::Completion;
 use std::alloc::{AllocError, Global};
 
-/// A call of a script with its buffer, which a receive fills.
+/// A call of a script with the buffer that a receive fills.
 #[derive(Drop)]
 pub struct Turn<'s> {
     pub call: ScriptCall<&'s [u8]>,
@@ -16,7 +16,7 @@ pub struct Turn<'s> {
     ghost given: { buffer.items ≡ buffer_given (said call.command) },
 }
 
-/// A process with its calls of a phase, and the places of their completions.
+/// A process with its calls of a phase, and room for what they return.
 #[derive(Drop)]
 pub struct Share<'s, P> {
     pub process: P,
@@ -26,7 +26,8 @@ pub struct Share<'s, P> {
     ghost room: { vec_len turns ≤ vec_capacity completions },
 }
 
-/// A process that made its calls of a phase, with what they came to; or some first ones, and then waits in one for ever.
+/// A process that made its calls of a phase, with what they returned; or that made some of them,
+/// and then waits for ever in the next one.
 #[derive(Drop)]
 pub struct Worked<P> {
     pub process: P,
@@ -35,7 +36,7 @@ pub struct Worked<P> {
     pub blocked: Option<u64>,
 }
 
-/// A call with the buffer that it is given.
+/// A call with its buffer.
 pub fn turn_of<'s>(alloc: Global, call: ScriptCall<&'s [u8]>) -> Result<Turn<'s>, AllocError>
     ensures { IfOk result (λ turn. turn.call ≡ call.entry) }
 {
@@ -44,7 +45,7 @@ pub fn turn_of<'s>(alloc: Global, call: ScriptCall<&'s [u8]>) -> Result<Turn<'s>
     Ok(Turn { call, buffer })
 }
 
-// How many bytes the buffer of a call has.
+// The length of a call's buffer in bytes.
 fn room_of(command: &Command<&[u8]>) -> usize
     ensures { replicate result 0 ≡ buffer_given (said command.now) }
 {

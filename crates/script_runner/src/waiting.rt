@@ -1,4 +1,4 @@
-//! Calls that may wait, and end their wait where nobody can answer it any more.
+//! Calls that may wait, and that stop waiting when no process can answer them any more.
 ghost use Rattle.std.specs.Prelude.{◌≡◌, ◌≤◌, true, IsSome, IsTrue, IfSome, IfNone, [], length};
 ghost use Rattle.mq.specs.Calls.{Calls, Collects, IsFree};
 ghost use Rattle.mq.specs.Says.{FitsIn};
@@ -17,7 +17,8 @@ use mq_model::entries::Call;
 use script_text::reply::Outcome;
 use std::sync::Wait;
 
-/// Makes a send, with a deadline or without (`mq_send`, `mq_timedsend`). `None`: it waits for ever, since no process that may still call goes on.
+/// Makes a send, with or without a deadline (`mq_send`, `mq_timedsend`). `None` if it waits for
+/// ever, because all processes that may still call are blocked.
 pub fn send<L: Look<Guarded>, R: Wait>(
     rt: &R,
     mq: &Mq<L>,
@@ -47,8 +48,9 @@ pub fn send<L: Look<Guarded>, R: Wait>(
     }
 }
 
-/// Makes a receive into the front of the buffer, with a deadline or without (`mq_receive`, `mq_timedreceive`). `None`: it waits for ever,
-/// since no process that may still call goes on.
+/// Makes a receive to the start of the buffer, with or without a deadline (`mq_receive`,
+/// `mq_timedreceive`). `None` if it waits for ever, because all processes that may still call are
+/// blocked.
 pub fn receive<L: Look<Guarded>, R: Wait>(
     rt: &R,
     mq: &Mq<L>,
@@ -79,7 +81,7 @@ pub fn receive<L: Look<Guarded>, R: Wait>(
     }
 }
 
-// Waits until the open wait is answered, and collects what it came to. `None`: it never is.
+// Waits until the open wait is answered, and collects it. `None` if it never is.
 fn await_answer<L: Look<Guarded>, R: Wait>(
     rt: &R,
     mq: &Mq<L>,
@@ -105,7 +107,8 @@ fn await_answer<L: Look<Guarded>, R: Wait>(
     }
 }
 
-// Looks until the open wait is answered, or no process that may still call goes on: then it is false. It asks for that after each sleep.
+// Polls until the open wait is answered, and returns true; or until all processes that may still
+// call are blocked, and returns false. It checks for that after each sleep.
 fn look_for_answer<L: Look<Guarded>, R: Wait>(
     rt: &R,
     mq: &Mq<L>,
