@@ -1,4 +1,4 @@
--- What is written of all orders of the calls of a script.
+-- The answer about all interleavings of the calls of a script.
 use Rattle.std.specs.Prelude.{◌≡◌, ℕ, zero, suc, Bool, true, false, List, [], Option, None, Some, Result, Ok, Err, if◌then◌else◌, length, slice_get}
 use Rattle.std.specs.List.{All, list_any}
 use Rattle.std.specs.Option.{option_map, unwrap_or}
@@ -28,8 +28,9 @@ ending_status NoSuch = 1
 ending_status Deadlock = 5
 ending_status OutOfBudget = 6
 
--- what was found from a stage on: each has a schedule that leads to it, no two tell the same, and where all was tried there is nothing else.
--- Where not all was tried, that takes so many steps, or more. The journal after each schedule is legal
+-- What was found from a stage on. Each item has a schedule that leads to it, and no two items are
+-- the same. If the search is complete there is nothing else. If not, a complete one takes at least
+-- as many steps as the budget. The journal after each schedule is legal.
 pub record AreFound (budget : ℕ) (from : Stage) (collected : Collected) : Type 0 where
   pub witnessed : All (IsWitness next_stage stands_still told from) collected.found.items
   pub distinct : AreDistinct collected.found.items
@@ -37,21 +38,21 @@ pub record AreFound (budget : ℕ) (from : Stage) (collected : Collected) : Type
   pub used_up : collected.complete ≡ false → TakesAll next_stage choice_count (λ depth. 1) budget from
   pub legal : AreLegal from
 
--- the one of this number, from 1
+-- the item with this number, counted from 1
 abbrev pub numbered : List Witnessed → ℕ → Option Witnessed
 numbered found zero = None
 numbered found (suc index) = slice_get found index
 
--- the text of the journal after a schedule from a stage on
+-- the text of the journal after a schedule from this stage
 abbrev pub journal_of : Stage → List ℕ → List ℕ
 journal_of from schedule = unwrap_or (option_map (λ (to : Stage). journal_text to.past) (after next_stage schedule from)) []
 
--- the journal that leads to the one of a number, where there is one
+-- the journal that leads to the item with a number, if there is one
 abbrev pub numbered_text : Stage → Option Witnessed → List ℕ
 numbered_text from None = []
 numbered_text from (Some one) = journal_of from one.schedule.items
 
--- what is written: the report, or the journal of a number
+-- the answer: the report, or the journal with a number
 abbrev pub answer_text : Option ℕ → ℕ → ℕ → Stage → Collected → List ℕ
 answer_text None budget phases from collected = report_text phases collected.found.items collected.complete budget
 answer_text (Some number) budget phases from collected = numbered_text from (numbered collected.found.items number)
@@ -59,7 +60,7 @@ answer_text (Some number) budget phases from collected = numbered_text from (num
 abbrev pub has_deadlock : List Witnessed → Bool
 has_deadlock found = list_any (λ one. one.outcome.stuck) found
 
--- what the orders come to
+-- the result of trying the interleavings
 abbrev pub ending_of : Collected → Ending
 ending_of collected =
     if has_deadlock collected.found.items then Deadlock else (if collected.complete then Well else OutOfBudget)
@@ -68,13 +69,13 @@ abbrev pub ending_if : Collected → Option Witnessed → Ending
 ending_if collected None = NoSuch
 ending_if collected (Some one) = ending_of collected
 
--- what they come to, where the report, or the journal of a number, is asked for
+-- the result, given whether the report or the journal with a number is wanted
 abbrev pub answer_ending : Option ℕ → Collected → Ending
 answer_ending None collected = ending_of collected
 answer_ending (Some number) collected = ending_if collected (numbered collected.found.items number)
 
--- all orders of a script were tried, unless the budget was used up, and known bytes have grown by the answer. The script begins after the
--- calls of a journal
+-- All interleavings of a script were tried, unless the budget was used up, and the answer was
+-- appended to known bytes. The script starts after the calls of a journal.
 pub record AnswersAfter (past : Past) (script : Whole) (trial : Trial) (ending : Ending) (old new : Option (List ℕ)) : Type 0 where
   pub from : Stage
   pub begins : BeginsAfter past script from
@@ -83,7 +84,7 @@ pub record AnswersAfter (past : Past) (script : Whole) (trial : Trial) (ending :
   pub ends : ending ≡ answer_ending trial.journal collected
   pub written : known.Appends old new (answer_text trial.journal trial.budget (length script.phases) from collected)
 
--- the same, and known bytes have grown by a front part of the answer that lacks a byte or more
+-- the same, but a proper prefix of the answer was appended
 pub record AnswersAfterInPart (past : Past) (script : Whole) (trial : Trial) (old new : Option (List ℕ)) : Type 0 where
   pub from : Stage
   pub begins : BeginsAfter past script from
@@ -91,14 +92,15 @@ pub record AnswersAfterInPart (past : Past) (script : Whole) (trial : Trial) (ol
   pub found : AreFound trial.budget from collected
   pub written : AppendsTooLittle old new (answer_text trial.journal trial.budget (length script.phases) from collected)
 
--- the same of a script that begins before all calls
+-- the same for a script that starts with the empty journal
 abbrev pub Answers : Whole → Trial → Ending → Option (List ℕ) → Option (List ℕ) → Type 0
 Answers script trial ending old new = AnswersAfter [] script trial ending old new
 
 abbrev pub AnswersInPart : Whole → Trial → Option (List ℕ) → Option (List ℕ) → Type 0
 AnswersInPart script trial old new = AnswersAfterInPart [] script trial old new
 
--- the answer is written; or nothing is, and there is a reason why the script does not go on from the journal
+-- The answer was written; or nothing was, and there is a reason why the script cannot continue from
+-- the journal.
 abbrev pub AnswersOrNot : Past → Whole → Trial → Result Ending NoStart → Option (List ℕ) → Option (List ℕ) → Type 0
 AnswersOrNot past script trial (Ok ending) old new = AnswersAfter past script trial ending old new
 AnswersOrNot past script trial (Err why) old new = IsNoStart past script.processes why × (new ≡ old)

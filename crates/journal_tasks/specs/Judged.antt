@@ -1,4 +1,4 @@
--- What a concurrent history comes to.
+-- The result of checking a concurrent history.
 use Rattle.std.specs.Prelude.{◌≡◌, ℕ, Bool, List, Option}
 use Rattle.std.specs.Io.KnownBytes as known
 use Rattle.text_io.specs.Output.{AppendsTooLittle}
@@ -11,15 +11,15 @@ use Rattle.history_judge.specs.declared.well_formed.IllFormed.{IllFormed}
 use Rattle.history_judge.specs.declared.line.Called.{Called}
 use Rattle.history_judge.specs.declared.judgement.Judgement.{Judgement}
 
--- the bytes are the text of a well-formed history, whose calls are of processes from 1 to 32 and
--- have numbers that fit, and this is a judgement of it within so many steps
+-- The bytes are the text of a well-formed history. Its calls are of processes from 1 to 32 and have
+-- numbers that fit. This is the result of checking it within this number of steps.
 pub record IsJudged (budget : ℕ) (bytes : List ℕ) (calls : List Called) (judgement : Judgement) : Type 0 where
   pub text : bytes ≡ history_text calls
   pub fits : AllFit calls
   pub formed : IsWellFormed calls
   pub judges : IsJudgement budget calls judgement
 
--- the status is that of a judgement of the bytes; known bytes have grown by its text
+-- The status is that of the result of checking the history, whose text was appended to known bytes.
 pub record JudgesHistory (budget : ℕ) (bytes : List ℕ) (with_journal : Bool) (status : ℕ) (old new : Option (List ℕ)) : Type 0 where
   pub calls : List Called
   pub judgement : Judgement
@@ -27,15 +27,15 @@ pub record JudgesHistory (budget : ℕ) (bytes : List ℕ) (with_journal : Bool)
   pub says : status ≡ status_of judgement
   pub written : known.Appends old new (judgement_text calls with_journal judgement)
 
--- of the text of a judgement of the bytes a front part was written that lacks a byte or more
+-- a proper prefix of the text of the result was appended to known bytes
 pub record StopsInJudgement (budget : ℕ) (bytes : List ℕ) (with_journal : Bool) (old new : Option (List ℕ)) : Type 0 where
   pub calls : List Called
   pub judgement : Judgement
   pub judged : IsJudged budget bytes calls judgement
   pub written : AppendsTooLittle old new (judgement_text calls with_journal judgement)
 
--- the bytes are the text of a history that is ill-formed; the call in this line is the first that
--- makes it so, and this is why
+-- The bytes are the text of an ill-formed history. The call in this line is the first that makes it
+-- so, and this is why.
 pub record IsIllFormed (line : ℕ) (why : IllFormed) (bytes : List ℕ) : Type 0 where
   pub calls : List Called
   pub text : bytes ≡ history_text calls

@@ -1,4 +1,4 @@
--- Why a journal was not checked: what is printed, and the exit status.
+-- Why a task on a journal failed: what is printed, and the exit status.
 use Rattle.std.specs.Prelude.{ℕ, List, ◌++◌, codes}
 use Rattle.std.specs.Fmt.{decimal}
 use Rattle.journal_format.specs.JournalFault.{journal_fault_text}
@@ -8,7 +8,7 @@ use Rattle.history_judge.specs.WellFormed.{ill_formed_text}
 use Rattle.journal_tasks.specs.declared.fault.LogFault.{LogFault}
 use Rattle.journal_tasks.specs.declared.fault.LogFault.TheVariants.{BadLine, IllFormed, Input, Output, NoMemory}
 
--- what stands on the error stream
+-- the text on standard error
 abbrev pub fault_text : LogFault → List ℕ
 fault_text (BadLine line) = journal_fault_text (journal.BadLine line)
 fault_text (IllFormed line why) = codes "line " ++ (decimal line ++ (codes ": " ++ ill_formed_text why))

@@ -1,4 +1,4 @@
--- The state after the first entries of a journal.
+-- The state after a prefix of a journal.
 use Rattle.std.specs.Prelude.{ℕ, ◌≡◌, ◌<◌, ◌≤◌, List, Option, None, Some, length}
 use Rattle.std.specs.Io.KnownBytes as known
 use Rattle.std.specs.Option.{unwrap_or}
@@ -12,11 +12,11 @@ use Rattle.journal_tasks.specs.declared.state.NoState.{NoState}
 use Rattle.journal_tasks.specs.declared.state.NoState.TheVariants.{Beyond, Illegal}
 use Rattle.journal_tasks.specs.declared.state.Wanted.{Wanted}
 
--- how many entries the state is wanted after: all of them where none is named
+-- the number of entries after which the state is wanted: all, if no number is given
 abbrev pub count_wanted : Wanted → Past → ℕ
 count_wanted wanted past = unwrap_or wanted.at (length past)
 
--- the entries that it is wanted after
+-- the entries after which it is wanted
 abbrev pub entries_wanted : Wanted → Past → Past
 entries_wanted wanted past = first (count_wanted wanted past) past
 
@@ -25,25 +25,25 @@ abbrev pub LacksState : Wanted → Past → NoState → Type 0
 LacksState wanted past (Beyond len) = (len ≡ length past) × (length past < count_wanted wanted past)
 LacksState wanted past (Illegal place) = (count_wanted wanted past ≤ length past) × IsFirstIllegal (entries_wanted wanted past) place
 
--- the state after these entries, which are legal
+-- the text of the state after these entries, which are legal
 pub record IsTextOf (wanted : Wanted) (past : Past) (text : List ℕ) : Type 0 where
   pub count : count_wanted wanted past ≤ length past
   pub legal : Legal (entries_wanted wanted past)
   pub state : text ≡ state wanted.form (entries_wanted wanted past)
 
--- known bytes have grown by that state; or are as they were and there is a reason
+-- The text of that state was appended to known bytes; or they are unchanged, and there is a reason.
 abbrev pub IsTold : Wanted → Past → Option NoState → Option (List ℕ) → Option (List ℕ) → Type 0
 IsTold wanted past None old new = (text : List ℕ) × IsTextOf wanted past text × known.Appends old new text
 IsTold wanted past (Some why) old new = LacksState wanted past why × (new ≡ old)
 
--- the same of the journal whose text these bytes are
+-- the same for the journal with this text
 pub record Tells (bytes : List ℕ) (wanted : Wanted) (why : Option NoState) (old new : Option (List ℕ)) : Type 0 where
   pub past : Past
   pub fits : AllFit past
   pub text : bytes ≡ journal_text past
   pub told : IsTold wanted past why old new
 
--- known bytes have grown by a front part of that state, which lacks a byte or more
+-- a proper prefix of the text of that state was appended to known bytes
 pub record TellsInPart (bytes : List ℕ) (wanted : Wanted) (old new : Option (List ℕ)) : Type 0 where
   pub past : Past
   pub fits : AllFit past

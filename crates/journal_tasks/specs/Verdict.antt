@@ -1,4 +1,4 @@
--- What a journal comes to.
+-- The verdict on a journal.
 use Rattle.std.specs.Prelude.{ℕ, zero, suc, ◌≡◌, ◌+◌, ◌++◌, ◌==◌, Bool, false, List, [], ◌∷◌, length, count_by, codes, if◌then◌else◌, Option}
 use Rattle.std.specs.Fmt.{decimal}
 use Rattle.std.specs.List.{join_with_byte, list_any}
@@ -47,14 +47,16 @@ abbrev pub last_line : Past → List ℕ
 last_line [] = []
 last_line (r ∷ past) = line_text (length past) r
 
--- why an entry is not legal: its process, its turn, its payload, or its reply, with the one that the definitions give
+-- Why an entry is not legal: its process, its turn, its payload, or its reply, with the reply that
+-- the definitions give.
 abbrev pub cause_text : Cause → List ℕ
 cause_text cause.Process = codes "no process from 1 to 32"
 cause_text cause.Turn = codes "out of turn"
 cause_text cause.Payload = codes "another payload expected"
 cause_text (cause.Reply expected) = codes "expected " ++ join_with_byte 32 (reply_words expected)
 
--- what is printed of a journal that is not legal: the place of its first entry at fault, why it is at fault, and its line
+-- What is printed if a journal is not legal: the place of its first entry that is not legal, why,
+-- and its line.
 abbrev pub illegal_text : Past → Departure → List ℕ
 illegal_text past d = codes "entry " ++ (decimal d.place ++ (codes ": " ++ (cause_text d.cause ++ 10 ∷ last_line (first (d.place + 1) past))))
 
@@ -62,12 +64,13 @@ abbrev pub verdict_text : Past → Verdict → List ℕ
 verdict_text past (Legal counts) = legal_text counts
 verdict_text past (Illegal departure) = illegal_text past departure
 
--- the verdict is right: the journal is legal, and has these counts, or this is the first place that is not legal, and why
+-- The verdict is right: the journal is legal and has these counts, or this is the first place that
+-- is not legal, and why.
 abbrev pub Judges : Past → Verdict → Type 0
 Judges past (Legal counts) = legality.Legal past × (counts ≡ counts_of past)
 Judges past (Illegal departure) = IsDeparture past departure
 
--- the verdict on bytes that are the text of a journal; known bytes have grown by its text
+-- the verdict on the journal with this text, whose own text was appended to known bytes
 pub record Checks (bytes : List ℕ) (verdict : Verdict) (old new : Option (List ℕ)) : Type 0 where
   pub past : Past
   pub fits : AllFit past
@@ -80,7 +83,8 @@ abbrev pub verdict_status : Verdict → ℕ
 verdict_status (Legal counts) = 0
 verdict_status (Illegal departure) = 1
 
--- bytes are the text of a journal; of the text of the verdict on it a front part was written that lacks a byte or more
+-- a proper prefix of the text of the verdict on the journal with this text was appended to known
+-- bytes
 pub record StopsInVerdict (bytes : List ℕ) (old new : Option (List ℕ)) : Type 0 where
   pub verdict : Verdict
   pub past : Past

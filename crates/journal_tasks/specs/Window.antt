@@ -8,7 +8,7 @@ use Rattle.journal_format.specs.Text.{journal_text}
 use Rattle.journal_picture.specs.Picture.{picture_text}
 use Rattle.journal_tasks.specs.declared.window.Window.{Window}
 
--- the place after the last one that may be shown, of so many entries
+-- the place after the last one that may be shown, in a journal of this length
 abbrev pub end_shown : Window → ℕ → ℕ
 end_shown window len = if nat_lt window.to len then window.to + 1 else len
 
@@ -20,14 +20,15 @@ first_shown window len = min window.from (end_shown window len)
 abbrev pub count_shown : Window → ℕ → ℕ
 count_shown window len = min (end_shown window len - first_shown window len) 2000
 
--- bytes are the text of a journal; known bytes have grown by a picture of its part that the window shows
+-- a picture of the entries in the window, of the journal with this text, was appended to known
+-- bytes
 pub record Draws (bytes : List ℕ) (window : Window) (old new : Option (List ℕ)) : Type 0 where
   pub past : Past
   pub fits : AllFit past
   pub text : bytes ≡ journal_text past
   pub written : known.Appends old new (picture_text past (first_shown window (length past)) (count_shown window (length past)))
 
--- bytes are the text of a journal; known bytes have grown by a front part of such a picture that lacks a byte or more
+-- a proper prefix of such a picture was appended to known bytes
 pub record DrawsInPart (bytes : List ℕ) (window : Window) (old new : Option (List ℕ)) : Type 0 where
   pub past : Past
   pub fits : AllFit past

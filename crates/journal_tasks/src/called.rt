@@ -17,8 +17,8 @@ use script_text::reply::{Completion, Outcome as Said};
 use script_text::script::Script;
 use std::alloc::{AllocError, Global};
 
-/// The calls of a script as far as they began, of each process in the order of its lines. A name that is none makes no call, and an
-/// exit stands as the closes of what the process holds.
+/// The calls of a script that began, each process's in the order of its lines. A malformed name
+/// makes no call, and an exit becomes the closes of the descriptors that the process holds.
 pub fn calls_of(
     alloc: Global,
     script: &Script<'_>,
@@ -37,7 +37,7 @@ pub fn calls_of(
     Ok(calls)
 }
 
-// Adds the calls of a process, as far as it began them.
+// Adds the calls of a process that began.
 fn push_program(
     alloc: Global,
     calls: &mut Vec<Called>,
@@ -67,7 +67,7 @@ fn push_program(
     Ok(())
 }
 
-// What the call of this process with this index came to, if it returned.
+// What the call of this process with this index returned, if it did.
 fn completion_of(noted: &[Noted], process: u32, index: usize) -> Option<&Completion>
     ensures { option_map (λ c. c.now) result ≡ slice_get (completions_of process noted.now) index }
 {
@@ -83,7 +83,7 @@ fn completion_of(noted: &[Noted], process: u32, index: usize) -> Option<&Complet
     None
 }
 
-// Who made a call, and when it began and ended.
+// Which process made a call, and when the call began and ended.
 #[derive(Clone, Copy)]
 struct Span {
     process: u32,
@@ -91,7 +91,8 @@ struct Span {
     end: u64,
 }
 
-// The moments of a call. It begins before it ends: the clock sees to that, and here it is certain.
+// The times of a call. They are adjusted so that it begins before it ends, which the clock already
+// ensures.
 fn span_of(process: u32, begin: u64, end: u64) -> Span
     ensures process { result.process ≡ process }
     ensures in_order { nat_lt result.begin result.end ≡ true }
@@ -104,7 +105,7 @@ fn span_of(process: u32, begin: u64, end: u64) -> Span
     }
 }
 
-// Adds the calls of a line, with the descriptors that its process holds.
+// Adds the calls of a line. `held` are the descriptors that its process holds.
 fn push_line(
     alloc: Global,
     calls: &mut Vec<Called>,
@@ -182,7 +183,7 @@ fn called(span: Span, call: Call, given: Vec<u8>, outcome: Outcome) -> Called
     }
 }
 
-// The descriptors that a process holds behind a call.
+// Updates the descriptors that a process holds, after a call.
 fn hold(held: &mut Vec<u32>, call: Call, outcome: &Outcome) -> Result<(), AllocError> {
     match (call, outcome) {
         (_, Outcome::Opened(d)) => held.push(*d)?,
@@ -204,7 +205,7 @@ fn outcome_or_pending(alloc: Global, came: Option<&Completion>) -> Result<Outcom
     }
 }
 
-// What a call came to, in the words of a history. A message that was received lies in the front of the buffer.
+// What a call returned, in the form of a history. A received message is at the start of the buffer.
 fn outcome_of(alloc: Global, completion: &Completion) -> Result<Outcome, AllocError>
     ensures reply { IfOk result (λ outcome.
         written_reply outcome ≡ reply_said completion.now.outcome) }

@@ -1,4 +1,4 @@
-//! A journal, from its bytes to the verdict on it.
+//! From the bytes of a journal to the verdict on it.
 ghost use Rattle.std.specs.Prelude.{◌≡◌, ◌+◌, ℕ, List, IfOk, IsErrOf, Some, take};
 ghost use Rattle.text_io.specs.Output.{AppendsTooLittle};
 ghost use Rattle.journal_format.specs.JournalFault.{IsAtFault};
@@ -14,11 +14,14 @@ use std::alloc::Global;
 use std::io::{Read, Write};
 use text_io::output::write_all;
 
-/// Reads a journal line by line, checks it, and writes a line with what stands in it, or the first
-/// entry that is not legal and why. `LogFault::BadLine`: a line is not that of an entry, or is too
-/// long for one, and this is the first one; no read was made after those that brought it.
-/// `LogFault::Input`: a read failed. `LogFault::Output`: a write failed, and a front part of the
-/// verdict is written. Of the others nothing is written.
+/// Reads a journal line by line, checks it, and writes a line with the number of its entries,
+/// processes and queues, or the first entry that is not legal and why.
+///
+/// - `LogFault::BadLine`: a line is not that of an entry, or is too long for one, and this is the
+///   first one. No read was made after those that returned it. Nothing is written.
+/// - `LogFault::Input`: a read failed. Nothing is written.
+/// - `LogFault::Output`: a write failed. A prefix of the verdict is written.
+/// - `LogFault::NoMemory`: memory was refused. Nothing is written.
 pub fn check_journal<R: Read, W: Write>(
     alloc: Global,
     input: &mut R,

@@ -1,4 +1,4 @@
-//! A journal, from its bytes to a short one that leaves an equivalent state.
+//! From the bytes of a journal to a short one that leaves an equivalent state.
 ghost use Rattle.std.specs.Prelude.{◌≡◌, ◌+◌, ℕ, List, IfOk, IsErrOf, MatchResult, Some, take};
 ghost use Rattle.mq_equivalence.specs.Equivalence.{Equivalent};
 ghost use Rattle.journal_format.specs.JournalFault.{IsAtFault};
@@ -21,15 +21,15 @@ use std::fmt;
 use std::io::{Read, Write};
 use text_io::output::write_all;
 
-/// Why a journal has no short one.
+/// Why there is no short journal.
 #[derive(Clone, Copy, Debug, PartialEq, Eq)]
 pub enum NoShort {
     /// The entry at this place is the first that is not legal.
     Illegal(u64),
-    /// A wait is served, and its process has not collected what it came to.
+    /// A process has not collected a wait that is served.
     Served,
-    /// The journal that was made is not equivalent, or a call in it had another reply than wanted.
-    /// Neither has happened yet.
+    /// The new journal is not equivalent, or a call in it got another reply than needed. Neither is
+    /// known to happen.
     Unexpected,
 }
 
@@ -47,12 +47,14 @@ impl fmt::Display for NoShort {
     }
 }
 
-/// Reads a journal line by line, and writes a short one that leaves an equivalent state: what is
-/// alive is made anew. `None`: it is written; else nothing is written, and this is why.
-/// `LogFault::BadLine`: a line is not that of an entry, or is too long for one, and this is the
-/// first one; no read was made after those that brought it. `LogFault::Input`: a read failed.
-/// `LogFault::Output`: a write failed, and a front part of a short journal is written. Of the others
-/// nothing is written.
+/// Reads a journal line by line, and writes a short one that leaves an equivalent state. If there
+/// is none, it writes nothing and returns the reason.
+///
+/// - `LogFault::BadLine`: a line is not that of an entry, or is too long for one, and this is the
+///   first one. No read was made after those that returned it. Nothing is written.
+/// - `LogFault::Input`: a read failed. Nothing is written.
+/// - `LogFault::Output`: a write failed. A prefix of a short journal is written.
+/// - `LogFault::NoMemory`: memory was refused. Nothing is written.
 pub fn compact_journal<R: Read, W: Write>(
     alloc: Global,
     input: &mut R,
@@ -83,7 +85,7 @@ pub fn compact_journal<R: Read, W: Write>(
     }
 }
 
-// A short journal in place of this one, or why there is none. The error is that memory was refused.
+// A short journal in place of this one, or why there is none. Fails if memory was refused.
 fn short_of(alloc: Global, journal: Journal) -> Result<Result<Journal, NoShort>, AllocError>
     ensures { IfOk result (λ r. MatchResult r
         (λ short. Equivalent journal.records short.records) (Explains journal.records)) }

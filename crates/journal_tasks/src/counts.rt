@@ -1,4 +1,4 @@
-//! What stands in a journal.
+//! The numbers that the verdict on a legal journal prints.
 #![tactic(auto, using(mq_model::proofs::Prefixes::prefixes))]
 
 ghost use Rattle.std.specs.Prelude.{◌≡◌, count_by};
@@ -8,7 +8,8 @@ use mq_model::entries::Reply;
 use mq_model::journals::Journal;
 use mq_model::limits::PROCESSES;
 
-/// What stands in a journal: its entries, the processes of these, from 1 to 32, and the queues that they created.
+/// How many entries a journal has, how many of the processes 1 to 32 have one, and how many queues
+/// they created.
 #[derive(Clone, Copy, Debug, PartialEq, Eq)]
 pub struct Counts {
     pub entries: u64,
@@ -16,7 +17,7 @@ pub struct Counts {
     pub queues: u64,
 }
 
-/// What stands in a journal.
+/// These numbers for a journal.
 pub fn counts_of(journal: &Journal) -> Counts
     ensures { result ≡ counts_of journal.now.records }
 {

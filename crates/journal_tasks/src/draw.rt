@@ -1,4 +1,4 @@
-//! A journal, from its bytes to a picture of it.
+//! From the bytes of a journal to a picture of it.
 ghost use Rattle.std.specs.Prelude.{◌≡◌, ◌+◌, ℕ, List, IsErrOf, OnOk, Some, take};
 ghost use Rattle.journal_format.specs.JournalFault.{IsAtFault};
 ghost use Rattle.journal_format.specs.Lines.{ReadsUpTo};
@@ -15,10 +15,13 @@ use std::io::{Read, Write};
 use text_io::output::write_all;
 
 /// Reads a journal line by line, which need not be legal, and writes a picture of its entries in
-/// the window, of the first 2,000 of these. `LogFault::BadLine`: a line is not that of an entry, or
-/// is too long for one, and this is the first one; no read was made after those that brought it.
-/// `LogFault::Input`: a read failed. `LogFault::Output`: a write failed, and of the picture a front
-/// part is written that lacks a byte or more. Of the others nothing is written.
+/// the window, at most the first 2,000 of these.
+///
+/// - `LogFault::BadLine`: a line is not that of an entry, or is too long for one, and this is the
+///   first one. No read was made after those that returned it. Nothing is written.
+/// - `LogFault::Input`: a read failed. Nothing is written.
+/// - `LogFault::Output`: a write failed. A proper prefix of the picture is written.
+/// - `LogFault::NoMemory`: memory was refused. Nothing is written.
 pub fn draw_journal<R: Read, W: Write>(
     alloc: Global,
     input: &mut R,

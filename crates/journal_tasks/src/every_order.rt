@@ -1,4 +1,4 @@
-//! A script, from its bytes to what all orders of its calls come to.
+//! From the bytes of a script to the outcomes of all interleavings of its calls.
 ghost use Rattle.std.specs.Prelude.{◌≡◌, ◌≢◌, ◌≤◌, ◌+◌, ℕ, List, IfErr, IfOk, IsErrOf, IsSome, OnOk, Some, Ok, Err, Vec, length, take};
 ghost use Rattle.std.specs.Option.{option_map};
 ghost use Rattle.std.specs.List.{All};
@@ -27,12 +27,13 @@ use std::io::{Read, Write};
 use text_io::input::read_all;
 use text_io::output::write_all;
 
-/// How the orders of a script are tried.
+/// How the interleavings of a script are tried.
 #[derive(Clone, Copy, Debug, PartialEq, Eq)]
 pub struct Trial {
-    /// In place of the report the journal of this outcome or deadlock is written.
+    /// If given, the journal of the outcome or deadlock with this number is written instead of the
+    /// report.
     pub journal: Option<u64>,
-    /// How many steps the search takes at most.
+    /// The maximum number of steps of the search.
     pub budget: u64,
 }
 
@@ -42,16 +43,16 @@ pub const REPORT: Trial = Trial {
     budget: 5_000_000,
 };
 
-/// What the orders of a script come to.
+/// The result of trying all interleavings of a script.
 #[derive(Clone, Copy, Debug, PartialEq, Eq)]
 pub enum Ending {
-    /// Every order was tried, and none ends in a deadlock.
+    /// Every interleaving was tried, and none deadlocks.
     Well,
-    /// No outcome and no deadlock has the number that was asked for.
+    /// No outcome or deadlock has the given number.
     NoSuch,
-    /// An order ends in a deadlock.
+    /// Some interleaving deadlocks.
     Deadlock,
-    /// The budget was used up, and no order that was tried ends in a deadlock.
+    /// The budget was used up, and no interleaving that was tried deadlocks.
     OutOfBudget,
 }
 
@@ -69,9 +70,10 @@ impl Ending {
     }
 }
 
-/// Reads a script as `record_script` does, tries every order of its calls, and writes the report of what they come to, or the journal of an
-/// order that leads to an outcome or a deadlock. The faults are those of `record_script`, but for a deadlock, which is none here. At
-/// `RunFault::Output` a front part is written, and at the others nothing.
+/// Reads a script as `record_script` does, tries every interleaving of its calls, and writes the
+/// report of the outcomes, or the journal of an interleaving with a given outcome or deadlock.
+/// Fails as `record_script`, except that a deadlock is no error here. With `RunFault::Output` a
+/// prefix is written, and with the other errors nothing.
 pub fn try_orders<R: Read, W: Write>(
     alloc: Global,
     input: &mut R,
@@ -99,8 +101,9 @@ pub fn try_orders<R: Read, W: Write>(
     try_script(alloc, Journal::new(alloc), &script, output, trial)
 }
 
-/// Tries every order of the calls of a script as `try_orders` does, in the state that a journal leaves; or says why the script does not go
-/// on from the journal. Then nothing is written.
+/// Tries every interleaving of the calls of a script as `try_orders` does, in the state that a
+/// journal leaves. If the script cannot continue from the journal, it writes nothing and returns
+/// the reason.
 pub fn try_orders_after<R: Read, W: Write>(
     alloc: Global,
     journal: Journal,
@@ -130,7 +133,8 @@ pub fn try_orders_after<R: Read, W: Write>(
     try_after(alloc, journal, &script, output, trial)
 }
 
-// Tries every order of the calls of a script after those of a journal, and writes the answer.
+// Tries every interleaving of the calls of a script after those of a journal, and writes the
+// answer.
 fn try_after<W: Write>(
     alloc: Global,
     journal: Journal,
@@ -161,7 +165,7 @@ fn try_after<W: Write>(
     }
 }
 
-// Tries every order of the calls of a script after those of a legal journal, and writes the answer.
+// The same after a legal journal.
 fn try_script<W: Write>(
     alloc: Global,
     journal: Journal,
@@ -189,7 +193,7 @@ fn try_script<W: Write>(
     Ok(answer_ending(&collected, trial.journal))
 }
 
-// What is written of those that were found.
+// The answer: the report, or the journal with the given number.
 fn answer_text(
     alloc: Global,
     play: &mut Play,
@@ -211,7 +215,7 @@ fn answer_text(
     }
 }
 
-// The outcome or deadlock of this number, from 1.
+// The outcome or deadlock with this number, counted from 1.
 fn numbered(found: &[Witnessed], number: u64) -> Option<&Witnessed>
     ensures { option_map (λ one. one.now) result ≡ numbered found.now number }
 {
@@ -230,7 +234,7 @@ fn journal_of(alloc: Global, play: &mut Play, schedule: &[u32]) -> Result<Vec<u8
     write_journal(alloc, play.journal())
 }
 
-// What the orders come to, where the report, or the journal of a number, is asked for.
+// The result, given whether the report or the journal of a number is wanted.
 fn answer_ending(collected: &Collected, journal: Option<u64>) -> Ending
     ensures { result ≡ answer_ending journal collected.now }
 {
@@ -240,7 +244,7 @@ fn answer_ending(collected: &Collected, journal: Option<u64>) -> Ending
     }
 }
 
-// What the orders come to.
+// The result of trying the interleavings.
 fn ending_of(collected: &Collected) -> Ending
     ensures { result ≡ ending_of collected.now }
 {

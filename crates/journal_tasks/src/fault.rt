@@ -1,4 +1,4 @@
-//! Why a journal was not checked.
+//! The errors of the tasks on journals.
 ghost use Rattle.std.specs.Prelude.{◌≡◌, Some};
 ghost use Rattle.journal_tasks.specs.LogFault.{exit_status, fault_text, of_journal_fault};
 ghost use Rattle.journal_tasks.specs.declared.fault.LogFault.TheVariants.{NoMemory, Output};
@@ -10,17 +10,18 @@ use std::error::Error;
 use std::fmt;
 use text_io::output::WriteFailed;
 
-/// Why a journal was not checked. Its text is the line that the program writes to the error stream.
+/// Why a task on a journal or a history failed. It prints as the line that the program writes to
+/// standard error.
 #[derive(Clone, Copy, Debug, PartialEq, Eq)]
 pub enum LogFault {
-    /// This line, counted from 1, is the first that is not the line of an entry, or of a call of a
-    /// history, or it is too long for one.
+    /// This line, counted from 1, is the first that is malformed: it is not the line of an entry or
+    /// of a call of a history, or is too long for one.
     BadLine(u64),
     /// The call in this line, counted from 1, is the first that makes the history ill-formed.
     IllFormed(u64, IllFormed),
-    /// The journal could not be read.
+    /// The input could not be read.
     Input,
-    /// The verdict could not be written.
+    /// The output could not be written.
     Output,
     /// Memory was refused.
     NoMemory,

@@ -1,4 +1,4 @@
-//! A script, from its bytes to the history of its calls.
+//! From the bytes of a script to the history of its calls.
 ghost use Rattle.std.specs.Prelude.{◌≡◌, ◌≤◌, ◌⊎◌, ◌+◌, ℕ, List, Vec, IfErr, IsErrOf, OnOk, Some, Ok, Err, take};
 ghost use Rattle.std.specs.declared.alloc.Global.{Global};
 ghost use Rattle.script_runner.specs.RunFault.{IsLate, StopsAt};
@@ -21,11 +21,10 @@ use std::time::Clock;
 use text_io::input::read_all;
 use text_io::output::write_all;
 
-/// Runs a script over the lock `L` as `run_script` does, and writes the history of its calls. The
-/// faults are those of `run_script`, but a run in which a call was refused memory ends with
-/// `RunFault::NoMemory`, also one that can't go on. At `RunFault::Output` a front part of the text is
-/// written, which lacks a byte or more, at `RunFault::Deadlock` the history of the calls that began,
-/// and at the others nothing.
+/// Runs a script over the lock `L` as `run_script` does, and writes the history of its calls. Fails
+/// as `run_script`, and also with `RunFault::NoMemory` if a call failed with `NoMemory`, even in a
+/// run that deadlocks. With `RunFault::Output` a proper prefix of the text is written, with
+/// `RunFault::Deadlock` the history of the calls that began, and with the other errors nothing.
 pub fn record_history<L, S, R, W>(
     rt: &S,
     alloc: Global,
@@ -63,7 +62,7 @@ where
     run_recorded::<L, S, W>(rt, alloc, &script, &moments, output)
 }
 
-// How many lines a text has at most.
+// The maximum number of lines of a text.
 fn line_count(text: &[u8]) -> usize {
     text.iter()
         .filter(|b| **b == b'\n')
@@ -108,7 +107,7 @@ where
     }
 }
 
-// Writes the history of what was noted.
+// Writes the history of the noted calls.
 fn write_calls<W: Write>(
     alloc: Global,
     script: &Script<'_>,

@@ -1,4 +1,4 @@
-//! A concurrent history, from its bytes to the judgement of it.
+//! From the bytes of a concurrent history to whether it is linearizable.
 ghost use Rattle.std.specs.Prelude.{◌≡◌, ◌+◌, ℕ, List, IfOk, IsErrOf, Some, take};
 ghost use Rattle.history_judge.specs.HistoryFault.{IsAtFault};
 ghost use Rattle.journal_format.specs.Lines.{ReadsUpTo};
@@ -16,12 +16,12 @@ use std::alloc::Global;
 use std::io::{Read, Write};
 use text_io::output::write_all;
 
-/// How a history is judged.
+/// How a history is checked.
 #[derive(Clone, Copy, Debug, PartialEq, Eq)]
 pub struct Question {
-    /// The journal that explains the history is written, too.
+    /// Whether the journal that explains the history is written, too.
     pub journal: bool,
-    /// How many steps the search takes at most.
+    /// The maximum number of steps of the search.
     pub budget: u64,
 }
 
@@ -31,14 +31,18 @@ pub const PLAIN: Question = Question {
     budget: 1_000_000,
 };
 
-/// Reads a concurrent history line by line, judges it, and writes what it comes to. The number is
-/// the exit status: 0 where it is possible, 1 where it is not, 5 where the budget was used up.
-/// `LogFault::BadLine`: a line is not that of a call of a process from 1 to 32, or is too long for
-/// one, and this is the first one; no read was made after those that brought it.
-/// `LogFault::IllFormed`: the history is ill-formed, this is the first line that makes it so, and
-/// why. `LogFault::Input`:
-/// a read failed. `LogFault::Output`: a write failed, and a front part of what the history comes to
-/// is written. Of the others nothing is written.
+/// Reads a concurrent history line by line, checks whether it is linearizable, and writes the
+/// result. Returns the exit status: 0 if it is linearizable, 1 if it is not, 5 if the budget was
+/// used up.
+///
+/// - `LogFault::BadLine`: a line is not that of a call of a process from 1 to 32, or is too long
+///   for one, and this is the first one. No read was made after those that returned it. Nothing is
+///   written.
+/// - `LogFault::IllFormed`: the history is ill-formed. This is the first line that makes it so, and
+///   why. Nothing is written.
+/// - `LogFault::Input`: a read failed. Nothing is written.
+/// - `LogFault::Output`: a write failed. A prefix of the result is written.
+/// - `LogFault::NoMemory`: memory was refused. Nothing is written.
 pub fn judge_history<R: Read, W: Write>(
     alloc: Global,
     input: &mut R,

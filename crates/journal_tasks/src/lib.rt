@@ -1,4 +1,5 @@
-//! Journals and histories as text: of scripts that are run, checked, shown, and judged.
+//! Tasks on journals and histories as text: running scripts, checking, showing, and checking
+//! linearizability.
 #![tactic(auto)]
 
 mod called;

@@ -3,14 +3,15 @@ use script_runner::Gate;
 use std::alloc::{AllocError, Global};
 use std::sync::atomic::{AtomicU64, Ordering};
 
-/// A gate that notes when each call began and ended, by one clock that goes on with each note. A moment of 0 is none.
+/// A gate that notes when each call began and ended. Its clock advances with each note. The time 0
+/// stands for none.
 #[derive(Drop)]
 pub struct Moments {
     clock: AtomicU64,
     lines: Vec<Moment>,
 }
 
-// The moments of a line.
+// The times of a line.
 #[derive(Drop)]
 struct Moment {
     begin: AtomicU64,
@@ -18,7 +19,7 @@ struct Moment {
 }
 
 impl Moments {
-    /// No moments yet, of the calls on so many lines.
+    /// No times yet, for calls on this number of lines.
     pub fn new(alloc: Global, count: usize) -> Result<Moments, AllocError> {
         let mut lines = Vec::new(alloc);
         for _ in 0..count {
@@ -33,13 +34,13 @@ impl Moments {
         })
     }
 
-    /// When the call of this line, counted from 1, began, if it did.
+    /// When the call in this line, counted from 1, began, if it did.
     pub fn begin(&self, line: u64) -> Option<u64> {
         let moment = self.of_line(line)?.begin.load(Ordering::SeqCst);
         if moment == 0 { None } else { Some(moment) }
     }
 
-    /// When it ended, or the greatest number.
+    /// When it ended, or the greatest number if it has not.
     pub fn end(&self, line: u64) -> u64 {
         match self.of_line(line) {
             Some(moment) => moment.end.load(Ordering::SeqCst),

@@ -1,4 +1,4 @@
-//! A script, from its bytes to the text of its journal.
+//! From the bytes of a script to the text of its journal.
 ghost use Rattle.std.specs.Prelude.{◌≡◌, ◌≢◌, ◌+◌, ℕ, List, IsErrOf, OnOk, Some, Ok, Err, take};
 ghost use Rattle.script_runner.specs.RunFault.{StopsAt};
 ghost use Rattle.script_text.specs.Script.{Whole, script_written};
@@ -18,10 +18,9 @@ use std::thread::Threads;
 use std::time::Clock;
 use text_io::output::write_all;
 
-/// Runs a script over the lock `L` as `run_script` does, and writes the text of its journal. The
-/// faults are those of `run_script`, but a run in which a call was refused memory ends with
-/// `RunFault::NoMemory`. At `RunFault::Output` a front part of the text is written, which lacks a byte
-/// or more, and at the others nothing.
+/// Runs a script over the lock `L` as `run_script` does, and writes the text of its journal. Fails
+/// as `run_script`, and also with `RunFault::NoMemory` if a call failed with `NoMemory`. With
+/// `RunFault::Output` a proper prefix of the text is written, and with the other errors nothing.
 pub fn record_script<L, S, R, W, G>(
     rt: &S,
     alloc: Global,

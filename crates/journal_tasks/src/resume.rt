@@ -1,4 +1,4 @@
-//! A script that goes on from a journal, from its bytes to the text of the journal of both.
+//! From the bytes of a script that continues from a journal to the text of the journal of both.
 ghost use Rattle.std.specs.Prelude.{◌≡◌, ◌≢◌, ◌≤◌, ◌+◌, ℕ, List, IfErr, IfOk, IsErrOf, Some, Ok, Err, take};
 ghost use Rattle.script_runner.specs.RunFault.{IsLate, StopsAt};
 ghost use Rattle.script_text.specs.Script.{Whole, said_script, script_written};
@@ -21,10 +21,10 @@ use std::time::Clock;
 use text_io::input::read_all;
 use text_io::output::write_all;
 
-/// Runs a script over the lock `L` as `record_script` does, on the queues that a journal leaves, and writes the text of the journal that
-/// has the calls of both. `None`: it is written; else nothing is written, and this is why the script does not go on from the journal.
-/// The faults are those of `record_script`. At `RunFault::Output` a front part of the text is written, which lacks a byte or more, and at
-/// the others nothing.
+/// Runs a script over the lock `L` as `record_script` does, on the queues that a journal leaves,
+/// and writes the text of the journal with the calls of both. If the script cannot continue from
+/// the journal, it writes nothing and returns the reason. Fails as `record_script`. With
+/// `RunFault::Output` a proper prefix of the text is written, and with the other errors nothing.
 pub fn resume_script<L, S, R, W, G>(
     rt: &S,
     alloc: Global,

@@ -1,4 +1,4 @@
-//! The queues from which a script goes on.
+//! The queues with which a script starts after a journal.
 #![tactic(auto, using(mq_model::proofs::Prefixes::prefixes))]
 
 ghost use Rattle.std.specs.Prelude.{◌≡◌, ◌≤◌, None, IfOk, IfSome, MatchResult};
@@ -14,14 +14,14 @@ use mq_state::replay::Misfit;
 use std::alloc::{AllocError, Global};
 use std::fmt;
 
-/// Why no script goes on from a journal. Places count from 0, as in its lines.
+/// Why no script can continue from a journal. Entries are counted from 0, as in its lines.
 #[derive(Clone, Copy, Debug, PartialEq, Eq)]
 pub enum NoStart {
     /// The entry at this place is the first that is not legal.
     Illegal(u64),
     /// The entry at this place is of a process that the script does not have.
     Foreign(u64),
-    /// The entry at this place waits, and its process has not ended that wait.
+    /// The entry at this place waits, and its process has not ended the wait.
     Waits(u64),
 }
 
@@ -44,7 +44,8 @@ impl fmt::Display for NoStart {
     }
 }
 
-/// The queues that a journal leaves, of n processes, none of which waits; or why there are none. The error is that memory was refused.
+/// The queues of n processes that a journal leaves, without an open wait; or why there are none.
+/// Fails if memory was refused.
 pub fn start_after(
     alloc: Global,
     n: u32,
@@ -68,7 +69,7 @@ pub fn start_after(
     }
 }
 
-// The place of the open wait of the first of the processes 1 to n that has one.
+// The place of an open wait: that of the lowest of the processes 1 to n that has one.
 fn first_wait(journal: &Journal, n: u32) -> Option<u64>
     requires few { n ≤ 32 }
     requires legal { Legal journal.now.records }

@@ -1,4 +1,4 @@
-//! A journal, from its bytes to the state after its first entries.
+//! From the bytes of a journal to the state after a prefix of it.
 ghost use Rattle.std.specs.Prelude.{◌≡◌, ◌+◌, ℕ, List, IfOk, IsErrOf, MatchResult, Some, take};
 ghost use Rattle.journal_format.specs.JournalFault.{IsAtFault};
 ghost use Rattle.journal_format.specs.Lines.{ReadsUpTo};
@@ -16,7 +16,7 @@ use std::fmt;
 use std::io::{Read, Write};
 use text_io::output::write_all;
 
-/// Which state is wanted: that after so many entries, or after all, and in which form.
+/// Which state is wanted: after this number of entries, or after all, and in which form.
 #[derive(Clone, Copy, Debug, PartialEq, Eq)]
 pub struct Wanted {
     pub at: Option<u64>,
@@ -29,10 +29,10 @@ pub const LAST: Wanted = Wanted {
     form: Form::Text,
 };
 
-/// Why a journal has no such state.
+/// Why a journal does not have the wanted state.
 #[derive(Clone, Copy, Debug, PartialEq, Eq)]
 pub enum NoState {
-    /// It has only so many entries.
+    /// It has only this number of entries.
     Beyond(u64),
     /// The entry at this place is the first that is not legal.
     Illegal(u64),
@@ -49,12 +49,14 @@ impl fmt::Display for NoState {
     }
 }
 
-/// Reads a journal line by line, and writes the state after its first entries, which have to be
-/// legal. `None`: it is written; else nothing is written, and this is why.
-/// `LogFault::BadLine`: a line is not that of an entry, or is too long for one, and this is the
-/// first one; no read was made after those that brought it. `LogFault::Input`: a read failed.
-/// `LogFault::Output`: a write failed, and of the state a front part is written that lacks a byte or
-/// more. Of the others nothing is written.
+/// Reads a journal line by line, and writes the state after its first entries, which must be legal.
+/// If there is no such state, it writes nothing and returns the reason.
+///
+/// - `LogFault::BadLine`: a line is not that of an entry, or is too long for one, and this is the
+///   first one. No read was made after those that returned it. Nothing is written.
+/// - `LogFault::Input`: a read failed. Nothing is written.
+/// - `LogFault::Output`: a write failed. A proper prefix of the state is written.
+/// - `LogFault::NoMemory`: memory was refused. Nothing is written.
 pub fn state_journal<R: Read, W: Write>(
     alloc: Global,
     input: &mut R,
@@ -87,7 +89,7 @@ pub fn state_journal<R: Read, W: Write>(
     }
 }
 
-// The text of the wanted state, or why there is none. The error is that memory was refused.
+// The text of the wanted state, or why there is none. Fails if memory was refused.
 fn text_of(
     alloc: Global,
     journal: &Journal,

@@ -1,4 +1,4 @@
-//! What a journal comes to.
+//! The verdict on a journal.
 ghost use Rattle.std.specs.Prelude.{◌≡◌, ◌<◌, ◌+◌, IfOk, length, string_bytes};
 ghost use Rattle.mq_model.specs.Record.{first};
 ghost use Rattle.journal_tasks.specs.Verdict.{Judges, cause_text, last_line, verdict_text};
@@ -10,10 +10,10 @@ use mq_model::journals::Journal;
 use mq_state::replay::{Cause, Departure, replay};
 use std::alloc::{AllocError, Global};
 
-/// What a journal comes to.
+/// The verdict on a journal.
 #[derive(Clone, Copy, Debug, PartialEq, Eq)]
 pub enum Verdict {
-    /// The journal is legal, and this stands in it.
+    /// The journal is legal, and has these numbers of entries, processes and queues.
     Legal(Counts),
     /// The first entry that is not legal, and why.
     Illegal(Departure),
@@ -33,7 +33,7 @@ impl Verdict {
     }
 }
 
-/// The verdict on a journal. The error is that memory was refused.
+/// The verdict on a journal. Fails if memory was refused.
 pub fn verdict_of(alloc: Global, journal: &Journal) -> Result<Verdict, AllocError>
     ensures { IfOk result (Judges journal.now.records) }
 {
@@ -44,7 +44,7 @@ pub fn verdict_of(alloc: Global, journal: &Journal) -> Result<Verdict, AllocErro
     Ok(verdict)
 }
 
-/// What is printed of a verdict on a journal.
+/// The text of a verdict on a journal.
 pub fn verdict_text(
     alloc: Global,
     journal: &Journal,

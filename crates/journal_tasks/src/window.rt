@@ -5,20 +5,20 @@ ghost use Rattle.journal_tasks.specs.Window.{count_shown, first_shown};
 use journal_picture::MOST_ENTRIES;
 use mq_model::journals::Journal;
 
-/// The places from `from` up to and with `to`.
+/// The entries from `from` to `to`, both included.
 #[derive(Clone, Copy, Debug, PartialEq, Eq)]
 pub struct Window {
     pub from: u64,
     pub to: u64,
 }
 
-/// All places.
+/// All entries.
 pub const WHOLE: Window = Window {
     from: 0,
     to: u64::MAX,
 };
 
-/// The first place that is shown, and how many entries from there on: at most 2,000.
+/// The first entry that is shown, and how many from there on: at most 2,000.
 pub fn shown(window: Window, journal: &Journal) -> (u64, u64)
     ensures first { result.0 ≡ first_shown window (length journal.now.records) }
     ensures count { result.1 ≡ count_shown window (length journal.now.records) }

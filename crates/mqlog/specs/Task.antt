@@ -1,4 +1,4 @@
--- The task that a name and options ask for.
+-- The task for a name and options.
 use Rattle.std.specs.Prelude.{◌-◌, ◌^◌, List, ℕ, Option, Some, None, if◌then◌else◌, codes, unwrap_or}
 use Rattle.std.specs.Str.{bytes_eq}
 use Rattle.mqlog.specs.declared.task.Task.{Task}
@@ -15,7 +15,7 @@ use Rattle.journal_state.specs.declared.form.Form.TheVariants.{Text, Json}
 abbrev pub window_of : Options → Window
 window_of o = record { from = unwrap_or o.from 0; to = unwrap_or o.to (2 ^ 64 - 1) }
 
--- the state after all entries is written as text, unless others are asked for
+-- the state after all entries is written as text, unless another one is wanted
 abbrev pub wanted_of : Options → Wanted
 wanted_of o = record { at = o.at; form = if o.json then Json else Text }
 
@@ -27,7 +27,7 @@ question_of o = record { journal = o.explained; budget = unwrap_or o.budget 1000
 abbrev pub trial_of : Options → Trial
 trial_of o = record { journal = o.journal; budget = unwrap_or o.budget 5000000 }
 
--- the task of a name
+-- the task with this name
 abbrev pub task_named : List ℕ → Options → Option Task
 task_named name o =
     if bytes_eq name (codes "run") then Some Run

@@ -1,10 +1,10 @@
-//! The command line: the tasks, their options, and the file that a task reads.
+//! The command line: the tasks, their options, and the files that they read.
 
 use crate::task::{Options, Task, task_named};
 use clap::{Arg, ArgAction, ArgMatches, Command, value_parser};
 use std::alloc::{AllocError, Global};
 
-/// The version of the program, as the file VERSION has it.
+/// The version of the program, as in the file VERSION.
 const VERSION: &str = "0.1.0";
 
 const STATUSES: &str = "\
@@ -18,7 +18,7 @@ Exit status:
      deadlocks; judge: the budget was used up
   6  orders: the budget was used up, and no deadlock was found";
 
-/// The command line as `clap` describes it.
+/// The command line, as `clap` describes it.
 pub fn command<'a>(alloc: Global) -> Result<Command<'a>, AllocError> {
     Command::new(alloc, "mqlog")
         .version(VERSION)
@@ -196,9 +196,9 @@ pub enum Source<'a> {
     Path(&'a str),
 }
 
-/// A task, the file that it reads, and the second one of a task that reads two: the script of
+/// A task and the file that it reads, and for a task that reads two the second one: the script of
 /// `resume`, the journal of `orders`. Then the file that names the threads of a journal, and
-/// whether the answer of `judge` is a page.
+/// whether `judge` writes a page.
 #[derive(Clone, Copy, Debug, PartialEq, Eq)]
 pub struct Asked<'a> {
     pub task: Task,
@@ -208,7 +208,7 @@ pub struct Asked<'a> {
     pub page: bool,
 }
 
-/// What the words ask for.
+/// What the command line asks for.
 pub fn asked_by<'a>(matches: &ArgMatches<'a>) -> Option<Asked<'a>> {
     let (name, given) = matches.subcommand()?;
     let task = task_named(name, options_of(given))?;
@@ -221,7 +221,7 @@ pub fn asked_by<'a>(matches: &ArgMatches<'a>) -> Option<Asked<'a>> {
     })
 }
 
-// The file that a word names.
+// The file that an argument names.
 fn source_of(word: Option<&str>) -> Source<'_> {
     match word {
         None | Some("-") => Source::StandardInput,
@@ -239,7 +239,7 @@ fn second_of<'a>(task: Task, matches: &ArgMatches<'a>) -> Option<Source<'a>> {
     Some(source_of(Some(word)))
 }
 
-// The options that a task was given.
+// The options given to a task.
 fn options_of(matches: &ArgMatches<'_>) -> Options {
     Options {
         from: matches.get_one::<u64>("from"),

@@ -1,4 +1,5 @@
-// Journals and histories of message queue calls as text: of a script that is run, checked, drawn, and judged.
+// Journals and histories of message queue calls as text. Scripts are run, and journals and
+// histories checked and drawn.
 #![tactic(auto)]
 
 mod command;
@@ -37,7 +38,7 @@ fn main(rt: HostRuntime) -> ExitCode {
     match words_of(&rt) {
         Ok(Some(words)) => asked(&rt, words.as_slice()),
         Ok(None) => {
-            // Nothing is left to do if this cannot be written.
+            // If this cannot be written, there is nothing left to do.
             let _ = eprintln!(rt; "the arguments are not text");
             ExitCode::from(2)
         }
@@ -45,7 +46,7 @@ fn main(rt: HostRuntime) -> ExitCode {
     }
 }
 
-// The words of the command line, if they are text.
+// The arguments of the command line, if they are text.
 fn words_of(rt: &(impl Env + Alloc<A = Global>)) -> Result<Option<Vec<String>>, LogFault> {
     match env::args(rt) {
         Ok(words) => Ok(Some(words.collect(rt.alloc())?)),
@@ -54,7 +55,7 @@ fn words_of(rt: &(impl Env + Alloc<A = Global>)) -> Result<Option<Vec<String>>, 
     }
 }
 
-// Does what the words ask for, or says what is wrong with them.
+// Does what the command line asks for, or says what is wrong with it.
 fn asked(
     rt: &(impl Print + Eprint + AllocGlobal + Threads + Wait + Clock + Sync + Input + Files),
     words: &[String],
@@ -92,7 +93,7 @@ fn asked(
     }
 }
 
-// Says what is wrong with the words, or the help or the version if they ask for that.
+// Says what is wrong with the command line, or writes the help or the version if it asks for them.
 fn not_asked(rt: &(impl Print + Eprint), error: clap::Error) -> ExitCode {
     if error.kind() == clap::error::ErrorKind::OutOfMemory {
         return failed(rt, None, LogFault::NoMemory);
@@ -103,7 +104,7 @@ fn not_asked(rt: &(impl Print + Eprint), error: clap::Error) -> ExitCode {
     }
 }
 
-// Does a task over what a file or the standard input has.
+// Does a task on the content of a file or of standard input.
 fn answer<R: Read>(
     rt: &(impl Print + Eprint + AllocGlobal + Threads + Wait + Clock + Sync + Input + Files),
     asked: Asked<'_>,
@@ -131,9 +132,9 @@ fn answer<R: Read>(
     }
 }
 
-// Writes a line to the standard error, of the file that it is about, if it is about one.
+// Writes a line to standard error, with the name of the file that it is about, if there is one.
 fn say<T: Display>(rt: &impl Eprint, file: Option<&str>, what: &T) {
-    // Nothing is left to do if this cannot be written.
+    // If this cannot be written, there is nothing left to do.
     let _ = match file {
         None => eprintln!(rt; "{what}"),
         Some(path) => eprintln!(rt; "{path}: {what}"),
@@ -260,7 +261,7 @@ fn run<R: Read>(
     }
 }
 
-// Runs a script in the state that the journal leaves which `input` has.
+// Runs a script in the state that the journal in `input` leaves.
 fn resume<R: Read>(
     rt: &(impl Print + Eprint + AllocGlobal + Threads + Wait + Clock + Sync + Input + Files),
     file: Option<&str>,
@@ -280,8 +281,8 @@ fn resume<R: Read>(
     }
 }
 
-// Runs the script that `input` has, of the file `script`, in the state that a journal leaves, of
-// the file `past`.
+// Runs the script in `input` in the state that a journal leaves. The files are named `script` and
+// `past`.
 fn go_on<R: Read>(
     rt: &(impl Print + Eprint + AllocGlobal + Threads + Wait + Clock + Sync),
     past: Option<&str>,
@@ -339,7 +340,7 @@ fn ended(rt: &impl Eprint, file: Option<&str>, ending: Ending) -> ExitCode {
     ExitCode::from(ending.status())
 }
 
-// Tries the orders of a script in the state that the journal `past` leaves.
+// Tries the interleavings of a script in the state that the journal `past` leaves.
 fn orders_after<R: Read>(
     rt: &(impl Print + Eprint + AllocGlobal + Threads + Wait + Clock + Sync + Input + Files),
     past: Source<'_>,
@@ -356,7 +357,7 @@ fn orders_after<R: Read>(
     }
 }
 
-// The same with the journal that `entries` has, of the file `past`.
+// The same with the journal in `entries`, whose file is named `past`.
 fn orders_from<J: Read, R: Read>(
     rt: &(impl Print + Eprint + AllocGlobal + Threads + Wait + Clock + Sync + Files),
     past: Option<&str>,

@@ -1,4 +1,5 @@
-//! Pages that are put together here: of a journal whose threads are known, and of a judgement.
+//! Pages that this program puts together: of a journal with known threads, and of a checked
+//! history.
 
 use crate::progress::with_progress;
 use crate::{failed, not_opened};
@@ -13,8 +14,8 @@ use std::thread::Threads;
 use std::time::Clock;
 use std::{fs, io};
 
-/// What stands before the lines of a journal in a page: with the lines of a file that names the
-/// threads of its entries, if there is one.
+/// The part of a page before the lines of a journal. If there is a file that names the threads of
+/// the entries, it has the lines of that file.
 pub fn head_of(
     rt: &(impl Eprint + AllocGlobal + Files),
     threads: Option<&str>,
@@ -35,7 +36,7 @@ pub fn head_of(
     }
 }
 
-/// Judges a history, and writes what it comes to as a page, with the journal that explains it.
+/// Checks a history, and writes the result as a page, with the journal that explains the history.
 pub fn judge_to_page<R: Read>(
     rt: &(impl Print + Eprint + AllocGlobal + Threads + Wait + Clock + Sync + Files),
     file: Option<&str>,

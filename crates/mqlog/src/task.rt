@@ -1,4 +1,4 @@
-//! The tasks, as the name of one and its options ask for them.
+//! The tasks, by name and options.
 ghost use Rattle.std.specs.Prelude.{◌≡◌};
 ghost use Rattle.mqlog.specs.Task.{task_named, trial_of, question_of, wanted_of, window_of};
 
@@ -16,13 +16,13 @@ pub enum Task {
     History,
     /// Checks a journal.
     Check,
-    /// Writes a short journal in place of a long one.
+    /// Writes a short journal that leaves an equivalent state.
     Compact,
     /// Writes a picture of a journal.
     Draw(Window),
     /// Writes a page of a journal.
     View(Window),
-    /// Writes the state after a journal or its first entries.
+    /// Writes the state after a journal, or after a prefix of it.
     State(Wanted),
     /// Checks whether a concurrent history is linearizable.
     Judge(Question),
@@ -30,7 +30,7 @@ pub enum Task {
     Orders(Trial),
 }
 
-/// What options were given: a number each, or whether.
+/// The options that were given.
 #[derive(Clone, Copy, Debug, PartialEq, Eq)]
 pub struct Options {
     pub from: Option<u64>,
@@ -39,11 +39,11 @@ pub struct Options {
     pub journal: Option<u64>,
     pub budget: Option<u64>,
     pub json: bool,
-    /// A journal that explains a history is asked for.
+    /// Whether a journal that explains a history is wanted.
     pub explained: bool,
 }
 
-/// The task of a name with options, if it is the name of one.
+/// The task with this name and these options, if there is one.
 pub fn task_named(name: &str, options: Options) -> Option<Task>
     ensures { result ≡ task_named name.now options }
 {
@@ -73,7 +73,7 @@ fn window_of(options: Options) -> Window
     }
 }
 
-// Which state is written, and how.
+// Which state is written, and in which form.
 fn wanted_of(options: Options) -> Wanted
     ensures { result ≡ wanted_of options }
 {

@@ -1,4 +1,4 @@
-// Journals as text: what is printed of them, and texts that are none.
+// Journals as text: what is printed for them, and malformed texts.
 use journal_format::fault::JournalFault;
 use journal_format::lines::MOST_LINE;
 use journal_format::text::{read_journal, write_journal};
@@ -28,7 +28,8 @@ fn output_of(alloc: Global, mut text: &[u8]) -> (Result<Verdict, LogFault>, Vec<
     (outcome, output)
 }
 
-// The journal of a run, with a wait of each kind, a handover, an admission, deadlines, notices and refusals.
+// The journal of a run, with a wait of each kind, a handover, an admission, deadlines, notices and
+// errors.
 const RUN: &str = r#"0 1 open bc limits 1 8 "/q" -> fd 0 created
 1 2 open b "/q" -> fd 0
 2 1 recv 0 8 -> waits
@@ -146,7 +147,7 @@ fn turned(alloc: Global, text: &str, place: usize, reply: &str) -> Result<Vec<u8
     Ok(all)
 }
 
-// The place at which a journal was found not legal.
+// The place at which a journal is not legal.
 fn place_of(outcome: Result<Verdict, LogFault>) -> Option<u64> {
     match outcome {
         Ok(Verdict::Illegal(departure)) => Some(departure.place),
@@ -166,7 +167,7 @@ fn an_entry_that_is_turned_is_refused_at_its_place(rt: HostRuntime) -> Result<()
     Ok(())
 }
 
-// A line of each call and of each reply, with the greatest and the least numbers, by hand.
+// A line for each call and each reply, with the greatest and the least numbers, written by hand.
 static EXTREMES: &str =
     r#"0 4294967295 open rcxn limits 9223372036854775807 -9223372036854775808 -> fd 4294967295
 1 0 open w "%00%FF~!" -> fd 0 created
@@ -209,7 +210,7 @@ fn each_call_and_each_reply_is_read_and_written(rt: HostRuntime) -> Result<(), F
     Ok(())
 }
 
-// Lines that no entry has, at place 0.
+// Malformed lines, at place 0.
 static NO_LINES: [&str; 34] = [
     "\n",
     " \n",
@@ -296,7 +297,7 @@ fn a_line_of_a_million_bytes_is_named(rt: HostRuntime) -> Result<(), Fail> {
     Ok(())
 }
 
-// Gives its bytes one by one, and fails at one read.
+// A reader that returns its bytes one by one, and at their end fails if `fails`.
 #[derive(Drop)]
 struct OneByOne {
     rest: &'static [u8],
@@ -317,7 +318,7 @@ impl Read for OneByOne {
     }
 }
 
-// Gives a line again and again, byte by byte, and counts the bytes.
+// A reader that returns a line again and again, byte by byte, and counts the bytes.
 #[derive(Drop)]
 struct Endless {
     line: &'static [u8],
@@ -349,7 +350,7 @@ fn a_line_that_is_none_is_named_before_the_next_is_read(rt: HostRuntime) {
     assert_eq!(rt; input.given, 2);
 }
 
-// Fills each buffer with one byte, and counts the bytes.
+// A reader that fills each buffer with one byte, and counts the bytes.
 #[derive(Drop)]
 struct Flood {
     byte: u8,
@@ -377,7 +378,7 @@ fn a_line_without_an_end_is_named(rt: HostRuntime) {
     }
 }
 
-// Takes one byte a write, as long as there is room.
+// A writer that takes one byte per write, as long as there is room.
 #[derive(Drop)]
 struct Narrow {
     taken: Vec<u8>,
@@ -421,7 +422,7 @@ fn reads_and_writes_that_fail_end_the_check(rt: HostRuntime) {
     }
 }
 
-// Windows, and how many of the twenty entries they show.
+// Windows, and how many of the twenty entries each shows.
 static SHOWN: [(Window, usize); 7] = [
     (WHOLE, 20),
     (Window { from: 3, to: 5 }, 3),
@@ -444,7 +445,7 @@ static SHOWN: [(Window, usize); 7] = [
     ),
 ];
 
-// How many marks the picture of a journal has.
+// The number of marks in the picture of a journal.
 fn marks_of(alloc: Global, mut text: &[u8], window: Window) -> Result<usize, LogFault> {
     let mut output = Vec::new(alloc);
     draw_journal(alloc, &mut text, &mut output, window)?;

@@ -1,4 +1,4 @@
-// The command line: what words ask for, and which are refused.
+// The command line: what arguments ask for, and which are rejected.
 use crate::command::{Asked, Source, asked_by, command};
 use crate::task::Task;
 use clap::error::ErrorKind;
@@ -7,7 +7,7 @@ use journal_tasks::{LAST, PLAIN, Question, REPORT, Trial, WHOLE, Wanted, Window}
 use std::alloc::{AllocError, Global};
 use std::test::Fail;
 
-// What these words ask for, or the kind of the error.
+// What these arguments ask for, or the kind of the error.
 fn asked<'a>(
     alloc: Global,
     words: &'a [&'a str],
@@ -77,7 +77,7 @@ static ASKED: [(&[&str], Task, Option<&str>); 16] = [
     ),
 ];
 
-// Command lines that ask for no task, with the kind of what is said of them.
+// Command lines that ask for no task, with the kind of the error.
 static NOT_ASKED: [(&[&str], ErrorKind); 20] = [
     (
         &["mqlog", "resume", "j"],
@@ -149,7 +149,7 @@ fn words_ask_for_a_task_with_its_options_in_any_order_and_a_file(
     Ok(())
 }
 
-// Command lines of tasks over a script and a journal, with both files.
+// Command lines of tasks that read a script and a journal, with both files.
 static ASKED_OF_TWO: [(&[&str], Asked<'static>); 4] = [
     (
         &["mqlog", "resume", "--script", "s"],
@@ -209,7 +209,7 @@ fn other_words_are_refused_by_their_kind(rt: HostRuntime) -> Result<(), Fail> {
     Ok(())
 }
 
-// The file of threads, and whether a page is asked for.
+// The file of threads, and whether a page is wanted.
 fn parts_of<'a>(
     alloc: Global,
     words: &'a [&'a str],
@@ -223,7 +223,7 @@ fn parts_of<'a>(
     }
 }
 
-// Command lines, with what they say of a page.
+// Command lines, with what they ask for about a page.
 static PARTS: [(&[&str], Option<(Option<&str>, bool)>); 6] = [
     (&["mqlog", "view"], Some((None, false))),
     (

@@ -1,4 +1,5 @@
-// Every order of the calls of a script: what is written of them, and the journals that lead to it.
+// All interleavings of the calls of a script: the report, and the journals that lead to each
+// outcome.
 use super::{Narrow, OneByOne, output_of};
 use journal_tasks::{Ending, REPORT, Trial, Verdict, try_orders};
 use script_runner::RunFault;
@@ -6,14 +7,14 @@ use std::alloc::{AllocError, Global};
 use std::process::Abort;
 use std::test::Fail;
 
-// How the orders of a script were tried, and what was written.
+// The result of trying the interleavings of a script, and what was written.
 fn tried(alloc: Global, mut script: &[u8], trial: Trial) -> (Result<Ending, RunFault>, Vec<u8>) {
     let mut output = Vec::new(alloc);
     let outcome = try_orders(alloc, &mut script, &mut output, trial);
     (outcome, output)
 }
 
-// The orders of a script end so, and just this is written.
+// Trying the interleavings of a script ends in this way, and exactly this is written.
 fn is_tried(
     rt: &impl Abort,
     alloc: Global,
@@ -105,7 +106,7 @@ fn a_budget_is_used_up(rt: HostRuntime) {
     is_tried(&rt, rt.alloc(), SCRIPT, within(1), ending, ONE_STEP);
 }
 
-// The journals that lead to the four of the report.
+// The journals that lead to the four items of the report.
 static JOURNALS: [(u64, &str); 4] = [
     (1, "0 1 open bc limits 10 8 \"/q\" -> fd 0 created\n"),
     (
@@ -186,7 +187,7 @@ fn a_number_that_nothing_has_writes_nothing(rt: HostRuntime) {
     is_tried(&rt, rt.alloc(), SCRIPT, late, Ending::NoSuch, "");
 }
 
-// Scripts whose calls come to one thing in every order, and what is written of them.
+// Scripts with the same outcome in every interleaving, and what is written.
 static ONE_OUTCOME: [(&str, &str); 3] = [
     (
         "processes 1\n",
@@ -226,7 +227,8 @@ fn one_outcome_ends_well(rt: HostRuntime) {
     }
 }
 
-// Two processes with one queue, of which each makes the call of a line so often; before that process 1 sends messages with these texts.
+// Two processes with one queue, each of which makes the call of this line `count` times. Before
+// that, process 1 sends messages with these texts.
 fn two_of(alloc: Global, messages: &str, call: &str, count: u32) -> Result<Vec<u8>, AllocError> {
     let mut script = Vec::new(alloc);
     script.extend_from_slice(b"processes 2\n1 open /q bc 10 8\n--\n2 open /q b\n--\n")?;
@@ -244,7 +246,7 @@ fn two_of(alloc: Global, messages: &str, call: &str, count: u32) -> Result<Vec<u
     Ok(script)
 }
 
-// The last phase of a script, the fourth, has so many outcomes and deadlocks.
+// The last phase of a script, the fourth, has these numbers of outcomes and deadlocks.
 fn has_counts(rt: &impl Abort, alloc: Global, script: &[u8], counts: &str) {
     let (outcome, output) = tried(alloc, script, within(u64::MAX));
     assert!(rt; outcome.is_ok());
@@ -252,9 +254,10 @@ fn has_counts(rt: &impl Abort, alloc: Global, script: &[u8], counts: &str) {
     assert!(rt; lines.any(|line| line == counts.as_bytes()), "{counts}");
 }
 
-// Messages for two processes that each receive so often, with the counts. Where there are enough, the counts are those of the words
-// of so many letters 1 and as many letters 2; where there are not, those of the ways in which two numbers, neither of them more
-// than the count, give their number.
+// Messages for two processes that each receive `count` times, with the numbers of outcomes and
+// deadlocks. If there are enough messages, the number of outcomes is that of the words of `count`
+// letters 1 and `count` letters 2. If there are too few, the number of deadlocks is that of the
+// ways to write their number as a sum of two numbers that are at most `count`.
 static RACES: [(&str, u32, &str); 8] = [
     ("ab", 1, "phase 4: outcomes 2, deadlocks 0"),
     ("abcd", 2, "phase 4: outcomes 6, deadlocks 0"),
@@ -275,8 +278,9 @@ fn two_processes_have_as_many_outcomes_as_were_counted(rt: HostRuntime) -> Resul
     Ok(())
 }
 
-// A receive and five calls of process 1, and behind five calls of process 2 one that takes the message that the first waits for. In one
-// of the 924 orders process 2 is through before process 1 begins.
+// Process 1 makes a receive and five other calls. Process 2 makes five calls, and then one that
+// takes the message for which process 1 waits. Only in one of the 924 interleavings has process 2
+// finished before process 1 begins.
 static RARE: &str = "processes 2
 1 open /q bc 10 8
 --
@@ -355,7 +359,8 @@ fn a_deadlock_of_one_order_in_many_is_found(rt: HostRuntime) {
     assert_eq!(rt; outcome, Ok(Ending::OutOfBudget));
 }
 
-// A worker that waits for its job, and a watcher that clears the queue in the end: one order in 70 leaves the worker waiting.
+// A worker that waits for its job, and a watcher that empties the queue at the end. One
+// interleaving in 70 leaves the worker waiting.
 static WORKER: &str = "processes 2
 1 open /jobs bc 10 8
 --
@@ -397,7 +402,7 @@ fn a_worker_may_wait_for_ever(rt: HostRuntime) {
     );
 }
 
-// Texts that are no scripts, with the first line at fault.
+// Malformed scripts, with the first wrong line.
 static NO_SCRIPTS: [(&str, u64); 4] = [
     ("", 1),
     ("processes 33\n", 1),

@@ -1,10 +1,10 @@
-// Concurrent histories: what is said of them, and the journals that explain them.
+// Concurrent histories: what is written for them, and the journals that explain them.
 use super::{Endless, output_of};
 use journal_tasks::{IllFormed, LogFault, PLAIN, Question, Verdict, judge_history};
 use std::alloc::Global;
 use std::process::Abort;
 
-// How the judgement of a history ended, and what it wrote.
+// The result of checking a history, and what was written.
 pub(super) fn judged(
     alloc: Global,
     mut text: &[u8],
@@ -15,7 +15,7 @@ pub(super) fn judged(
     (outcome, output)
 }
 
-// A history is judged so, and this is written first.
+// Checking a history has this result, and the output starts with this.
 fn is_judged(
     rt: &impl Abort,
     alloc: Global,
@@ -29,7 +29,8 @@ fn is_judged(
     assert!(rt; output.as_slice().starts_with(said.as_bytes()), "{history}");
 }
 
-// Histories that are possible, each with one that has no legal order, and the line of the call whose return made it so.
+// Linearizable histories, each with a variant that is not, and the line of the call whose return
+// made it so.
 static TURNED: [(&str, &str, &str); 8] = [
     // Another message.
     (
@@ -43,7 +44,7 @@ static TURNED: [(&str, &str, &str); 8] = [
          2 30 50 recv 7 8 -> got 4 \"ho\"\n",
         "impossible: line 4, front part of 4 calls; 1 receives, 0 sends of 4 \"ho\"\n",
     ),
-    // Another priority, seen by a receive that returned before its send did.
+    // Another priority, in a receive that returned before its send did.
     (
         "1 0 10 open bc limits 2 8 \"/q\" -> fd 3\n\
          1 20 60 send 3 4 2 \"hi\" -> ok\n\
@@ -55,7 +56,7 @@ static TURNED: [(&str, &str, &str); 8] = [
          2 30 50 recv 7 8 -> got 5 \"hi\"\n",
         "impossible: line 4, front part of 4 calls; 1 receives, 0 sends of 5 \"hi\"\n",
     ),
-    // EAGAIN, which overlaps the send, and where a message lay.
+    // EAGAIN, which overlaps the send, and EAGAIN although the queue had a message.
     (
         "1 0 10 open bcn limits 2 8 \"/q\" -> fd 3\n\
          1 20 40 send 3 0 0 -> ok\n\
@@ -67,7 +68,8 @@ static TURNED: [(&str, &str, &str); 8] = [
          2 41 50 recv 3 8 -> EAGAIN\n",
         "impossible: line 4, front part of 4 calls\n",
     ),
-    // A message that was sent twice, and one that was sent once, is received twice.
+    // A message that was sent twice and received twice, and one that was sent once and received
+    // twice.
     (
         "1 0 10 open bc limits 2 8 \"/q\" -> fd 3\n\
          1 20 30 send 3 4 2 \"hi\" -> ok\n\
@@ -84,7 +86,7 @@ static TURNED: [(&str, &str, &str); 8] = [
          3 60 80 recv 3 8 -> got 4 \"hi\"\n",
         "impossible: line 4, front part of 6 calls; 2 receives, 1 sends of 4 \"hi\"\n",
     ),
-    // Messages of one priority out of order: their sends overlap, and do not.
+    // Messages of one priority that are received out of order: their sends overlap, or do not.
     (
         "1 0 10 open bc limits 2 8 \"/q\" -> fd 3\n\
          1 20 30 send 3 1 1 \"a\" -> ok\n\
@@ -100,7 +102,8 @@ static TURNED: [(&str, &str, &str); 8] = [
          2 60 70 recv 3 8 -> got 1 \"a\"\n",
         "impossible: line 5, front part of 6 calls\n",
     ),
-    // The message of less priority first: sent before the other one, and both lay there.
+    // The message of lower priority is received first: it was sent before the other one, or both
+    // were in the queue.
     (
         "1 0 10 open bc limits 2 8 \"/q\" -> fd 3\n\
          1 20 30 send 3 1 1 \"a\" -> ok\n\
@@ -114,7 +117,8 @@ static TURNED: [(&str, &str, &str); 8] = [
          2 55 60 recv 3 8 -> got 1 \"a\"\n",
         "impossible: line 5, front part of 5 calls\n",
     ),
-    // Calls that never returned: a send whose message was received, and one that began later than that.
+    // Calls that never returned: a send whose message was received, and a send that began after
+    // that receive returned.
     (
         "1 0 10 open bc limits 2 8 \"/q\" -> fd 3\n\
          1 30 - send 3 1 1 \"a\" ->\n\
@@ -128,7 +132,7 @@ static TURNED: [(&str, &str, &str); 8] = [
          2 50 - recv 3 8 ->\n",
         "impossible: line 4, front part of 3 calls; 1 receives, 0 sends of 1 \"a\"\n",
     ),
-    // A timed receive that timed out: of an empty queue, and where a message lay.
+    // A timed receive that timed out: with an empty queue, and although the queue had a message.
     (
         "1 0 10 open bc limits 2 8 \"/q\" -> fd 3\n\
          1 20 30 trecv 3 8 until 5 0 at 4 0 -> ETIMEDOUT\n\
@@ -148,7 +152,7 @@ fn histories_are_possible_or_not(rt: HostRuntime) {
     }
 }
 
-// A history that becomes impossible before it ends, and what is said of it.
+// A history with a proper prefix that is not linearizable, and what is written for it.
 static EARLY: (&str, &str) = (
     "1 0 10 open bc limits 2 8 \"/q\" -> fd 3\n\
      1 20 30 recv 3 8 -> got 0\n\
@@ -233,7 +237,8 @@ fn a_message_that_nobody_sent_is_found_without_steps(rt: HostRuntime) {
     );
 }
 
-// Sixteen calls of four processes, all of which overlap, in 63,063,000 orders. The last one found more messages than were sent.
+// Sixteen calls of four processes, which all overlap, with 63,063,000 interleavings. The last call
+// found more messages than were sent.
 static OVERLAPPING: &str = "1 0 10 open bc limits 20 8 \"/q\" -> fd 3\n\
      2 20 30 open b \"/q\" -> fd 3\n\
      3 20 30 open b \"/q\" -> fd 3\n\
@@ -266,7 +271,7 @@ fn orders_that_come_to_the_same_are_tried_once(rt: HostRuntime) {
     is_judged(&rt, rt.alloc(), OVERLAPPING, FEW_STEPS, 1, said);
 }
 
-// Texts with the first line that is none of a call of a process from 1 to 32.
+// Texts with the first line that is not that of a call of a process from 1 to 32.
 static NO_HISTORIES: [(&str, u64); 7] = [
     ("1 0 10 close 0 -> EBADF", 1),
     ("1 0 10 close 0 -> EBADF\n\n", 2),
@@ -286,7 +291,7 @@ fn the_first_line_that_is_none_is_named(rt: HostRuntime) {
     }
 }
 
-// Histories that are ill-formed, the line that makes each so, and why.
+// Ill-formed histories, the line that makes each so, and why.
 static ILL_FORMED: [(&str, u64, IllFormed); 8] = [
     (
         "1 0 - open bc \"/q\" ->\n\
@@ -332,7 +337,7 @@ fn the_first_line_that_makes_a_history_ill_formed_is_named(rt: HostRuntime) {
     }
 }
 
-// A call may begin at the moment at which the one before it ended, or begin and end with it.
+// A call may begin at the time at which the one before it ended, or begin and end together with it.
 #[test]
 fn calls_that_touch_are_well_formed(rt: HostRuntime) {
     let history = "1 0 10 close 0 -> EBADF\n1 10 20 close 0 -> EBADF\n\

@@ -1,4 +1,4 @@
-// Histories whose calls overlap: simulated ones, and all orders of small ones.
+// Histories whose calls overlap: simulated ones, and all interleavings of small ones.
 use journal_tasks::{Question, judge_history};
 use std::alloc::{AllocError, Global};
 use std::test::Fail;
@@ -25,8 +25,8 @@ struct Seen {
     gave: Option<Message>,
 }
 
-// Of a queue how many messages it holds at most, and whether calls wait; and a mask for the indices of processes, of which there are
-// two, four or eight.
+// The maximum number of messages in the queue, whether calls wait, and a mask for the indices of
+// the two, four or eight processes.
 #[derive(Clone, Copy)]
 struct Style {
     room: usize,
@@ -41,7 +41,7 @@ fn draw(random: &mut u64) -> u64 {
     *random >> 40
 }
 
-// What a call gives of a queue, and what it does to it.
+// What a call on a queue returns, and its effect on the queue.
 fn effect(
     queue: &mut Vec<Message>,
     room: usize,
@@ -70,7 +70,8 @@ fn effect(
     }
 }
 
-// What a process asks of a queue with so many messages. Where calls wait it is what can be given at once.
+// What a process calls on a queue with this number of messages. If calls wait, it is a call that
+// need not wait.
 fn asked_of(random: &mut u64, count: usize, style: Style) -> Asked {
     let is_send = if style.waits && count == 0 {
         true
@@ -89,8 +90,8 @@ fn asked_of(random: &mut u64, count: usize, style: Style) -> Asked {
     }
 }
 
-// So many calls that take effect one after another. Each begins and ends at random between the effects of the calls of its process
-// before and behind it.
+// This number of calls that take effect one after another. Each begins after the effect of the
+// previous call of its process, and ends before that of the next, at random times.
 fn simulated(
     alloc: Global,
     seed: u64,
@@ -125,7 +126,7 @@ fn simulated(
     Ok(calls)
 }
 
-// The calls as a history, behind the opens of their processes.
+// The calls as a history, after the opens of their processes.
 fn history_of(alloc: Global, calls: &[Seen], style: Style) -> Result<String, AllocError> {
     let mut text = String::new(alloc);
     let flags = if style.waits { "bc" } else { "bcn" };
@@ -166,7 +167,7 @@ fn words_of(alloc: Global, call: Seen) -> Result<String, AllocError> {
     }
 }
 
-// The status of the judgement of some calls.
+// The exit status for the history of some calls.
 fn status_of(
     alloc: Global,
     calls: &[Seen],
@@ -238,7 +239,7 @@ fn a_message_that_nobody_sent_is_received_in_no_order(rt: HostRuntime) -> Result
     Ok(())
 }
 
-// The order of six calls with this number, of 720.
+// The order of six calls with this number, from 0 to 719.
 fn order_of(alloc: Global, number: usize) -> Result<Vec<usize>, AllocError> {
     let mut order = Vec::new(alloc);
     let mut rest = number;
@@ -250,7 +251,7 @@ fn order_of(alloc: Global, number: usize) -> Result<Vec<usize>, AllocError> {
     Ok(order)
 }
 
-// In this order each call gives what was seen, and none stands behind one that began after its end.
+// In this order each call returns what was seen, and none comes after one that began after its end.
 fn explains(
     alloc: Global,
     order: &[usize],
@@ -320,7 +321,7 @@ fn six_calls_with_a_result_turned_are_possible_where_some_order_is(
             calls[index].gave = gave;
         }
     }
-    // some turned ones are possible, and some are not
+    // some variants are linearizable, and some are not
     assert!(rt; 10 < possible && possible < 110, "{possible}");
     Ok(())
 }

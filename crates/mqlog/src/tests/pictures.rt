@@ -1,11 +1,12 @@
-//! Pictures of journals that have waits and messages over their edges, many processes, or many entries.
+//! Pictures of journals with waits and messages across their edges, with many processes, or with
+//! many entries.
 use super::Fail;
 use journal_tasks::{LogFault, WHOLE, Window, draw_journal};
 use std::alloc::Global;
 use std::process::Abort;
 use std::rt::HostRuntime;
 
-// A message that is handed over, and one that is taken.
+// A message that is handed over, and one that is received.
 static HANDED: &str = "0 1 open bc limits 1 8 \"/q\" -> fd 0 created
 1 1 recv 0 8 -> waits
 2 2 open b \"/q\" -> fd 0
@@ -20,7 +21,7 @@ static TAKEN: &str = "0 1 open bc limits 1 8 \"/q\" -> fd 0 created
 
 static UNUSUAL: &str = "0 0 close 0 -> EBADF\n1 4294967295 close 0 -> EBADF\n";
 
-// The lines of a picture that are this line.
+// How often this line occurs in a picture.
 fn count_of(alloc: Global, mut text: &[u8], window: Window, line: &str) -> Result<usize, LogFault> {
     let mut output = Vec::new(alloc);
     draw_journal(alloc, &mut text, &mut output, window)?;
@@ -28,7 +29,7 @@ fn count_of(alloc: Global, mut text: &[u8], window: Window, line: &str) -> Resul
     Ok(lines.filter(|it| *it == line.as_bytes()).count())
 }
 
-// A picture has a line once.
+// A picture has a line exactly once.
 fn shows<A: Abort>(rt: &A, alloc: Global, text: &[u8], window: Window, line: &str) {
     assert_eq!(rt; count_of(alloc, text, window, line), Ok(1), "{line}");
 }

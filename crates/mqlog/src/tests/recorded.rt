@@ -11,7 +11,7 @@ use std::test::Fail;
 use std::thread::Threads;
 use std::time::Clock;
 
-// How the run of a script ended, and the text of its journal.
+// The result of running a script, and the text of its journal.
 pub(super) fn recorded<S: Threads + Wait + Clock + Sync>(
     rt: &S,
     alloc: Global,
@@ -28,8 +28,9 @@ pub(super) fn recorded<S: Threads + Wait + Clock + Sync>(
     (outcome, text)
 }
 
-// Scripts in which no call waits and processes take turns, each with its journal: every call but those that end a wait, messages of
-// one priority and of several, an empty one, bytes that a text escapes, and refusals.
+// Scripts in which no call waits and processes take turns, each with its journal. They have every
+// call except those that end a wait, messages of one priority and of several, an empty one, bytes
+// that the text escapes, and errors.
 static RECORDED: [(&str, &str); 4] = [
     ("processes 1\n", ""),
     (
@@ -131,7 +132,8 @@ fn scripts_have_their_journals(rt: HostRuntime) {
     }
 }
 
-// Scripts whose processes wait for each other, so that their entries come in an order that is not said.
+// Scripts whose processes wait for each other, so that the order of their entries is not
+// determined.
 static WAITING: [&str; 2] = [
     "processes 2\n\
      1 open /a bc 1 8\n\
@@ -171,7 +173,7 @@ fn journals_with_waits_are_written_checked_and_read(rt: HostRuntime) -> Result<(
     Ok(())
 }
 
-// A script that is at fault has no journal, and one that can't go on has none either.
+// A wrong script has no journal, and neither has one that deadlocks.
 #[test]
 fn scripts_without_an_end_have_no_journal(rt: HostRuntime) {
     for (script, wanted) in [

@@ -1,4 +1,4 @@
-// Scripts that go on from a journal: what is written, and why some do not go on.
+// Scripts that continue from a journal: what is written, and why some cannot.
 use super::Narrow;
 use super::recorded::recorded;
 use fast_mutex::FastMutex;
@@ -14,7 +14,7 @@ use std::test::Fail;
 use std::thread::Threads;
 use std::time::Clock;
 
-// How a script goes on from the journal of this text, and what is written.
+// The result of running a script after the journal with this text, and what is written.
 fn resumed<S: Threads + Wait + Clock + Sync + Abort>(
     rt: &S,
     alloc: Global,
@@ -38,7 +38,8 @@ fn resume_into<S: Threads + Wait + Clock + Sync + Abort, W: Write>(
     resume_script::<FastMutex<Guarded>, _, _, _, _>(rt, alloc, journal, &mut lines, output, &Plain)
 }
 
-// The phases of scripts with one processes line, each as two parts, in which processes take turns.
+// Scripts in which processes take turns, each split into two parts. The first item is the line
+// `processes` of both.
 static PARTS: [(&str, &str, &str); 4] = [
     ("processes 1\n", "", "1 open /q bc\n1 exit\n"),
     (
@@ -78,7 +79,7 @@ fn a_script_in_two_parts_has_the_journal_of_the_whole(rt: HostRuntime) -> Result
     Ok(())
 }
 
-// A queue with a message, of which process 2 has a descriptor.
+// A queue with a message. Process 2 has a descriptor of the queue.
 const PAST: &str = "0 1 open bc limits 1 8 \"/q\" -> fd 0 created\n\
     1 2 open b \"/q\" -> fd 0\n\
     2 1 send 0 0 1 \"a\" -> queued\n";
@@ -89,7 +90,7 @@ const WAITS: &str = "0 1 open bc limits 1 8 \"/q\" -> fd 0 created\n\
     2 2 recv 0 8 -> waits\n\
     3 1 getattr 0 -> attr 0 1 8 0\n";
 
-// Journals and scripts that do not go on from them, with the reason.
+// Journals and scripts that cannot continue from them, with the reason.
 static NO_STARTS: [(&str, &str, NoStart); 4] = [
     ("0 1 close 0 -> ok\n", "processes 1\n", NoStart::Illegal(0)),
     (PAST, "processes 1\n1 recv 0 8\n", NoStart::Foreign(1)),
@@ -158,7 +159,7 @@ fn a_write_that_fails_leaves_a_front_part(rt: HostRuntime) {
     }
 }
 
-// How the orders of a script were tried after a journal, and what was written.
+// The result of trying the interleavings of a script after a journal, and what was written.
 fn tried_after(
     rt: &impl Abort,
     alloc: Global,
@@ -173,7 +174,7 @@ fn tried_after(
     (outcome, output)
 }
 
-// Two receives for one message that is there.
+// Two receives for the one message in the queue.
 static RACE: &str = "processes 2\n1 recv 0 8\n2 recv 0 8\n";
 
 static RACE_REPORT: &str = "phase 1: outcomes 0, deadlocks 2\n\

@@ -1,4 +1,4 @@
-// Scripts with the histories of their calls, and what is said of these.
+// Scripts with the histories of their calls, and the results of checking these.
 use super::judging::judged;
 use fast_mutex::FastMutex;
 use journal_tasks::{PLAIN, record_history};
@@ -11,7 +11,7 @@ use std::test::Fail;
 use std::thread::Threads;
 use std::time::Clock;
 
-// How the run of a script ended, and the text of its history.
+// The result of running a script, and the text of its history.
 fn recorded<S: Threads + Wait + Clock + Sync>(
     rt: &S,
     alloc: Global,
@@ -22,14 +22,14 @@ fn recorded<S: Threads + Wait + Clock + Sync>(
     (outcome, text)
 }
 
-// A history is judged so, and this is written first.
+// Checking a history has this result, and the output starts with this.
 fn is_judged(rt: &impl Abort, alloc: Global, history: &[u8], status: u8, said: &str) {
     let (outcome, output) = judged(alloc, history, PLAIN);
     assert_eq!(rt; outcome, Ok(status), "{said}");
     assert!(rt; output.as_slice().starts_with(said.as_bytes()), "{said}");
 }
 
-// Scripts whose calls race, with what is said of their histories.
+// Scripts whose calls race, with the results of checking their histories.
 static RACES: [(&str, &str); 3] = [
     (
         "processes 2\n\
@@ -95,8 +95,9 @@ fn histories_of_runs_are_possible(rt: HostRuntime) {
     }
 }
 
-// A script whose messages are received in a phase of their own, what its history ends with, and how each line is turned: another
-// message, another priority, EAGAIN where a message lay, a message twice, and out of order.
+// A script whose messages are received in a phase of their own, the end of its history, and a
+// variant of each line: another message, another priority, EAGAIN although the queue had a message,
+// a message twice, and out of order.
 static SENT: (&str, &str) = (
     "processes 2\n\
      1 open /q bcn 2 8\n\
@@ -159,8 +160,8 @@ fn joined(alloc: Global, front: &[u8], rest: &[u8]) -> Result<Vec<u8>, AllocErro
     Ok(text)
 }
 
-// Scripts with the whole text of their histories: a name that is none makes no call, and an exit stands as closes; a call that waits for
-// ever has not returned.
+// Scripts with the whole text of their histories. A malformed name makes no call, and an exit is
+// written as closes. A call that waits for ever has not returned.
 static WRITTEN: [(&str, &str); 2] = [
     (
         "processes 1\n\

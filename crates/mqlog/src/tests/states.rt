@@ -1,4 +1,4 @@
-//! States after journals: in both forms, and journals that have none.
+//! States after journals: in both forms, and journals without the wanted state.
 use super::{Fail, RUN};
 use journal_state::Form;
 use journal_tasks::{LAST, LogFault, NoState, Wanted, state_journal};
@@ -6,7 +6,7 @@ use std::alloc::{AllocError, Global};
 use std::process::Abort;
 use std::rt::HostRuntime;
 
-// What comes of a state that is asked for, and what is written.
+// The result of asking for a state, and what is written.
 fn told(
     alloc: Global,
     mut text: &[u8],
@@ -18,7 +18,7 @@ fn told(
     (outcome, output)
 }
 
-// Of the run: so many entries, and the state after them.
+// Numbers of entries of the run, and the state after them.
 static STATES: [(u64, &str); 6] = [
     (0, "after 0 entries\n"),
     (
@@ -90,8 +90,8 @@ fn a_state_has_what_the_entries_leave(rt: HostRuntime) {
     tells(&rt, rt.alloc(), RUN, None, Form::Text, STATES[5].1);
 }
 
-// Two queues, of which one has a name that JSON escapes and was unlinked. Of the messages of the other the last to come is received
-// first, and one is longer than what is shown.
+// Two queues. One has a name that JSON escapes, and was unlinked. The other has messages of which
+// the last one to enter is received first, and one that is longer than what is shown.
 static CROWDED: &str = r#"0 1 open bcn "/"\%01" -> fd 0 created
 1 1 unlink "/"\%01" -> ok
 2 1 open rc limits 3 64 "/q" -> fd 1 created
@@ -162,6 +162,6 @@ fn a_journal_without_such_a_state_is_refused(rt: HostRuntime) {
         assert_eq!(rt; outcome, wanted, "{text}");
         assert!(rt; output.is_empty(), "{text}");
     }
-    // what comes after the entries need not be legal
+    // the entries after the wanted state need not be legal
     tells(&rt, rt.alloc(), illegal, Some(0), Form::Text, STATES[0].1);
 }
