@@ -1,4 +1,4 @@
--- Stages of one history from which the same can come, and their keys.
+-- Equivalent stages of one history, and their state keys.
 use Rattle.std.specs.Prelude.{◌≡◌, ◌<◌, ℕ, zero, suc, ◌+◌, List, ◌∷◌, length}
 use Rattle.mq_model.specs.Record.{Past}
 use Rattle.mq_equivalence.specs.Key.{key_of}
@@ -6,12 +6,12 @@ use Rattle.mq_equivalence.specs.Equivalence.{Equivalent}
 use Rattle.orders.specs.Programs.{made}
 use Rattle.histories.specs.Stage.{Stage, with_past}
 
--- the first n processes have begun as many operations
+-- each of the first n processes has begun the same number of operations
 abbrev pub HaveBegunAlike : ℕ → Past → Past → Type 0
 HaveBegunAlike n x y = (index : ℕ) → index < n → made y (index + 1) ≡ made x (index + 1)
 
--- stages that differ in their journals alone, and these are equivalent, and of as many operations of
--- each process
+-- The stages differ only in their journals, and these are equivalent and have the same number of
+-- operations of each process.
 pub record AreStagesAlike (x y : Stage) : Type 0 where
   pub differ : y ≡ with_past x y.past
   pub begun : HaveBegunAlike (length x.histories) x.past y.past
@@ -25,6 +25,6 @@ counts_then past (suc n) rest = counts_then past n (made past (n + 1) ∷ rest)
 abbrev pub stage_code : Stage → List ℕ
 stage_code s = counts_then s.past (length s.histories) (key_of s.past)
 
--- the list is the key of a stage
+-- the list is the state key of a stage
 abbrev pub IsStageKey : Stage → List ℕ → Type 0
 IsStageKey s key = key ≡ stage_code s

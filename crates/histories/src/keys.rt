@@ -1,9 +1,9 @@
-//! The numbers of a key that say how far the processes are.
+//! The part of a state key that says how many operations the processes have begun.
 ghost use Rattle.std.specs.Prelude.{◌≡◌, ◌++◌, OnOk};
 
 use std::alloc::AllocError;
 
-/// Adds how many operations each process has begun.
+/// Appends how many operations each process has begun.
 pub fn push_counts(key: &mut Vec<u64>, counts: &[usize]) -> Result<(), AllocError>
     ensures { OnOk result (key.new.items ≡ key.old.items ++ counts.now) }
 {

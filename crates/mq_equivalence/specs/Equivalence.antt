@@ -1,5 +1,5 @@
--- Equivalent journals: all that replies depend on is the same, up to the numbers of queues and the
--- places of entries.
+-- Equivalent journals: everything that replies depend on is the same, up to the numbers of queues
+-- and the sequence numbers of entries.
 use Rattle.std.specs.Prelude.{ℕ, ◌≡◌, true, is_some, List, ◌∷◌, length}
 use Rattle.mq_model.specs.Record.{Past, Process, Queue}
 use Rattle.mq_model.specs.Descriptors.{alive}
@@ -14,10 +14,10 @@ use Rattle.mq_equivalence.specs.Views.{answer, contents, receivers, registered_a
 use Rattle.mq_equivalence.specs.Structure.{SameStructure, extended}
 use Rattle.mq_equivalence.specs.Outline.{outline}
 
--- two legal journals in which all that replies depend on is the same, except that queue q of x is
--- queue `to q` of y: the names, the descriptors, and the queues; the messages of each queue, who
--- waits on it, and the registration on it; the notices of each process, whether it waits, with a
--- buffer of which length (0 for a send), until when, and what its wait was answered with
+-- Two legal journals in which everything that replies depend on is the same, except that queue q of
+-- x is queue `to q` of y. The names, the descriptors and the queues are the same. Each queue has
+-- the same messages, waits and registration. Each process has the same notices, and the same open
+-- wait: its buffer length (0 for a send), its deadline, and what answered it.
 pub record EquivalentUnder (to : Queue → Queue) (x y : Past) : Type 0 where
   pub legal : Legal x × Legal y
   pub structure : SameStructure to x y
@@ -37,10 +37,10 @@ pub record Equivalent (x y : Past) : Type 0 where
   pub to : Queue → Queue
   pub equivalent : EquivalentUnder to x y
 
--- one call after each of two journals: it may be made after both or after neither, its replies
--- differ in places alone, and it gives its caller the same message, as a receive or, if it may be
--- made, as a collect. If its entry may follow the first journal, it may follow the second, and
--- leaves equivalent journals
+-- One call after each of two journals. It may be made after both or after neither. Its replies
+-- differ only in sequence numbers. It gives its caller the same message, as a receive or, if it may
+-- be made, as a collect. If its entry may follow the first journal, it may follow the second, and
+-- leaves equivalent journals.
 pub record StepsEquivalent (to : Queue → Queue) (x y : Past) (p : Process) (call : Call)
     (given : List ℕ) : Type 0 where
   pub turn : may_call y p call ≡ may_call x p call

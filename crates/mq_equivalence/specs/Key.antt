@@ -1,5 +1,4 @@
--- A key of the state that a journal leaves: numbers that are the same only if two journals are
--- equivalent.
+-- The state key of a journal: numbers that are the same only if two journals are equivalent.
 use Rattle.std.specs.Prelude.{ℕ, ℤ, pos, negsuc, zero, suc, ◌+◌, ◌==◌, max, Bool, true, false, List, [], ◌∷◌, ◌++◌, length, map, Option, Some, None, if◌then◌else◌}
 use Rattle.mq_model.specs.Record.{Past, Process, Queue}
 use Rattle.mq_model.specs.Names.{attributes}
@@ -16,14 +15,14 @@ use Rattle.mq_model.specs.declared.entries.Reply.TheVariants.{Opened}
 use Rattle.mq_state.specs.Buffers.{waiting_room}
 use Rattle.mq_equivalence.specs.Views.{Message, Registered, Sender, answer, bound_name, contents, receivers, registered_as, senders}
 
--- values as numbers: from those of a value with whatever follows them, the value and what follows
--- can be told ------------------------------------------------------------------------------------
+-- values as numbers, which can be decoded even if other numbers follow
+-- ------------------------------
 
 abbrev pub codes : {X : Type 0} → (X → List ℕ) → List X → List ℕ
 codes code [] = []
 codes code (x ∷ xs) = code x ++ codes code xs
 
--- a list, behind its length
+-- a list, after its length
 abbrev pub listed : {X : Type 0} → (X → List ℕ) → List X → List ℕ
 listed code xs = length xs ∷ codes code xs
 
@@ -56,7 +55,7 @@ limits_code a = signed a.maxmsg ++ signed a.msgsize
 abbrev pub deadline_code : Deadline → List ℕ
 deadline_code t = signed t.sec ++ signed t.nsec
 
--- which of these queues it is, from 0
+-- the index of a queue among these
 abbrev pub index_of : List Queue → Queue → ℕ
 index_of [] q = 0
 index_of (k ∷ queues) q = if k == q then 0 else suc (index_of queues q)
@@ -74,8 +73,8 @@ sender_code s = s.process ∷ message_code s.message
 abbrev pub registered_code : Registered → List ℕ
 registered_code n = n.process ∷ (n.d ∷ (n.value ∷ []))
 
--- a queue: its name, its limits, its messages, who waits to send which message, who waits to
--- receive, and who is registered on it
+-- A queue: its name, its limits, its messages, the processes that wait to send, with their
+-- messages, those that wait to receive, and the registration.
 abbrev pub queue_code : Past → Queue → List ℕ
 queue_code past q =
     optional bytes_code (bound_name past q)
@@ -85,7 +84,7 @@ queue_code past q =
     ++ (listed (optional number) (receivers past q)
     ++ optional registered_code (registered_as past q)))))
 
--- above all processes that called, and above all descriptors that an open was given
+-- one more than every process that called, and one more than every descriptor that an open returned
 abbrev pub process_bound : Past → ℕ
 process_bound [] = 0
 process_bound (r ∷ past) = max (process_bound past) (r.entry.process + 1)
@@ -98,8 +97,8 @@ abbrev pub number_bound : Past → ℕ
 number_bound [] = 0
 number_bound (r ∷ past) = max (number_bound past) (above_number r.entry.reply)
 
--- a process: the length of the buffer with which it waits, if it does, until when, what its wait was
--- answered with, its notices, and what it holds under each number below `width`
+-- A process: the buffer length and the deadline of its open wait, what answered the wait, its
+-- notices, and what it holds under each number below `width`.
 abbrev pub process_code : ℕ → Past → Process → List ℕ
 process_code width past p =
     optional number (waiting_room past p)

@@ -1,5 +1,5 @@
--- A reply without the places of entries in it: of a send that was admitted and of a registration
--- that was notified it says that there was one.
+-- A reply without sequence numbers. It still says whether a send was admitted and whether a
+-- registration was notified.
 use Rattle.std.specs.Prelude.{ℕ, Option}
 use Rattle.std.specs.Option.{option_map}
 use Rattle.mq_model.specs.declared.entries.Reply.{Reply}

@@ -1,4 +1,4 @@
--- Replies without places, and the messages that they give.
+-- Replies without sequence numbers, and the messages that they hand out.
 use Rattle.std.specs.Prelude.{ℕ, List, Option, None}
 use Rattle.std.specs.Option.{option_map}
 use Rattle.mq_model.specs.Record.{Record, Past, Process}
@@ -8,7 +8,7 @@ use Rattle.mq_model.specs.declared.entries.Reply.{Reply}
 use Rattle.mq_model.specs.declared.entries.Reply.TheVariants.{Queued, Handed, Got, Collected, Withdrawn}
 use Rattle.mq_equivalence.specs.Views.{Message, at, sent, told}
 
--- a reply without its places: whether a send was admitted is left
+-- A reply without its sequence numbers. It still says whether a send was admitted.
 abbrev pub shape : Reply → Reply
 shape (Queued n) = Queued None
 shape (Handed w) = Handed 0
@@ -17,20 +17,20 @@ shape (Collected b) = Collected 0
 shape (Withdrawn w) = Withdrawn 0
 shape reply = reply
 
--- the record of a call of process p that is given these bytes, a name or a message, with its reply
+-- the record of a call of process p with these bytes, a name or a message, and its reply
 abbrev pub record_of : Past → Process → Call → List ℕ → Record
 record_of past p call given = record {
   entry = record { process = p; call = call; reply = reply_to past p call given };
   payload = payload_of call (reply_to past p call given) given;
 }
 
--- the message that a reply gives its caller, of the journal with that reply
+-- the message that a reply gives its caller; `past` is the journal with that reply
 abbrev pub message_given : Past → Reply → Option Message
 message_given past (Got m a n) = at sent past m
 message_given past reply = None
 
--- what a collect gives its caller, of the journal with its reply: the message of the send that
--- answered the wait, and none if the wait was that of a send
+-- What a collect gives its caller: the message of the send that answered the wait, or none if a
+-- send waited. `past` is the journal with its reply.
 abbrev pub message_collected : Past → Reply → Option (Option Message)
 message_collected past (Collected b) = at told past b
 message_collected past reply = None

@@ -1,5 +1,5 @@
--- What replies depend on, without places: messages by their priority and bytes, waits by their
--- process, registrations by what their process gave, and queues by their names.
+-- What replies depend on, without sequence numbers: messages by their priority and bytes, waits by
+-- their process, registrations by what their process gave, and queues by their names.
 use Rattle.std.specs.Prelude.{ℕ, List, map, Option, Some, None, if◌then◌else◌}
 use Rattle.std.specs.Option.{option_map}
 use Rattle.mq_model.specs.Record.{Record, Past, Place, Process, Queue, record_at}
@@ -32,7 +32,7 @@ author r = r.entry.process
 abbrev pub told : Record → Option Message
 told r = if is_send r.entry.call then Some (sent r) else None
 
--- what is to be said of the record at a place
+-- a fact about the record at a place
 abbrev pub at : {X : Type 0} → (Record → X) → Past → Place → Option X
 at f past place = option_map f (record_at past place)
 
@@ -47,7 +47,7 @@ senders past q = map (at sender past) (waiting_sends past q)
 abbrev pub receivers : Past → Queue → List (Option Process)
 receivers past q = map (at author past) (waiting_receives past q)
 
--- what the open wait of a process was answered with, if it was: the message of a send, or nothing
+-- what answered the open wait of a process, if anything did: the message of a send, or nothing
 abbrev pub answer : Past → Process → Option (Option (Option Message))
 answer past p = option_map (at told past) (answered_by past p)
 
@@ -55,7 +55,7 @@ answer past p = option_map (at told past) (answered_by past p)
 abbrev pub bound_name : Past → Queue → Option (List ℕ)
 bound_name past q = if is_named past q then Some (name_of past q) else None
 
--- a registration without its place: who made it, by which descriptor, with which value
+-- a registration without its place: its process, its descriptor and its value
 pub record Registered : Type 0 where
   pub process : Process
   pub d : ℕ

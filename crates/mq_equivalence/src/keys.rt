@@ -1,4 +1,5 @@
-//! Keys: numbers of the state that a journal leaves. Two legal journals with one key are equivalent.
+//! State keys: numbers of the state that a journal leaves. Two legal journals with the same key are
+//! equivalent.
 ghost use Rattle.std.specs.Prelude.{◌≡◌, ◌≤◌, ◌^◌, IfOk, IsTrue};
 ghost use Rattle.mq_model.specs.Record.{Past};
 ghost use Rattle.mq_model.specs.Legality.{Legal};
@@ -11,17 +12,19 @@ use mq_model::journals::Journal;
 use std::alloc::{AllocError, Global};
 use std::cmp;
 
-/// Two legal journals with one key are equivalent. The key has the greatest process that called and
-/// the greatest descriptor that was given, so that two equivalent journals may have two keys.
+/// Two legal journals with the same key are equivalent. The converse fails: the key depends on the
+/// greatest process that called and the greatest descriptor that was given, so two equivalent
+/// journals may have different keys.
 pub fn keys_tell()
     ensures { (x y : Past) →
         Legal x → Legal y → key_of x ≡ key_of y → Equivalent x y }
 {}
 
 /// The key of the state that a journal leaves: its queues with their names, limits, messages, waits
-/// and registrations; and of each process its wait with what answered it, its notices and its
-/// descriptors. It reads the journal a few times for each queue and each descriptor, and once more
-/// for each message and wait that is left, back to the open of its descriptor.
+/// and registrations; and for each process its wait with what answered it, its notices and its
+/// descriptors. It reads the journal a few times for each queue and each descriptor, and for each
+/// message and wait that is left once more, back to the open of its descriptor. Fails if memory was
+/// refused.
 pub fn key_of(alloc: Global, journal: &Journal) -> Result<Vec<u64>, AllocError>
     ensures { IfOk result (λ k. k.items ≡ key_of journal.now.records) }
 {
@@ -48,8 +51,8 @@ fn key_within(
     Ok(key)
 }
 
-/// Whether two legal journals are equivalent, by their keys. `false` says nothing: a body that always
-/// answers so is refused by no contract.
+/// Whether two legal journals have the same key, and so are equivalent. `false` says nothing: no
+/// contract rejects a body that always returns it.
 pub fn are_equivalent(alloc: Global, x: &Journal, y: &Journal) -> Result<bool, AllocError>
     requires { Legal x.now.records × Legal y.now.records }
     ensures { IfOk result (λ same. IsTrue same → Equivalent x.now.records y.now.records) }

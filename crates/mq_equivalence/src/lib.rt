@@ -1,7 +1,7 @@
-//! Equivalent journals: after them the same can happen, whatever numbers their queues have and at
-//! whatever places their entries stand. A journal that leads to the same state in fewer entries is
-//! one example, and two orders of the same calls are another. The laws are functions that do
-//! nothing and take no time: the contract of each is the law.
+//! Equivalent journals: after them the same can happen, up to the numbers of queues and the
+//! sequence numbers of entries. Examples are a journal and a shorter one that leads to the same
+//! state, and two interleavings of the same calls that lead to the same state. The laws are
+//! functions that do nothing and take no time: the contract of each is the law.
 #![tactic(auto)]
 
 ghost use Rattle.std.specs.Prelude.{◌≡◌, ◌∷◌, ℕ, List, length};
@@ -20,23 +20,23 @@ pub mod parts;
 mod scans;
 mod standing;
 
-/// Equivalent journals stay equivalent under each of the 13 calls: a call may be made after both or
-/// after neither, it has the same reply but for places, and it gives its caller the same message, as
-/// a receive or as a collect.
+/// Equivalent journals stay equivalent under each of the 13 calls. A call may be made after both or
+/// after neither. It has the same reply up to sequence numbers, and as a receive or a collect it
+/// gives its caller the same message.
 pub fn stays_equivalent()
     ensures { (to : ℕ → ℕ) (x y : Past) (p : ℕ) (call : Call) (given : List ℕ) →
         EquivalentUnder to x y → StepsEquivalent to x y p call given }
 {}
 
-/// If calls, in some order, may follow the first of two equivalent journals, then they may follow
-/// the second in that order, and they leave equivalent journals.
+/// If a sequence of calls may follow the first of two equivalent journals, it may follow the
+/// second, and leaves equivalent journals.
 pub fn runs_stay_equivalent()
     ensures { (x y : Past) → Equivalent x y → (calls : List Request) →
         Legal (after_calls x calls) → Equivalent (after_calls x calls) (after_calls y calls) }
 {}
 
-/// For the structure alone it is enough that the replies of one call differ in places: the same
-/// names stay bound, the same descriptors held, and the same queues exist.
+/// For the structure alone it is enough that the two replies to one call differ only in sequence
+/// numbers: the same names stay bound, the same descriptors held, and the same queues exist.
 pub fn structure_stays()
     ensures { (to : ℕ → ℕ) (x y : Past) (p : ℕ) (call : Call) (given : List ℕ) →
         Legal x → Legal y → SameStructure to x y →
@@ -51,12 +51,13 @@ pub fn equivalence_is_reflexive()
     ensures { (x : Past) → Legal x → Equivalent x x }
 {}
 
-/// Of two journals each is equivalent to the other, or neither is.
+/// If one journal is equivalent to another, the other is equivalent to it.
 pub fn equivalence_is_symmetric()
     ensures { (x y : Past) → Equivalent x y → Equivalent y x }
 {}
 
-/// Journals that are equivalent to one journal are equivalent.
+/// If one journal is equivalent to a second and that to a third, the first is equivalent to the
+/// third.
 pub fn equivalence_is_transitive()
     ensures { (x y z : Past) → Equivalent x y → Equivalent y z → Equivalent x z }
 {}

@@ -1,4 +1,4 @@
-//! The notices that a process was not yet given.
+//! The notices that a process has not yet taken.
 #![tactic(auto, using(mq_model::proofs::Prefixes::prefixes))]
 
 ghost use Rattle.std.specs.Prelude.{◌≡◌, ◌≤◌, IfOk, length};
@@ -29,7 +29,7 @@ fn gives_notice(reply: Reply) -> bool
     }
 }
 
-// The value that process `p` gave with the registration at a place before place `k`.
+// The value that process `p` gave to its registration at `place`, if that is before place `k`.
 fn value_given(journal: &Journal, k: u64, p: u32, place: u64) -> Option<u64>
     requires { k ≤ length journal.now.records }
     ensures { result ≡ value_given p (record_at (first k journal.now.records) place) }
@@ -69,7 +69,7 @@ fn notices_given(journal: &Journal, p: u32) -> u64
     count
 }
 
-/// The notices that process `p` was not yet given, the oldest first.
+/// The notices that process `p` has not yet taken, the oldest first.
 pub(crate) fn notices(alloc: Global, journal: &Journal, p: u32) -> Result<Vec<u64>, AllocError>
     ensures { IfOk result (λ values. values.items ≡ notices journal.now.records p) }
 {

@@ -1,4 +1,4 @@
-//! The numbers of a key, part by part.
+//! The parts of a key.
 #![tactic(auto, using(crate::proofs::Appends::appends))]
 
 ghost use Rattle.std.specs.Prelude.{◌≡◌, ◌≤◌, ◌<◌, ◌^◌, ◌++◌, IfOk, None, Some, if◌then◌else◌, length, map};
@@ -68,7 +68,7 @@ fn access_number(access: Access) -> u64
     }
 }
 
-// Which of these queues it is, from 0.
+// The index of a queue among these.
 fn index_of(queues: &[u64], q: u64) -> u64
     ensures { result ≡ index_of queues.now q }
 {
@@ -105,7 +105,7 @@ fn push_held(
     }
 }
 
-/// Adds each byte as a number.
+/// Appends each byte as a number.
 pub fn push_bytes(key: &mut Vec<u64>, bytes: &[u8]) -> Result<(), AllocError>
     ensures { IfOk result (λ _. key.new.items ≡ key.old.items ++ bytes.now) }
 {
@@ -115,7 +115,7 @@ pub fn push_bytes(key: &mut Vec<u64>, bytes: &[u8]) -> Result<(), AllocError>
     Ok(())
 }
 
-// Adds the bytes behind their number.
+// Appends the number of bytes and then the bytes.
 fn push_listed_bytes(key: &mut Vec<u64>, bytes: &[u8]) -> Result<(), AllocError>
     ensures { IfOk result (λ _. key.new.items ≡ key.old.items ++ bytes_code bytes.now) }
 {
@@ -131,7 +131,7 @@ fn push_message(key: &mut Vec<u64>, entry: Entry, payload: &[u8]) -> Result<(), 
     push_listed_bytes(key, payload)
 }
 
-// The message that was sent at a place.
+// Appends the message that was sent at a place.
 fn push_sent(key: &mut Vec<u64>, journal: &Journal, place: u64) -> Result<(), AllocError>
     ensures { IfOk result (λ _. key.new.items ≡ key.old.items
         ++ optional message_code (at sent journal.now.records place)) }
@@ -144,7 +144,7 @@ fn push_sent(key: &mut Vec<u64>, journal: &Journal, place: u64) -> Result<(), Al
     push_message(key, entry, payload)
 }
 
-// The send that waits since a place.
+// Appends the send that has waited since a place.
 fn push_sender(key: &mut Vec<u64>, journal: &Journal, place: u64) -> Result<(), AllocError>
     ensures { IfOk result (λ _. key.new.items ≡ key.old.items
         ++ optional sender_code (at sender journal.now.records place)) }
@@ -158,7 +158,7 @@ fn push_sender(key: &mut Vec<u64>, journal: &Journal, place: u64) -> Result<(), 
     push_message(key, entry, payload)
 }
 
-// The receive that waits since a place.
+// Appends the receive that has waited since a place.
 fn push_receiver(key: &mut Vec<u64>, journal: &Journal, place: u64) -> Result<(), AllocError>
     ensures { IfOk result (λ _. key.new.items ≡ key.old.items
         ++ optional number (at author journal.now.records place)) }
@@ -187,7 +187,7 @@ fn push_place(
     }
 }
 
-// All of a kind that stands in queue `q` or on it.
+// Appends everything of a kind that queue `q` has.
 fn push_kind(
     alloc: Global,
     key: &mut Vec<u64>,
@@ -215,7 +215,7 @@ fn attributes(journal: &Journal, q: u64) -> Attr
     }
 }
 
-// The name of a queue, if it is still bound to it.
+// Appends the name of a queue, if it is still bound to it.
 fn push_name(key: &mut Vec<u64>, journal: &Journal, q: u64) -> Result<(), AllocError>
     ensures { IfOk result (λ _. key.new.items ≡ key.old.items
         ++ optional bytes_code (bound_name journal.now.records q)) }
@@ -251,7 +251,7 @@ fn push_registration(
     }
 }
 
-/// A queue: its name, its limits, its messages, who waits on it, and who is registered on it.
+/// Appends a queue: its name, its limits, its messages, the waits on it, and its registration.
 pub(crate) fn push_queue(
     alloc: Global,
     key: &mut Vec<u64>,
@@ -268,7 +268,7 @@ pub(crate) fn push_queue(
     push_registration(key, registered(journal, journal.len(), q))
 }
 
-// What the entry at a place tells the process whose wait it answers.
+// Appends what the entry at a place hands to the process whose wait it answers.
 fn push_told(key: &mut Vec<u64>, journal: &Journal, place: u64) -> Result<(), AllocError>
     ensures { IfOk result (λ _. key.new.items ≡ key.old.items
         ++ optional (optional message_code) (at told journal.now.records place)) }
@@ -281,7 +281,7 @@ fn push_told(key: &mut Vec<u64>, journal: &Journal, place: u64) -> Result<(), Al
     push_message_if(key, entry.call.is_send(), entry, payload)
 }
 
-// The message of an entry, if it has one.
+// Appends the message of an entry, if it has one.
 fn push_message_if(
     key: &mut Vec<u64>,
     sends: bool,
@@ -313,7 +313,7 @@ fn push_answer(key: &mut Vec<u64>, journal: &Journal, p: u32) -> Result<(), Allo
     }
 }
 
-// The length of the buffer with which process `p` waits, if it does.
+// Appends the buffer length with which a process waits, if it does.
 fn push_room(key: &mut Vec<u64>, room: Option<u64>) -> Result<(), AllocError>
     ensures { IfOk result (λ _. key.new.items ≡ key.old.items ++ optional number room) }
 {
@@ -339,7 +339,7 @@ fn push_deadline(key: &mut Vec<u64>, until: Option<Deadline>) -> Result<(), Allo
     }
 }
 
-// The notices that process `p` was not yet given.
+// Appends the notices that process `p` has not yet taken.
 fn push_notices(
     alloc: Global,
     key: &mut Vec<u64>,
@@ -357,7 +357,7 @@ fn push_notices(
     Ok(())
 }
 
-// What process `p` holds under each number below `width`.
+// Appends what process `p` holds under each number below `width`.
 fn push_holdings(
     key: &mut Vec<u64>,
     journal: &Journal,
@@ -377,8 +377,8 @@ fn push_holdings(
     Ok(())
 }
 
-/// A process: with which buffer it waits, if it does, and until when, what its wait was answered
-/// with, its notices, and what it holds of these queues under each number below `width`.
+/// Appends a process: the buffer length and the deadline of its open wait, what answered the wait,
+/// its notices, and what it holds of these queues under each number below `width`.
 pub(crate) fn push_process(
     alloc: Global,
     key: &mut Vec<u64>,
@@ -400,7 +400,7 @@ pub(crate) fn push_process(
     push_holdings(key, journal, queues, width, p)
 }
 
-/// The queues that exist.
+/// Appends the queues that exist.
 pub(crate) fn push_queues(
     alloc: Global,
     key: &mut Vec<u64>,
@@ -440,7 +440,7 @@ fn above_number(reply: Reply) -> u64
     }
 }
 
-/// One more than the greatest descriptor that an open was given.
+/// One more than the greatest descriptor that an open returned.
 pub fn number_bound(journal: &Journal) -> u64
     ensures value { result ≡ number_bound journal.now.records }
     ensures bound { result ≤ 2 ^ 32 }
@@ -453,7 +453,7 @@ pub fn number_bound(journal: &Journal) -> u64
     bound
 }
 
-/// The processes below `count`.
+/// Appends the processes below `count`.
 pub(crate) fn push_processes(
     alloc: Global,
     key: &mut Vec<u64>,

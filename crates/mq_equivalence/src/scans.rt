@@ -1,4 +1,4 @@
-//! Waits and their answers, read off the entries before a place.
+//! Waits and their answers, by a scan of the entries before a place.
 #![tactic(auto, using(mq_model::proofs::Prefixes::prefixes))]
 
 ghost use Rattle.std.specs.Prelude.{◌≡◌, ◌≤◌, Some, length};
@@ -56,7 +56,8 @@ fn names_wait(reply: Reply, wait: u64) -> bool
     }
 }
 
-// The place of the entry that answers the wait of process `p` that stands at place `wait` and is open before place `k`.
+// The place of the entry that answers the open wait of process `p`, before place `k`. The wait
+// began at place `wait`.
 fn answer_to(journal: &Journal, k: u64, p: u32, wait: u64) -> Option<u64>
     requires bound { k ≤ length journal.now.records }
     requires open { open_wait (first k journal.now.records) p ≡ Some wait }
@@ -86,7 +87,7 @@ pub(crate) fn answered_by(journal: &Journal, k: u64, p: u32) -> Option<u64>
     }
 }
 
-// The length of the buffer of a receive, and 0 of any other call.
+// The buffer length of a receive, and 0 for any other call.
 fn room_of(call: Call) -> u64
     ensures { result ≡ room_of call }
 {
@@ -102,7 +103,7 @@ fn room_of(call: Call) -> u64
     }
 }
 
-// The length of the buffer with which process `p` waits before place `k`.
+// The buffer length with which process `p` waits before place `k`.
 #[tactic(auto, using(mq_model::proofs::Prefixes::prefixes, crate::proofs::Rooms::waiting))]
 pub(crate) fn waiting_room(journal: &Journal, k: u64, p: u32) -> Option<u64>
     requires { k ≤ length journal.now.records }
@@ -121,7 +122,7 @@ pub(crate) fn waiting_room(journal: &Journal, k: u64, p: u32) -> Option<u64>
     None
 }
 
-// The moment until which process `p` waits before place `k`.
+// The deadline of the open wait of process `p` before place `k`.
 pub(crate) fn wait_deadline(journal: &Journal, k: u64, p: u32) -> Option<Deadline>
     requires { k ≤ length journal.now.records }
     ensures { result ≡ wait_deadline (first k journal.now.records) p }

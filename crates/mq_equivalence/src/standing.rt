@@ -15,7 +15,7 @@ use mq_model::entries::{Call, Entry, Reply};
 use mq_model::journals::Journal;
 use std::alloc::{AllocError, Global};
 
-/// What stands in a queue or on it.
+/// What a queue has.
 #[derive(Clone, Copy)]
 pub(crate) enum Kind {
     /// Its messages.
@@ -59,7 +59,7 @@ fn ends_receive(reply: Reply) -> Option<u64>
     }
 }
 
-// The place of a kind that the reply at place `here` takes away.
+// The place of this kind that the reply at place `here` removes.
 fn ends(kind: Kind, here: u64, reply: Reply) -> Option<u64>
     ensures { result ≡ ends kind here reply }
 {
@@ -81,7 +81,7 @@ fn mark(marks: &mut [bool], place: Option<u64>)
     }
 }
 
-// Which places of a kind are gone.
+// Which places of a kind were removed.
 fn gone(alloc: Global, journal: &Journal, kind: Kind) -> Result<Vec<bool>, AllocError>
     ensures { IfOk result (λ marks.
         AreMarked (length journal.now.records) (ended kind journal.now.records) marks.items) }
@@ -95,7 +95,7 @@ fn gone(alloc: Global, journal: &Journal, kind: Kind) -> Result<Vec<bool>, Alloc
     Ok(marks)
 }
 
-// The place of a kind that the entry at place `k` brings to queue `q`.
+// The place of this kind that the entry at place `k` adds to queue `q`.
 fn begins(journal: &Journal, kind: Kind, k: u64, entry: Entry, q: u64) -> Option<u64>
     requires { k ≤ length journal.now.records }
     ensures { result ≡ begins kind (first k journal.now.records) entry q }
@@ -123,7 +123,7 @@ fn begins(journal: &Journal, kind: Kind, k: u64, entry: Entry, q: u64) -> Option
     }
 }
 
-// The place of a kind that the entry at place `here` may bring to some queue.
+// The place of this kind that the entry at place `here` may add to some queue.
 fn may_begin(kind: Kind, here: u64, entry: Entry) -> Option<u64>
     ensures { result ≡ may_begin kind here entry }
 {
@@ -153,7 +153,8 @@ fn is_marked(marks: &[bool], m: u64) -> bool
     m < marks.len() as u64 && marks[m as usize]
 }
 
-// The place of a kind that the entry at place `i` brings to queue `q`, unless it is marked as gone.
+// The place of this kind that the entry at place `i` adds to queue `q`, unless it is marked as
+// removed.
 fn stays(journal: &Journal, marks: &[bool], kind: Kind, i: u64, entry: Entry, q: u64) -> Option<u64>
     requires place { i < length journal.now.records }
     requires marks { AreMarked (length journal.now.records)
@@ -170,7 +171,7 @@ fn stays(journal: &Journal, marks: &[bool], kind: Kind, i: u64, entry: Entry, q:
     begins(journal, kind, i, entry, q)
 }
 
-// Adds a place, if there is one.
+// Appends a place, if there is one.
 fn add(places: &mut Vec<u64>, place: Option<u64>) -> Result<(), AllocError>
     ensures { IfOk result (λ _. places.new.items ≡ places.old.items ++ option_to_list place) }
 {
@@ -180,7 +181,7 @@ fn add(places: &mut Vec<u64>, place: Option<u64>) -> Result<(), AllocError>
     Ok(())
 }
 
-/// The places of a kind that stand in queue `q` or on it, the latest first.
+/// The places of this kind that queue `q` has, the latest first.
 pub(crate) fn standing(
     alloc: Global,
     journal: &Journal,
