@@ -1,4 +1,4 @@
--- Descriptors by this project's own numbers.
+-- Renumbering of descriptors to this library's numbers.
 use Rattle.std.specs.Prelude.{ℕ, ◌==◌, List, [], ◌∷◌, Option, None, Some, is_none, position, unwrap_or, replicate, nat_lt, slice_set, if◌then◌else◌}
 use Rattle.std.specs.Option.{option_eq}
 use Rattle.mq_model.specs.declared.entries.Call.{Call}
@@ -7,18 +7,18 @@ use Rattle.histories.specs.declared.operation.Operation.{Operation}
 use Rattle.histories.specs.declared.operation.Outcome.{Outcome}
 use Rattle.histories.specs.declared.operation.Outcome.TheVariants.{Done, Opened}
 
--- the number of the implementation at each number that a process holds, of 16
+-- the implementation's number for each of this library's 16 numbers that a process holds
 abbrev pub Numbers : Type 0
 Numbers = List (Option ℕ)
 
 abbrev pub no_numbers : Numbers
 no_numbers = replicate 16 None
 
--- the first number at which a descriptor is held
+-- the first number under which a descriptor is held
 abbrev pub held_at : Numbers → ℕ → Option ℕ
 held_at numbers d = position (λ number. option_eq ◌==◌ number (Some d)) numbers
 
--- the own number of a descriptor, or 16 where it is not held
+-- this library's number for a descriptor, or 16 if it is not held
 abbrev pub own_number : Numbers → ℕ → ℕ
 own_number numbers d = unwrap_or (held_at numbers d) 16
 
@@ -26,7 +26,7 @@ own_number numbers d = unwrap_or (held_at numbers d) 16
 abbrev pub lowest_free : Numbers → ℕ
 lowest_free numbers = unwrap_or (position is_none numbers) 16
 
--- a call by the own number of its descriptor
+-- a call with this library's number for its descriptor
 abbrev pub own_call : Numbers → Call → Call
 own_call numbers (MqClose d) = MqClose (own_number numbers d)
 own_call numbers (MqSend d prio len) = MqSend (own_number numbers d) prio len
@@ -38,7 +38,7 @@ own_call numbers (MqSetattr d nonblock) = MqSetattr (own_number numbers d) nonbl
 own_call numbers (MqNotify d value) = MqNotify (own_number numbers d) value
 own_call numbers call = call
 
--- an open gives the lowest number that is free
+-- an open returns the lowest free number
 abbrev pub own_outcome : Numbers → Outcome → Outcome
 own_outcome numbers (Opened d) = Opened (lowest_free numbers)
 own_outcome numbers outcome = outcome
@@ -46,8 +46,8 @@ own_outcome numbers outcome = outcome
 abbrev pub own_operation : Numbers → Operation → Operation
 own_operation numbers o = record o { call = own_call numbers o.call; outcome = own_outcome numbers o.outcome }
 
--- what is held after a call by its own number: an open that returned is held at the lowest number that was free, and a close that was
--- done frees its number
+-- What is held after a call with this library's number: the descriptor of an open that returned,
+-- under the lowest number that was free; and a close that succeeded frees its number.
 abbrev pub after_opened : Numbers → ℕ → ℕ → Numbers
 after_opened numbers number d = if nat_lt number 16 then slice_set numbers number (Some d) else numbers
 
@@ -60,7 +60,7 @@ numbers_after numbers call (Opened d) = after_opened numbers (lowest_free number
 numbers_after numbers call Done = after_closed numbers call
 numbers_after numbers call _ = numbers
 
--- the operations of a process by own numbers, from where it holds these
+-- the operations of a process with this library's numbers, if it holds these at the start
 abbrev pub renamed : Numbers → List Operation → List Operation
 renamed numbers [] = []
 renamed numbers (o ∷ operations) =

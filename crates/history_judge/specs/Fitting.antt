@@ -1,5 +1,6 @@
--- The calls that a history can have: of a process from 1 to 32, with numbers that fit their types. Those of a call that the program
--- holds do, but for the moment at which a call that had not returned ended: it has no place in a line.
+-- The calls that a history can have: of a process from 1 to 32, with numbers that fit their types.
+-- The numbers of a call in the program do, except the end of a call that had not returned, which
+-- its line does not have.
 use Rattle.std.specs.Prelude.{◌≡◌, ◌<◌, ◌-◌, ◌^◌, true, List, All, IfSome}
 use Rattle.std.specs.List.{AllByRecursion}
 use Rattle.journal_format.specs.Fitting.{CallFits, StatusFits}
@@ -18,11 +19,12 @@ OutcomeFits (Attributes status) = StatusFits status
 OutcomeFits (Notice value) = IfSome value (λ n. n < 2 ^ 64)
 OutcomeFits (Refused fault) = Unit {0}
 
--- a call that had not returned ended at the greatest moment
+-- a call that had not returned ended at the greatest time
 abbrev pub EndsLast : Called → Type 0
 EndsLast c = is_pending c.operation.outcome ≡ true → c.operation.end ≡ 2 ^ 64 - 1
 
--- the call is of a process from 1 to 32, its other numbers fit their types, and one that had not returned ended at the greatest moment
+-- The call is of a process from 1 to 32, its other numbers fit their types, and if it had not
+-- returned, it ended at the greatest time.
 pub record Fits (c : Called) : Type 0 where
   pub process : is_process c.process ≡ true
   pub begin : c.operation.begin < 2 ^ 64
@@ -32,6 +34,6 @@ pub record Fits (c : Called) : Type 0 where
   pub outcome : OutcomeFits c.operation.outcome
   pub pending : EndsLast c
 
--- so is each call
+-- each call is such
 abbrev pub AllFit : List Called → Type 0
 AllFit calls = AllByRecursion Fits calls

@@ -5,8 +5,9 @@ use Rattle.history_judge.specs.Fitting.{AllFit, Fits}
 use Rattle.history_judge.specs.Text.{history_text, line_text}
 use Rattle.history_judge.specs.declared.line.Called.{Called}
 
--- The text ends to be a history's in this line: those before it are the lines of calls of processes from 1 to 32, there is something
--- after them, and it does not begin with the line of such a call.
+-- The text stops being that of a history in this line: the lines before it are those of calls of
+-- processes from 1 to 32, something follows them, and that does not start with the line of such a
+-- call.
 pub record StopsAt (line : ℕ) (text : List ℕ) : Type 0 where
   pub calls : List Called
   pub rest : List ℕ
@@ -16,7 +17,8 @@ pub record StopsAt (line : ℕ) (text : List ℕ) : Type 0 where
   pub some : 0 < length rest
   pub none : (c : Called) (others : List ℕ) → Fits c → rest ≢ line_text c ++ others
 
--- The text has a line that is too long, and this one is the first: those before it are the lines of calls.
+-- The text has a line that is too long, and this is the first one: the lines before it are those of
+-- calls.
 pub record HasLongLine (line : ℕ) (text : List ℕ) : Type 0 where
   pub calls : List Called
   pub rest : List ℕ
@@ -25,6 +27,6 @@ pub record HasLongLine (line : ℕ) (text : List ℕ) : Type 0 where
   pub line_is : line ≡ length calls + 1
   pub long : IsTooLong rest
 
--- this line of an input is the first that is not the line of such a call, or it is too long for one
+-- this line of an input is the first that is not the line of such a call, or is too long for one
 abbrev pub IsAtFault : ℕ → List ℕ → Type 0
 IsAtFault line text = StopsAt line text ⊎ HasLongLine line text

@@ -1,4 +1,4 @@
--- Histories of a process whose descriptors have this project's own numbers already.
+-- Histories of a process whose descriptors already have this library's numbers.
 use Rattle.std.specs.Prelude.{ℕ, ◌≡◌, ◌<◌, ◌⊎◌, ◌==◌, true, false, not, List, [], ◌∷◌, Some}
 use Rattle.std.specs.List.{filter}
 use Rattle.mq_model.specs.Descriptors.{descriptor_of}
@@ -9,8 +9,8 @@ use Rattle.histories.specs.declared.operation.Operation.{Operation}
 use Rattle.histories.specs.declared.operation.Outcome.{Outcome}
 use Rattle.histories.specs.declared.operation.Outcome.TheVariants.{Done, Opened}
 
--- the descriptors that a process holds after a call: an open that returned adds one, and a close
--- that was done takes one away
+-- The descriptors that a process holds after a call: an open that returned adds one, and a close
+-- that succeeded removes one.
 abbrev pub held_then : List ℕ → Call → Outcome → List ℕ
 held_then held call (Opened d) = d ∷ held
 held_then held (MqClose d) Done = filter (λ k. not (k == d)) held
@@ -22,12 +22,12 @@ pub record IsLowestFree (held : List ℕ) (d : ℕ) : Type 0 where
   pub free : is_in held d ≡ false
   pub below : (k : ℕ) → k < d → is_in held k ≡ true
 
--- a call names a descriptor that is held, or 16, which stands for each one that is not held
+-- a call names a descriptor that is held, or 16, which stands for any that is not held
 abbrev pub NamesOwn : List ℕ → Call → Type 0
 NamesOwn held call = (d : ℕ) → descriptor_of call ≡ Some d → (is_in held d ≡ true) ⊎ (d ≡ 16)
 
--- the operations have own numbers, from where the process holds these: each call names its
--- descriptor so, and each open that returned gave the lowest free number
+-- The operations have this library's numbers, if the process holds these at the start: each call
+-- names its descriptor in this way, and each open that returned gave the lowest free number.
 abbrev pub HaveOwnNumbers : List ℕ → List Operation → Type 0
 HaveOwnNumbers held [] = Unit {0}
 HaveOwnNumbers held (o ∷ operations) =

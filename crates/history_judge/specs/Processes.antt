@@ -1,4 +1,4 @@
--- The calls of a history by the processes that made them.
+-- The calls of a history, by process.
 use Rattle.std.specs.Prelude.{◌≡◌, ℕ, ◌+◌, Bool, true, nat_le, ◌==◌, ◌&&◌, max, List, [], ◌∷◌, Some, Vec, slice_get, if◌then◌else◌}
 use Rattle.std.specs.List.{list_all}
 use Rattle.std.specs.declared.alloc.Global.{Global}
@@ -25,7 +25,8 @@ operations_of process [] = []
 operations_of process (c ∷ calls) =
     if c.process == process then c.operation ∷ operations_of process calls else operations_of process calls
 
--- the operations of the first processes, each in the order of its calls: those of process p are at p - 1
+-- The operations of the first processes, each process's in the order of its calls. Those of process
+-- p are at p - 1.
 abbrev pub AreByProcess : List Called → Histories → Type 0
 AreByProcess calls histories =
     (index : ℕ) (operations : Vec Operation Global) → slice_get histories index ≡ Some operations →

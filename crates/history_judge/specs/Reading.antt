@@ -1,4 +1,5 @@
--- What the words of a line read as. Words that no call writes may read as one too: the line that it writes is then another.
+-- What the words of a line mean. Words that are in no line may be accepted as a call, too: then the
+-- line of that call differs.
 use Rattle.std.specs.Prelude.{◌≡◌, ◌≢◌, ℕ, ◌-◌, ◌^◌, false, nat_lt, List, [], ◌∷◌, drop, Option, None, Some, unwrap_or, codes, if◌then◌else◌}
 use Rattle.percent_encoding.specs.Percent.{percent_decode}
 use Rattle.text_io.specs.Words.{◌>>=◌, Word}
@@ -13,19 +14,19 @@ use Rattle.history_judge.specs.Text.{line_text, message_of, written_reply}
 use Rattle.history_judge.specs.declared.line.Called.{Called}
 use Rattle.history_judge.specs.declared.line.Parts.{Parts}
 
--- what was returned: the reply that has its words, and the message
+-- what was returned: the reply with its words, and the message
 abbrev pub Shown : Type 0
 Shown = Option Reply × List ℕ
 
 abbrev pub shown : Outcome → Shown
 shown outcome = (written_reply outcome, message_of outcome)
 
--- a message with its priority, which stand in the second word and in the third one, if it is there
+-- a message and its priority; the message is in the third word, if there is one
 abbrev pub message_at : ℕ → List Word → Option Shown
 message_at prio words =
     if nat_lt prio (2 ^ 32) then Some (Some (reply.Got prio None None), percent_decode (quoted_at (drop 1 (drop 1 words))).0) else None
 
--- what a reply shows, of which these are the words
+-- what a reply with these words shows
 abbrev pub shown_by : Reply → List Word → Option Shown
 shown_by (reply.Opened d created) words = Some (Some (reply.Opened d false), [])
 shown_by (reply.Queued notified) words = None
@@ -39,14 +40,14 @@ shown_by (reply.Notice value) words = Some (Some (reply.Notice value), [])
 shown_by reply.Done words = Some (Some reply.Done, [])
 shown_by (reply.Refused fault) words = Some (Some (reply.Refused fault), [])
 
--- what the words after the arrow read as
+-- what the words after the arrow mean
 unfoldable pub outcome_at : List Word → Option Shown
 outcome_at [] = Some (None, [])
 outcome_at (word ∷ words) = do
   reply ← reply_at (word ∷ words)
   shown_by reply (word ∷ words)
 
--- the parts of a line, seen without where its words lie
+-- the parts of a line, without the positions of its words
 pub record PartsSeen : Type 0 where
   pub process : ℕ
   pub begin : ℕ
@@ -75,7 +76,7 @@ parts_at words = do
   arrow ← word_at quoted.1
   Some (record { process = process.0; begin = begin.0; end = end.0; call = call.0; quoted = quoted.0; result = arrow.1 })
 
--- the call of these parts that came to this
+-- the call with these parts and this result
 abbrev pub called_of : PartsSeen → Shown → SeenCall
 called_of parts shown = record {
   process = parts.process;
@@ -89,10 +90,10 @@ called_of parts shown = record {
   };
 }
 
--- this is no call's line
+-- this is not the line of a call
 abbrev pub IsNoLine : List ℕ → Type 0
 IsNoLine line = (c : Called) → Fits c → line ≢ line_text c
 
--- of the calls that have this line the given one is seen as each
+-- each call with this line shows the same as the given one
 abbrev pub IsOneOf : List ℕ → Called → Type 0
 IsOneOf line called = (c : Called) → Fits c → line ≡ line_text c → seen_call called ≡ seen_call c

@@ -1,4 +1,4 @@
--- What is said of a history.
+-- The text of the result of checking a history.
 use Rattle.std.specs.Prelude.{ℕ, ◌+◌, ◌-◌, ◌^◌, Bool, min, List, [], ◌++◌, length, Option, None, Some, codes, if◌then◌else◌}
 use Rattle.std.specs.Fmt.{decimal}
 use Rattle.journal_format.specs.Text.{payload_text}
@@ -22,7 +22,7 @@ possible_line calls processes =
 abbrev pub shortness : Bool → List ℕ
 shortness is_shortest = if is_shortest then [] else codes ", perhaps not the shortest"
 
--- a message that was received more often than it was sent, as a line of a history names it
+-- a message that was received more often than it was sent, in the form of a line of a history
 abbrev pub reason : Option Excess → List ℕ
 reason None = []
 reason (Some e) =
@@ -34,8 +34,8 @@ impossible_line line calls is_shortest excess =
     codes "impossible: line " ++ (decimal line ++ (codes ", front part of " ++ (decimal calls ++
     (codes " calls" ++ (shortness is_shortest ++ (reason excess ++ codes "\n"))))))
 
--- a line, and behind it the journal that explains the history, where it is asked for, or the front part that is impossible. The
--- line of a call is counted from 1
+-- A line, and after it the journal that explains the history if `with_journal`, or the prefix that
+-- is not linearizable. The line of a call is counted from 1.
 abbrev pub judgement_text : List Called → Bool → Judgement → List ℕ
 judgement_text calls with_journal (Possible journal) =
     possible_line (length calls) (process_count calls) ++ (if with_journal then journal.items else [])

@@ -1,4 +1,4 @@
--- What is seen of a call. A copy of a call is seen as the call itself.
+-- What is seen of a call. A copy of a call shows the same as the call.
 use Rattle.std.specs.Prelude.{◌≡◌, ℕ, List, Option, map}
 use Rattle.mq_model.specs.declared.entries.Call.{Call}
 use Rattle.mq_model.specs.declared.entries.Reply.{Reply}
@@ -31,7 +31,7 @@ pub record SeenCall : Type 0 where
 abbrev pub seen_call : Called → SeenCall
 seen_call c = record { process = c.process; operation = seen c.operation }
 
--- the same operations, one by one, and the same calls
+-- the same operations, one by one; and the same calls
 abbrev pub AreSameOperations : List Operation → List Operation → Type 0
 AreSameOperations xs ys = map seen xs ≡ map seen ys
 

@@ -13,8 +13,8 @@ use Rattle.histories.specs.declared.operation.Outcome.{Outcome}
 use Rattle.histories.specs.declared.operation.Outcome.TheVariants.{Pending, Done, Opened, Got, Attributes, Notice, Refused}
 use Rattle.history_judge.specs.declared.line.Called.{Called}
 
--- what a call returned, as the reply of a journal that has its words: an open without whether it created its queue, and a receive
--- with the priority of its message where the place of the message stands
+-- What a call returned, as the reply of a journal with the same words: an open without whether it
+-- created its queue, and a receive with the priority of its message instead of the message's place.
 abbrev pub written_reply : Outcome → Option Reply
 written_reply Pending = None
 written_reply Done = Some reply.Done
@@ -24,27 +24,27 @@ written_reply (Attributes status) = Some (reply.Attrs status)
 written_reply (Notice value) = Some (reply.Notice value)
 written_reply (Refused fault) = Some (reply.Refused fault)
 
--- the message that a receive gave
+-- the message that a receive returned
 abbrev pub message_of : Outcome → List ℕ
 message_of (Got prio message) = message.items
 message_of _ = []
 
--- what a call returned: nothing where it had not returned
+-- what a call returned: nothing if it had not returned
 abbrev pub result_words : Option Reply → List ℕ → List Word
 result_words None message = []
 result_words (Some reply) message = reply_words reply ++ payload_words message
 
--- words, each behind a space
+-- words, each after a space
 abbrev pub spaced : List Word → List ℕ
 spaced [] = []
 spaced (word ∷ words) = 32 ∷ join_with_byte 32 (word ∷ words)
 
--- the moment at which an operation ended, if it had
+-- the time at which an operation ended, if it had
 abbrev pub end_of : Operation → Option ℕ
 end_of operation = if is_pending operation.outcome then None else Some operation.end
 
--- the words of a call: its process, the moments at which it began and ended, the call with its name or message, an arrow, and what it
--- returned
+-- The words of a call: its process, the times at which it began and ended, the call with its name
+-- or message, an arrow, and what it returned.
 abbrev pub words_between : ℕ → ℕ → Option ℕ → Call → List ℕ → List Word → List Word
 words_between process begin end call given result =
     decimal process ∷ decimal begin ∷ number_or (codes "-") end ∷
@@ -55,7 +55,7 @@ called_words c =
     words_between c.process c.operation.begin (end_of c.operation) c.operation.call
     c.operation.given.items (result_words (written_reply c.operation.outcome) (message_of c.operation.outcome))
 
--- the line of a call: its words, with a space between two, and a feed
+-- the line of a call: its words, separated by spaces, and a line feed
 unfoldable pub line_text : Called → List ℕ
 line_text c = join_with_byte 32 (called_words c) ++ 10 ∷ []
 

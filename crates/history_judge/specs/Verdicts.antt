@@ -1,4 +1,4 @@
--- What it is for a history to be possible, and what a judgement says of it.
+-- What it means that a history is linearizable, and what the result of a check says.
 use Rattle.std.specs.Prelude.{◌≡◌, ℕ, ◌+◌, ◌-◌, ◌<◌, Bool, true, false, is_none, map, min, List, length, IfSome, Option, Some, Vec, slice_get}
 use Rattle.std.specs.List.{list_all}
 use Rattle.std.specs.declared.alloc.Global.{Global}
@@ -21,13 +21,14 @@ use Rattle.history_judge.specs.declared.judgement.Answer.TheVariants as answer
 use Rattle.history_judge.specs.declared.judgement.Judgement.{Judgement}
 use Rattle.history_judge.specs.declared.judgement.Judgement.TheVariants.{Possible, Impossible, OutOfBudget}
 
--- the operations of the processes of these calls, each in the order of its calls and by own numbers of descriptors
+-- The operations of the processes of these calls, each process's in the order of its calls, with
+-- this library's numbers of descriptors.
 pub record AreHistoriesOf (calls : List Called) (histories : Histories) : Type 0 where
   pub count : length histories ≡ process_count calls
   pub each : (index : ℕ) (operations : Vec Operation Global) → slice_get histories index ≡ Some operations →
       AreSameOperations operations.items (renamed no_numbers (operations_of (index + 1) calls))
 
--- the journal is a linearization of these calls in which each that returned is completed
+-- the journal is a linearization of these calls in which each call that returned is completed
 pub record Explains (calls : List Called) (past : Past) : Type 0 where
   pub histories : Histories
   pub are : AreHistoriesOf calls histories
@@ -40,14 +41,15 @@ IsPossible calls = (past : Past) × Explains calls past
 abbrev pub IsImpossible : List Called → Type 0
 IsImpossible calls = (past : Past) → Explains calls past → ⊥
 
--- the text is of a journal that explains these calls. It agrees with real time where those of each process end in their order
+-- The text is that of a journal that explains these calls. It agrees with real time if the calls of
+-- each process end in order.
 pub record IsExplainedBy (calls : List Called) (text : List ℕ) : Type 0 where
   pub past : Past
   pub explains : Explains calls past
   pub real_time : EndInOrder explains.histories → AgreesWithRealTime explains.histories past
   pub written : text ≡ journal_text past
 
--- to try all orders of these calls takes so many steps, or more
+-- trying all orders of these calls takes at least this number of steps
 pub record UsesUp (budget : ℕ) (calls : List Called) : Type 0 where
   pub histories : Histories
   pub are : AreHistoriesOf calls histories
@@ -58,7 +60,7 @@ IsAnswer budget calls (answer.Possible journal) = IsExplainedBy calls journal.it
 IsAnswer budget calls answer.Impossible = IsImpossible calls
 IsAnswer budget calls answer.OutOfBudget = UsesUp budget calls
 
--- no call of these had returned when the history ended
+-- none of these calls had returned when the history ended
 abbrev pub are_pending : List Called → Bool
 are_pending calls = list_all (λ c. is_none c.operation.reply) (map seen_call calls)
 
@@ -68,8 +70,9 @@ pub record HasExcess (calls : List Called) (e : Excess) : Type 0 where
   pub are : AreHistoriesOf calls histories
   pub excess : IsExcess histories e
 
--- the front is an impossible front part, in which there is this excess, if one is given. It ends with the return of the call, and the whole history with the last return. Where it is
--- the shortest the front part before it is possible, and where it may not be the budget was used up on the way, at a shorter one
+-- The front is a prefix that is not linearizable, with this excess if one is given. It ends with
+-- the return of the call; the whole history ends with the last return. If it is the shortest, the
+-- prefix before it is linearizable. If it may not be, the budget was used up at a shorter prefix.
 pub record IsImpossibleFront (budget : ℕ) (calls : List Called) (call : ℕ) (front : List Called) (is_shortest : Bool) (excess : Option Excess) : Type 0 where
   pub returns : List Return
   pub are : AreReturnsOf calls returns

@@ -16,13 +16,13 @@ abbrev pub moment_by : (Operation → ℕ) → ℕ → Option Called → ℕ
 moment_by moment p None = 0
 moment_by moment p (Some c) = if c.process == p then moment c.operation else 0
 
--- the latest of these moments of those of the first n calls that process p made
+-- the latest of these times of the calls of process p, among the first n calls
 abbrev pub latest : (Operation → ℕ) → List Called → ℕ → ℕ → ℕ
 latest moment calls p zero = 0
 latest moment calls p (suc n) =
     max (latest moment calls p n) (moment_by moment p (slice_get calls n))
 
--- the latest moments at which calls of a process began and ended
+-- the latest times at which calls of a process began and ended
 pub record LatestMoments : Type 0 where
   pub begin : ℕ
   pub end : ℕ
@@ -45,14 +45,14 @@ takes_name (MqOpen flags attr) = true
 takes_name MqUnlink = true
 takes_name _ = false
 
--- the operation begins before those ended, and not at once with them: the closes of an exit begin and
--- end with it
+-- the operation begins before those ended, and does not begin and end together with them, as the
+-- closes of an exit do
 abbrev pub overlaps : LatestMoments → Operation → Bool
 overlaps before o =
     nat_lt o.begin before.end && not (o.begin == before.begin && o.end == before.end)
 
--- why a call may not stand behind others of its process, which began and ended at these moments at
--- the latest, and of which one had not returned if `pending`
+-- Why a call may not follow others of its process. These are the latest times at which they began
+-- and ended, and `pending` says whether one had not returned.
 abbrev pub fault_behind : Bool → LatestMoments → Called → Option IllFormed
 fault_behind pending before c =
     if pending then Some BehindPending
@@ -64,14 +64,14 @@ fault_behind pending before c =
 abbrev pub fault_of : List Called → ℕ → Called → Option IllFormed
 fault_of calls n c = fault_behind (has_pending calls c.process n) (latest_of calls c.process n) c
 
--- why the call at an index, from 0, may not stand behind those before it
+-- why the call at an index, counted from 0, may not follow those before it
 abbrev pub fault_at : List Called → ℕ → Option IllFormed
 fault_at calls n = option_and_then (fault_of calls n) (slice_get calls n)
 
 abbrev pub IsWellFormed : List Called → Type 0
 IsWellFormed calls = (n : ℕ) → fault_at calls n ≡ None
 
--- the call in this line, from 1, is the first that may not stand there, and this is why
+-- the call in this line, counted from 1, is the first that may not be there, and this is why
 pub record IsFirstFault (calls : List Called) (line : ℕ) (why : IllFormed) : Type 0 where
   pub index : ℕ
   pub line_is : line ≡ index + 1

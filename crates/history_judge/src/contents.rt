@@ -1,9 +1,9 @@
-//! What the queues of a history hold, as far as a heuristic to its order follows it.
+//! The contents of the queues of a history, as far as the heuristic tracks them.
 use crate::tasks::{Effect, Task};
 use std::alloc::{AllocError, Global};
 
-// A queue: whether its name is bound to it, for how many messages it has room, and the priorities and kinds of those that it holds, the
-// one that is received first in front.
+// A queue: whether it is bound to its name, for how many messages it has room, and the priorities
+// and kinds of its messages, the one that is received first in front.
 #[derive(Drop)]
 struct Contents {
     is_bound: bool,
@@ -11,15 +11,15 @@ struct Contents {
     messages: Vec<(u32, usize)>,
 }
 
-/// What changed when a task took effect, as far as it is needed to take that back.
+/// What changed when a task took effect, as far as undoing it needs.
 #[derive(Clone, Copy)]
 pub enum Change {
     Nothing,
-    /// A message entered at this place.
+    /// A message entered at this index.
     Entered(usize),
     /// This message left.
     Left((u32, usize)),
-    /// The name was bound or unbound. Before that it was so, with this room.
+    /// The name was bound or unbound. This is the state before, with the room of the queue.
     Bound { is_bound: bool, room: i64 },
 }
 
@@ -30,7 +30,7 @@ pub struct Queues {
 }
 
 impl Queues {
-    /// So many queues, whose names are not bound.
+    /// This number of queues, whose names are not bound.
     pub fn new(alloc: Global, count: usize) -> Result<Queues, AllocError> {
         let mut queues = Vec::new(alloc);
         for _ in 0..count {
@@ -43,7 +43,7 @@ impl Queues {
         Ok(Queues { queues })
     }
 
-    /// How many queues there are.
+    /// The number of queues.
     pub fn count(&self) -> usize {
         self.queues.len()
     }
@@ -56,7 +56,7 @@ impl Queues {
         }
     }
 
-    /// The task can take effect.
+    /// Whether the task can take effect.
     pub fn allow(&self, task: &Task) -> bool {
         let Some(queue) = self.queues.get(task.queue) else {
             return task.effect == Effect::Nothing;
@@ -82,7 +82,7 @@ impl Queues {
         }
     }
 
-    /// The task changes something.
+    /// Whether the task changes something.
     pub fn is_change(&self, task: &Task) -> bool {
         match task.effect {
             Effect::Sends | Effect::Receives | Effect::ReceivesAny | Effect::Unlinks => true,
@@ -94,7 +94,7 @@ impl Queues {
         }
     }
 
-    /// Lets a task take effect that can.
+    /// Applies the effect of a task, which must be able to take effect.
     pub fn change(&mut self, task: &Task) -> Result<Change, AllocError> {
         if task.queue >= self.queues.len() {
             return Ok(Change::Nothing);
@@ -109,7 +109,7 @@ impl Queues {
         }
     }
 
-    /// Takes back the last change of a queue.
+    /// Undoes the last change of a queue.
     pub fn restore(&mut self, queue: usize, change: Change) -> Result<(), AllocError> {
         if queue >= self.queues.len() {
             return Ok(());
@@ -131,7 +131,7 @@ impl Queues {
         Ok(())
     }
 
-    /// A number that tells what the queues hold, with others, from most that they could hold.
+    /// A hash of what the queues contain, mixed with `start`.
     pub fn digest(&self, start: u64) -> u64 {
         let mut digest = start;
         for queue in &self.queues {
@@ -144,13 +144,13 @@ impl Queues {
     }
 }
 
-/// A number with another one mixed in.
+/// Mixes a number into a hash.
 pub fn mixed(digest: u64, number: u64) -> u64 {
     let product = (digest ^ number).wrapping_mul(0x9E37_79B9_7F4A_7C15);
     product ^ (product >> 29)
 }
 
-// A message enters behind those of its priority.
+// A message enters after those of its priority.
 fn enter(queue: &mut Contents, task: &Task) -> Result<Change, AllocError> {
     let count = queue.messages.len();
     let place = queue
@@ -171,7 +171,7 @@ fn leave(queue: &mut Contents) -> Change {
     Change::Left(queue.messages.remove(0))
 }
 
-// A name is bound to its queue, unless it is so.
+// A name is bound to its queue, unless it already is.
 fn bind(queue: &mut Contents, room: i64) -> Change {
     if queue.is_bound {
         return Change::Nothing;

@@ -1,5 +1,6 @@
-//! Descriptors by this project's own numbers. An implementation may give any number to a descriptor: an open names the one that the
-//! later calls of its process use.
+//! Renumbering of descriptors. An implementation may return any descriptor numbers; this library
+//! returns the lowest free one. The operations of a history are renumbered to what this library
+//! returns. An open determines which later calls of its process are about its descriptor.
 ghost use Rattle.std.specs.Prelude.{◌≡◌, ◌<◌, IfOk, IfSome, is_none, position};
 ghost use Rattle.history_judge.specs.Descriptors.{held_at, lowest_free, no_numbers, numbers_after, own_call, own_number, own_outcome, renamed, after_opened, after_closed};
 
@@ -8,10 +9,10 @@ use mq_model::entries::Call;
 use mq_model::limits::DESCRIPTORS;
 use std::alloc::{AllocError, Global};
 
-// The number of the implementation at each number that a process holds.
+// The implementation's number for each of this library's numbers that a process holds.
 type Numbers = [Option<u32>; 16];
 
-// The first number at which a descriptor is held.
+// The first number under which a descriptor is held.
 fn held_at(numbers: &Numbers, d: u32) -> Option<usize>
     ensures first { result ≡ held_at numbers.now d }
     ensures few { IfSome result (λ number. number < 16) }
@@ -19,7 +20,7 @@ fn held_at(numbers: &Numbers, d: u32) -> Option<usize>
     numbers.iter().position(|number| *number == Some(d))
 }
 
-// The own number of a descriptor, or 16, which no process holds.
+// This library's number for a descriptor, or 16, which no process holds.
 fn own_number(numbers: &Numbers, d: u32) -> u32
     ensures { result ≡ own_number numbers.now d }
 {
@@ -47,7 +48,7 @@ fn lowest_free(numbers: &Numbers) -> u32
     }
 }
 
-// A call by the own number of its descriptor.
+// A call with this library's number for its descriptor.
 fn own_call(numbers: &Numbers, call: Call) -> Call
     ensures { result ≡ own_call numbers.now call }
 {
@@ -103,7 +104,7 @@ fn own_call(numbers: &Numbers, call: Call) -> Call
     }
 }
 
-// What a call returned, where an open gives the lowest number that is free.
+// What a call returned. An open returns the lowest free number.
 fn own_outcome(numbers: &Numbers, outcome: Outcome) -> Outcome
     ensures { result ≡ own_outcome numbers.now outcome }
 {
@@ -113,7 +114,7 @@ fn own_outcome(numbers: &Numbers, outcome: Outcome) -> Outcome
     }
 }
 
-// What a process holds after a call by its own number.
+// What a process holds after a call with this library's number.
 fn numbers_after(numbers: Numbers, call: Call, outcome: &Outcome) -> Numbers
     ensures { result ≡ numbers_after numbers call outcome.now }
 {
@@ -147,8 +148,8 @@ fn after_closed(mut numbers: Numbers, call: Call) -> Numbers
     }
 }
 
-/// Gives the descriptors of a process this project's own numbers, as its opens would: the lowest that is free. A call by a
-/// descriptor that the process does not hold gets the number 16, which is refused.
+/// Renumbers the descriptors of a process: each open returns the lowest free number. A call with a
+/// descriptor that the process does not hold gets the number 16, with which it fails.
 pub fn rename(alloc: Global, operations: Vec<Operation>) -> Result<Vec<Operation>, AllocError>
     ensures { IfOk result (λ own. own.items ≡ renamed no_numbers operations.items) }
 {

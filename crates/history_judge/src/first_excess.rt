@@ -1,4 +1,4 @@
-//! Where a message may first have been received more often than it was sent.
+//! The first place at which a message may have been received more often than it was sent.
 use crate::line::Called;
 use histories::operation::Outcome;
 use refutations::excess::may_have_sent;
@@ -7,16 +7,16 @@ use std::alloc::{AllocError, Global};
 // A message with its priority.
 type Message<'h> = (u32, &'h [u8]);
 
-/// The number of the first front part in which a message may have been received more often than it
-/// was sent. A guess, by the calls of all processes in the order of their moments: whoever uses it
-/// judges that front part.
+/// The index of the first prefix, by the order of returns, in which a message may have been
+/// received more often than it was sent. It is a guess, from the calls of all processes in the
+/// order of their times, so the caller checks that prefix.
 pub fn first_excess(
     alloc: Global,
     calls: &[Called],
     returns: &Vec<(u64, usize)>,
 ) -> Result<Option<usize>, AllocError> {
     let mut messages: Vec<Message> = Vec::new(alloc);
-    // begins of sends, and returns that take a message away
+    // the begins of sends, and the returns that account for a message
     let mut events: Vec<(u64, bool, usize)> = Vec::new(alloc);
     for (index, called) in calls.iter().enumerate() {
         let operation = &called.operation;
@@ -55,8 +55,8 @@ pub fn first_excess(
     Ok(None)
 }
 
-// The return of a call takes away a message that may have been there: it was received, or its send
-// was refused.
+// Whether the return of a call accounts for a message that may have been sent: it was received, or
+// its send failed.
 fn takes_away(called: &Called) -> bool {
     match called.operation.outcome {
         Outcome::Got { .. } => true,
@@ -64,7 +64,7 @@ fn takes_away(called: &Called) -> bool {
     }
 }
 
-// The message that a call received, and otherwise the one that it was given.
+// The message that a call received, or else the one that it was given.
 fn message_of(called: &Called) -> Message {
     let operation = &called.operation;
     match &operation.outcome {
@@ -73,7 +73,7 @@ fn message_of(called: &Called) -> Message {
     }
 }
 
-// The place of the return of the call at an index.
+// The index of the return of this call.
 fn place_of(returns: &Vec<(u64, usize)>, index: usize) -> Option<usize> {
     returns.iter().position(|one| one.1 == index)
 }

@@ -1,4 +1,4 @@
-//! The numbers of a call fit their types. Nothing is done where the program runs.
+//! The numbers of a call fit their types. These functions do nothing at run time.
 ghost use Rattle.std.specs.Prelude.{◌≡◌, ◌<◌, ◌^◌, true, All};
 ghost use Rattle.history_judge.specs.Fitting.{EndsLast, Fits, OutcomeFits};
 ghost use Rattle.history_judge.specs.Processes.{is_process};
@@ -35,8 +35,8 @@ fn outcome_fits(outcome: &Outcome)
     }
 }
 
-/// The numbers of a call of a process from 1 to 32 that ended at the greatest moment if it had not
-/// returned.
+/// The numbers of a call of a process from 1 to 32. If the call had not returned, it ended at the
+/// greatest time.
 pub fn fits(called: &Called)
     requires process { is_process called.now.process ≡ true }
     requires pending { EndsLast called.now }

@@ -1,4 +1,4 @@
-//! Front parts of a history.
+//! Prefixes of a history: what was seen of it until a return.
 ghost use Rattle.std.specs.Prelude.{◌≡◌, ◌++◌, ◌∷◌, ◌+◌, [], nat_le, nat_lt, ◌==◌, ◌||◌, IfOk, OnOk, map};
 ghost use Rattle.histories.specs.Histories.{is_pending};
 ghost use Rattle.history_judge.specs.Text.{message_of, written_reply};
@@ -9,8 +9,8 @@ use crate::line::Called;
 use histories::operation::{Operation, Outcome};
 use std::alloc::{AllocError, Global};
 
-/// The returns of a history in their order, each with its moment and the index of its call. Of two at one moment the one whose line
-/// comes first is the earlier.
+/// The returns of a history in order, each with its time and the index of its call. If two are at
+/// the same time, the one whose line comes first is the earlier.
 pub fn returns_of(alloc: Global, calls: &[Called]) -> Result<Vec<(u64, usize)>, AllocError>
     ensures { IfOk result (λ returns. AreReturnsOf calls.now returns.items) }
 {
@@ -24,7 +24,7 @@ pub fn returns_of(alloc: Global, calls: &[Called]) -> Result<Vec<(u64, usize)>, 
     Ok(returns)
 }
 
-// An operation had not returned when the history ended.
+// Whether an operation had not returned when the history ended.
 fn is_pending(operation: &Operation) -> bool
     ensures { result ≡ is_pending operation.now.outcome }
 {
@@ -34,7 +34,7 @@ fn is_pending(operation: &Operation) -> bool
     }
 }
 
-// What was returned again, which is seen alike.
+// A copy of what was returned.
 fn outcome_again(alloc: Global, outcome: &Outcome) -> Result<Outcome, AllocError>
     ensures reply { IfOk result (λ again. written_reply again ≡ written_reply outcome.now) }
     ensures message { IfOk result (λ again. message_of again ≡ message_of outcome.now) }
@@ -56,7 +56,7 @@ fn outcome_again(alloc: Global, outcome: &Outcome) -> Result<Outcome, AllocError
     }
 }
 
-// The same call again.
+// A copy of a call.
 fn again(alloc: Global, called: &Called) -> Result<Called, AllocError>
     ensures { IfOk result (λ again. seen_call again ≡ seen_call called.now) }
 {
@@ -75,7 +75,7 @@ fn again(alloc: Global, called: &Called) -> Result<Called, AllocError>
     })
 }
 
-// The same call, which has not returned.
+// A copy of a call that has not returned.
 fn under_way(alloc: Global, called: &Called) -> Result<Called, AllocError>
     ensures { IfOk result (λ again. seen_call again ≡ seen_call (under_way called.now)) }
 {
@@ -93,7 +93,7 @@ fn under_way(alloc: Global, called: &Called) -> Result<Called, AllocError>
     })
 }
 
-// The call at an index had returned when the last one did.
+// Whether the call at an index had returned when the call of `last` did.
 fn had_returned(last: (u64, usize), index: usize, operation: &Operation) -> bool
     ensures { result ≡ had_returned last index operation.now }
 {
@@ -101,8 +101,9 @@ fn had_returned(last: (u64, usize), index: usize, operation: &Operation) -> bool
         && (operation.end < last.0 || (operation.end == last.0 && index <= last.1))
 }
 
-/// The history as it was seen until the return of one of its calls: it, and those that returned before it, have returned. Of the
-/// others those that began until then have not returned.
+/// The prefix of the history until the return of one of its calls. That call, and those that
+/// returned before it, have returned. Of the others, those that began before that return are
+/// pending, and the rest are left out.
 pub fn front_of(
     alloc: Global,
     calls: &[Called],
@@ -139,7 +140,7 @@ fn add_under_way(alloc: Global, calls: &mut Vec<Called>, called: &Called) -> Res
     Ok(())
 }
 
-/// The whole history again.
+/// A copy of the whole history.
 pub fn whole_of(alloc: Global, calls: &[Called]) -> Result<Vec<Called>, AllocError>
     ensures { IfOk result (λ whole. AreSameCalls whole.items calls.now) }
 {

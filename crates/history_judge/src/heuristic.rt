@@ -1,19 +1,20 @@
-//! A guess at an order of a history's calls, by a search over the contents of its queues.
+//! A heuristic for the order of a history's calls: a search over the contents of its queues.
 //!
-//! The order is a hint for the judgement, which does not depend on it: here nothing is proved but that the search ends and is safe.
+//! The order is a hint for the check of the history, whose result does not depend on it. Nothing is
+//! proved about it here, except that the search ends and is safe.
 use crate::contents::{Change, Queues, mixed};
 use crate::tasks::{Effect, Task, Tasks};
 use crate::windows::{Guess, Windows};
 use std::alloc::{AllocError, Global};
 use std::collections::HashSet;
 
-// How many constraints a heuristic draws at most.
+// The maximum number of constraints that are learned.
 const MOST_CONSTRAINTS: usize = 40;
 
-// How many calls of a process are looked at, from its next one on, for those that must come first.
+// How many calls of a process, from its next one on, are searched for those that must come first.
 const AHEAD: usize = 32;
 
-/// The calls of a history of which some have taken effect.
+/// The state of the search: the calls of a history, of which some have taken effect.
 #[derive(Drop)]
 pub struct Heuristic {
     tasks: Vec<Vec<Task>>,
@@ -26,38 +27,38 @@ pub struct Heuristic {
     constraints: Vec<LearnedConstraint>,
 }
 
-// A message by its kind, and by how many of that kind were sent before.
+// A message: its kind, and how many of that kind were sent before it.
 type Numbered = (usize, usize);
 
-// What was learned where no call could come next: the first message is to be sent before the other one.
+// What was learned at a dead end: the message `first` must be sent before `other`.
 #[derive(Clone, Copy, PartialEq, Eq)]
 struct LearnedConstraint {
     first: Numbered,
     other: Numbered,
 }
 
-// What a search came to: an order, or what can be learned from its longest dead end.
+// The result of a search: an order, or what can be learned from its longest dead end.
 #[derive(Drop)]
 enum Trial {
     Found(Vec<usize>),
     Stuck(Option<LearnedConstraint>),
 }
 
-// When a call is to be tried of those that can come next.
+// When to try a call, among those that can come next.
 #[derive(Clone, Copy)]
 enum Turn {
-    // At once: nothing is lost by that.
+    // At once: this excludes no order.
     First,
-    // Before those whose guess is later.
+    // Before those with a later guess.
     By(Guess),
-    // Not now: another call must come before it, or may as well.
+    // Not now: another call must come before it, or can as well.
     Later,
 }
 
-// A process that can go on, behind the guess at when.
+// A process that can take a step, with the guess at its time.
 type Choice = (Guess, usize);
 
-// A call that took effect, and what can be tried in its place, and how many of these were tried.
+// A call that took effect, the choices instead of it, and how many of these were tried.
 #[derive(Drop)]
 struct Move {
     process: usize,
@@ -87,8 +88,9 @@ impl Heuristic {
         })
     }
 
-    /// The processes in an order in which their calls can take effect, if one is found: by short searches, each with what the ones before
-    /// taught, and by one of so many steps.
+    /// The processes in an order in which their calls can take effect, if one is found. It makes
+    /// short searches, each with the constraints that the earlier ones taught, and then one of
+    /// `steps` steps.
     pub fn order(&mut self, alloc: Global, steps: u64) -> Result<Option<Vec<usize>>, AllocError> {
         let short = self.call_count().saturating_mul(2).saturating_add(2000);
         for _ in 0..MOST_CONSTRAINTS {
@@ -113,7 +115,7 @@ impl Heuristic {
         count
     }
 
-    // Back to where no call has taken effect.
+    // Returns to the state in which no call has taken effect.
     fn restart(&mut self, alloc: Global) -> Result<(), AllocError> {
         let made = vec![in alloc; 0usize; self.made.len()]?;
         let sent = vec![in alloc; 0usize; self.sent.len()]?;
@@ -124,7 +126,7 @@ impl Heuristic {
         Ok(())
     }
 
-    // A search from the start on, in so many steps.
+    // A search from the start, of at most `steps` steps.
     fn search(&mut self, alloc: Global, steps: u64) -> Result<Trial, AllocError> {
         self.restart(alloc)?;
         let mut longest = 0;
@@ -184,7 +186,7 @@ impl Heuristic {
         self.tasks.get(process)?.get(*self.made.get(process)?)
     }
 
-    // The next tasks of a process, from the next one on.
+    // The tasks of a process from the next one on, as far as they are searched.
     fn ahead(&self, process: usize) -> &[Task] {
         let Some(tasks) = self.tasks.get(process) else {
             return &[];
@@ -196,7 +198,7 @@ impl Heuristic {
         rest.get(..AHEAD).unwrap_or(rest)
     }
 
-    // Each process is through with its calls, or had not returned from the next one.
+    // Whether the calls of each process have taken effect, except a last one that had not returned.
     fn is_through(&self) -> bool {
         (0..self.made.len()).all(|process| match self.next(process) {
             Some(task) => task.end == u64::MAX,
@@ -204,7 +206,8 @@ impl Heuristic {
         })
     }
 
-    // The moment by which some call ends that has not taken effect: no later call takes effect before it.
+    // The earliest end of a call that has not taken effect. Calls that begin later take effect
+    // after it.
     fn limit(&self) -> u64 {
         let mut limit = u64::MAX;
         for process in 0..self.made.len() {
@@ -252,7 +255,7 @@ impl Heuristic {
         }
     }
 
-    // A send comes when its message is guessed to have been sent.
+    // A send is tried at the guess at the time of its message.
     fn turn_of_send(&self, process: usize, task: &Task, limit: u64) -> Turn {
         if self.has_better(process, task, limit) || self.must_wait(task) {
             return Turn::Later;
@@ -260,7 +263,7 @@ impl Heuristic {
         Turn::By(self.windows.guess_of(task.kind, self.sent_of(task)))
     }
 
-    // A receive comes at once where nobody can miss its message.
+    // A receive is tried at once if no other call can need its message.
     fn turn_of_receive(&self, process: usize, task: &Task, limit: u64) -> Turn {
         if self.has_better(process, task, limit) {
             return Turn::Later;
@@ -272,7 +275,7 @@ impl Heuristic {
         }
     }
 
-    // Another call that can take effect does the same, and ends earlier.
+    // Whether another call that can take effect does the same and ends earlier.
     fn has_better(&self, process: usize, task: &Task, limit: u64) -> bool {
         (0..self.made.len()).any(|other| match self.next(other) {
             Some(one) => {
@@ -285,7 +288,7 @@ impl Heuristic {
         })
     }
 
-    // Some call of the queue that begins before the send ends must come before it.
+    // Whether some call on the queue that begins before the send ends must come before the send.
     fn must_wait(&self, task: &Task) -> bool {
         let received = self.received_from(task);
         self.is_too_early(task)
@@ -298,7 +301,8 @@ impl Heuristic {
             })
     }
 
-    // A message that was learned to be sent before this one was not sent.
+    // Whether a message that must be sent before this one, by a learned constraint, has not been
+    // sent.
     fn is_too_early(&self, task: &Task) -> bool {
         let number = (task.kind, self.sent_of(task));
         self.constraints.iter().any(|constraint| {
@@ -310,12 +314,13 @@ impl Heuristic {
         })
     }
 
-    // A call must come before a send whose message is received from a moment on.
+    // Whether a call must come before a send whose message is not received before the time
+    // `received`.
     fn comes_first(&self, one: &Task, task: &Task, received: u64) -> bool {
         match one.effect {
-            // The message would be there.
+            // It would not find the queue empty.
             Effect::FindsEmpty => one.end < received,
-            // The message would be received in place of one of less priority.
+            // It would receive this message, which has a higher priority, instead of its own.
             Effect::Receives => one.end < received && one.prio < task.prio,
             // Messages of one priority are received in the order of their sends.
             Effect::Sends => {
@@ -330,7 +335,7 @@ impl Heuristic {
         }
     }
 
-    // Some call that begins before the receive ends may need its message.
+    // Whether some call that begins before the receive ends may need the message to be there.
     fn is_missed(&self, task: &Task) -> bool {
         (0..self.made.len()).any(|process| {
             self.ahead(process).iter().any(|one| {
@@ -345,12 +350,12 @@ impl Heuristic {
         })
     }
 
-    // The moment before which the next message of a kind is not received.
+    // The earliest time at which the next message of a kind is received.
     fn received_from(&self, task: &Task) -> u64 {
         self.windows.begin(task.kind, self.sent_of(task))
     }
 
-    // The moment until which the next message of a kind is received, if it is.
+    // The latest time at which the next message of a kind is received, if it is.
     fn received_by(&self, task: &Task) -> Option<u64> {
         self.windows.end(task.kind, self.sent_of(task))
     }
@@ -359,7 +364,7 @@ impl Heuristic {
         self.sent.get(task.kind).copied().unwrap_or(0)
     }
 
-    // What can be learned of a call that can't come next and whose end the others wait for.
+    // What can be learned from the call that has to end next and cannot come next.
     fn constraint(&self, alloc: Global) -> Result<Option<LearnedConstraint>, AllocError> {
         let limit = self.limit();
         for process in 0..self.made.len() {
@@ -399,7 +404,8 @@ impl Heuristic {
         Ok(numbered)
     }
 
-    // The first message of a kind is to be sent before the one in front, which has its priority.
+    // The first message of a kind must be sent before the message in front, which has the same
+    // priority.
     fn in_front(&self, messages: &[(u32, Numbered)], kind: usize) -> Option<LearnedConstraint> {
         let (head_prio, head) = messages.first()?;
         let (prio, first) = messages.iter().find(|message| (message.1).0 == kind)?;
@@ -412,7 +418,7 @@ impl Heuristic {
         })
     }
 
-    // A message that can be received next is to be sent before the one in front, so that there is room.
+    // A message that can be received next must be sent before the message in front, to leave room.
     fn room_in_front(
         &self,
         messages: &[(u32, Numbered)],
@@ -436,7 +442,7 @@ impl Heuristic {
         best
     }
 
-    // A message is to be sent before one whose send may come after it, so that there is room.
+    // A message must be sent before one whose send may come after it, to leave room.
     fn room_behind(
         &self,
         messages: &[(u32, Numbered)],
@@ -461,7 +467,7 @@ impl Heuristic {
         best
     }
 
-    // A constraint about two messages of which none was drawn.
+    // The constraint, unless one about these two messages was learned already.
     fn if_new(&self, constraint: LearnedConstraint) -> Option<LearnedConstraint> {
         let turned = LearnedConstraint {
             first: constraint.other,
@@ -475,7 +481,7 @@ impl Heuristic {
         if is_old { None } else { Some(constraint) }
     }
 
-    // Lets the next call of a process take effect.
+    // The next call of a process takes effect.
     fn go_on(&mut self, process: usize) -> Result<Change, AllocError> {
         let Some(task) = self.next(process).copied() else {
             return Ok(Change::Nothing);
@@ -490,7 +496,7 @@ impl Heuristic {
         Ok(change)
     }
 
-    // Takes back the last call of a process, which was the last one of all.
+    // Undoes the last call of a process, which was the last of all.
     fn go_back(&mut self, process: usize, change: Change) -> Result<(), AllocError> {
         if process < self.made.len() {
             self.made[process] = self.made[process].saturating_sub(1);
@@ -504,7 +510,7 @@ impl Heuristic {
         self.queues.restore(task.queue, change)
     }
 
-    // A number that tells this state from most others.
+    // A hash of this state.
     fn digest(&self) -> u64 {
         let mut digest = 0;
         for made in &self.made {

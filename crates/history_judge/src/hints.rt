@@ -1,4 +1,4 @@
-//! In which order the operations of a history are best tried.
+//! The hints: in which order the operations of a history are best tried.
 ghost use Rattle.std.specs.Prelude.{◌≡◌, ◌+◌, IfOk, OnOk, length, vec_len};
 
 use crate::heuristic::Heuristic;
@@ -6,13 +6,13 @@ use crate::tasks::tasks_of;
 use histories::operation::{Operation, Outcome};
 use std::alloc::{AllocError, Global};
 
-// The least steps of a heuristic, and how many more there are for each operation.
+// The minimum number of steps of the heuristic, and the additional steps for each operation.
 const STEPS: u64 = 100_000;
 
 const STEPS_EACH: u64 = 50;
 
-/// A number for each operation, and one more behind those of each process: by an order that a heuristic finds, and where it finds none by
-/// the ends of the operations.
+/// A number for each operation, and one more at the end for each process. They are the positions in
+/// an order that the heuristic finds, or if it finds none, the ends of the operations.
 pub fn hints_of(alloc: Global, histories: &Vec<Vec<Operation>>) -> Result<Vec<Vec<u64>>, AllocError>
     ensures { IfOk result (λ hints. length hints.items ≡ length histories.now.items) }
 {
@@ -34,7 +34,8 @@ fn operation_count(histories: &Vec<Vec<Operation>>) -> u64 {
     count
 }
 
-// The places of the operations in an order of their processes. Those that are not in it come last.
+// The positions of the operations in an order of their processes. Those that are not in it come
+// last.
 fn hints_by_order(
     alloc: Global,
     histories: &Vec<Vec<Operation>>,
@@ -53,7 +54,7 @@ fn hints_by_order(
     Ok(hints)
 }
 
-// The greatest number for each operation, and one more.
+// The greatest number for each operation, and one more for each process.
 fn last_of(alloc: Global, histories: &Vec<Vec<Operation>>) -> Result<Vec<Vec<u64>>, AllocError>
     ensures { IfOk result (λ hints. length hints.items ≡ length histories.now.items) }
 {
@@ -72,7 +73,8 @@ fn push_last(alloc: Global, hints: &mut Vec<Vec<u64>>, count: usize) -> Result<(
     Ok(())
 }
 
-// A send is best tried by the end of the receive that got its message, and each other operation by its own end.
+// The hint of a send is the end of the receive that got its message, and that of any other
+// operation is its own end.
 fn hints_by_ends(
     alloc: Global,
     histories: &Vec<Vec<Operation>>,
@@ -104,7 +106,7 @@ fn ends_of(alloc: Global, histories: &Vec<Vec<Operation>>) -> Result<Vec<Vec<u64
     Ok(hints)
 }
 
-// Adds the ends of the operations of a process, and one more.
+// Appends the ends of the operations of a process, and one more.
 fn push_ends(
     alloc: Global,
     hints: &mut Vec<Vec<u64>>,
@@ -121,7 +123,7 @@ fn push_ends(
     Ok(())
 }
 
-// The first place from here on of a message that is no less than this one.
+// The first index, from `from` on, of a message that is not less than this one.
 fn first_from(received: &[(u32, &[u8], u64)], from: usize, prio: u32, message: &[u8]) -> usize {
     for at in from..received.len() {
         if received[at].0 > prio || (received[at].0 == prio && received[at].1 >= message) {
@@ -131,7 +133,7 @@ fn first_from(received: &[(u32, &[u8], u64)], from: usize, prio: u32, message: &
     received.len()
 }
 
-// The end of the receive at a place, if it got this message.
+// The end of the receive at an index, if it got this message.
 fn end_at(received: &[(u32, &[u8], u64)], at: usize, prio: u32, message: &[u8]) -> Option<u64> {
     match received.get(at) {
         Some((other, bytes, end)) if *other == prio && *bytes == message => Some(*end),
@@ -139,7 +141,7 @@ fn end_at(received: &[(u32, &[u8], u64)], at: usize, prio: u32, message: &[u8]) 
     }
 }
 
-// The messages that were received, in order, each with the end of the receive.
+// The messages that were received, sorted, each with the end of its receive.
 fn received(
     alloc: Global,
     histories: &Vec<Vec<Operation>>,
@@ -156,7 +158,7 @@ fn received(
     Ok(received)
 }
 
-// The messages that were sent, in order, each with the begin of the send and where it stands.
+// The messages that were sent, sorted, each with the begin of its send, its process and its index.
 fn sent(
     alloc: Global,
     histories: &Vec<Vec<Operation>>,

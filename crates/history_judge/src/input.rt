@@ -1,4 +1,4 @@
-//! A history from its text on an input, which is read as it comes.
+//! Reading a history as text from an input, line by line.
 ghost use Rattle.std.specs.Prelude.{◌≡◌, ◌<◌, ◌+◌, ◌++◌, ℕ, List, false, IfOk, IsErrOf, OnOk, Some, length, take};
 ghost use Rattle.journal_format.specs.Lines.{ReadsUpTo};
 ghost use Rattle.journal_format.specs.Text.{has_feed};
@@ -14,11 +14,14 @@ use journal_format::lines::{Lines, MOST_BYTES};
 use std::alloc::Global;
 use std::io::Read;
 
-/// The calls whose text an input has: of a longer input the first 2^40 + 1 bytes. Each line is read
-/// as it comes, and no more of the text is kept than the line that lacks its feed yet.
-/// `JournalFault::BadLine`: this line, counted from 1, is the first that is not the line of a call
-/// of a process from 1 to 32, or it has no feed within `MOST_LINE` bytes; and no read was made
-/// after those that brought so much of it. `JournalFault::Input`: a read failed.
+/// The calls whose text the input has; of a longer input only the first 2^40 + 1 bytes are read.
+/// Each line is parsed as soon as it is read, and no text is kept except the last line until its
+/// line feed.
+///
+/// - `JournalFault::BadLine`: this line, counted from 1, is the first that is not the line of a
+///   call of a process from 1 to 32, or it has no line feed within `MOST_LINE` bytes. No read was
+///   made after those that returned it.
+/// - `JournalFault::Input`: a read failed.
 pub fn read_input<R: Read>(alloc: Global, input: &mut R) -> Result<Vec<Called>, JournalFault>
     ensures found { (all : List ℕ) → R.remaining input.old ≡ Some all →
         IfOk result (λ calls. take (MOST_BYTES + 1) all ≡ history_text calls.items) }
@@ -36,7 +39,8 @@ pub fn read_input<R: Read>(alloc: Global, input: &mut R) -> Result<Vec<Called>, 
     whole(calls, lines.rest.as_slice())
 }
 
-// Reads the lines that have come behind the calls. What stands after the last feed is the rest.
+// Parses the lines in `rest` and appends their calls. What follows the last line feed stays in
+// `rest`.
 fn take_in(alloc: Global, calls: &mut Vec<Called>, rest: &mut Vec<u8>) -> Result<(), JournalFault>
     requires fits { AllFit calls.old.items }
     ensures fits { OnOk result (AllFit calls.new.items) }

@@ -1,4 +1,4 @@
-//! Whether a history is possible.
+//! Checking whether a history is linearizable.
 ghost use Rattle.std.specs.Prelude.{◌≡◌, ◌≤◌, ◌<◌, IfOk, IfSome, Ok, false, length, vec_len};
 ghost use Rattle.history_judge.specs.Seen.{AreSameCalls};
 ghost use Rattle.history_judge.specs.Fronts.{front_part};
@@ -19,18 +19,19 @@ use refutations::excess::{Excess, find_excess};
 use schedules::search::Finding;
 use std::alloc::{AllocError, Global};
 
-/// Whether the calls of a history have a legal order.
+/// Whether a history is linearizable.
 #[derive(Debug, Drop)]
 pub enum Answer {
-    /// They have, and this is the text of a journal that has it.
+    /// It is, and this is the text of a journal that explains it.
     Possible(Vec<u8>),
-    /// They have none.
+    /// It is not.
     Impossible,
     /// The budget was used up before either was known.
     OutOfBudget,
 }
 
-/// Whether these calls of processes from 1 to 32 have a legal order, within so many steps.
+/// Whether these calls of processes from 1 to 32 are linearizable, found within `budget` steps.
+/// Fails if memory was refused.
 pub fn find_order(alloc: Global, calls: Vec<Called>, budget: u64) -> Result<Answer, AllocError>
     requires { AreOfProcesses calls.items }
     ensures answer { IfOk result (IsAnswer budget calls.items) }
@@ -53,7 +54,7 @@ pub fn find_order(alloc: Global, calls: Vec<Called>, budget: u64) -> Result<Answ
     }
 }
 
-// The operations of the processes of these calls, by own numbers of descriptors.
+// The operations of the processes of these calls, with this library's numbers of descriptors.
 fn histories_of(alloc: Global, calls: Vec<Called>) -> Result<Vec<Vec<Operation>>, AllocError>
     ensures are { IfOk result (λ histories. AreHistoriesOf calls.items histories.items) }
     ensures few { IfOk result (λ histories. length histories.items ≤ 32) }
@@ -68,20 +69,20 @@ fn histories_of(alloc: Global, calls: Vec<Called>) -> Result<Vec<Vec<Operation>>
     Ok(histories)
 }
 
-/// What a history comes to.
+/// The result of checking a history.
 #[derive(Debug, Drop)]
 pub enum Judgement {
-    /// It is possible, and this is the text of a journal that explains it.
+    /// It is linearizable, and this is the text of a journal that explains it.
     Possible {
         journal: Vec<u8>,
     },
-    /// It is not, and neither is what was seen of it until the return of this call.
+    /// It is not linearizable, and neither is its prefix until the return of this call.
     Impossible {
         /// The index of the call.
         call: usize,
-        /// What was seen until then.
+        /// The prefix until then.
         front: Vec<Called>,
-        /// What was seen until the return before it is possible.
+        /// Whether the prefix until the return before it is linearizable.
         is_shortest: bool,
         /// A message that was received more often than it was sent until then, if one is found.
         excess: Option<Excess>,
@@ -90,7 +91,8 @@ pub enum Judgement {
     OutOfBudget,
 }
 
-/// Judges a history of processes from 1 to 32, each of its front parts within so many steps.
+/// Checks a history of processes from 1 to 32, and each prefix that it tries, within `budget` steps
+/// each. Fails if memory was refused.
 pub fn judge_calls(alloc: Global, calls: &[Called], budget: u64) -> Result<Judgement, AllocError>
     requires { AreOfProcesses calls.now }
     ensures { IfOk result (IsJudgement budget calls.now) }
@@ -104,7 +106,7 @@ pub fn judge_calls(alloc: Global, calls: &[Called], budget: u64) -> Result<Judge
     }
 }
 
-// The shortest front part that is impossible, of a history that is.
+// The shortest prefix that is not linearizable, of a history that is not.
 fn shortest(alloc: Global, calls: &[Called], budget: u64) -> Result<Judgement, AllocError>
     requires processes { AreOfProcesses calls.now }
     requires impossible { IsImpossible calls.now }
@@ -113,7 +115,8 @@ fn shortest(alloc: Global, calls: &[Called], budget: u64) -> Result<Judgement, A
 {
     let returns = returns_of(alloc, calls)?;
     let guess = first_excess(alloc, calls, &returns)?;
-    // the front part `bad` is impossible, and those before `good` are not known to be. Behind the last return it is the whole history
+    // The prefix `bad` is not linearizable, and no prefix before `good` is known not to be. The
+    // prefix after the last return is the whole history.
     let mut good = 0;
     let mut bad = returns.len();
     let mut is_shortest = true;
@@ -141,8 +144,8 @@ fn shortest(alloc: Global, calls: &[Called], budget: u64) -> Result<Judgement, A
     })
 }
 
-// Which of the front parts from `good` on and before `bad` is judged next: the one that may be the
-// shortest with an excess, and if that is `bad` the one before, and else one in the middle.
+// The next prefix to check, from `good` on and before `bad`. It is the guess at the shortest one
+// with an excess; if that is `bad`, it is the one before; otherwise it is one in the middle.
 fn next_to_try(good: usize, bad: usize, guess: Option<usize>) -> usize
     requires { good < bad }
     ensures { (good ≤ result) × (result < bad) }
@@ -161,8 +164,8 @@ fn next_to_try(good: usize, bad: usize, guess: Option<usize>) -> usize
     }
 }
 
-// A message that was received more often than it was sent in the front part with a number, if one
-// is found.
+// A message that was received more often than it was sent in the prefix with this index, if one is
+// found.
 fn excess_in(
     alloc: Global,
     calls: &[Called],
@@ -177,7 +180,7 @@ fn excess_in(
     find_excess(alloc, &histories)
 }
 
-// The front part with a number: that until a return, or the whole history.
+// The prefix with this index: until a return, or the whole history.
 fn front_part(
     alloc: Global,
     calls: &[Called],
@@ -193,7 +196,7 @@ fn front_part(
     front_of(alloc, calls, returns[number])
 }
 
-// Whether the front part with a number has a legal order.
+// Whether the prefix with this index is linearizable.
 fn judge_front(
     alloc: Global,
     calls: &[Called],

@@ -1,4 +1,5 @@
-//! Concurrent histories as text, one line a call, and judgements of them.
+//! Concurrent histories as text, one line for each call, and checking whether they are
+//! linearizable.
 #![tactic(auto)]
 
 pub mod contents;

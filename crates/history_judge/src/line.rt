@@ -1,4 +1,4 @@
-//! The line of a call.
+//! The line of a call of a history.
 ghost use Rattle.std.specs.Prelude.{◌≡◌, ◌-◌, ◌^◌, true, false, IfOk, IfSome, MatchOption, codes, string_bytes, unwrap_or};
 ghost use Rattle.std.specs.Option.{option_map};
 ghost use Rattle.journal_format.specs.Reading.{words_at};
@@ -27,7 +27,7 @@ pub struct Called {
     pub operation: Operation,
 }
 
-// The moment at which an operation ended, or a dash where it had not.
+// The time at which an operation ended, or a dash if it had not.
 fn end_text(alloc: Global, operation: &Operation) -> Result<String, AllocError>
     ensures { IfOk result (λ text. string_bytes text ≡
         number_or (codes "-") (end_of operation.now)) }
@@ -53,7 +53,8 @@ pub fn line_of(alloc: Global, called: &Called) -> Result<String, AllocError>
     format!(in alloc; "{process} {begin} {end} {call}{quoted} ->{outcome}\n")
 }
 
-// What the words of a line read as, what stands between the quotes of its call, and the words after its arrow.
+// The parts of a line: what its words mean, what is between the quotes of its call, and the words
+// after its arrow.
 #[derive(Drop)]
 struct Parts<'w, 's> {
     process: u32,
@@ -84,7 +85,8 @@ fn parts_of<'w, 's>(words: &'w [&'s [u8]]) -> Option<Parts<'w, 's>>
     })
 }
 
-// The moment at which a call ended that came to this: the one that its line has, or the greatest where it had not returned.
+// The time at which a call with this result ended: the one in its line, or the greatest if it had
+// not returned.
 fn end_read(outcome: &Outcome, written: Option<u64>) -> u64
     ensures pending { is_pending outcome.now ≡ true → result ≡ 2 ^ 64 - 1 }
     ensures returned { is_pending outcome.now ≡ false → result ≡ unwrap_or written (2 ^ 64 - 1) }
@@ -95,12 +97,12 @@ fn end_read(outcome: &Outcome, written: Option<u64>) -> u64
     }
 }
 
-/// The call of a process from 1 to 32 whose line this is, if it is one. The line ends with its
-/// feed.
+/// The call of a process from 1 to 32 with this line, if it is the line of one. The line ends with
+/// its line feed.
 pub fn read_line(alloc: Global, line: &[u8]) -> Result<Option<Called>, AllocError>
-    // What is read is written as it was.
+    // The line of the call that is read is this one.
     ensures found { IfOk result (λ read. IfSome read (λ called. line.now ≡ line_text called)) }
-    // What was written is read as it was.
+    // If this is the line of a call, that call is read.
     ensures only { IfOk result (λ read. MatchOption read (IsNoLine line.now) (IsOneOf line.now)) }
     ensures fits { IfOk result (λ read. IfSome read Fits) }
 {
@@ -126,7 +128,8 @@ pub fn read_line(alloc: Global, line: &[u8]) -> Result<Option<Called>, AllocErro
             outcome,
         },
     };
-    // Words that no line has may have been read, as numbers with zeros in front: then the line of what was read is another.
+    // Words that no line has may have been accepted, such as numbers with leading zeros. Then the
+    // line of the call that was read differs.
     let written = line_of(alloc, &called)?;
     if written.as_bytes() != line {
         return Ok(None);

@@ -1,4 +1,4 @@
-//! What a call returned, in words.
+//! The words for what a call returned.
 ghost use Rattle.std.specs.Prelude.{◌≡◌, IfOk, drop, string_bytes};
 ghost use Rattle.std.specs.Option.{option_map};
 ghost use Rattle.journal_format.specs.Reading.{words_at};
@@ -13,7 +13,7 @@ use mq_model::entries::Reply;
 use percent_encoding::percent_decode;
 use std::alloc::{AllocError, Global};
 
-// The reply of a journal that has the words of what was returned.
+// The reply of a journal with the same words as what was returned.
 fn written_reply(outcome: &Outcome) -> Option<Reply>
     ensures { result ≡ written_reply outcome.now }
 {
@@ -35,7 +35,7 @@ fn written_reply(outcome: &Outcome) -> Option<Reply>
     }
 }
 
-// The message that a receive gave.
+// The message that a receive returned.
 fn message_of(outcome: &Outcome) -> &[u8]
     ensures { result.now ≡ message_of outcome.now }
 {
@@ -45,7 +45,8 @@ fn message_of(outcome: &Outcome) -> &[u8]
     }
 }
 
-/// The words of what was returned, each behind a space, and nothing of a call that had not returned.
+/// The words for what was returned, each after a space, and nothing for a call that had not
+/// returned.
 #[tactic(auto, using(crate::proofs::Joining::result_parts))]
 pub fn outcome_text(alloc: Global, outcome: &Outcome) -> Result<String, AllocError>
     ensures { IfOk result (λ text. string_bytes text ≡
@@ -61,7 +62,8 @@ pub fn outcome_text(alloc: Global, outcome: &Outcome) -> Result<String, AllocErr
     }
 }
 
-/// What the words after the arrow read as. Words that no line has may be read, too: the line of what was read is then another.
+/// What the words after the arrow mean. Words that no line has may be accepted, too; then the line
+/// of what was read differs.
 #[tactic(auto, unfolding(crate::specs::Reading::outcome_at))]
 pub fn outcome_of(alloc: Global, words: &[&[u8]]) -> Result<Option<Outcome>, AllocError>
     ensures { IfOk result (λ read. option_map shown read ≡ outcome_at (words_at words.now)) }
@@ -87,7 +89,7 @@ pub fn outcome_of(alloc: Global, words: &[&[u8]]) -> Result<Option<Outcome>, All
     }
 }
 
-// The words behind the first one.
+// The words after the first one.
 fn behind_first<'w, 's>(words: &'w [&'s [u8]]) -> &'w [&'s [u8]]
     ensures { words_at result.now ≡ drop 1 (words_at words.now) }
 {
@@ -97,7 +99,7 @@ fn behind_first<'w, 's>(words: &'w [&'s [u8]]) -> &'w [&'s [u8]]
     }
 }
 
-// The message of a receive, whose priority was read.
+// The message of a receive, whose priority was read already.
 fn got_of(alloc: Global, prio: u64, words: &[&[u8]]) -> Result<Option<Outcome>, AllocError>
     ensures { IfOk result (λ read. option_map shown read ≡ message_at prio (words_at words.now)) }
 {

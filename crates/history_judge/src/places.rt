@@ -1,10 +1,11 @@
-//! The queues of a history by numbers, as well as its calls tell them apart.
+//! Numbers for the queues of a history, as far as its calls distinguish them.
 use histories::operation::{Operation, Outcome};
 use mq_model::entries::Call;
 use mq_model::limits::DESCRIPTORS;
 use std::alloc::{AllocError, Global};
 
-/// The names of a history, in order and each once, and its unlinks that were done: of each the name and the end.
+/// The names of a history, sorted and without repeats, and its unlinks that succeeded, each with
+/// its name and its end.
 #[derive(Drop)]
 pub struct Names<'h> {
     names: Vec<&'h [u8]>,
@@ -35,12 +36,12 @@ impl<'h> Names<'h> {
         Ok(Names { names, unlinks })
     }
 
-    /// How many queues there are at most.
+    /// The maximum number of queues.
     pub fn count(&self) -> usize {
         self.names.len().saturating_add(self.unlinks.len())
     }
 
-    // The queue that a name stood for at a moment: another one for each unlink before.
+    // The queue that a name was bound to at a time: a new one after each unlink.
     fn queue_at(&self, name: &[u8], moment: u64) -> usize {
         let place = place_of(&self.names, name);
         let unlinks = self
@@ -49,7 +50,7 @@ impl<'h> Names<'h> {
         place.saturating_add(unlinks)
     }
 
-    /// The queue of each operation of a process, or `count` where it has none.
+    /// The queue of each operation of a process, or `count` if it has none.
     pub fn queues_of(
         &self,
         alloc: Global,
@@ -75,7 +76,7 @@ impl<'h> Names<'h> {
     }
 }
 
-// The place of a name among those that are in order.
+// The index of a name among those that are sorted.
 fn place_of(names: &[&[u8]], name: &[u8]) -> usize {
     match names.binary_search(&name) {
         Ok(place) => place,
@@ -99,7 +100,7 @@ fn held_at(held: &[usize; 16], d: Option<u32>, none: usize) -> usize {
     }
 }
 
-// The descriptor that a call is made by.
+// The descriptor that a call uses.
 fn descriptor_of(call: Call) -> Option<u32> {
     match call {
         Call::MqSend { d, .. }

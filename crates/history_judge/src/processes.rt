@@ -1,4 +1,4 @@
-//! The calls of a history by the processes that made them.
+//! The calls of a history, by process.
 ghost use Rattle.std.specs.Prelude.{◌≡◌, ◌≤◌, ◌++◌, ◌∷◌, [], List, IfOk, OnOk, length};
 ghost use Rattle.history_judge.specs.declared.line.Called.{Called};
 ghost use Rattle.history_judge.specs.Processes.{AreByProcess, process_count};
@@ -8,7 +8,7 @@ use histories::operation::Operation;
 use mq_model::forms::is_process;
 use std::alloc::{AllocError, Global};
 
-/// How many processes there are: the greatest number of one.
+/// The number of processes: the greatest process number.
 pub fn process_count(calls: &[Called]) -> u32
     ensures count { result ≡ process_count calls.now }
     ensures few { result ≤ 32 }
@@ -22,7 +22,7 @@ pub fn process_count(calls: &[Called]) -> u32
     count
 }
 
-/// The operations of processes 1 to `count`, each in the order of its calls.
+/// The operations of the processes 1 to `count`, each process's in the order of its calls.
 pub fn by_process(
     alloc: Global,
     calls: Vec<Called>,
@@ -38,7 +38,7 @@ pub fn by_process(
     Ok(histories)
 }
 
-// So many processes without operations.
+// This number of processes without operations.
 fn without_operations(alloc: Global, count: u32) -> Result<Vec<Vec<Operation>>, AllocError>
     ensures count { IfOk result (λ histories. length histories.items ≡ count) }
     ensures each { IfOk result (λ histories. AreByProcess [] histories.items) }
@@ -51,7 +51,7 @@ fn without_operations(alloc: Global, count: u32) -> Result<Vec<Vec<Operation>>, 
     Ok(histories)
 }
 
-// Adds a call to the operations of its process, if that is one of them.
+// Appends a call to the operations of its process, if that is one of them.
 fn add(histories: &mut Vec<Vec<Operation>>, called: Called) -> Result<(), AllocError>
     ensures count { length histories.new.items ≡ length histories.old.items }
     ensures each { OnOk result ((before : List Called) →

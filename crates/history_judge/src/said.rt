@@ -1,4 +1,4 @@
-//! What is said of a history.
+//! The text of the result of checking a history.
 ghost use Rattle.std.specs.Prelude.{◌≡◌, IfOk, Some, string_bytes};
 ghost use Rattle.history_judge.specs.Said.{impossible_line, judgement_text, possible_line, reason, shortness, status_of};
 
@@ -10,14 +10,14 @@ use journal_format::payload::payload_text;
 use refutations::excess::Excess;
 use std::alloc::{AllocError, Global};
 
-// The line of a history that is possible.
+// The line for a linearizable history.
 fn possible_line(alloc: Global, calls: usize, processes: u32) -> Result<String, AllocError>
     ensures { IfOk result (λ line. string_bytes line ≡ possible_line calls processes) }
 {
     format!(in alloc; "possible: {calls} calls, {processes} processes\n")
 }
 
-// What is said of a front part that may not be the shortest.
+// The remark about a prefix that may not be the shortest.
 fn shortness(is_shortest: bool) -> &'static str
     ensures { result.now ≡ shortness is_shortest }
 {
@@ -48,7 +48,7 @@ fn excess_text(alloc: Global, excess: &Excess) -> Result<String, AllocError>
     format!(in alloc; "; {received} receives, {sent} sends of {prio}{message}")
 }
 
-// The line of a history that is not.
+// The line for a history that is not linearizable.
 fn impossible_line(
     alloc: Global,
     line: u64,
@@ -64,8 +64,8 @@ fn impossible_line(
     format!(in alloc; "impossible: line {line}, front part of {calls} calls{known}{reason}\n")
 }
 
-/// What is written of the judgement of a history: a line, and behind it the journal that explains it, where it is asked for, or the
-/// front part that is impossible, as a history.
+/// The text of the result of checking a history: a line, and after it the journal that explains the
+/// history if `with_journal`, or the prefix that is not linearizable, as a history.
 pub fn judgement_text(
     alloc: Global,
     calls: &[Called],
@@ -103,7 +103,7 @@ pub fn judgement_text(
     Ok(text)
 }
 
-/// The exit status of a judgement: 0 for possible, 1 for impossible, 5 where the budget was used up.
+/// The exit status for a result: 0 if linearizable, 1 if not, 5 if the budget was used up.
 pub fn status_of(judgement: &Judgement) -> u8
     ensures { result ≡ status_of judgement.now }
 {

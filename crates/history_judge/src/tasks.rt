@@ -1,4 +1,5 @@
-//! The operations of a history by what each needs of its queue and does to it, as a heuristic to their order sees them.
+//! The operations of a history as the heuristic sees them: what each needs of its queue, and its
+//! effect on it.
 use crate::places::Names;
 use histories::operation::{Operation, Outcome};
 use mq_model::entries::Call;
@@ -6,26 +7,27 @@ use mq_model::error_order::attributes_given;
 use mq_model::faults::Fault;
 use std::alloc::{AllocError, Global};
 
-/// What an operation needs of its queue, and what it does to it.
+/// What an operation needs of its queue, and its effect on it.
 #[derive(Clone, Copy, PartialEq, Eq)]
 pub enum Effect {
-    /// It needs and does nothing.
+    /// It needs nothing and has no effect.
     Nothing,
-    /// A message enters where there is room.
+    /// There is room, and a message enters.
     Sends,
     /// The first message is of its kind, and leaves.
     Receives,
-    /// The first message leaves, whichever it is: of a receive that had not returned.
+    /// The first message, of any kind, leaves: for a receive that had not returned.
     ReceivesAny,
     /// There is no room.
     FindsFull,
     /// There is no message.
     FindsEmpty,
-    /// There are so many messages.
+    /// There are this many messages.
     Counts(i64),
-    /// The name is bound, or is bound to a new queue with room for so many messages.
+    /// The name is bound; or, if `creates`, it is bound to a new queue with room for this many
+    /// messages.
     Opens { creates: bool, room: i64 },
-    /// The name is bound, and is not so any more.
+    /// The name is bound, and is unbound.
     Unlinks,
     /// The name is bound.
     FindsBound,
@@ -35,13 +37,14 @@ pub enum Effect {
     LeftOut,
 }
 
-/// An operation as a heuristic sees it.
+/// An operation as the heuristic sees it.
 #[derive(Clone, Copy)]
 pub struct Task {
     pub begin: u64,
     pub end: u64,
     pub queue: usize,
-    /// The kind of the message that is sent or was received. Messages of one queue that are equal are of one kind.
+    /// The kind of the message that is sent or was received. Equal messages of one queue have the
+    /// same kind.
     pub kind: usize,
     pub prio: u32,
     pub effect: Effect,
@@ -51,7 +54,7 @@ pub struct Task {
 #[derive(Drop)]
 pub struct Tasks {
     pub tasks: Vec<Vec<Task>>,
-    /// How many queues and how many kinds of messages there are at most.
+    /// The maximum number of queues and of kinds of messages.
     pub queues: usize,
     pub kinds: usize,
 }
@@ -59,7 +62,7 @@ pub struct Tasks {
 // A message that was sent or received, with its queue.
 type Message<'h> = (usize, u32, &'h [u8]);
 
-/// What the operations of a history do.
+/// The tasks for the operations of a history.
 pub fn tasks_of(alloc: Global, histories: &Vec<Vec<Operation>>) -> Result<Tasks, AllocError> {
     let names = Names::of(alloc, histories)?;
     let mut queues: Vec<Vec<usize>> = Vec::new(alloc);
@@ -111,7 +114,7 @@ fn tasks_in(
     Ok(tasks)
 }
 
-// The message that an operation received, and otherwise what it was given.
+// The message that an operation received, or else what it was given.
 fn message_of(operation: &Operation, queue: usize) -> Message {
     match &operation.outcome {
         Outcome::Got { prio, message } => (queue, *prio, message.as_slice()),

@@ -25,17 +25,17 @@ pub fn write_history(alloc: Global, calls: &[Called]) -> Result<Vec<u8>, AllocEr
     Ok(text)
 }
 
-/// The calls whose text this is, in the order of their lines. `JournalFault::BadLine`: this line,
-/// counted from 1, is the first that is not the line of a call of a process from 1 to 32; a last
-/// line that lacks its feed is none.
+/// The calls with this text, in the order of their lines. `JournalFault::BadLine`: this line,
+/// counted from 1, is the first that is not the line of a call of a process from 1 to 32. A last
+/// line without a line feed is not a line.
 pub fn read_history(alloc: Global, text: &[u8]) -> Result<Vec<Called>, JournalFault>
-    // What is read is written as it was.
+    // The text of the history that is read is this one.
     ensures found { IfOk result (λ calls. text.now ≡ history_text calls.items) }
     ensures fits { IfOk result (λ calls. AllFit calls.items) }
-    // What was written is read as it was, unless memory runs out.
+    // If this is the text of a history, that history is read, unless memory is refused.
     ensures only { (history : List Called) → AllFit history → text.now ≡ history_text history →
         MatchResult result (λ calls. AreSameCalls calls.items history) (λ fault. fault ≡ NoMemory) }
-    // A line that is named is the first one.
+    // The line in the error is the first bad one.
     ensures bad_line { (line : ℕ) → IsErrOf result (BadLine line) → StopsAt line text.now }
     ensures no_input { IsErrOf result Input → ⊥ }
 {
@@ -46,9 +46,9 @@ pub fn read_history(alloc: Global, text: &[u8]) -> Result<Vec<Called>, JournalFa
     }
 }
 
-/// Reads the lines that a text begins with behind other calls, and gives what stands after the last
-/// feed. `JournalFault::BadLine`: this line of the history's text and this one is the first that is
-/// not the line of such a call, whatever comes after them.
+/// Parses the lines at the start of a text, appends their calls, and returns what follows the last
+/// line feed. `JournalFault::BadLine`: this line, counted from the start of the history, is the
+/// first that is not the line of such a call, whatever follows.
 pub fn read_lines<'t>(
     alloc: Global,
     calls: &mut Vec<Called>,
@@ -76,8 +76,8 @@ pub fn read_lines<'t>(
     Ok(rest)
 }
 
-/// The calls of a history that was read, where nothing stands after its last line.
-/// `JournalFault::BadLine`: what stands there is no line.
+/// The calls of a history that was read, if nothing follows its last line. `JournalFault::BadLine`:
+/// something does.
 pub fn whole(calls: Vec<Called>, rest: &[u8]) -> Result<Vec<Called>, JournalFault>
     requires fits { AllFit calls.items }
     requires rest { has_feed rest.now ≡ false }
@@ -96,14 +96,15 @@ pub fn whole(calls: Vec<Called>, rest: &[u8]) -> Result<Vec<Called>, JournalFaul
     }
 }
 
-/// No call whose name or message has up to 65,536 bytes, and whose message received has so many,
-/// has a longer line than is read. The function does nothing: its contract is the law.
+/// If the name or the message of a call, and the message that it received, have at most 65,536
+/// bytes each, its line is not longer than what is read. The function does nothing: its contract is
+/// the law.
 pub fn lines_are_short()
     ensures { (c : Called) → Fits c → length c.operation.given.items ≤ 2 ^ 16 →
         length (message_of c.operation.outcome) ≤ 2 ^ 16 → length (line_text c) ≤ MOST_LINE }
 {}
 
-// Adds a call behind all others.
+// Appends a call.
 fn add(calls: &mut Vec<Called>, called: Called) -> Result<(), AllocError>
     ensures { OnOk result (calls.new.items ≡ calls.old.items ++ called ∷ []) }
 {

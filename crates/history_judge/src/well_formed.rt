@@ -1,5 +1,5 @@
-//! Whether a history is well-formed: each process makes its calls one after the other, and each call
-//! is given the bytes that it takes.
+//! Whether a history is well-formed: each process makes its calls one after the other, and each
+//! call is given the bytes that it takes.
 ghost use Rattle.std.specs.Prelude.{◌≡◌, IfSome, None, Some, max};
 ghost use Rattle.histories.specs.Histories.{is_pending};
 ghost use Rattle.history_judge.specs.Processes.{AreOfProcesses};
@@ -12,18 +12,19 @@ use mq_model::forms::is_payload;
 use mq_model::limits::PROCESSES;
 use std::fmt;
 
-/// Why a call may not stand in a history behind those before it.
+/// Why a call may not follow those before it in a history.
 #[derive(Clone, Copy, Debug, PartialEq, Eq)]
 pub enum IllFormed {
     /// An earlier call of its process had not returned.
     BehindPending,
-    /// It begins before an earlier call of its process ended, and not at once with it.
+    /// It begins before an earlier call of its process ended, and does not begin and end together
+    /// with it.
     Overlaps,
     /// It ends before it begins.
     EndsFirst,
-    /// It names a queue by bytes that are no name.
+    /// It names a queue by a malformed name.
     BadName,
-    /// Its length is not that of its message, or it has a message that it does not take.
+    /// Its length is not that of its message, or it has a message although it takes none.
     BadLength,
 }
 
@@ -67,15 +68,15 @@ fn later(one: u64, other: u64) -> u64
     one.max(other)
 }
 
-// The operation begins before others of its process ended, of which the latest moments are these,
-// and not at once with them: the closes of an exit begin and end with it.
+// Whether the operation begins before others of its process ended, whose latest times are these,
+// and does not begin and end together with them, as the closes of an exit do.
 fn overlaps(begin: u64, end: u64, operation: &Operation) -> bool
     ensures { result ≡ overlaps (record { begin = begin; end = end }) operation.now }
 {
     operation.begin < end && !(operation.begin == begin && operation.end == end)
 }
 
-// Why a call may not stand behind others of its process.
+// Why a call may not follow others of its process.
 fn fault_behind(pending: bool, begin: u64, end: u64, called: &Called) -> Option<IllFormed>
     ensures { result ≡ fault_behind pending (record { begin = begin; end = end }) called.now }
 {
@@ -99,7 +100,7 @@ fn fault_behind(pending: bool, begin: u64, end: u64, called: &Called) -> Option<
     }
 }
 
-/// The first line, from 1, whose call may not stand behind those before it, and why.
+/// The first line, counted from 1, whose call may not follow those before it, and why.
 pub fn first_fault(calls: &[Called]) -> Option<(u64, IllFormed)>
     requires { AreOfProcesses calls.now }
     ensures none { result ≡ None → IsWellFormed calls.now }
